@@ -1,0 +1,241 @@
+-- What is read is spelled so.
+use Rattle.std.proofs.Common.{◌≡◌, ℕ, ℤ, pos, zero, suc, ◌+◌, ◌-◌, ◌<◌, ◌≤◌, ◌^◌, Bool, true, false, cond, eqb, ltb, List, [], ◌∷◌, ◌++◌, length, take, drop, Option, Some, None, Result, Ok, Err, refl, sym, ap, subst, ◌∙◌, append_assoc, arith, w16, w64}
+use Rattle.std.specs.Prelude.{MatchBool}
+use Rattle.std.specs.Int.{Width, cast_signed}
+use Rattle.std.proofs.lemmas.Bool.{ltb-false, eqb-true, ltb-true}
+use Rattle.std.proofs.lemmas.List.{take-append-drop, length-take}
+use Rattle.byteorder.specs.Endian.{big_number}
+use Rattle.byteorder.specs.Numbers.{big_from-append}
+use Rattle.thrift_binary.specs.declared.fault.WireError.{WireError}
+use Rattle.thrift_binary.specs.declared.fault.WireError.TheVariants.{Truncated, BadLength, BadType}
+use Rattle.thrift_binary.specs.Reading.{◌>>=◌, lift, Read, stopped, typed, byte_at, bytes_at, number_at, signed_at, size_at, string_at, field_at, field_behind, is_code}
+use Rattle.thrift_binary.specs.Fields.{Take, fields_in, fields_at, behind_field}
+use Rattle.thrift_binary.specs.Spelling.{IsSize, IsString, IsI64, Field, IsHead, IsFields, has, IsLast}
+
+-- the value of a step that did not fail
+pub bind_ok : {A B E : Type 0} (r : Result A E) (f : A → Result B E) (y : B) → (r >>= f) ≡ Ok y → (x : A) × (r ≡ Ok x) × (f x ≡ Ok y)
+bind_ok (Ok x) f y e = (x, refl, e)
+bind_ok (Err d) f y e = absurd cc
+
+-- a test that did not fail
+pub guard_ok : {A E : Type 0} (b : Bool) (d : E) (x y : A) → cond b (Err d) (Ok x) ≡ Ok y → (b ≡ false) × (x ≡ y)
+guard_ok true d x y e = absurd cc
+guard_ok false d x y e = (refl, cc)
+
+pub pass_ok : {A E : Type 0} (b : Bool) (d : E) (x y : A) → cond b (Ok x) (Err d) ≡ Ok y → (b ≡ true) × (x ≡ y)
+pass_ok true d x y e = (refl, cc)
+pass_ok false d x y e = absurd cc
+
+pub lift_ok : {A E : Type 0} (wire : WireError → E) (r : Result A WireError) (x : A) → lift wire r ≡ Ok x → r ≡ Ok x
+lift_ok wire (Ok y) x e = cc
+lift_ok wire (Err d) x e = absurd cc
+
+abbrev done : {A E : Type 0} → A → Result A E
+done x = Ok x
+
+pub ok_is : {A E : Type 0} (x y : A) → done {E = E} x ≡ done y → x ≡ y
+ok_is x y e = cc
+
+abbrev got : ℕ → ℤ → List ℕ → Option (ℕ × ℤ) × List ℕ
+got c i r = (Some (c, i), r)
+
+abbrev id_of : Option (ℕ × ℤ) → ℕ × ℤ
+id_of (Some x) = x
+id_of None = (0, pos 0)
+
+abbrev first_of : Option (ℕ × ℤ) × List ℕ → ℕ
+first_of x = (id_of x.0).0
+
+abbrev second_of : Option (ℕ × ℤ) × List ℕ → ℤ
+second_of x = (id_of x.0).1
+
+abbrev rest_of : Option (ℕ × ℤ) × List ℕ → List ℕ
+rest_of x = x.1
+
+got_none : (c : ℕ) (i : ℤ) (r v : List ℕ) → got c i r ≡ (None, v) → ⊥
+got_none c i r v e = none_some (c, i) (ap (λ (x : Option (ℕ × ℤ) × List ℕ). x.0) e)
+  where
+    none_some : (x : ℕ × ℤ) → Some x ≡ None → ⊥
+    none_some x h = absurd cc
+
+-- a number in the front of a longer text
+big_number-take : (n : ℕ) (w : List ℕ) → n ≤ length w → big_number n w ≡ big_number n (take n w)
+big_number-take n w le =
+    let long : n ≤ length (take n w) = omega (arith, length-take n w) in
+    ap (λ v. big_number n v) (sym (take-append-drop n w)) ∙ big_from-append n (take n w) (drop n w) long
+
+-- what was read of the front
+pub record Takes (w text rest : List ℕ) : Type 0 where
+  pub parts : w ≡ text ++ rest
+
+pub record Signed (width : Width) (n : ℕ) (w : List ℕ) (z : ℤ) (r : List ℕ) : Type 0 where
+  pub text : List ℕ
+  pub parts : w ≡ text ++ r
+  pub long : length text ≡ n
+  pub value : cast_signed width (big_number n text) ≡ z
+
+pub signed_found : (width : Width) (n : ℕ) (w : List ℕ) (z : ℤ) (r : List ℕ) → signed_at width n w ≡ Ok (z, r) → Signed width n w z r
+signed_found width n w z r e =
+    let g = guard_ok (ltb (length w) n) Truncated (cast_signed width (big_number n w), drop n w) (z, r) e in
+    let long : n ≤ length w = ltb-false _ _ g.0 in
+    let z-is : cast_signed width (big_number n w) ≡ z = ap (λ (p : ℤ × List ℕ). p.0) g.1 in
+    let r-is : drop n w ≡ r = ap (λ (p : ℤ × List ℕ). p.1) g.1 in
+    record {
+      text = take n w;
+      parts = rw (← r-is) (sym (take-append-drop n w));
+      long = omega (arith, length-take n w);
+      value = ap (cast_signed width) (sym (big_number-take n w long)) ∙ z-is;
+    }
+
+pub record Sized (w : List ℕ) (m : ℕ) (r : List ℕ) : Type 0 where
+  pub text : List ℕ
+  pub parts : w ≡ text ++ r
+  pub spells : IsSize text m
+
+pub size_found : (w : List ℕ) (m : ℕ) (r : List ℕ) → size_at w ≡ Ok (m, r) → Sized w m r
+unfolding size_at
+size_found w m r e =
+    let b = bind_ok (number_at 4 w) (λ n. cond (ltb n.0 (2 ^ 31)) (Ok (n.0, n.1)) (Err BadLength)) (m, r) e in
+    let g = guard_ok (ltb (length w) 4) Truncated (big_number 4 w, drop 4 w) b.0 b.1 in
+    let p = pass_ok (ltb b.0.0 (2 ^ 31)) BadLength (b.0.0, b.0.1) (m, r) b.2 in
+    let long : 4 ≤ length w = ltb-false _ _ g.0 in
+    let m-is : big_number 4 w ≡ m = ap (λ (p : ℕ × List ℕ). p.0) (g.1 ∙ p.1) in
+    let r-is : drop 4 w ≡ r = ap (λ (p : ℕ × List ℕ). p.1) (g.1 ∙ p.1) in
+    let same : b.0.0 ≡ m = ap (λ (p : ℕ × List ℕ). p.0) p.1 in
+    record {
+      text = take 4 w;
+      parts = rw (← r-is) (sym (take-append-drop 4 w));
+      spells = (omega (arith, length-take 4 w), sym (big_number-take 4 w long) ∙ m-is, rw (← same) (ltb-true b.0.0 (2 ^ 31) p.0));
+    }
+
+pub record Stringed (w bytes r : List ℕ) : Type 0 where
+  pub text : List ℕ
+  pub parts : w ≡ text ++ r
+  pub spells : IsString text bytes
+
+pub string_found : (w bytes r : List ℕ) → string_at w ≡ Ok (bytes, r) → Stringed w bytes r
+unfolding string_at
+string_found w bytes r e =
+    let b = bind_ok (size_at w) (λ n. bytes_at n.0 n.1) (bytes, r) e in
+    let s = size_found w b.0.0 b.0.1 b.1 in
+    let g = guard_ok (ltb (length b.0.1) b.0.0) Truncated (take b.0.0 b.0.1, drop b.0.0 b.0.1) (bytes, r) b.2 in
+    let long : b.0.0 ≤ length b.0.1 = ltb-false _ _ g.0 in
+    let bytes-is : take b.0.0 b.0.1 ≡ bytes = ap (λ (p : List ℕ × List ℕ). p.0) g.1 in
+    let r-is : drop b.0.0 b.0.1 ≡ r = ap (λ (p : List ℕ × List ℕ). p.1) g.1 in
+    let cut : length (take b.0.0 b.0.1) ≡ b.0.0 = omega (arith, length-take b.0.0 b.0.1) in
+    let len : b.0.0 ≡ length bytes = sym cut ∙ ap length bytes-is in
+    let tail : b.0.1 ≡ bytes ++ r = sym (take-append-drop b.0.0 b.0.1) ∙ ap (λ (t : List ℕ). t ++ drop b.0.0 b.0.1) bytes-is ∙ ap (λ (t : List ℕ). bytes ++ t) r-is in
+    record {
+      text = s.text ++ bytes;
+      parts = s.parts ∙ ap (λ (t : List ℕ). s.text ++ t) tail ∙ sym (append_assoc s.text bytes r);
+      spells = (s.text, subst (λ k. IsSize s.text k) len s.spells, refl);
+    }
+
+pub record Headed (w : List ℕ) (c : ℕ) (i : ℤ) (r : List ℕ) : Type 0 where
+  pub text : List ℕ
+  pub parts : w ≡ (c ∷ text) ++ r
+  pub long : length text ≡ 2
+  pub value : cast_signed w16 (big_number 2 text) ≡ i
+
+field_behind_found : (c d : ℕ) (i : ℤ) (w r : List ℕ) → field_behind c w ≡ Ok (Some (d, i), r) → Headed (c ∷ w) d i r
+field_behind_found c d i w r e = by (eqb c 0) e
+  where
+    after : (signed_at w16 2 w >>= typed c) ≡ Ok (Some (d, i), r) → Headed (c ∷ w) d i r
+    after h =
+        let b = bind_ok (signed_at w16 2 w) (typed c) (Some (d, i), r) h in
+        let p = pass_ok (is_code c) BadType (Some (c, b.0.0), b.0.1) (Some (d, i), r) b.2 in
+        let s = signed_found w16 2 w b.0.0 b.0.1 b.1 in
+        let first : c ≡ d = ap first_of p.1 in
+        let second : b.0.0 ≡ i = ap second_of p.1 in
+        let third : b.0.1 ≡ r = ap rest_of p.1 in
+        record { text = s.text; parts = ap (λ (t : List ℕ). c ∷ t) (s.parts ∙ ap (λ (t : List ℕ). s.text ++ t) third) ∙ ap (λ (x : ℕ). (x ∷ s.text) ++ r) first; long = s.long; value = s.value ∙ second }
+
+    by : (z : Bool) → cond z (stopped w) (signed_at w16 2 w >>= typed c) ≡ Ok (Some (d, i), r) → Headed (c ∷ w) d i r
+    by true h = let none : Option (ℕ × ℤ) × List ℕ = (None, w) in absurd (got_none d i r w (sym (ok_is none (got d i r) h)))
+    by false h = after h
+
+pub field_found : (w : List ℕ) (c : ℕ) (i : ℤ) (r : List ℕ) → field_at w ≡ Ok (Some (c, i), r) → Headed w c i r
+unfolding field_at
+field_found [] c i r e = absurd cc
+field_found (b ∷ w) c i r e = field_behind_found b c i w r e
+
+stop_behind_found : (c : ℕ) (w r : List ℕ) → field_behind c w ≡ Ok (None, r) → c ∷ w ≡ 0 ∷ r
+stop_behind_found c w r e = by (eqb c 0) refl e
+  where
+    by : (z : Bool) → eqb c 0 ≡ z → cond z (stopped w) (signed_at w16 2 w >>= typed c) ≡ Ok (None, r) → c ∷ w ≡ 0 ∷ r
+    by true z h = let first : c ≡ 0 = eqb-true c 0 z in let here : Option (ℕ × ℤ) × List ℕ = (None, w) in let there : Option (ℕ × ℤ) × List ℕ = (None, r) in let second : w ≡ r = ap rest_of (ok_is here there h) in ap (λ (x : ℕ). x ∷ w) first ∙ ap (λ (t : List ℕ). 0 ∷ t) second
+    by false z h =
+        let b = bind_ok (signed_at w16 2 w) (typed c) (None, r) h in
+        let p = pass_ok (is_code c) BadType (Some (c, b.0.0), b.0.1) (None, r) b.2 in
+        absurd (got_none c b.0.0 b.0.1 r p.1)
+
+pub stop_found : (w r : List ℕ) → field_at w ≡ Ok (None, r) → w ≡ 0 ∷ r
+unfolding field_at
+stop_found [] r e = absurd cc
+stop_found (b ∷ w) r e = stop_behind_found b w r e
+
+-- ---- fields one after the other
+
+-- P s f t: the field f changes what was read from s to t
+abbrev pub Path : {S : Type 0} → (S → Field → S → Type 0) → S → List Field → S → Type 0
+Path P s [] t = t ≡ s
+Path {S = S} P s (f ∷ fs) t = (u : S) × P s f u × Path P u fs t
+
+pub record Fielded {S : Type 0} (P : S → Field → S → Type 0) (s : S) (w : List ℕ) (t : S) (r : List ℕ) : Type 0 where
+  pub fields : List Field
+  pub text : List ℕ
+  pub parts : w ≡ text ++ r
+  pub spells : IsFields fields text
+  pub path : Path P s fields t
+
+-- the value of a field is read from its front alone
+pub record Took {S : Type 0} (P : S → Field → S → Type 0) (s : S) (c : ℕ) (i : ℤ) (w : List ℕ) (t : S) (r : List ℕ) : Type 0 where
+  pub text : List ℕ
+  pub parts : w ≡ text ++ r
+  pub does : P s (record { code = c; id = i; text = text }) t
+
+module _ {S E : Type 0} (wire : WireError → E) (take : Take S E) (P : S → Field → S → Type 0)
+    (takes : (s : S) (c : ℕ) (i : ℤ) (w : List ℕ) (t : S) (r : List ℕ) → take s c i w ≡ Ok (t, r) → Took P s c i w t r) where
+  fields_in_found : (n : ℕ) (s : S) (w : List ℕ) (t : S) (r : List ℕ) → fields_in wire take n s w ≡ Ok (t, r) → Fielded P s w t r
+  unfolding fields_in
+  fields_in_found zero s w t r e = absurd cc
+  fields_in_found (suc n) s w t r e =
+      let b = bind_ok (lift wire (field_at w)) (λ h. behind_field (fields_in wire take n) take s h.0 h.1) (t, r) e in
+      by (λ u v h. fields_in_found n u v t r h) b.0.0 b.0.1 (lift_ok wire (field_at w) b.0 b.1) b.2
+    where
+      by : ((u : S) (v : List ℕ) → fields_in wire take n u v ≡ Ok (t, r) → Fielded P u v t r) → (o : Option (ℕ × ℤ)) (v : List ℕ) → field_at w ≡ Ok (o, v) → behind_field (fields_in wire take n) take s o v ≡ Ok (t, r) → Fielded P s w t r
+      by others None v head h =
+          let made : S × List ℕ = (s, v) in
+          let same : made ≡ (t, r) = ok_is made (t, r) h in
+          let t-is : s ≡ t = ap (λ (x : S × List ℕ). x.0) same in
+          let r-is : v ≡ r = ap (λ (x : S × List ℕ). x.1) same in
+          record { fields = []; text = 0 ∷ []; parts = stop_found w v head ∙ ap (λ (x : List ℕ). 0 ∷ x) r-is; spells = refl; path = sym t-is }
+      by others (Some f) v head h =
+          let x = bind_ok (take s f.0 f.1 v) (λ y. fields_in wire take n y.0 y.1) (t, r) h in
+          let hd = field_found w f.0 f.1 v head in
+          let k = takes s f.0 f.1 v x.0.0 x.0.1 x.1 in
+          let rest = others x.0.0 x.0.1 x.2 in
+          let field : Field = record { code = f.0; id = f.1; text = k.text } in
+          let whole : w ≡ ((f.0 ∷ hd.text) ++ (k.text ++ rest.text)) ++ r = hd.parts ∙ ap (λ (y : List ℕ). (f.0 ∷ hd.text) ++ y) (k.parts ∙ ap (λ (y : List ℕ). k.text ++ y) rest.parts) ∙ simp append_assoc in
+          record {
+            fields = field ∷ rest.fields;
+            text = (f.0 ∷ hd.text) ++ (k.text ++ rest.text);
+            parts = whole;
+            spells = (f.0 ∷ hd.text, rest.text, (hd.text, hd.long, hd.value, refl), refl, rest.spells);
+            path = (x.0.0, k.does, rest.path);
+          }
+
+  pub fields_found : (s : S) (w : List ℕ) (t : S) (r : List ℕ) → fields_at wire take s w ≡ Ok (t, r) → Fielded P s w t r
+  unfolding fields_at
+  fields_found s w t r e = fields_in_found (length w) s w t r e
+
+-- one place of what was read: the last field of its type and id counts
+pub path_last : {S A : Type 0} (P : S → Field → S → Type 0) (place : S → Option A) (c : ℕ) (i : ℤ) (Spells : List ℕ → A → Type 0)
+    → ((s : S) (f : Field) (t : S) → P s f t → MatchBool (has c i f) ((x : A) × Spells f.text x × (place t ≡ Some x)) (place t ≡ place s))
+    → (fs : List Field) (s t : S) → Path P s fs t → IsLast c i Spells (place s) fs (place t)
+path_last P place c i Spells one [] s t p = ap place p
+path_last {A = A} P place c i Spells one (f ∷ fs) s t (u, d, p) = by (path_last P place c i Spells one fs u t p) (has c i f) (one s f u d)
+  where
+    by : IsLast c i Spells (place u) fs (place t) → (b : Bool) → MatchBool b ((x : A) × Spells f.text x × (place u ≡ Some x)) (place u ≡ place s) → MatchBool b ((x : A) × Spells f.text x × IsLast c i Spells (Some x) fs (place t)) (IsLast c i Spells (place s) fs (place t))
+    by rest true m = (m.0, m.1, subst (λ (o : Option A). IsLast c i Spells o fs (place t)) m.2 rest)
+    by rest false m = subst (λ (o : Option A). IsLast c i Spells o fs (place t)) m rest

@@ -1,0 +1,213 @@
+ghost use Rattle.std.specs.Prelude.{◌≡◌, ◌<◌, ◌≤◌, List, ℕ, length, take, drop, [], OnOk};
+ghost use Rattle.std.specs.Int.{w16, w32, w64};
+ghost use Rattle.thrift_binary.specs.Reading.{Reads, bytes_at, byte_at, bool_at, number_at, signed_at, is_code, size_at, string_at, field_at, list_at, map_at};
+
+use crate::fault::WireError;
+use byteorder::{BigEndian, ByteOrder};
+use std::marker::Model;
+
+/// Reads values from the front of bytes. A refusal leaves nothing to read.
+#[derive(Debug, Drop)]
+pub struct Cursor<'a> {
+    bytes: &'a [u8],
+}
+
+impl<'a> Model for Cursor<'a> {
+    ghost Value = { List ℕ };
+
+    ghost view = { λ c. c.bytes.now };
+}
+
+impl<'a> Cursor<'a> {
+    pub fn new(bytes: &'a [u8]) -> Self
+        ensures { result ≡ bytes.now }
+    {
+        Cursor { bytes }
+    }
+
+    pub fn rest(&self) -> &'a [u8]
+        ensures { result.now ≡ self.now }
+    {
+        self.bytes
+    }
+
+    pub(crate) fn refuse<T>(&mut self, error: WireError) -> Result<T, WireError>
+        ensures spent { self.new ≡ [] }
+        ensures error { result ≡ Err error }
+    {
+        self.bytes = &[];
+        Err(error)
+    }
+
+    /// The first n bytes.
+    pub(crate) fn take(&mut self, n: usize) -> Result<&'a [u8], WireError>
+        ensures exact { Reads (λ x. x.now) (bytes_at n) self.old result self.new }
+        ensures no_longer { OnOk result (length self.new ≤ length self.old) }
+    {
+        if self.bytes.len() < n {
+            return self.refuse(WireError::Truncated);
+        }
+        let (front, rest) = self.bytes.split_at(n);
+        self.bytes = rest;
+        Ok(front)
+    }
+
+    /// A bool: one byte, 1 for true and 0 for false. Any other byte is [`WireError::BadBool`].
+    #[tactic(auto, unfolding(crate::specs::Reading::bool_at))]
+    pub fn read_bool(&mut self) -> Result<bool, WireError>
+        ensures exact { Reads (λ x. x) bool_at self.old result self.new }
+        ensures shorter { OnOk result (length self.new < length self.old) }
+    {
+        match self.read_byte()? {
+            0 => Ok(false),
+            1 => Ok(true),
+            _ => self.refuse(WireError::BadBool),
+        }
+    }
+
+    /// The eight bytes of a double as they stand, the highest first; they are not interpreted.
+    pub fn read_double(&mut self) -> Result<[u8; 8], WireError>
+        ensures exact { Reads (λ x. x) (bytes_at 8) self.old result self.new }
+        ensures no_longer { OnOk result (length self.new ≤ length self.old) }
+    {
+        let front = self.take(8)?;
+        let mut bytes = [0; 8];
+        bytes.copy_from_slice(front);
+        Ok(bytes)
+    }
+
+    /// A signed number of 32 bits, the highest byte first (`i32`, and each enum).
+    pub fn read_i32(&mut self) -> Result<i32, WireError>
+        ensures exact { Reads (λ x. x) (signed_at w32 4) self.old result self.new }
+        ensures no_longer { OnOk result (length self.new ≤ length self.old) }
+    {
+        if self.bytes.len() < 4 {
+            return self.refuse(WireError::Truncated);
+        }
+        let number = BigEndian::read_i32(self.bytes);
+        self.bytes = &self.bytes[4..];
+        Ok(number)
+    }
+
+    /// A signed number of 64 bits, the highest byte first.
+    pub fn read_i64(&mut self) -> Result<i64, WireError>
+        ensures exact { Reads (λ x. x) (signed_at w64 8) self.old result self.new }
+        ensures no_longer { OnOk result (length self.new ≤ length self.old) }
+    {
+        if self.bytes.len() < 8 {
+            return self.refuse(WireError::Truncated);
+        }
+        let number = BigEndian::read_i64(self.bytes);
+        self.bytes = &self.bytes[8..];
+        Ok(number)
+    }
+
+    fn read_i16(&mut self) -> Result<i16, WireError>
+        ensures exact { Reads (λ x. x) (signed_at w16 2) self.old result self.new }
+        ensures shorter { OnOk result (length self.new < length self.old) }
+    {
+        if self.bytes.len() < 2 {
+            return self.refuse(WireError::Truncated);
+        }
+        let number = BigEndian::read_i16(self.bytes);
+        self.bytes = &self.bytes[2..];
+        Ok(number)
+    }
+
+    fn read_u32(&mut self) -> Result<u32, WireError>
+        ensures exact { Reads (λ x. x) (number_at 4) self.old result self.new }
+        ensures shorter { OnOk result (length self.new < length self.old) }
+    {
+        if self.bytes.len() < 4 {
+            return self.refuse(WireError::Truncated);
+        }
+        let number = BigEndian::read_u32(self.bytes);
+        self.bytes = &self.bytes[4..];
+        Ok(number)
+    }
+
+    fn read_byte(&mut self) -> Result<u8, WireError>
+        ensures exact { Reads (λ x. x) byte_at self.old result self.new }
+        ensures shorter { OnOk result (length self.new < length self.old) }
+    {
+        match self.bytes {
+            [] => self.refuse(WireError::Truncated),
+            [first, rest @ ..] => {
+                self.bytes = rest;
+                Ok(*first)
+            }
+        }
+    }
+
+    #[tactic(auto, unfolding(crate::specs::Reading::size_at))]
+    fn read_size(&mut self) -> Result<u32, WireError>
+        ensures exact { Reads (λ x. x) size_at self.old result self.new }
+        ensures shorter { OnOk result (length self.new < length self.old) }
+    {
+        let number = self.read_u32()?;
+        if number > 0x7fff_ffff {
+            return self.refuse(WireError::BadLength);
+        }
+        Ok(number)
+    }
+
+    #[tactic(auto, unfolding(crate::specs::Reading::string_at))]
+    pub fn read_bytes(&mut self) -> Result<&'a [u8], WireError>
+        ensures exact { Reads (λ x. x.now) string_at self.old result self.new }
+        ensures shorter { OnOk result (length self.new < length self.old) }
+    {
+        let len = self.read_size()?;
+        self.take(len as usize)
+    }
+
+    /// The type and the id of the next field; `None` at the stop byte.
+    #[tactic(auto, unfolding(crate::specs::Reading::field_at))]
+    pub fn field(&mut self) -> Result<Option<(u8, i16)>, WireError>
+        ensures exact { Reads (λ x. x) field_at self.old result self.new }
+        ensures shorter { OnOk result (length self.new < length self.old) }
+    {
+        let code = self.read_byte()?;
+        if code == 0 {
+            return Ok(None);
+        }
+        let id = self.read_i16()?;
+        if !is_code(code) {
+            return self.refuse(WireError::BadType);
+        }
+        Ok(Some((code, id)))
+    }
+
+    #[tactic(auto, unfolding(crate::specs::Reading::list_at))]
+    pub fn list_head(&mut self) -> Result<(u8, u32), WireError>
+        ensures exact { Reads (λ x. x) list_at self.old result self.new }
+        ensures shorter { OnOk result (length self.new < length self.old) }
+    {
+        let code = self.read_byte()?;
+        let size = self.read_size()?;
+        if size != 0 && !is_code(code) {
+            return self.refuse(WireError::BadType);
+        }
+        Ok((code, size))
+    }
+
+    #[tactic(auto, unfolding(crate::specs::Reading::map_at))]
+    pub(crate) fn map_head(&mut self) -> Result<(u8, u8, u32), WireError>
+        ensures exact { Reads (λ x. ((x.0, x.1), x.2)) map_at self.old result self.new }
+        ensures shorter { OnOk result (length self.new < length self.old) }
+    {
+        let key = self.read_byte()?;
+        let value = self.read_byte()?;
+        let size = self.read_size()?;
+        if size != 0 && !(is_code(key) && is_code(value)) {
+            return self.refuse(WireError::BadType);
+        }
+        Ok((key, value, size))
+    }
+}
+
+/// The code is one of the table.
+pub fn is_code(code: u8) -> bool
+    ensures { result ≡ is_code code }
+{
+    matches!(code, 2 | 3 | 4 | 6 | 8 | 10 | 11..=15)
+}

@@ -1,0 +1,125 @@
+ghost use Rattle.std.specs.Prelude.{◌≡◌, ◌<◌, ◌≤◌, length, OnOk};
+ghost use Rattle.thrift_binary.specs.Reading.{Reads};
+ghost use Rattle.thrift_binary.specs.Skipping.{value_at, skip_at, past, text, struct, items, pairs, times, both, container, leaf, is_container};
+
+use crate::cursor::Cursor;
+use crate::fault::WireError;
+
+/// The levels of containers that a skipped value may have.
+const LEVELS: u8 = 64;
+
+impl<'a> Cursor<'a> {
+    fn past(&mut self, n: usize) -> Result<(), WireError>
+        ensures exact { Reads (λ _. tt) (past n) self.old result self.new }
+        ensures no_longer { OnOk result (length self.new ≤ length self.old) }
+    {
+        self.take(n)?;
+        Ok(())
+    }
+
+    #[tactic(auto, unfolding(crate::specs::Skipping::text))]
+    fn past_text(&mut self) -> Result<(), WireError>
+        ensures exact { Reads (λ _. tt) text self.old result self.new }
+        ensures no_longer { OnOk result (length self.new ≤ length self.old) }
+    {
+        self.read_bytes()?;
+        Ok(())
+    }
+
+    /// A value that is no container.
+    fn leaf(&mut self, code: u8) -> Result<(), WireError>
+        ensures exact { Reads (λ _. tt) (leaf code) self.old result self.new }
+        ensures no_longer { OnOk result (length self.new ≤ length self.old) }
+    {
+        match code {
+            2 | 3 => self.past(1),
+            6 => self.past(2),
+            8 => self.past(4),
+            4 | 10 => self.past(8),
+            11 => self.past_text(),
+            _ => self.refuse(WireError::BadType),
+        }
+    }
+
+    /// Reads past a value of the type.
+    #[tactic(auto, unfolding(crate::specs::Skipping::skip_at))]
+    pub fn skip(&mut self, code: u8) -> Result<(), WireError>
+        ensures exact { Reads (λ _. tt) (skip_at code) self.old result self.new }
+        ensures no_longer { OnOk result (length self.new ≤ length self.old) }
+    {
+        if self.rest().is_empty() {
+            return self.refuse(WireError::Truncated);
+        }
+        self.value(code, LEVELS)
+    }
+
+    #[cycle(skip)]
+    fn value(&mut self, code: u8, levels: u8) -> Result<(), WireError>
+        ensures exact { Reads (λ _. tt) (value_at levels code) self.old result self.new }
+        ensures no_longer { OnOk result (length self.new ≤ length self.old) }
+    {
+        if !is_container(code) {
+            return self.leaf(code);
+        }
+        if levels == 0 {
+            return self.refuse(WireError::TooDeep);
+        }
+        self.container(code, levels - 1)
+    }
+
+    #[cycle(skip)]
+    fn container(&mut self, code: u8, levels: u8) -> Result<(), WireError>
+        ensures exact { Reads (λ _. tt) (container (value_at levels) code) self.old result self.new }
+        ensures no_longer { OnOk result (length self.new ≤ length self.old) }
+    {
+        if code == 12 {
+            self.fields(levels)
+        } else if code == 13 {
+            self.pairs(levels)
+        } else {
+            self.items(levels)
+        }
+    }
+
+    #[cycle(skip)]
+    fn fields(&mut self, levels: u8) -> Result<(), WireError>
+        ensures exact { Reads (λ _. tt) (struct (value_at levels)) self.old result self.new }
+        ensures no_longer { OnOk result (length self.new ≤ length self.old) }
+    {
+        while let Some((code, _)) = self.field()? {
+            self.value(code, levels)?;
+        }
+        Ok(())
+    }
+
+    #[cycle(skip)]
+    fn items(&mut self, levels: u8) -> Result<(), WireError>
+        ensures exact { Reads (λ _. tt) (items (value_at levels)) self.old result self.new }
+        ensures no_longer { OnOk result (length self.new ≤ length self.old) }
+    {
+        let (code, size) = self.list_head()?;
+        for _ in 0..size {
+            self.value(code, levels)?;
+        }
+        Ok(())
+    }
+
+    #[cycle(skip)]
+    fn pairs(&mut self, levels: u8) -> Result<(), WireError>
+        ensures exact { Reads (λ _. tt) (pairs (value_at levels)) self.old result self.new }
+        ensures no_longer { OnOk result (length self.new ≤ length self.old) }
+    {
+        let (key, value, size) = self.map_head()?;
+        for _ in 0..size {
+            self.value(key, levels)?;
+            self.value(value, levels)?;
+        }
+        Ok(())
+    }
+}
+
+fn is_container(code: u8) -> bool
+    ensures { result ≡ is_container code }
+{
+    11 < code && code < 16
+}

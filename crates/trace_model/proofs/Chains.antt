@@ -1,0 +1,182 @@
+-- As many steps as the trace has spans are enough for each chain that ends.
+use Rattle.std.proofs.Common.{◌≡◌, ℕ, zero, suc, ◌+◌, ◌<◌, ◌≤◌, Bool, true, false, List, [], ◌∷◌, ◌++◌, length, refl, sym, ap, ◌∙◌, arith, cond, subst, ◌⊎◌, inl, inr, ⊎_elim, pos}
+use Rattle.std.specs.Prelude.{Option, Some, None, is_some, option_map, option_and_then, find, if◌then◌else◌, ◌==◌}
+use Rattle.std.proofs.lemmas.Bool.{false≢true}
+use Rattle.std.proofs.lemmas.List.Sums.{fold_push}
+use Rattle.jaeger_model.specs.declared.placed.Placed.{Placed}
+use Rattle.jaeger_model.specs.Parents.{parent}
+use Rattle.trace_model.specs.Linking.{has_id, parent_in}
+use Rattle.trace_model.specs.Adjusting.{chain, chain_through, Clock, clock_of, clock_along, clock_below, clock_at, host_of}
+
+-- P of each
+abbrev pub Each : {X : Type 0} → (X → Type 0) → List X → Type 0
+Each P [] = Unit {0}
+Each P (x ∷ xs) = P x × Each P xs
+
+-- what is found has what each has
+pub found_has : {X : Type 0} (P : X → Type 0) (t : X → Bool) (xs : List X) (y : X) → find t xs ≡ Some y → Each P xs → P y
+found_has P t [] y e h = absurd (false≢true (ap is_some e))
+found_has {X} P t (x ∷ xs) y e h = elim (t x) as (λ b. cond b (Some x) (find t xs) ≡ Some y → P y) [
+  | true ↦ λ e. subst P (some_is x y e) h.0
+  | false ↦ λ e. found_has P t xs y e h.1
+] e
+  where
+    some_is : (a b : X) → Some a ≡ Some b → a ≡ b
+    some_is a b e = cc
+
+parent_has : (P : Placed → Type 0) (trace : List Placed) (p q : Placed) → parent_in trace p ≡ Some q → Each P trace → P q
+parent_has P trace p q e h = elim ((parent p.span).0 == 0) as (λ b. (if b then None else find (has_id (parent p.span)) trace) ≡ Some q → P q) [
+  | true ↦ λ e. absurd (false≢true (ap is_some e))
+  | false ↦ λ e. found_has P (has_id (parent p.span)) trace q e h
+] e
+
+pub chain_step : (n : ℕ) (trace : List Placed) (p : Placed) → chain (suc n) trace p ≡ chain_through p (λ q. chain n trace q) (parent_in trace p)
+unfolding chain
+chain_step n trace p = refl
+
+chain_none : (trace : List Placed) (p : Placed) → chain 0 trace p ≡ None
+unfolding chain
+chain_none trace p = refl
+
+is_some-map : {X Y : Type 0} (f : X → Y) (o : Option X) → is_some (option_map f o) ≡ is_some o
+is_some-map f None = refl
+is_some-map f (Some x) = refl
+
+module _ (trace : List Placed) where
+  abbrev ended : ℕ → Placed → Bool
+  ended n p = is_some (chain n trace p)
+
+  through_ended : (p : Placed) (up : Placed → Option (List Placed)) (o : Option Placed) (q : Placed) → o ≡ Some q → is_some (chain_through p up o) ≡ is_some (up q)
+  through_ended p up o q e = ap (λ x. is_some (chain_through p up x)) e ∙ is_some-map _ (up q)
+
+  -- one more step changes no chain that has ended
+  pub settled : (n : ℕ) (p : Placed) → ended n p ≡ true → chain (suc n) trace p ≡ chain n trace p
+  settled zero p e = absurd (false≢true (ap is_some (sym (chain_none trace p)) ∙ e))
+  settled (suc n) p e =
+      chain_step (suc n) trace p
+      ∙ elim (parent_in trace p) as (λ o. is_some (chain_through p (λ q. chain n trace q) o) ≡ true → chain_through p (λ q. chain (suc n) trace q) o ≡ chain_through p (λ q. chain n trace q) o) [
+        | None ↦ λ e. refl
+        | Some q ↦ λ e. ap (option_map (λ above. above ++ p ∷ [])) (settled n q (sym (is_some-map _ (chain n trace q)) ∙ e))
+      ] (ap is_some (sym (chain_step n trace p)) ∙ e)
+      ∙ sym (chain_step n trace p)
+
+  abbrev Same : ℕ → Placed → Type 0
+  Same n q = ended (suc n) q ≡ ended n q
+
+  -- where one more step ends no further chain of the trace, no later step does
+  still : (n : ℕ) → Each (Same n) trace → (p : Placed) → Same (suc n) p
+  still n h p =
+      ap is_some (chain_step (suc n) trace p)
+      ∙ elim (parent_in trace p) as (λ o. parent_in trace p ≡ o → is_some (chain_through p (λ q. chain (suc n) trace q) o) ≡ is_some (chain_through p (λ q. chain n trace q) o)) [
+        | None ↦ λ e. refl
+        | Some q ↦ λ e. is_some-map _ (chain (suc n) trace q) ∙ parent_has (Same n) trace p q e h ∙ sym (is_some-map _ (chain n trace q))
+      ] refl
+      ∙ ap is_some (sym (chain_step n trace p))
+
+  each_from_all : (P : Placed → Type 0) → ((p : Placed) → P p) → (xs : List Placed) → Each P xs
+  each_from_all P h [] = tt
+  each_from_all P h (x ∷ xs) = (h x, each_from_all P h xs)
+
+  abbrev tally : (Placed → Bool) → List Placed → ℕ
+  tally f [] = 0
+  tally f (x ∷ xs) = cond (f x) 1 0 + tally f xs
+
+  tally_le : (f : Placed → Bool) (xs : List Placed) → tally f xs ≤ length xs
+  tally_le f [] = omega arith
+  tally_le f (x ∷ xs) = let h = tally_le f xs in elim (f x) as (λ b. cond b 1 0 + tally f xs ≤ suc (length xs)) [ true ↦ omega arith | false ↦ omega arith ]
+
+  tally_all : (f : Placed → Bool) (xs : List Placed) → length xs ≤ tally f xs → Each (λ x. f x ≡ true) xs
+  tally_all f [] h = tt
+  tally_all f (x ∷ xs) h =
+      let few = tally_le f xs in
+      elim (f x) as (λ b. suc (length xs) ≤ cond b 1 0 + tally f xs → (b ≡ true) × Each (λ x. f x ≡ true) xs) [
+        | true ↦ λ h. (refl, tally_all f xs (omega arith))
+        | false ↦ λ h. absurd (omega arith)
+      ] h
+
+  -- of two tests where the first implies the second, either they agree on the list or the second passes more
+  agree_or_more : (f g : Placed → Bool) → ((x : Placed) → f x ≡ true → g x ≡ true) → (xs : List Placed) → (tally f xs ≤ tally g xs) × (Each (λ x. g x ≡ f x) xs ⊎ (tally f xs < tally g xs))
+  agree_or_more f g up [] = (omega arith, inl tt)
+  agree_or_more f g up (x ∷ xs) = go (agree_or_more f g up xs)
+    where
+      go : (tally f xs ≤ tally g xs) × (Each (λ x. g x ≡ f x) xs ⊎ (tally f xs < tally g xs)) → (tally f (x ∷ xs) ≤ tally g (x ∷ xs)) × (Each (λ x. g x ≡ f x) (x ∷ xs) ⊎ (tally f (x ∷ xs) < tally g (x ∷ xs)))
+      go h = elim (f x) as (λ a. (a ≡ true → g x ≡ true) → (cond a 1 0 + tally f xs ≤ tally g (x ∷ xs)) × (((g x ≡ a) × Each (λ x. g x ≡ f x) xs) ⊎ (cond a 1 0 + tally f xs < tally g (x ∷ xs)))) [
+        | true ↦ λ up. elim (g x) as (λ b. (b ≡ true) → (1 + tally f xs ≤ cond b 1 0 + tally g xs) × (((b ≡ true) × Each (λ x. g x ≡ f x) xs) ⊎ (1 + tally f xs < cond b 1 0 + tally g xs))) [
+          | true ↦ λ _. let le = h.0 in (omega arith, ⊎_elim (λ e. inl (refl, e)) (λ lt. inr (omega arith)) h.1)
+          | false ↦ λ e. absurd (false≢true e)
+        ] (up refl)
+        | false ↦ λ _. elim (g x) as (λ b. (0 + tally f xs ≤ cond b 1 0 + tally g xs) × (((b ≡ false) × Each (λ x. g x ≡ f x) xs) ⊎ (0 + tally f xs < cond b 1 0 + tally g xs))) [
+          | true ↦ let le = h.0 in (omega arith, inr (omega arith))
+          | false ↦ let le = h.0 in (omega arith, ⊎_elim (λ e. inl (refl, e)) (λ lt. inr (omega arith)) h.1)
+        ]
+      ] (up x)
+
+  rising : (n : ℕ) (p : Placed) → ended n p ≡ true → ended (suc n) p ≡ true
+  rising n p e = ap is_some (settled n p e) ∙ e
+
+  -- after n steps nothing changes any more, or n chains have ended
+  by_then : (n : ℕ) → Each (Same n) trace ⊎ (n ≤ tally (ended n) trace)
+  by_then zero = inr (omega arith)
+  by_then (suc n) = ⊎_elim
+      (λ h. inl (each_from_all (Same (suc n)) (still n h) trace))
+      (λ many. ⊎_elim (λ h. inl (each_from_all (Same (suc n)) (still n h) trace)) (λ more. inr (omega arith)) (agree_or_more (ended n) (ended (suc n)) (rising n) trace).1)
+      (by_then n)
+
+  each_map : (P Q : Placed → Type 0) → ((p : Placed) → P p → Q p) → (xs : List Placed) → Each P xs → Each Q xs
+  each_map P Q f [] h = tt
+  each_map P Q f (x ∷ xs) h = (f x h.0, each_map P Q f xs h.1)
+
+  enough : Each (Same (length trace)) trace
+  enough = ⊎_elim (λ h. h) (λ many. each_map (λ x. ended (length trace) x ≡ true) (Same (length trace)) (λ p e. rising (length trace) p e ∙ sym e) trace (tally_all (ended (length trace)) trace many)) (by_then (length trace))
+
+  same_chain : (n : ℕ) (p : Placed) → Same n p → chain (suc n) trace p ≡ chain n trace p
+  same_chain n p same = elim (chain n trace p) as (λ o. chain n trace p ≡ o → chain (suc n) trace p ≡ o) [
+    | None ↦ λ e. none_is (chain (suc n) trace p) (same ∙ ap is_some e)
+    | Some c ↦ λ e. settled n p (ap is_some e) ∙ e
+  ] refl
+    where
+      none_is : (o : Option (List Placed)) → is_some o ≡ false → o ≡ None
+      none_is None e = refl
+      none_is (Some c) e = absurd (false≢true (sym e))
+
+  -- a span of the trace stands below its parent's chain
+  pub chains : Each (λ p. chain (length trace) trace p ≡ chain_through p (λ q. chain (length trace) trace q) (parent_in trace p)) trace
+  chains = each_map (Same (length trace)) _ (λ p same. sym (same_chain (length trace) p same) ∙ chain_step (length trace) trace p) trace enough
+
+-- ---- the clock of a span, by that of its parent
+abbrev pub clock_by : ℕ → (Placed → Option Clock) → Placed → Option Placed → Option Clock
+clock_by max_skew above p None = Some (clock_at max_skew (host_of p) (pos 0) p.span)
+clock_by max_skew above p (Some q) = option_map (λ c. clock_below max_skew c p) (above q)
+
+-- a chain is never empty
+abbrev NotNil : Option (List Placed) → Type 0
+NotNil None = Unit {0}
+NotNil (Some []) = ⊥
+NotNil (Some (x ∷ xs)) = Unit {0}
+
+push_not_nil : (o : Option (List Placed)) (p : Placed) → NotNil (option_map (λ above. above ++ p ∷ []) o)
+push_not_nil None p = tt
+push_not_nil (Some []) p = tt
+push_not_nil (Some (x ∷ xs)) p = tt
+
+through_not_nil : (p : Placed) (up : Placed → Option (List Placed)) (o : Option Placed) → NotNil (chain_through p up o)
+through_not_nil p up None = tt
+through_not_nil p up (Some q) = push_not_nil (up q) p
+
+not_nil : (n : ℕ) (trace : List Placed) (p : Placed) → NotNil (chain n trace p)
+not_nil zero trace p = subst NotNil (sym (chain_none trace p)) tt
+not_nil (suc n) trace p = subst NotNil (sym (chain_step n trace p)) (through_not_nil p (λ q. chain n trace q) (parent_in trace p))
+
+clock_push : (max_skew : ℕ) (o : Option (List Placed)) (p : Placed) → NotNil o
+    → option_and_then (clock_along max_skew) (option_map (λ above. above ++ p ∷ []) o) ≡ option_map (λ c. clock_below max_skew c p) (option_and_then (clock_along max_skew) o)
+clock_push max_skew None p h = refl
+clock_push max_skew (Some []) p h = absurd h
+clock_push max_skew (Some (x ∷ xs)) p h = ap (λ c. Some c) (fold_push (clock_below max_skew) (clock_at max_skew (host_of x) (pos 0) x.span) xs p)
+
+-- each span of the trace has the clock that its parent's makes
+pub clocks : (max_skew : ℕ) (trace : List Placed) → Each (λ p. clock_of max_skew trace p ≡ clock_by max_skew (clock_of max_skew trace) p (parent_in trace p)) trace
+clocks max_skew trace = each_map trace _ _ (λ p e. ap (option_and_then (clock_along max_skew)) e ∙ by_parent p (parent_in trace p)) trace (chains trace)
+  where
+    by_parent : (p : Placed) (o : Option Placed) → option_and_then (clock_along max_skew) (chain_through p (λ q. chain (length trace) trace q) o) ≡ clock_by max_skew (clock_of max_skew trace) p o
+    by_parent p None = refl
+    by_parent p (Some q) = clock_push max_skew (chain (length trace) trace q) p (not_nil (length trace) trace q)

@@ -1,0 +1,11 @@
+pub mod Limits
+pub mod Histories
+pub mod Rings
+pub mod Showing
+pub mod Names
+pub mod Searching
+pub mod Linking
+pub mod Adjusting
+pub mod Answers
+pub mod Held
+pub mod Refusals

@@ -1,0 +1,29 @@
+//! Entries, questions and answers, and the plain store: what a history of entries answers, from
+//! scratch and over the plain list, with no index and nothing kept in between.
+//!
+//! * `limits`, `entry`, `refusal`: what is kept, and why an entry is turned away.
+//! * `query`, `answer`: what can be asked, and what is answered.
+//! * `plain`: the plain store as a slow program, whose contracts are the definitions of `specs/`.
+//! * `laws`: facts about the definitions in the subject's own words.
+#![tactic(auto)]
+
+mod answer;
+mod entry;
+pub mod laws;
+mod limits;
+mod plain;
+mod query;
+mod ranks;
+mod refusal;
+mod sets;
+mod skew;
+
+pub use answer::{Answer, Link, Operation, Shown};
+pub use entry::Entry;
+pub use limits::Limits;
+pub use plain::{get_trace, plain_answer};
+pub use query::{Find, Query};
+pub use refusal::Refusal;
+
+#[cfg(test)]
+mod tests;
