@@ -1,0 +1,145 @@
+ghost use Rattle.std.specs.Prelude.{◌≡◌, List, ℕ, [], length};
+ghost use Rattle.thrift_binary.specs.Writing.{Writes, WritesSized, bool_text, i32_text, i64_text, string_text, field_text, stop_text, list_head_text};
+ghost use Rattle.thrift_binary.specs.declared.out.WriteError.TheVariants.{Memory};
+
+use byteorder::{BigEndian, ByteOrder};
+use std::alloc::{AllocError, Global};
+use std::marker::Model;
+
+/// The greatest length or size that the protocol has.
+const MAX_LENGTH: usize = 0x7fff_ffff;
+
+/// Why a value could not be written.
+#[derive(Clone, Copy, Debug, PartialEq, Eq)]
+pub enum WriteError {
+    /// A length or a size is above 2,147,483,647.
+    BadLength,
+    /// The output could not grow.
+    Memory,
+}
+
+impl From<AllocError> for WriteError {
+    ghost from_gives = { λ _ e. e ≡ Memory };
+
+    fn from(_error: AllocError) -> Self {
+        WriteError::Memory
+    }
+}
+
+/// Writes values at the end of bytes, in the Thrift binary protocol. A refusal writes nothing.
+#[derive(Debug, Drop)]
+pub struct Out {
+    bytes: Vec<u8>,
+}
+
+impl Model for Out {
+    ghost Value = { List ℕ };
+
+    ghost view = { λ o. o.bytes.items };
+}
+
+impl Out {
+    /// An output without bytes.
+    pub fn new(alloc: Global) -> Self
+        ensures { result ≡ [] }
+    {
+        Out { bytes: Vec::new(alloc) }
+    }
+
+    /// What was written.
+    pub fn into_bytes(self) -> Vec<u8>
+        ensures { result.items ≡ self }
+    {
+        self.bytes
+    }
+
+    fn append(&mut self, text: &[u8]) -> Result<(), WriteError>
+        ensures { Writes text.now self.old result self.new }
+    {
+        self.bytes.extend_from_slice(text)?;
+        Ok(())
+    }
+
+    /// The head of a field: the type of its value, and its id.
+    #[tactic(auto, unfolding(crate::specs::Writing::field_text))]
+    pub fn field(&mut self, code: u8, id: i16) -> Result<(), WriteError>
+        ensures { Writes (field_text code id) self.old result self.new }
+    {
+        let mut text = [code, 0, 0];
+        BigEndian::write_i16(&mut text[1..], id);
+        self.append(&text)
+    }
+
+    /// The byte that ends a struct.
+    pub fn stop(&mut self) -> Result<(), WriteError>
+        ensures { Writes stop_text self.old result self.new }
+    {
+        self.append(&[0])
+    }
+
+    /// A bool: one byte, 1 for true and 0 for false.
+    pub fn bool(&mut self, value: bool) -> Result<(), WriteError>
+        ensures { Writes (bool_text value) self.old result self.new }
+    {
+        self.append(&[u8::from(value)])
+    }
+
+    /// A signed number of 32 bits, the highest byte first.
+    #[tactic(auto, unfolding(crate::specs::Writing::i32_text))]
+    pub fn i32(&mut self, number: i32) -> Result<(), WriteError>
+        ensures { Writes (i32_text number) self.old result self.new }
+    {
+        let mut text = [0; 4];
+        BigEndian::write_i32(&mut text, number);
+        self.append(&text)
+    }
+
+    /// A signed number of 64 bits, the highest byte first.
+    #[tactic(auto, unfolding(crate::specs::Writing::i64_text))]
+    pub fn i64(&mut self, number: i64) -> Result<(), WriteError>
+        ensures { Writes (i64_text number) self.old result self.new }
+    {
+        let mut text = [0; 8];
+        BigEndian::write_i64(&mut text, number);
+        self.append(&text)
+    }
+
+    /// A double: its eight bytes as they stand, the highest first.
+    pub fn double(&mut self, bytes: [u8; 8]) -> Result<(), WriteError>
+        ensures { Writes bytes self.old result self.new }
+    {
+        self.append(&bytes)
+    }
+
+    /// A string or binary: its length, then its bytes.
+    #[tactic(auto, unfolding(crate::specs::Writing::string_text, crate::specs::Writing::size_text))]
+    pub fn bytes(&mut self, bytes: &[u8]) -> Result<(), WriteError>
+        ensures { WritesSized (length bytes.now) (string_text bytes.now) self.old result self.new }
+    {
+        if bytes.len() > MAX_LENGTH {
+            return Err(WriteError::BadLength);
+        }
+        let start = self.bytes.len();
+        let mut size = [0; 4];
+        BigEndian::write_u32(&mut size, bytes.len() as u32);
+        self.append(&size)?;
+        if let Err(error) = self.append(bytes) {
+            self.bytes.truncate(start);
+            return Err(error);
+        }
+        Ok(())
+    }
+
+    /// The head of a list: the type and the number of its elements.
+    #[tactic(auto, unfolding(crate::specs::Writing::list_head_text, crate::specs::Writing::size_text))]
+    pub fn list_head(&mut self, code: u8, size: usize) -> Result<(), WriteError>
+        ensures { WritesSized size (list_head_text code size) self.old result self.new }
+    {
+        if size > MAX_LENGTH {
+            return Err(WriteError::BadLength);
+        }
+        let mut text = [code, 0, 0, 0, 0];
+        BigEndian::write_u32(&mut text[1..], size as u32);
+        self.append(&text)
+    }
+}
