@@ -1,7 +1,9 @@
 -- The one spelling of each value that is written, and what a call on an output does.
 use Rattle.std.specs.Prelude.{◌≡◌, ℕ, ℤ, ◌^◌, List, [], ◌∷◌, ◌++◌, length, Bool, true, false, nat_lt, Result, Ok, Err, MatchBool}
 use Rattle.std.specs.Int.{w16, w32, w64, cast_unsigned}
+use Rattle.std.specs.List.{flat_map}
 use Rattle.byteorder.specs.Endian.{big_bytes}
+use Rattle.thrift_binary.specs.Spelling.{Field}
 use Rattle.thrift_binary.specs.declared.out.WriteError.{WriteError}
 use Rattle.thrift_binary.specs.declared.out.WriteError.TheVariants.{BadLength, Memory}
 
@@ -36,6 +38,15 @@ stop_text = 0 ∷ []
 -- the type and the number of a list's elements
 unfoldable pub list_head_text : ℕ → ℕ → List ℕ
 list_head_text c n = c ∷ size_text n
+
+-- fields one after the other, and the stop byte
+abbrev pub fields_text : List Field → List ℕ
+fields_text [] = stop_text
+fields_text (f ∷ fs) = field_text f.code f.id ++ (f.text ++ fields_text fs)
+
+-- a list of values of the type c, each with its own text
+abbrev pub list_text : {A : Type 0} → ℕ → (A → List ℕ) → List A → List ℕ
+list_text c one xs = list_head_text c (length xs) ++ flat_map one xs
 
 -- A call on an output that held `old` left `new`: the text stands at the end, or, without memory for it, nothing is written.
 abbrev pub Writes : List ℕ → List ℕ → Result (Unit {0}) WriteError → List ℕ → Type 0

@@ -5,10 +5,14 @@
 //! Truncated have Truncated beginnings only. So bytes that come in pieces are refused as soon as the fault's
 //! place has come, and never before, however they are cut.
 
-ghost use Rattle.std.specs.Prelude.{ℕ};
+ghost use Rattle.std.specs.Prelude.{◌≡◌, ◌<◌, ◌^◌, ℕ, ℤ, List, Bool, FitsSigned, length};
+ghost use Rattle.std.specs.Int.{w16, w32, w64};
+ghost use Rattle.std.specs.List.{AllByRecursion};
 ghost use Rattle.thrift_binary.specs.Reading.{field_at, list_at, string_at};
 ghost use Rattle.thrift_binary.specs.Skipping.{skip_at};
 ghost use Rattle.thrift_binary.specs.Cuts.{FaultsHavePlaces, ValuesHaveEnds, ShortStaysShort};
+ghost use Rattle.thrift_binary.specs.Spelling.{Field, IsBool, IsI32, IsI64, IsDouble, IsString, IsHead, IsFields, IsListHead, IsTypedList};
+ghost use Rattle.thrift_binary.specs.Writing.{bool_text, i32_text, i64_text, string_text, field_text, list_head_text, fields_text, list_text};
 ghost use Rattle.thrift_binary.specs.declared.fault.WireError.TheVariants.{Truncated};
 
 /// A skipped value of any type.
@@ -37,4 +41,16 @@ pub fn cuts_of_strings()
     ensures faults { FaultsHavePlaces Truncated string_at }
     ensures values { ValuesHaveEnds Truncated string_at }
     ensures truncated { ShortStaysShort Truncated string_at }
+{}
+
+/// What [`crate::Out`] writes spells the value that it was given: so it is read back as that value, whatever follows.
+pub fn written_values_spell()
+    ensures bool { (b : Bool) → IsBool (bool_text b) b }
+    ensures i32 { (z : ℤ) → FitsSigned w32 z → IsI32 (i32_text z) z }
+    ensures i64 { (z : ℤ) → FitsSigned w64 z → IsI64 (i64_text z) z }
+    ensures double { (bytes : List ℕ) → length bytes ≡ 8 → IsDouble bytes bytes }
+    ensures bytes { (bytes : List ℕ) → length bytes < 2 ^ 31 → IsString (string_text bytes) bytes }
+    ensures field { (f : Field) → FitsSigned w16 f.id → IsHead (field_text f.code f.id) f }
+    ensures list_head { (c n : ℕ) → n < 2 ^ 31 → IsListHead c n (list_head_text c n) }
+    ensures fields { (fs : List Field) → AllByRecursion (λ f. FitsSigned w16 f.id) fs → IsFields fs (fields_text fs) }
 {}

@@ -43,7 +43,9 @@ impl Out {
     pub fn new(alloc: Global) -> Self
         ensures { result ≡ [] }
     {
-        Out { bytes: Vec::new(alloc) }
+        Out {
+            bytes: Vec::new(alloc),
+        }
     }
 
     /// What was written.
