@@ -15,10 +15,10 @@ use Rattle.batch_codec.specs.declared.fault.Part.TheVariants as parts
 use Rattle.batch_codec.specs.declared.batch.BatchSlots.{BatchSlots}
 use Rattle.batch_codec.specs.Decoding.{Gives, wire, required}
 use Rattle.batch_codec.specs.Gathered.{no_batch}
-use Rattle.batch_codec.specs.BatchReading.{take_batch, batch_from, batch_at}
+use Rattle.batch_codec.specs.BatchReading.{take_batch, batch_from, batch_at, at_end, decoded}
 use Rattle.batch_codec.specs.Batches.{BatchField, IsStruct, whole_batch, IsBatch, Answers}
-use Rattle.batch_codec.proofs.ValuesSpelled.{is_i64}
-use Rattle.batch_codec.proofs.Structs.{known_found, known_again, known_coded, skipped_found, skipped_again, skipped_coded, struct_at, struct_found, path_gathers, required_found, is_list}
+use Rattle.batch_codec.proofs.ValuesSpelled.{Agrees, is_i64}
+use Rattle.batch_codec.proofs.Structs.{known_found, known_again, known_coded, skipped_found, skipped_again, skipped_coded, struct_found, struct_again, required_found, is_list}
 use Rattle.batch_codec.proofs.ProcessSpelled.{is_process}
 use Rattle.batch_codec.proofs.SpanSpelled.{is_span}
 
@@ -63,39 +63,37 @@ makes : (s : BatchSlots) (x : Batch) → s ≡ whole_batch x → batch_from s �
 unfolding batch_from
 makes s x m = rw m refl
 
--- the fields of a batch, whatever follows its stop byte
-abbrev behind : List ℕ → Batch → Result Batch DecodeError
-behind rest b = cond (eqb (length rest) 0) (Ok b) (Err Trailing)
-
-to_the_end : (w v : List ℕ) (s : BatchSlots) (x b : Batch) → fields_at wire take_batch no_batch w ≡ Ok (s, v) → batch_from s ≡ Ok x → v ≡ [] → x ≡ b
-    → struct_at take_batch BatchField no_batch batch_from (λ s y. s ≡ whole_batch y) w ≡ Ok (b, [])
-to_the_end w v s x b fields from none same = rw (fields, from, none, same) refl
-
-pub batch_found : (w : List ℕ) (b : Batch) → batch_at w ≡ Ok b → IsBatch w b
+pub is_batch : Agrees batch_at IsBatch
 unfolding batch_at IsBatch
+is_batch = record {
+  found = struct_found take_batch BatchField no_batch batch_from (λ s x. s ≡ whole_batch x) takes made;
+  again = struct_again take_batch BatchField no_batch batch_from (λ s x. s ≡ whole_batch x) coded again makes;
+}
+
+-- ---- all of the bytes
+
+pub batch_found : (w : List ℕ) (b : Batch) → decoded w ≡ Ok b → IsBatch w b
+unfolding decoded
 batch_found w b e =
-    let x = bind_ok (fields_at wire take_batch no_batch w) (λ y. batch_from y.0 >>= behind y.1) b e in
-    let k = bind_ok (batch_from x.0.0) (behind x.0.1) b x.2 in
-    let p = pass_ok (eqb (length x.0.1) 0) Trailing k.0 b k.2 in
+    let x = bind_ok (batch_at w) at_end b e in
+    let p = pass_ok (eqb (length x.0.1) 0) Trailing x.0.0 b x.2 in
+    let f = is_batch.found w x.0.0 x.0.1 x.1 in
     let none : x.0.1 ≡ [] = no_bytes x.0.1 (eqb-true (length x.0.1) 0 p.0) in
-    let whole = to_the_end w x.0.1 x.0.0 k.0 b x.1 k.1 none p.1 in
-    let f = struct_found take_batch BatchField no_batch batch_from (λ s y. s ≡ whole_batch y) takes made w b [] whole in
-    let same : f.text ≡ w = sym (f.parts ∙ append-nil f.text) in
-    subst (λ (v : List ℕ). IsStruct BatchField no_batch (λ s y. s ≡ whole_batch y) v b) same f.spells
+    let same : f.text ≡ w = sym (f.parts ∙ ap (λ (v : List ℕ). f.text ++ v) none ∙ append-nil f.text) in
+    let spells : IsBatch w x.0.0 = subst (λ (v : List ℕ). IsBatch v x.0.0) same f.spells in
+    subst (λ (y : Batch). IsBatch w y) p.1 spells
   where
     no_bytes : (v : List ℕ) → length v ≡ 0 → v ≡ []
     no_bytes [] e = refl
     no_bytes (y ∷ v) e = absurd (omega arith)
 
-pub batch_again : (w : List ℕ) (b : Batch) → IsBatch w b → batch_at w ≡ Ok b
-unfolding batch_at IsBatch
+pub batch_again : (w : List ℕ) (b : Batch) → IsBatch w b → decoded w ≡ Ok b
+unfolding decoded
 batch_again w b is =
-    let fields : fields_at wire take_batch no_batch (w ++ []) ≡ Ok (is.gathered, []) = fields_again wire take_batch BatchField coded again is.fields no_batch is.gathered w [] is.spelled (path_gathers BatchField is.fields no_batch is.gathered is.gathers) in
-    let whole = makes is.gathered b is.makes in
-    let here : fields_at wire take_batch no_batch w ≡ Ok (is.gathered, []) = ap (fields_at wire take_batch no_batch) (sym (append-nil w)) ∙ fields in
-    rw (here, whole) refl
+    let here : batch_at w ≡ Ok (b, []) = ap batch_at (sym (append-nil w)) ∙ is_batch.again w [] b is in
+    rw here refl
 
-pub decoded_found : (w : List ℕ) (result : Result Batch DecodeError) → Gives result (batch_at w) → IfOk result (λ b. IsBatch w b)
+pub decoded_found : (w : List ℕ) (result : Result Batch DecodeError) → Gives result (decoded w) → IfOk result (λ b. IsBatch w b)
 decoded_found w (Ok b) e = batch_found w b e
 decoded_found w (Err d) e = tt
 
@@ -111,5 +109,5 @@ decoded_so read b (Err (Missing p i)) e g = absurd cc
 decoded_so read b (Err BadEnum) e g = absurd cc
 decoded_so read b (Err Trailing) e g = absurd cc
 
-pub decoded_complete : (w : List ℕ) (result : Result Batch DecodeError) → Gives result (batch_at w) → Answers w result
-decoded_complete w result g b is = decoded_so (batch_at w) b result (batch_again w b is) g
+pub decoded_complete : (w : List ℕ) (result : Result Batch DecodeError) → Gives result (decoded w) → Answers w result
+decoded_complete w result g b is = decoded_so (decoded w) b result (batch_again w b is) g

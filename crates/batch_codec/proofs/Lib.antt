@@ -8,3 +8,8 @@ pub mod ReferenceSpelled
 pub mod ProcessSpelled
 pub mod SpanSpelled
 pub mod BatchSpelled
+pub mod CutStructs
+pub mod CutBatches
+pub mod NeverTrailing
+pub mod CutLaws
+pub mod LastOf

@@ -8,7 +8,7 @@ use Rattle.batch_codec.specs.declared.fault.Part.TheVariants as parts
 use Rattle.jaeger_model.specs.declared.batch.Batch.{Batch}
 use Rattle.batch_codec.specs.declared.fault.DecodeError.TheVariants.{Trailing}
 use Rattle.batch_codec.specs.declared.batch.BatchSlots.{BatchSlots}
-use Rattle.batch_codec.specs.Decoding.{wire, skipped, required, i64_at}
+use Rattle.batch_codec.specs.Decoding.{Reading, wire, skipped, required, i64_at}
 use Rattle.thrift_binary.specs.Lists.{list_of}
 use Rattle.batch_codec.specs.Gathered.{no_batch}
 use Rattle.batch_codec.specs.ProcessReading.{process_at}
@@ -27,9 +27,16 @@ batch_from s = do
   spans ← required s.spans parts.Batch 2
   Ok (record { process = process; spans = spans; seq_no = s.seq_no })
 
--- the one struct that spans all of the bytes, or the first fault
-unfoldable pub batch_at : List ℕ → Result Batch DecodeError
+unfoldable pub batch_at : Reading Batch
 batch_at w = do
   x ← fields_at wire take_batch no_batch w
   b ← batch_from x.0
-  if length x.1 == 0 then Ok b else Err Trailing
+  Ok (b, x.1)
+
+-- the end of the bytes, behind a batch
+abbrev pub at_end : Batch × List ℕ → Result Batch DecodeError
+at_end x = if length x.1 == 0 then Ok x.0 else Err Trailing
+
+-- what decoding gives: the batch that spans all of the bytes, or the first fault
+unfoldable pub decoded : List ℕ → Result Batch DecodeError
+decoded w = batch_at w >>= at_end

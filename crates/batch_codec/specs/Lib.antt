@@ -7,3 +7,5 @@ pub mod ProcessReading
 pub mod SpanReading
 pub mod BatchReading
 pub mod Batches
+pub mod Cuts
+pub mod LastCounts

@@ -1,7 +1,7 @@
 ghost use Rattle.std.specs.Prelude.{◌≡◌, IfOk};
 ghost use Rattle.batch_codec.specs.Batches.{Answers, IsBatch};
-ghost use Rattle.batch_codec.specs.BatchReading.{batch_from, batch_at};
-ghost use Rattle.batch_codec.specs.Decoding.{Gives};
+ghost use Rattle.batch_codec.specs.BatchReading.{batch_from, batch_at, decoded};
+ghost use Rattle.batch_codec.specs.Decoding.{Decodes, Gives};
 
 use crate::code::{I64, LIST, STRUCT};
 use crate::fault::{DecodeError, Part};
@@ -57,17 +57,24 @@ fn batch_of(slots: BatchSlots) -> Result<Batch, DecodeError>
 }
 
 #[tactic(auto, unfolding(crate::specs::BatchReading::batch_at))]
-fn read_batch(alloc: Global, bytes: &[u8]) -> Result<Batch, DecodeError>
-    ensures { Gives result (batch_at bytes.now) }
+fn read_batch(alloc: Global, cursor: &mut Cursor<'_>) -> Result<Batch, DecodeError>
+    ensures exact { Decodes (λ b. b) batch_at cursor.old result cursor.new }
 {
-    let mut cursor = Cursor::new(bytes);
     let none = BatchSlots {
         process: None,
         spans: None,
         seq_no: None,
     };
-    let slots = read_fields(alloc, none, &mut cursor)?;
-    let batch = batch_of(slots)?;
+    let slots = read_fields(alloc, none, cursor)?;
+    batch_of(slots)
+}
+
+#[tactic(auto, unfolding(crate::specs::BatchReading::decoded))]
+fn read_whole(alloc: Global, bytes: &[u8]) -> Result<Batch, DecodeError>
+    ensures { Gives result (decoded bytes.now) }
+{
+    let mut cursor = Cursor::new(bytes);
+    let batch = read_batch(alloc, &mut cursor)?;
     if !cursor.rest().is_empty() {
         return Err(DecodeError::Trailing);
     }
@@ -87,7 +94,7 @@ pub fn decode(alloc: Global, bytes: &[u8]) -> Result<Batch, DecodeError>
     ensures complete { Answers bytes.now result }
 
     // The batch or the first fault, unless memory ran out.
-    ensures exact { Gives result (batch_at bytes.now) }
+    ensures exact { Gives result (decoded bytes.now) }
 {
-    read_batch(alloc, bytes)
+    read_whole(alloc, bytes)
 }
