@@ -1,3 +1,4 @@
+pub mod Faults
 pub mod Decoding
 pub mod Gathered
 pub mod TagReading
