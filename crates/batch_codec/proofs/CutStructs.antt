@@ -1,0 +1,139 @@
+-- The readings of single values have places for their faults, as those of structs have whose fields' have.
+use Rattle.std.proofs.Common.{◌≡◌, ℕ, ℤ, pos, Bool, true, false, cond, eqb, ◌&&◌, List, Option, Some, None, Result, Ok, Err, refl, w32, w64}
+use Rattle.std.specs.Int.{cast_unsigned}
+use Rattle.std.specs.Ordering.{int_eq}
+use Rattle.std.specs.Str.{is_utf8}
+use Rattle.jaeger_model.specs.declared.span.RefKind.{RefKind}
+use Rattle.jaeger_model.specs.declared.span.RefKind.TheVariants.{ChildOf, FollowsFrom}
+use Rattle.thrift_binary.specs.declared.fault.WireError.TheVariants.{Truncated, BadText}
+use Rattle.thrift_binary.specs.Reading.{◌>>=◌, lift, bytes_at, string_at, signed_at}
+use Rattle.thrift_binary.specs.Reading as wires
+use Rattle.thrift_binary.specs.Skipping.{skip_at}
+use Rattle.thrift_binary.specs.Fields.{Take, fields_at}
+use Rattle.thrift_binary.specs.Lists.{list_of}
+use Rattle.thrift_binary.specs.Cuts.{Cut, IsCutSafe}
+use Rattle.thrift_binary.proofs.Cuts.{cut_ok, cut_err, cut_then, cut_map, cut_if, cut_lift}
+use Rattle.thrift_binary.proofs.CutReadings.{bytes_cut, signed_cut, bool_cut, string_cut}
+use Rattle.thrift_binary.proofs.CutSkip.{skip_cut}
+use Rattle.thrift_binary.proofs.CutFields.{fields_cut}
+use Rattle.thrift_binary.proofs.CutLists.{list_cut}
+use Rattle.batch_codec.specs.declared.fault.DecodeError.{DecodeError}
+use Rattle.batch_codec.specs.declared.fault.DecodeError.TheVariants.{Wire, BadEnum}
+use Rattle.batch_codec.specs.declared.tag.TagType.{TagType}
+use Rattle.batch_codec.specs.declared.tag.TagType.TheVariants as types
+use Rattle.batch_codec.specs.Decoding.{Reading, wire, skipped, bool_at, double_at, i32_at, i64_at, id_at, text_at, binary_at}
+use Rattle.batch_codec.specs.TagReading.{type_at}
+use Rattle.batch_codec.specs.ReferenceReading.{kind_at}
+use Rattle.batch_codec.proofs.Structs.{struct_at}
+
+-- the faults of the reading have places
+abbrev pub Safe : {A : Type 0} → Reading A → Type 0
+Safe read = IsCutSafe (Wire Truncated) read
+
+-- the same at these bytes
+abbrev pub SafeAt : {A : Type 0} → Reading A → List ℕ → Type 0
+SafeAt read w = Cut (Wire Truncated) read w
+
+-- ---- values
+
+pub bool_safe : Safe bool_at
+unfolding bool_at
+bool_safe w = cut_lift wire Truncated wires.bool_at w (bool_cut w)
+
+pub double_safe : Safe double_at
+unfolding double_at
+double_safe w = cut_lift wire Truncated (bytes_at 8) w (bytes_cut 8 w)
+
+pub i32_safe : Safe i32_at
+unfolding i32_at
+i32_safe w = cut_lift wire Truncated (signed_at w32 4) w (signed_cut w32 4 w)
+
+pub i64_safe : Safe i64_at
+unfolding i64_at
+i64_safe w = cut_lift wire Truncated (signed_at w64 8) w (signed_cut w64 8 w)
+
+pub id_safe : Safe id_at
+unfolding id_at
+id_safe = cut_map (Wire Truncated) i64_at (cast_unsigned w64) i64_safe
+
+pub binary_safe : Safe binary_at
+unfolding binary_at
+binary_safe w = cut_lift wire Truncated string_at w (string_cut w)
+
+-- a value, or what the others give
+choice_safe : {A : Type 0} (b : Bool) (x : A) (others : Reading A) (w : List ℕ) → SafeAt others w → SafeAt (λ v. cond b (Ok (x, v)) (others v)) w
+choice_safe {A = A} b x others w more = let one : Reading A = λ v. Ok (x, v) in cut_if (Wire Truncated) b one others w (cut_ok (Wire Truncated) one x (λ v. refl) w) more
+
+abbrev bad : {A : Type 0} → DecodeError → Reading A
+bad e v = Err e
+
+bad_safe : {A : Type 0} (e : DecodeError) (w : List ℕ) → SafeAt (bad {A = A} e) w
+bad_safe e w = cut_err (Wire Truncated) (bad e) e (λ v. refl) w
+
+abbrev checked : List ℕ → Reading (List ℕ)
+checked t v = cond (is_utf8 t) (Ok (t, v)) (Err (Wire BadText))
+
+pub text_safe : Safe text_at
+unfolding text_at binary_at
+text_safe = cut_then (Wire Truncated) binary_at checked binary_safe (λ t w. choice_safe (is_utf8 t) t (bad (Wire BadText)) w (bad_safe (Wire BadText) w))
+
+abbrev kinds : ℤ → Reading RefKind
+kinds z v = cond (int_eq z (pos 0)) (Ok (ChildOf, v)) (cond (int_eq z (pos 1)) (Ok (FollowsFrom, v)) (Err BadEnum))
+
+pub kind_safe : Safe kind_at
+unfolding kind_at
+kind_safe = cut_then (Wire Truncated) i32_at kinds i32_safe (λ z w.
+    choice_safe (int_eq z (pos 0)) ChildOf (λ v. cond (int_eq z (pos 1)) (Ok (FollowsFrom, v)) (Err BadEnum)) w (
+    choice_safe (int_eq z (pos 1)) FollowsFrom (bad BadEnum) w (bad_safe BadEnum w)))
+
+abbrev from_binary : ℤ → Reading TagType
+from_binary z v = cond (int_eq z (pos 4)) (Ok (types.Binary, v)) (Err BadEnum)
+
+abbrev from_long : ℤ → Reading TagType
+from_long z v = cond (int_eq z (pos 3)) (Ok (types.Long, v)) (from_binary z v)
+
+abbrev from_bool : ℤ → Reading TagType
+from_bool z v = cond (int_eq z (pos 2)) (Ok (types.Bool, v)) (from_long z v)
+
+abbrev from_double : ℤ → Reading TagType
+from_double z v = cond (int_eq z (pos 1)) (Ok (types.Double, v)) (from_bool z v)
+
+abbrev from_text : ℤ → Reading TagType
+from_text z v = cond (int_eq z (pos 0)) (Ok (types.Text, v)) (from_double z v)
+
+pub type_safe : Safe type_at
+unfolding type_at
+type_safe = cut_then (Wire Truncated) i32_at from_text i32_safe (λ z w.
+    choice_safe (int_eq z (pos 0)) types.Text (from_double z) w (
+    choice_safe (int_eq z (pos 1)) types.Double (from_bool z) w (
+    choice_safe (int_eq z (pos 2)) types.Bool (from_long z) w (
+    choice_safe (int_eq z (pos 3)) types.Long (from_binary z) w (
+    choice_safe (int_eq z (pos 4)) types.Binary (bad BadEnum) w (
+    bad_safe BadEnum w))))))
+
+-- ---- fields
+
+pub known_safe : {A S : Type 0} (read : Reading A) → Safe read → (set : A → S) (b : Bool) (others : Reading S) (w : List ℕ) → SafeAt others w → SafeAt (λ v. cond b (read v >>= λ x. Ok (set x.0, x.1)) (others v)) w
+known_safe read safe set b others w more = cut_if (Wire Truncated) b (λ v. read v >>= λ x. Ok (set x.0, x.1)) others w (cut_map (Wire Truncated) read set safe w) more
+
+pub skipped_safe : {S : Type 0} (s : S) (c : ℕ) (w : List ℕ) → SafeAt (skipped s c) w
+skipped_safe {S = S} s c w =
+    let past : Reading (Unit {0}) = λ v. lift wire (skip_at c v) in
+    let set : Unit {0} → S = λ x. s in
+    cut_map (Wire Truncated) past set (λ u. cut_lift wire Truncated (skip_at c) u (skip_cut c u)) w
+
+-- ---- structs and lists of them
+
+pub list_safe : {A : Type 0} (read : Reading A) → Safe read → Safe (list_of wire 12 read)
+list_safe read safe = list_cut wire 12 read safe
+
+-- the fault of a required field that is missing stands at the stop byte
+pub struct_safe : {S X : Type 0} (take : Take S DecodeError) (none : S) (from : S → Result X DecodeError) → ((s : S) (c : ℕ) (i : ℤ) (w : List ℕ) → SafeAt (take s c i) w) → Safe (λ w. fields_at wire take none w >>= λ y. from y.0 >>= λ z. Ok (z, y.1))
+struct_safe {S = S} {X = X} take none from safe = cut_then (Wire Truncated) (fields_at wire take none) made (fields_cut wire take safe none) (λ s w. by s (from s) w)
+  where
+    made : S → Reading X
+    made s v = from s >>= λ z. Ok (z, v)
+
+    by : (s : S) (r : Result X DecodeError) (w : List ℕ) → SafeAt (λ v. r >>= λ z. Ok (z, v)) w
+    by s (Ok x) w = let one : Reading X = λ v. Ok (x, v) in cut_ok (Wire Truncated) one x (λ v. refl) w
+    by s (Err e) w = bad_safe e w

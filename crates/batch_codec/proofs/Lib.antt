@@ -1,0 +1,15 @@
+pub mod Texts
+pub mod ItemsLoop
+pub mod ValuesSpelled
+pub mod Structs
+pub mod TagSpelled
+pub mod LogSpelled
+pub mod ReferenceSpelled
+pub mod ProcessSpelled
+pub mod SpanSpelled
+pub mod BatchSpelled
+pub mod CutStructs
+pub mod CutBatches
+pub mod NeverTrailing
+pub mod CutLaws
+pub mod LastOf

@@ -1,0 +1,12 @@
+pub mod Faults
+pub mod Decoding
+pub mod Gathered
+pub mod TagReading
+pub mod LogReading
+pub mod ReferenceReading
+pub mod ProcessReading
+pub mod SpanReading
+pub mod BatchReading
+pub mod Batches
+pub mod Cuts
+pub mod LastCounts

@@ -1,0 +1,142 @@
+ghost use Rattle.std.specs.Prelude.{◌≡◌, Some, IfOk, string_bytes};
+ghost use Rattle.batch_codec.specs.Faults.{number_of, name_of, struct_name, fault_text};
+ghost use Rattle.batch_codec.specs.declared.fault.DecodeError.TheVariants.{Memory, Wire};
+
+use std::alloc::{AllocError, AllocFailed, Global};
+use std::error::Error;
+use std::fmt;
+use thrift_binary::WireError;
+
+/// A struct of `jaeger.thrift`.
+#[derive(Clone, Copy, Debug, PartialEq, Eq)]
+pub enum Part {
+    Batch,
+    Process,
+    Span,
+    SpanRef,
+    Log,
+    Tag,
+}
+
+impl Part {
+    /// The struct's name in `jaeger.thrift`.
+    pub fn name(self) -> &'static str
+        ensures { result.now ≡ struct_name self }
+    {
+        match self {
+            Part::Batch => "Batch",
+            Part::Process => "Process",
+            Part::Span => "Span",
+            Part::SpanRef => "SpanRef",
+            Part::Log => "Log",
+            Part::Tag => "Tag",
+        }
+    }
+}
+
+/// Why bytes are no batch: the first fault from left to right.
+#[derive(Clone, Copy, Debug, PartialEq, Eq)]
+pub enum DecodeError {
+    /// The bytes break the protocol, or a known value isn't of its type.
+    Wire(WireError),
+    /// A required field is absent at its struct's stop byte; the least such id.
+    Missing(Part, u8),
+    /// The number of an enum isn't in its table.
+    BadEnum,
+    /// Bytes follow the batch.
+    Trailing,
+    /// There was no memory for the batch.
+    Memory,
+}
+
+impl DecodeError {
+    /// The number that names the fault for good.
+    pub fn number(self) -> u8
+        ensures { result ≡ number_of self }
+    {
+        match self {
+            DecodeError::Wire(WireError::Truncated) => 1,
+            DecodeError::Wire(WireError::BadLength) => 2,
+            DecodeError::Wire(WireError::BadType) => 3,
+            DecodeError::Wire(WireError::TooDeep) => 4,
+            DecodeError::Wire(WireError::BadBool) => 5,
+            DecodeError::Wire(WireError::BadText) => 6,
+            DecodeError::Missing(..) => 7,
+            DecodeError::BadEnum => 8,
+            DecodeError::Trailing => 9,
+            DecodeError::Memory => 22,
+        }
+    }
+
+    /// The name, without the struct and the id of a missing field.
+    pub fn name(self) -> &'static str
+        ensures { result.now ≡ name_of self }
+    {
+        match self {
+            DecodeError::Wire(WireError::Truncated) => "Truncated",
+            DecodeError::Wire(WireError::BadLength) => "BadLength",
+            DecodeError::Wire(WireError::BadType) => "BadType",
+            DecodeError::Wire(WireError::TooDeep) => "TooDeep",
+            DecodeError::Wire(WireError::BadBool) => "BadBool",
+            DecodeError::Wire(WireError::BadText) => "BadText",
+            DecodeError::Missing(..) => "Missing",
+            DecodeError::BadEnum => "BadEnum",
+            DecodeError::Trailing => "Trailing",
+            DecodeError::Memory => "NoMemory",
+        }
+    }
+
+    /// The text: the number and the name, as `1 Truncated`, and with a missing field its struct and id,
+    /// as `7 Missing Span 7`.
+    ///
+    /// # Errors
+    ///
+    /// Want of memory alone.
+    pub fn text(self, alloc: Global) -> Result<String, AllocError>
+        ensures { IfOk result (λ s. string_bytes s ≡ fault_text self) }
+    {
+        format!(in alloc; "{self}")
+    }
+}
+
+impl fmt::Display for DecodeError {
+    ghost output = { λ e. Some (fault_text e) };
+
+    fn fmt<W: fmt::Write>(&self, f: &mut fmt::Formatter<W>) -> fmt::Result {
+        let number = self.number();
+        let name = self.name();
+        match self {
+            DecodeError::Missing(part, id) => {
+                let part = part.name();
+                write!(f, "{number} {name} {part} {id}")
+            }
+            _ => write!(f, "{number} {name}"),
+        }
+    }
+}
+
+impl Error for DecodeError {}
+
+impl From<WireError> for DecodeError {
+    ghost from_gives = { λ x e. e ≡ Wire x };
+
+    fn from(e: WireError) -> DecodeError {
+        DecodeError::Wire(e)
+    }
+}
+
+impl From<AllocError> for DecodeError {
+    ghost from_gives = { λ _ e. e ≡ Memory };
+
+    fn from(_e: AllocError) -> DecodeError {
+        DecodeError::Memory
+    }
+}
+
+impl<T: Drop> From<AllocFailed<T>> for DecodeError {
+    ghost from_gives = { λ _ e. e ≡ Memory };
+
+    fn from(_e: AllocFailed<T>) -> DecodeError {
+        DecodeError::Memory
+    }
+}

@@ -1,0 +1,25 @@
+//! Facts about the definitions. Each function does nothing, and its contract is the fact.
+
+ghost use Rattle.batch_codec.specs.Cuts.{FaultsHavePlaces, TrailingHasAPlace, TruncatedBeginsTruncated, BatchesEnd};
+ghost use Rattle.batch_codec.specs.LastCounts.{TagLast, LogLast, ReferenceLast, ProcessLast, SpanLast, BatchLast};
+
+/// Where the faults of a batch stand. A fault has one place, which is a fact about the bytes alone: so a
+/// batch that comes in pieces is refused as soon as that place has come and never before, however it is
+/// cut.
+pub fn cuts_of_batches()
+    ensures faults { FaultsHavePlaces }
+    ensures trailing { TrailingHasAPlace }
+    ensures truncated { TruncatedBeginsTruncated }
+    ensures whole { BatchesEnd }
+{}
+
+/// Of the fields of a struct with one id and its declared type the last counts, and each of them spells
+/// a value of that type.
+pub fn last_of_repeated_fields()
+    ensures tag { TagLast }
+    ensures log { LogLast }
+    ensures reference { ReferenceLast }
+    ensures process { ProcessLast }
+    ensures span { SpanLast }
+    ensures batch { BatchLast }
+{}

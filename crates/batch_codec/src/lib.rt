@@ -1,0 +1,33 @@
+//! Batches of spans as bytes: `jaeger.thrift` in the Thrift binary protocol.
+//!
+//! [`decode`] gives the [`Batch`](jaeger_model::Batch) that some bytes spell, all of them, or the first
+//! fault from left to right. It is proved both ways: what is read is spelled so, and what is spelled so
+//! is read. Which bytes spell a batch is a relation on whole texts that doesn't read
+//! (`specs/Batches.antt`); which fault is the first is a reading function on lists of bytes
+//! (`specs/*Reading.antt`), and [`laws`] says where a fault stands without speaking of any reading.
+//!
+//! * `fault`: why bytes are no batch.
+//! * `code`: the types of the protocol that `jaeger.thrift` uses.
+//! * `values`, `fields`, `items`: single values, a struct's fields up to its stop byte, a list of structs.
+//! * `tag`, `log`, `reference`, `process`, `span`, `batch`: one struct of `jaeger.thrift` each.
+//! * `laws`: facts about the definitions.
+#![tactic(auto)]
+
+mod batch;
+mod code;
+mod fault;
+mod fields;
+mod items;
+pub mod laws;
+mod log;
+mod process;
+mod reference;
+mod span;
+mod tag;
+mod values;
+
+pub use batch::decode;
+pub use fault::{DecodeError, Part};
+
+#[cfg(test)]
+mod tests;
