@@ -9,3 +9,4 @@ pub mod Adjusting
 pub mod Answers
 pub mod Held
 pub mod Refusals
+pub mod RefusalTexts
