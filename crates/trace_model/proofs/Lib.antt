@@ -7,3 +7,4 @@ pub mod Chains
 pub mod Legality
 pub mod Parents
 pub mod Prefixes
+pub mod RingFacts
