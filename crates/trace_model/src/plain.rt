@@ -12,7 +12,7 @@ use crate::answer::{Answer, Shown};
 use crate::entry::Entry;
 use crate::limits::Limits;
 use crate::query::Query;
-use crate::sets::all_services;
+use crate::names::all_services;
 use jaeger_model::{Placed, Seq, TraceId, domain};
 use std::alloc::{AllocError, Global};
 use std::sync::Arc;
