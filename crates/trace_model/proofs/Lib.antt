@@ -6,4 +6,5 @@ pub mod Ranking
 pub mod Chains
 pub mod Legality
 pub mod Parents
+pub mod Finding
 pub mod Prefixes
