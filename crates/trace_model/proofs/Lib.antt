@@ -7,4 +7,5 @@ pub mod Chains
 pub mod Legality
 pub mod Parents
 pub mod Finding
+pub mod NameLaws
 pub mod Prefixes
