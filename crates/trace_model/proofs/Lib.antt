@@ -8,4 +8,5 @@ pub mod Legality
 pub mod Parents
 pub mod Finding
 pub mod NameLaws
+pub mod SearchLaws
 pub mod Prefixes

@@ -73,7 +73,7 @@ operation_names_told service name ps =
 
 pub operations_told : (service kind : List ℕ) (o : Operation) (ps : List Placed)
     → list_any (same_operation o) (operations service kind ps)
-      ≡ list_any (λ (p : Placed). same_text service p.process.service && (is_asked_kind kind (operation_of p) && same_operation o (operation_of p))) ps
+    ≡ list_any (λ (p : Placed). same_text service p.process.service && (is_asked_kind kind (operation_of p) && same_operation o (operation_of p))) ps
 operations_told service kind o ps =
     let asked : Operation → Bool = λ x. is_asked_kind kind x && same_operation o x in
     any_filter (same_operation o) (is_asked_kind kind) (sorted_set operation_cmp (map operation_of (of_service service ps)))

@@ -48,7 +48,10 @@ fn bound(duration: i64) -> Option<i64>
 fn tag_text(alloc: Global, value: &Value) -> Result<Text, AllocError>
     ensures { IfOk result (λ t. t ≡ tag_text value.now) }
 {
-    match value { Value::Text(t) => t.clone(), _ => Err(AllocError) }
+    match value {
+        Value::Text(t) => t.clone(),
+        _ => Err(AllocError)
+    }
 }
 
 /// Whether the tag's value reads as the asked text.
@@ -88,16 +91,14 @@ fn is_logged(alloc: Global, logs: &[Log], asked: &(Text, Text)) -> Result<bool, 
 fn has_tag(alloc: Global, placed: &Placed, asked: &(Text, Text)) -> Result<bool, AllocError>
     ensures { IfOk result (λ b. b ≡ has_tag placed.now asked.now) }
 {
-    Ok(is_among(alloc, placed.span.tags.as_slice(), asked)?
-        || is_among(alloc, placed.process.tags.as_slice(), asked)?
-        || is_logged(alloc, placed.span.logs.as_slice(), asked)?)
+    Ok(
+        is_among(alloc, placed.span.tags.as_slice(), asked)?
+            || is_among(alloc, placed.process.tags.as_slice(), asked)?
+            || is_logged(alloc, placed.span.logs.as_slice(), asked)?,
+    )
 }
 
-fn has_all_tags(
-    alloc: Global,
-    placed: &Placed,
-    tags: &[(Text, Text)],
-) -> Result<bool, AllocError>
+fn has_all_tags(alloc: Global, placed: &Placed, tags: &[(Text, Text)]) -> Result<bool, AllocError>
     ensures { IfOk result (λ b. b ≡ list_all (has_tag placed.now) tags.now) }
 {
     for asked in tags {
@@ -130,9 +131,11 @@ fn is_timed(query: &Find, placed: &Placed) -> bool
 fn is_match(alloc: Global, query: &Find, placed: &Placed) -> Result<bool, AllocError>
     ensures { IfOk result (λ b. b ≡ matches query.now placed.now) }
 {
-    Ok(is_named(query, placed)
-        && is_timed(query, placed)
-        && has_all_tags(alloc, placed, query.tags.as_slice())?)
+    Ok(
+        is_named(query, placed)
+            && is_timed(query, placed)
+            && has_all_tags(alloc, placed, query.tags.as_slice())?,
+    )
 }
 
 /// Whether one span of the trace meets every condition of the search.
