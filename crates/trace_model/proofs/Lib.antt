@@ -6,5 +6,8 @@ pub mod Ranking
 pub mod Chains
 pub mod Legality
 pub mod Parents
+pub mod Finding
+pub mod NameLaws
+pub mod SearchLaws
 pub mod Prefixes
 pub mod RingFacts

@@ -12,6 +12,7 @@ mod adjust;
 mod answer;
 mod entry;
 pub mod laws;
+pub mod laws_search;
 mod limits;
 mod links;
 mod names;
