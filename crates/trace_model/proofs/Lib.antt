@@ -6,3 +6,4 @@ pub mod Ranking
 pub mod Chains
 pub mod Legality
 pub mod Parents
+pub mod Steps
