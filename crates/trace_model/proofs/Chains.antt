@@ -6,7 +6,8 @@ use Rattle.std.proofs.lemmas.List.Sums.{fold_push}
 use Rattle.jaeger_model.specs.declared.placed.Placed.{Placed}
 use Rattle.jaeger_model.specs.Parents.{parent}
 use Rattle.trace_model.specs.Linking.{has_id, parent_in}
-use Rattle.trace_model.specs.Adjusting.{chain, chain_through, Clock, clock_of, clock_along, clock_below, clock_at, host_of}
+use Rattle.trace_model.specs.declared.clock.Clock.{Clock}
+use Rattle.trace_model.specs.Adjusting.{chain, chain_through, clock_of, clock_along, clock_below, clock_at, host_of}
 
 -- P of each
 abbrev pub Each : {X : Type 0} → (X → Type 0) → List X → Type 0

@@ -10,6 +10,7 @@ use Rattle.jaeger_model.specs.declared.span.Log.{Log}
 use Rattle.jaeger_model.specs.declared.placed.Placed.{Placed}
 use Rattle.jaeger_model.specs.Parents.{own_child, own_other}
 use Rattle.trace_model.specs.declared.answer.Shown.{Shown}
+use Rattle.trace_model.specs.declared.clock.Clock.{Clock}
 use Rattle.trace_model.specs.Linking.{has_id, parent_in}
 use Rattle.jaeger_model.specs.Texts.{same_text}
 use Rattle.jaeger_model.specs.Tags.{first_text}
@@ -42,13 +43,6 @@ chain_through p up (Some q) = option_map (λ above. above ++ p ∷ []) (up q)
 unfoldable pub chain : ℕ → List Placed → Placed → Option (List Placed)
 chain zero trace p = None
 chain (suc n) trace p = chain_through p (λ q. chain n trace q) (parent_in trace p)
-
--- the running host and delta at a span, and the span as it is shown to those below
-pub record Clock : Type 0 where
-  pub host : List ℕ
-  pub delta : ℤ
-  pub start : ℤ
-  pub duration : ℤ
 
 -- the time fits 64 bits
 abbrev pub fits : ℤ → Bool
@@ -97,15 +91,31 @@ move_log delta l = record { at = l.at +ℤ delta; fields = l.fields }
 abbrev pub moved : ℤ → Span → Span
 moved delta s = record s { start = s.start +ℤ delta; logs = map (move_log delta) s.logs }
 
+abbrev pub moved_placed : ℤ → Placed → Placed
+moved_placed delta p = record { process = p.process; span = moved delta p.span }
+
 abbrev pub unadjusted : Placed → Shown
 unadjusted p = record { placed = p; warnings = [] }
 
+abbrev pub warned : Placed → List ℕ → Shown
+warned p warning = record { placed = p; warnings = warning ∷ [] }
+
+abbrev pub past_limit : ℤ → ℕ → List ℕ
+past_limit d max_skew = codes "clock skew of " ++ signed_decimal d ++ codes " us not applied: the limit is " ++ decimal max_skew ++ codes " us"
+
+abbrev pub past_times : ℤ → List ℕ
+past_times d = codes "clock skew of " ++ signed_decimal d ++ codes " us not applied: a time would not fit"
+
+abbrev pub adjusted_by : ℤ → List ℕ
+adjusted_by d = codes "clock skew adjusted by " ++ signed_decimal d ++ codes " us"
+
+-- the span moved by the delta of its clock, or left with a warning where that is past the limit or a time would not fit
 abbrev pub shifted : ℕ → ℤ → Placed → Shown
 shifted max_skew d p =
     if int_eq d (pos 0) then unadjusted p
-    else if not (nat_le (nat_abs d) max_skew) then record { placed = p; warnings = (codes "clock skew of " ++ signed_decimal d ++ codes " us not applied: the limit is " ++ decimal max_skew ++ codes " us") ∷ [] }
-    else if not (all_fit d p.span) then record { placed = p; warnings = (codes "clock skew of " ++ signed_decimal d ++ codes " us not applied: a time would not fit") ∷ [] }
-    else record { placed = record { process = p.process; span = moved d p.span }; warnings = (codes "clock skew adjusted by " ++ signed_decimal d ++ codes " us") ∷ [] }
+    else if not (nat_le (nat_abs d) max_skew) then warned p (past_limit d max_skew)
+    else if not (all_fit d p.span) then warned p (past_times d)
+    else warned (moved_placed d p) (adjusted_by d)
 
 abbrev pub shifted_by : ℕ → Placed → Option Clock → Shown
 shifted_by max_skew p None = unadjusted p

@@ -8,6 +8,7 @@
 #![tactic(auto)]
 
 mod answer;
+mod clock;
 mod entry;
 pub mod laws;
 mod limits;
