@@ -7,3 +7,5 @@ pub mod Chains
 pub mod Legality
 pub mod Parents
 pub mod Steps
+pub mod Prefixes
+pub mod RingFacts

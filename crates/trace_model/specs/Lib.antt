@@ -7,5 +7,8 @@ pub mod Searching
 pub mod Linking
 pub mod Adjusting
 pub mod Answers
+pub mod Splits
+pub mod Subsequences
 pub mod Held
 pub mod Refusals
+pub mod RefusalTexts

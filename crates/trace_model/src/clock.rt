@@ -8,7 +8,7 @@ ghost use Rattle.trace_model.specs.Adjusting.{host_of, fits, all_fit, is_applied
 
 use crate::answer::Shown;
 use crate::skew::{can_move, delta, is_within, moved_by};
-use jaeger_model::{Log, Placed, Seq, Span, Text};
+use jaeger_model::{Log, Placed, Seq, Span, Text, first_text};
 use std::alloc::{AllocError, Global};
 
 /// What a span hands down to the spans below it.
@@ -25,10 +25,10 @@ pub struct Clock {
 }
 
 /// The text of the process's first tag `ip`, or an empty one.
-fn host_of(_alloc: Global, _placed: &Placed) -> Result<Text, AllocError>
-    ensures { IfOk result (λ t. t ≡ host_of _placed.now) }
+fn host_of(alloc: Global, placed: &Placed) -> Result<Text, AllocError>
+    ensures { IfOk result (λ t. t ≡ host_of placed.now) }
 {
-    Err(AllocError)
+    first_text(alloc, placed.process.tags.as_slice(), "ip")
 }
 
 /// Each log time so much later is a time.

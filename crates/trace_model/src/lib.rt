@@ -3,30 +3,39 @@
 //!
 //! * `limits`, `entry`, `refusal`: what is kept, and why an entry is turned away.
 //! * `query`, `answer`: what can be asked, and what is answered.
-//! * `plain`: the plain store as a slow program, whose contracts are the definitions of `specs/`.
+//! * `plain`: the plain store as a slow program, whose contracts are the definitions of `specs/`;
+//!   it leans on `showing` (ring and shown spans), `names`, `search`, `links` and `adjust`.
 //! * `laws`: facts about the definitions in the subject's own words.
 #![tactic(auto)]
 
+mod adjust;
 mod answer;
 mod clock;
 mod entry;
 pub mod laws;
 mod limits;
 mod links;
+mod names;
 mod plain;
 mod query;
 mod ranks;
 mod refusal;
+mod search;
 mod sets;
+mod showing;
 mod skew;
 
+pub use adjust::adjusted_trace;
 pub use answer::{Answer, Link, Operation, Shown};
+pub use clock::{Clock, clock_below, root_clock, shifted, unadjusted};
 pub use entry::Entry;
 pub use limits::Limits;
 pub use links::service_links;
+pub use names::{operation_names, operations, services};
 pub use plain::{get_trace, plain_answer};
 pub use query::{Find, Query};
 pub use refusal::Refusal;
+pub use search::{find_traces, trace_ids};
 
 #[cfg(test)]
 mod tests;

@@ -1,34 +1,25 @@
-ghost use Rattle.std.specs.Prelude.{◌≡◌, List, map, filter, IfOk, IfSome, option_map};
-ghost use Rattle.trace_model.specs.Adjusting.{unadjusted};
-ghost use Rattle.trace_model.specs.Answers.{answer};
-ghost use Rattle.std.specs.List.{list_any};
-ghost use Rattle.std.specs.Arc.{arc_value};
-ghost use Rattle.jaeger_model.specs.Parents.{same_trace};
-ghost use Rattle.trace_model.specs.Histories.{arrivals};
-ghost use Rattle.trace_model.specs.Rings.{holds, arrive};
-ghost use Rattle.trace_model.specs.Showing.{shown, of_trace, trace_found};
+//! The plain store: each answer is made from the whole list of entries.
 
+ghost use Rattle.std.specs.Prelude.{◌≡◌, List, map, IfOk, option_map};
+ghost use Rattle.std.specs.Arc.{arc_value};
+ghost use Rattle.trace_model.specs.Adjusting.{adjusted, unadjusted};
+ghost use Rattle.trace_model.specs.Answers.{answer, shown_as};
+ghost use Rattle.trace_model.specs.Histories.{arrivals};
+ghost use Rattle.trace_model.specs.Searching.{traces};
+ghost use Rattle.trace_model.specs.Showing.{trace_found};
+
+use crate::adjust::adjusted_trace;
 use crate::answer::{Answer, Shown};
 use crate::entry::Entry;
 use crate::limits::Limits;
+use crate::links::service_links;
+use crate::names::{operation_names, operations, services};
 use crate::query::Query;
-use crate::sets::all_services;
+use crate::search::{find_traces, trace_ids};
+use crate::showing::{all_shown, keep_trace, shown_traces};
 use jaeger_model::{Placed, Seq, TraceId, domain};
 use std::alloc::{AllocError, Global};
 use std::sync::Arc;
-
-fn is_same_trace(a: TraceId, b: TraceId) -> bool
-    ensures { result ≡ same_trace a b }
-{
-    a.high == b.high && a.low == b.low
-}
-
-/// The trace is in the ring.
-fn is_held(ring: &[TraceId], trace: TraceId) -> bool
-    ensures { result ≡ holds ring.now trace }
-{
-    ring.iter().any(|t| is_same_trace(trace, *t))
-}
 
 /// The spans of all entries, in order.
 fn all_arrivals(alloc: Global, entries: &[Arc<Entry>]) -> Result<Vec<Placed>, AllocError>
@@ -42,34 +33,16 @@ fn all_arrivals(alloc: Global, entries: &[Arc<Entry>]) -> Result<Vec<Placed>, Al
     Ok(all)
 }
 
-/// The ring once a span of the trace has arrived.
-fn let_in(ring: &mut Vec<TraceId>, limit: u32, trace: TraceId) -> Result<(), AllocError>
-    ensures { IfOk result (λ _. ring.new.items ≡ arrive limit ring.old.items trace) }
+/// The traces that are shown, the one opened longest ago first.
+fn all_traces(
+    alloc: Global,
+    entries: &[Arc<Entry>],
+    limits: Limits,
+) -> Result<Vec<Seq<Placed>>, AllocError>
+    ensures { IfOk result (λ v. v.items ≡ traces limits.traces (arrivals (map arc_value entries.now))) }
 {
-    if is_held(ring, trace) {
-        return Ok(());
-    }
-    ring.push(trace)?;
-    if limit != 0 {
-        let limit = limit as usize;
-        let leaving = ring.len().saturating_sub(limit);
-        ring.drain(..leaving);
-    }
-    Ok(())
-}
-
-/// The spans that are shown.
-fn all_shown(alloc: Global, arrived: Vec<Placed>, limit: u32) -> Result<Vec<Placed>, AllocError>
-    ensures { IfOk result (λ v. v.items ≡ shown limit arrived.items) }
-{
-    let mut ring = Vec::new(alloc);
-    let mut kept: Vec<Placed> = Vec::new(alloc);
-    for placed in arrived {
-        let_in(&mut ring, limit, placed.span.trace)?;
-        kept.push(placed)?;
-        kept.retain(|p| is_held(&ring, p.span.trace));
-    }
-    Ok(kept)
+    let arrived = all_arrivals(alloc, entries)?;
+    shown_traces(alloc, arrived, limits.traces)
 }
 
 /// The shown spans of a trace in the order in which they arrived, or None where there are none.
@@ -82,8 +55,7 @@ pub fn get_trace(
     ensures { IfOk result (λ found. option_map (λ v. v.items) found ≡ trace_found limits.traces (arrivals (map arc_value entries.now)) id) }
 {
     let arrived = all_arrivals(alloc, entries)?;
-    let mut spans = all_shown(alloc, arrived, limits.traces)?;
-    spans.retain(|p| is_same_trace(id, p.span.trace));
+    let spans = keep_trace(all_shown(alloc, arrived, limits.traces)?.spans, id);
     if spans.is_empty() {
         return Ok(None);
     }
@@ -92,8 +64,8 @@ pub fn get_trace(
 
 /// The spans without warnings.
 #[tactic(auto, using(std::proofs::lemmas::List::map_push))]
-fn without_warnings(alloc: Global, spans: Vec<Placed>) -> Result<Vec<Shown>, AllocError>
-    ensures { IfOk result (λ v. v.items ≡ map unadjusted spans.items) }
+fn without_warnings(alloc: Global, spans: Vec<Placed>) -> Result<Seq<Shown>, AllocError>
+    ensures { IfOk result (λ s. s ≡ map unadjusted spans.items) }
 {
     let mut shown = Vec::new(alloc);
     for placed in spans {
@@ -102,36 +74,91 @@ fn without_warnings(alloc: Global, spans: Vec<Placed>) -> Result<Vec<Shown>, All
             warnings: Seq::new(alloc),
         })?;
     }
+    Ok(Seq::from_vec(shown))
+}
+
+/// The trace as it is shown: as it arrived, or adjusted.
+fn trace_shown(
+    alloc: Global,
+    spans: Vec<Placed>,
+    limits: Limits,
+    raw: bool,
+) -> Result<Seq<Shown>, AllocError>
+    ensures { IfOk result (λ s. s ≡ shown_as limits raw spans.items) }
+{
+    if raw {
+        without_warnings(alloc, spans)
+    } else {
+        adjusted_trace(alloc, Seq::from_vec(spans), limits.max_skew)
+    }
+}
+
+/// The traces, each adjusted.
+#[tactic(auto, using(std::proofs::lemmas::List::map_push))]
+fn all_adjusted(
+    alloc: Global,
+    traces: Vec<Seq<Placed>>,
+    limits: Limits,
+) -> Result<Vec<Seq<Shown>>, AllocError>
+    ensures { IfOk result (λ v. v.items ≡ map (adjusted limits.max_skew) traces.items) }
+{
+    let mut shown = Vec::new(alloc);
+    for trace in traces {
+        shown.push(adjusted_trace(alloc, trace, limits.max_skew)?)?;
+    }
     Ok(shown)
 }
 
-/// The answers of the plain store, for the queries that it knows so far.
+/// What the plain store answers.
+///
+/// # Errors
+///
+/// Want of memory alone.
 pub fn plain_answer(
     alloc: Global,
     entries: &[Arc<Entry>],
     limits: Limits,
     query: &Query,
-) -> Result<Option<Answer>, AllocError>
-    ensures { IfOk result (λ o. IfSome o (λ a. a ≡ answer limits (map arc_value entries.now) query.now)) }
+) -> Result<Answer, AllocError>
+    ensures { IfOk result (λ a. a ≡ answer limits (map arc_value entries.now) query.now) }
 {
     match query {
-        Query::Trace { id, raw } => {
-            if !*raw {
-                return Ok(None);
-            }
-            match get_trace(alloc, entries, limits, *id)? {
-                None => Ok(Some(Answer::Trace(None))),
-                Some(spans) => {
-                    let shown = without_warnings(alloc, spans)?;
-                    Ok(Some(Answer::Trace(Some(Seq::from_vec(shown)))))
-                }
-            }
-        }
+        Query::Trace { id, raw } => match get_trace(alloc, entries, limits, *id)? {
+            None => Ok(Answer::Trace(None)),
+            Some(spans) => Ok(Answer::Trace(Some(trace_shown(alloc, spans, limits, *raw)?))),
+        },
         Query::Services => {
             let arrived = all_arrivals(alloc, entries)?;
-            let names = all_services(alloc, &arrived)?;
-            Ok(Some(Answer::Names(Seq::from_vec(names))))
+            Ok(Answer::Names(Seq::from_vec(services(alloc, &arrived)?)))
         }
-        _ => Ok(None),
+        Query::OperationNames { service } => {
+            let arrived = all_arrivals(alloc, entries)?;
+            let names = operation_names(alloc, &arrived, service)?;
+            Ok(Answer::Names(Seq::from_vec(names)))
+        }
+        Query::Operations { service, kind } => {
+            let arrived = all_arrivals(alloc, entries)?;
+            let found = operations(alloc, &arrived, service, kind)?;
+            Ok(Answer::Operations(Seq::from_vec(found)))
+        }
+        Query::Find(find) => {
+            let traces = all_traces(alloc, entries, limits)?;
+            let found = find_traces(alloc, traces, find)?;
+            let shown = all_adjusted(alloc, found, limits)?;
+            Ok(Answer::Traces(Seq::from_vec(shown)))
+        }
+        Query::FindIds(find) => {
+            let traces = all_traces(alloc, entries, limits)?;
+            let found = find_traces(alloc, traces, find)?;
+            Ok(Answer::Ids(Seq::from_vec(trace_ids(alloc, &found)?)))
+        }
+        Query::Links {
+            end_ms,
+            lookback_ms,
+        } => {
+            let traces = all_traces(alloc, entries, limits)?;
+            let links = service_links(alloc, &traces, *end_ms, *lookback_ms)?;
+            Ok(Answer::Links(Seq::from_vec(links)))
+        }
     }
 }
