@@ -7,5 +7,6 @@ pub mod Chains
 pub mod Legality
 pub mod Parents
 pub mod Steps
+pub mod Places
 pub mod Prefixes
 pub mod RingFacts

@@ -1,6 +1,7 @@
 -- What the two adjusters make of a trace.
 use Rattle.std.specs.Prelude.{ℕ, zero, suc, ◌^◌, ℤ, pos, ◌+ℤ◌, ◌-ℤ◌, int_lt, int_le, int_div, nat_abs, nat_le, Bool, not, ◌&&◌, ◌||◌, List, [], ◌∷◌, ◌++◌, length, map, fold, position, swap, Option, Some, None, option_map, option_and_then, if◌then◌else◌, codes}
 use Rattle.std.specs.List.{list_any, list_all}
+use Rattle.std.specs.Option.{option_or}
 use Rattle.std.specs.Ordering.{int_eq}
 use Rattle.std.specs.Fmt.{decimal, signed_decimal}
 use Rattle.jaeger_model.specs.declared.ids.TraceId.{TraceId}
@@ -20,13 +21,13 @@ abbrev pub to_front : {X : Type 0} → Option ℕ → List X → List X
 to_front None xs = xs
 to_front (Some i) xs = swap xs 0 i
 
-abbrev pub first_place : Option ℕ → Option ℕ → Option ℕ
-first_place None other = other
-first_place (Some i) other = Some i
+-- the place of the first child-of reference to the own trace, else of the first other one
+abbrev pub parent_place : TraceId → List SpanRef → Option ℕ
+parent_place t rs = option_or (position (own_child t) rs) (position (own_other t) rs)
 
--- the first child-of reference to the own trace, else the first other one, goes to the front
+-- it goes to the front
 abbrev pub parent_in_front : TraceId → List SpanRef → List SpanRef
-parent_in_front t rs = to_front (first_place (position (own_child t) rs) (position (own_other t) rs)) rs
+parent_in_front t rs = to_front (parent_place t rs) rs
 
 abbrev pub parent_first : Span → Span
 parent_first s = record s { references = parent_in_front s.trace s.references }
@@ -82,8 +83,13 @@ abbrev pub clock_along : ℕ → List Placed → Option Clock
 clock_along max_skew [] = None
 clock_along max_skew (root ∷ below) = Some (fold (clock_below max_skew) (clock_at max_skew (host_of root) (pos 0) root.span) below)
 
+-- the clock of a span that is at most so many steps from a root
+abbrev pub clock_within : ℕ → ℕ → List Placed → Placed → Option Clock
+clock_within max_skew n trace p = option_and_then (clock_along max_skew) (chain n trace p)
+
+-- None where p leads to no root: no chain is longer than the trace
 abbrev pub clock_of : ℕ → List Placed → Placed → Option Clock
-clock_of max_skew trace p = option_and_then (clock_along max_skew) (chain (length trace) trace p)
+clock_of max_skew trace p = clock_within max_skew (length trace) trace p
 
 abbrev pub move_log : ℤ → Log → Log
 move_log delta l = record { at = l.at +ℤ delta; fields = l.fields }
@@ -122,11 +128,13 @@ shifted_by max_skew p None = unadjusted p
 shifted_by max_skew p (Some c) = shifted max_skew c.delta p
 
 -- of the spans with one id only the first is adjusted: before are those in front
+abbrev pub shown_after : ℕ → List Placed → List Placed → Placed → Shown
+shown_after max_skew trace before p = if list_any (has_id p.span.id) before then unadjusted p else shifted_by max_skew p (clock_of max_skew trace p)
+
 abbrev pub skew_adjusted_after : ℕ → List Placed → List Placed → List Placed → List Shown
 skew_adjusted_after max_skew trace before [] = []
 skew_adjusted_after max_skew trace before (p ∷ rest) =
-    (if list_any (has_id p.span.id) before then unadjusted p else shifted_by max_skew p (clock_of max_skew trace p))
-    ∷ skew_adjusted_after max_skew trace (before ++ p ∷ []) rest
+    shown_after max_skew trace before p ∷ skew_adjusted_after max_skew trace (before ++ p ∷ []) rest
 
 abbrev pub skew_adjusted : ℕ → List Placed → List Shown
 skew_adjusted max_skew trace = skew_adjusted_after max_skew trace [] trace
