@@ -9,5 +9,7 @@ pub mod Parents
 pub mod Finding
 pub mod NameLaws
 pub mod SearchLaws
+pub mod Steps
+pub mod Places
 pub mod Prefixes
 pub mod RingFacts
