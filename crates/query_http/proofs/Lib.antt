@@ -1,3 +1,4 @@
 pub mod Seeking
 pub mod Parting
 pub mod Finding
+pub mod Digits

@@ -1,1 +1,5 @@
+pub mod Faults
 pub mod Paths
+pub mod Forms
+pub mod Numbers
+pub mod Queries

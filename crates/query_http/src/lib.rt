@@ -1,6 +1,14 @@
 //! HTTP of the query interface: which query a request asks, and the bytes of a response.
+//!
+//! * `paths`: the endpoints and their paths.
+//! * `form`: the parameters of a query string.
+//! * `number`: numbers and durations.
+//! * `fault`: why a target asks no query.
 #![tactic(auto)]
 
+mod fault;
+mod number;
 mod paths;
 
+pub use fault::{Parameter, QueryFault};
 pub use paths::{Endpoint, endpoints, find_endpoint};
