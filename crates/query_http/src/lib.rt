@@ -7,8 +7,10 @@
 #![tactic(auto)]
 
 mod fault;
+mod form;
 mod number;
 mod paths;
 
+pub use form::{Pair, form_pairs};
 pub use fault::{Parameter, QueryFault};
 pub use paths::{Endpoint, endpoints, find_endpoint};
