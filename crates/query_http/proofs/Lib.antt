@@ -2,3 +2,4 @@ pub mod Seeking
 pub mod Parting
 pub mod Finding
 pub mod Digits
+pub mod TagLoops

@@ -1,5 +1,5 @@
 -- The parameters of a form: its pairs, decoded once, and what is asked of them by name.
-use Rattle.std.specs.Prelude.{ℕ, ◌==◌, List, [], ◌∷◌, length, map, filter, Option, Some, None, if◌then◌else◌, nat_lt, ◌&&◌}
+use Rattle.std.specs.Prelude.{ℕ, ◌==◌, List, [], ◌∷◌, length, map, filter, Option, Some, None, if◌then◌else◌, nat_lt, ◌&&◌, not, Bool}
 use Rattle.std.specs.List.{before_first, after_first, position_or_len}
 use Rattle.std.specs.Str.Lossy.{utf8_lossy}
 use Rattle.form_urlencoded.specs.Form.{raw_pairs, decode}
@@ -32,6 +32,10 @@ given (Some v) = if nat_lt 0 (length v) then Some v else None
 abbrev pub parameter : List ℕ → List (List ℕ × List ℕ) → Option (List ℕ)
 parameter name ps = given (first_of name ps)
 
+-- it has this name, and a value that isn't empty
+abbrev pub is_given : List ℕ → List ℕ × List ℕ → Bool
+is_given name p = same_text p.0 name && not (length p.1 == 0)
+
 -- all values of that name that aren't empty
 abbrev pub values_of : List ℕ → List (List ℕ × List ℕ) → List (List ℕ)
-values_of name ps = map (λ (p : List ℕ × List ℕ). p.1) (filter (λ (p : List ℕ × List ℕ). same_text p.0 name && nat_lt 0 (length p.1)) ps)
+values_of name ps = map (λ (p : List ℕ × List ℕ). p.1) (filter (is_given name) ps)

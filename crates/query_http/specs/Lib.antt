@@ -3,3 +3,4 @@ pub mod Paths
 pub mod Forms
 pub mod Numbers
 pub mod Queries
+pub mod Answering

@@ -1,5 +1,5 @@
 ghost use Rattle.std.specs.Prelude.{◌≡◌, ◌++◌, ℕ, List, IfOk, map, option_copied, option_map, string_bytes};
-ghost use Rattle.query_http.specs.Forms.{pairs_of, parameter, values_of, split_at};
+ghost use Rattle.query_http.specs.Forms.{pairs_of, is_given, parameter, values_of, split_at};
 
 use std::alloc::{AllocError, Global};
 use std::marker::Model;
@@ -17,6 +17,22 @@ impl Model for Pair {
     ghost Value = { List ℕ × List ℕ };
 
     ghost view = { λ s. (string_bytes s.name, string_bytes s.value) };
+}
+
+impl Pair {
+    /// The value, decoded.
+    pub fn value(&self) -> &str
+        ensures { result.now ≡ self.now.1 }
+    {
+        self.value.as_str()
+    }
+
+    /// It has this name, and a value that isn't empty.
+    pub(crate) fn is_given(&self, name: &str) -> bool
+        ensures { result ≡ is_given name.now self.now }
+    {
+        self.name.as_str() == name && !self.value.is_empty()
+    }
 }
 
 /// What stands before the first `?` and what stands behind it.

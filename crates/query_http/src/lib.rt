@@ -10,6 +10,7 @@ mod fault;
 mod form;
 mod number;
 mod paths;
+mod tags;
 
 pub use form::{Pair, form_pairs};
 pub use fault::{Parameter, QueryFault};
