@@ -10,3 +10,4 @@ Asks view (Ok x) read = read ≡ Ok (view x)
 Asks view (Err NoMemory) read = Unit {0}
 Asks view (Err (Bad p)) read = read ≡ Err p
 Asks view (Err NoPath) read = ⊥
+

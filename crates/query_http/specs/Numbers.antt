@@ -20,7 +20,7 @@ abbrev pub up_to_limit : ℕ → Option ℕ
 up_to_limit n = if nat_lt n (2 ^ 63) then Some n else None
 
 -- 1 to 19 digits of at most 9223372036854775807
-abbrev pub read_number : List ℕ → Option ℕ
+unfoldable pub read_number : List ℕ → Option ℕ
 read_number text = if is_digits 19 text then up_to_limit (number_of text) else None
 
 -- the microseconds of a unit
@@ -53,7 +53,7 @@ abbrev pub microseconds : List ℕ → List ℕ → ℕ → ℕ
 microseconds whole part unit = (number_of whole * 10 ^ length part + number_of part) * unit / 10 ^ length part
 
 -- 1 to 19 digits, perhaps a point and 1 to 9 digits, and a unit
-abbrev pub read_duration : List ℕ → Option ℕ
+unfoldable pub read_duration : List ℕ → Option ℕ
 read_duration text =
     if is_digits 19 (front_digits text) then
       option_and_then (λ (f : List ℕ × List ℕ). option_and_then (λ unit. up_to_limit (microseconds (front_digits text) f.0 unit)) (unit_of f.1)) (fraction (behind_digits text))

@@ -14,6 +14,7 @@ use Rattle.query_http.specs.declared.fault.Parameter.{Parameter}
 use Rattle.query_http.specs.declared.fault.Parameter.TheVariants as bad
 use Rattle.query_http.specs.declared.paths.Endpoint.{Endpoint}
 use Rattle.query_http.specs.declared.paths.Endpoint.TheVariants as at
+use Rattle.query_http.specs.Faults.{parameter_name}
 use Rattle.query_http.specs.Forms.{parameter, values_of, split_at}
 use Rattle.query_http.specs.Numbers.{read_number, read_duration}
 
@@ -29,9 +30,13 @@ abbrev pub or_bad : {A : Type 0} → Parameter → Option A → Result A Paramet
 or_bad p None = Err p
 or_bad p (Some x) = Ok x
 
+-- the parameter's value, absent where it is empty
+abbrev pub value_of : Parameter → Pairs → Option (List ℕ)
+value_of p ps = parameter (parameter_name p) ps
+
 -- a parameter that has to be there
-abbrev pub required : Parameter → List ℕ → Pairs → Result (List ℕ) Parameter
-required p name ps = or_bad p (parameter name ps)
+unfoldable pub required : Parameter → Pairs → Result (List ℕ) Parameter
+required p ps = or_bad p (value_of p ps)
 
 -- a parameter that may be absent
 abbrev pub text_of : List ℕ → Pairs → List ℕ
@@ -41,15 +46,32 @@ abbrev pub optional_by : {A : Type 0} → Parameter → (List ℕ → Option A) 
 optional_by p read None = Ok None
 optional_by p read (Some t) = or_bad p (read t) >>= λ x. Ok (Some x)
 
-abbrev pub number_at : Parameter → List ℕ → Pairs → Result (Option ℕ) Parameter
-number_at p name ps = optional_by p read_number (parameter name ps)
+abbrev pub number_at : Parameter → Pairs → Result (Option ℕ) Parameter
+number_at p ps = optional_by p read_number (value_of p ps)
 
-abbrev pub duration_at : Parameter → List ℕ → Pairs → Result (Option ℕ) Parameter
-duration_at p name ps = optional_by p read_duration (parameter name ps)
+abbrev pub duration_at : Parameter → Pairs → Result (Option ℕ) Parameter
+duration_at p ps = optional_by p read_duration (value_of p ps)
 
+-- the same as a signed number
 abbrev pub time_of : Option ℕ → Option ℤ
 time_of None = None
 time_of (Some n) = Some (pos n)
+
+abbrev pub with_time : Result (Option ℕ) Parameter → Result (Option ℤ) Parameter
+with_time (Ok n) = Ok (time_of n)
+with_time (Err p) = Err p
+
+-- a bound on starts, in microseconds
+unfoldable pub time_at : Parameter → Pairs → Result (Option ℤ) Parameter
+time_at p ps = with_time (number_at p ps)
+
+-- a bound on durations, in microseconds; 0 where it is absent
+unfoldable pub length_at : Parameter → Pairs → Result ℤ Parameter
+length_at p ps = with_time (duration_at p ps) >>= λ d. Ok (unwrap_or d (pos 0))
+
+-- how many traces are asked for; 100 where it is absent
+unfoldable pub limit_at : Pairs → Result ℕ Parameter
+limit_at ps = number_at bad.Limit ps >>= λ n. Ok (unwrap_or n 100)
 
 -- a key and a text around the first colon of each `tag`
 abbrev pub tags_from : List (List ℕ) → Result Pairs Parameter
@@ -85,30 +107,30 @@ tags_object None = Ok []
 tags_object (Some t) = or_bad bad.Tags (object_texts (read t))
 
 -- the asked pairs of key and text: those of each `tag`, then those of `tags`
-abbrev pub tags_at : Pairs → Result Pairs Parameter
+unfoldable pub tags_at : Pairs → Result Pairs Parameter
 tags_at ps = do
   singles ← tags_from (values_of (codes "tag") ps)
-  members ← tags_object (parameter (codes "tags") ps)
+  members ← tags_object (value_of bad.Tags ps)
   Ok (singles ++ members)
 
 unfoldable pub find_at : Pairs → Result Find Parameter
 find_at ps = do
-  service ← required bad.Service (codes "service") ps
-  start ← number_at bad.Start (codes "start") ps
-  end ← number_at bad.End (codes "end") ps
-  limit ← number_at bad.Limit (codes "limit") ps
-  least ← duration_at bad.MinDuration (codes "minDuration") ps
-  most ← duration_at bad.MaxDuration (codes "maxDuration") ps
+  service ← required bad.Service ps
+  start ← time_at bad.Start ps
+  end ← time_at bad.End ps
+  limit ← limit_at ps
+  least ← length_at bad.MinDuration ps
+  most ← length_at bad.MaxDuration ps
   tags ← tags_at ps
   Ok (record {
     service = service;
     operation = text_of (codes "operation") ps;
     tags = tags;
-    start_min = time_of start;
-    start_max = time_of end;
-    duration_min = pos (unwrap_or least 0);
-    duration_max = pos (unwrap_or most 0);
-    limit = unwrap_or limit 100;
+    start_min = start;
+    start_max = end;
+    duration_min = least;
+    duration_max = most;
+    limit = limit;
   })
 
 abbrev pub is_yes : List ℕ → Bool
@@ -121,18 +143,18 @@ raw_at ps = is_yes (text_of (codes "raw") ps)
 abbrev pub text_part : List ℕ → Result (List ℕ) Parameter
 text_part part = if is_utf8 (percent_decode part) then Ok (percent_decode part) else Err bad.Service
 
-abbrev pub needed_number : Parameter → List ℕ → Pairs → Result ℕ Parameter
-needed_number p name ps = number_at p name ps >>= or_bad p
+abbrev pub needed_number : Parameter → Pairs → Result ℕ Parameter
+needed_number p ps = number_at p ps >>= or_bad p
 
 unfoldable pub links_at : Pairs → Result Query Parameter
 links_at ps = do
-  end ← needed_number bad.EndTs (codes "endTs") ps
-  lookback ← number_at bad.Lookback (codes "lookback") ps
+  end ← needed_number bad.EndTs ps
+  lookback ← number_at bad.Lookback ps
   Ok (ask.Links (pos end) (pos (unwrap_or lookback 86400000)))
 
 unfoldable pub operations_at : Pairs → Result Query Parameter
 operations_at ps = do
-  service ← required bad.Service (codes "service") ps
+  service ← required bad.Service ps
   Ok (ask.Operations service (text_of (codes "spanKind") ps))
 
 -- what an endpoint is asked, with its path's part and its parameters

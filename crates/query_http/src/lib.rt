@@ -10,6 +10,7 @@ mod fault;
 mod form;
 mod number;
 mod paths;
+mod query;
 mod tags;
 
 pub use form::{Pair, form_pairs};

@@ -41,6 +41,7 @@ fn value_of(digits: &[u8]) -> u128
 }
 
 /// A number of 1 to 19 digits, of at most 9223372036854775807.
+#[tactic(auto, unfolding(crate::specs::Numbers::read_number))]
 pub(crate) fn read_number(text: &str) -> Option<i64>
     ensures { result ≡ time_of (read_number text.now) }
 {
@@ -128,6 +129,7 @@ fn scaled(whole: &[u8], part: &[u8], unit: u64) -> u128
 
 /// A duration in microseconds, cut to a whole number: 1 to 19 digits, perhaps a point and 1 to 9
 /// digits, then `us`, `ms`, `s`, `m` or `h`; of at most 9223372036854775807 microseconds.
+#[tactic(auto, unfolding(crate::specs::Numbers::read_duration))]
 pub(crate) fn read_duration(text: &str) -> Option<i64>
     ensures { result ≡ time_of (read_duration text.now) }
 {

@@ -13,7 +13,7 @@ use serde_json::{Map, Value};
 use std::alloc::{AllocError, Global};
 
 /// A copy of a text.
-fn text(alloc: Global, text: &str) -> Result<Text, AllocError>
+pub(crate) fn copied(alloc: Global, text: &str) -> Result<Text, AllocError>
     ensures { IfOk result (λ t. t ≡ text.now) }
 {
     Ok(Text::from_string(String::from_str(alloc, text)?))
@@ -39,7 +39,7 @@ fn read_tag(alloc: Global, tag: &str) -> Result<(Text, Text), QueryFault>
     let Some((key, value)) = split_tag(tag) else {
         return Err(QueryFault::Bad(Parameter::Tag));
     };
-    Ok((text(alloc, key)?, text(alloc, value)?))
+    Ok((copied(alloc, key)?, copied(alloc, value)?))
 }
 
 /// The asked pairs of key and text: those of each `tag`, in order, split at their first colon.
@@ -65,7 +65,7 @@ fn object_texts(
         let Some(value) = value.as_str() else {
             return Err(QueryFault::Bad(Parameter::Tags));
         };
-        pairs.push((text(alloc, key.as_str())?, text(alloc, value)?))?;
+        pairs.push((copied(alloc, key.as_str())?, copied(alloc, value)?))?;
     }
     Ok(pairs)
 }
@@ -94,6 +94,7 @@ fn member_tags(alloc: Global, tags: &str) -> Result<Vec<(Text, Text)>, QueryFaul
     object_texts(alloc, members)
 }
 
+#[tactic(auto, unfolding(crate::specs::Queries::tags_at))]
 /// All asked pairs of key and text: those of each `tag`, then those of `tags`.
 pub(crate) fn asked_tags(alloc: Global, pairs: &[Pair]) -> Result<Seq<(Text, Text)>, QueryFault>
     ensures { Asks (λ v. v) result (tags_at pairs.now) }
