@@ -3,3 +3,4 @@ pub mod Parting
 pub mod Finding
 pub mod Digits
 pub mod TagLoops
+pub mod PartTexts

@@ -140,17 +140,14 @@ abbrev pub raw_at : Pairs → Bool
 raw_at ps = is_yes (text_of (codes "raw") ps)
 
 -- a part of a path as text
-abbrev pub text_part : List ℕ → Result (List ℕ) Parameter
+unfoldable pub text_part : List ℕ → Result (List ℕ) Parameter
 text_part part = if is_utf8 (percent_decode part) then Ok (percent_decode part) else Err bad.Service
-
-abbrev pub needed_number : Parameter → Pairs → Result ℕ Parameter
-needed_number p ps = number_at p ps >>= or_bad p
 
 unfoldable pub links_at : Pairs → Result Query Parameter
 links_at ps = do
-  end ← needed_number bad.EndTs ps
-  lookback ← number_at bad.Lookback ps
-  Ok (ask.Links (pos end) (pos (unwrap_or lookback 86400000)))
+  end ← time_at bad.EndTs ps >>= or_bad bad.EndTs
+  lookback ← time_at bad.Lookback ps
+  Ok (ask.Links end (unwrap_or lookback (pos 86400000)))
 
 unfoldable pub operations_at : Pairs → Result Query Parameter
 operations_at ps = do
@@ -165,3 +162,10 @@ query_at at.Services part ps = Ok ask.Services
 query_at at.OperationNames part ps = text_part part >>= λ service. Ok (ask.OperationNames service)
 query_at at.Operations part ps = operations_at ps
 query_at at.Dependencies part ps = links_at ps
+
+-- a target up to its first `?`, and what stands behind that
+abbrev pub path_of : List ℕ → List ℕ
+path_of target = (unwrap_or (split_at 63 target) (target, [])).0
+
+abbrev pub form_of : List ℕ → List ℕ
+form_of target = (unwrap_or (split_at 63 target) (target, [])).1

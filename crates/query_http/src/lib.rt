@@ -3,6 +3,8 @@
 //! * `paths`: the endpoints and their paths.
 //! * `form`: the parameters of a query string.
 //! * `number`: numbers and durations.
+//! * `tags`: the tags that a search asks for.
+//! * `query`: what a target asks, as a whole.
 //! * `fault`: why a target asks no query.
 #![tactic(auto)]
 
@@ -15,4 +17,5 @@ mod tags;
 
 pub use form::{Pair, form_pairs};
 pub use fault::{Parameter, QueryFault};
+pub use query::{parse_query, read_query};
 pub use paths::{Endpoint, endpoints, find_endpoint};
