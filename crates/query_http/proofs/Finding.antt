@@ -126,6 +126,7 @@ in_services path r e = by (found_in_either 47 [] names_rows services_end slash_l
   where
     f : (rest : List ℕ) × (path ≡ codes "services" ++ rest) × (seek 0 services_rows rest ≡ Some r)
     f = found_behind (codes "services") services_rows path r s_literal e
+
     by : (seek 0 (behind (47 ∷ []) names_rows) f.0 ≡ Some r) ⊎ (seek 0 services_end f.0 ≡ Some r) → Is r path
     by (inl h) =
         let b = found_behind (47 ∷ []) names_rows f.0 r slash_literal h in
@@ -142,6 +143,7 @@ in_traces path r e = by (found_in_either 47 [] trace_rows traces_end slash_liter
   where
     f : (rest : List ℕ) × (path ≡ codes "traces" ++ rest) × (seek 0 traces_rows rest ≡ Some r)
     f = found_behind (codes "traces") traces_rows path r t_literal e
+
     by : (seek 0 (behind (47 ∷ []) trace_rows) f.0 ≡ Some r) ⊎ (seek 0 traces_end f.0 ≡ Some r) → Is r path
     by (inl h) =
         let b = found_behind (47 ∷ []) trace_rows f.0 r slash_literal h in
@@ -159,9 +161,11 @@ in_all path r e = one (found_in_either 100 (codes "ependencies") dependencies_ro
     three : (seek 0 (behind (codes "services") services_rows) path ≡ Some r) ⊎ (seek 0 from_traces path ≡ Some r) → Is r path
     three (inl h) = in_services path r h
     three (inr h) = in_traces path r h
+
     two : (seek 0 (behind (codes "operations") operations_rows) path ≡ Some r) ⊎ (seek 0 from_services path ≡ Some r) → Is r path
     two (inl h) = in_operations path r h
     two (inr h) = three (found_in_either 115 (codes "ervices") services_rows from_traces s_literal s_apart path r h)
+
     one : (seek 0 (behind (codes "dependencies") dependencies_rows) path ≡ Some r) ⊎ (seek 0 from_operations path ≡ Some r) → Is r path
     one (inl h) = in_dependencies path r h
     one (inr h) = two (found_in_either 111 (codes "perations") operations_rows from_services o_literal o_apart path r h)
@@ -183,21 +187,21 @@ trace_there : (part path : List ℕ) → IsPath Trace part path → seek 0 endpo
 trace_there part path p n =
     let e : seek 0 endpoint_rows (codes "/api/" ++ (codes "traces/" ++ part)) ≡ None = subst (λ (x : List ℕ). seek 0 endpoint_rows x ≡ None) p.1 n in
     let walk : seek 0 all_rows (codes "traces/" ++ part) ≡ seek 0 trace_rows part =
-      seek_second 100 (codes "ependencies") dependencies_rows from_operations d_literal d_apart 116 (codes "races/" ++ part) refl
-      ∙ seek_second 111 (codes "perations") operations_rows from_services o_literal o_apart 116 (codes "races/" ++ part) refl
-      ∙ seek_second 115 (codes "ervices") services_rows from_traces s_literal s_apart 116 (codes "races/" ++ part) refl
-      ∙ seek_behind (codes "traces") traces_rows (47 ∷ part) t_literal
-      ∙ seek_first 47 [] trace_rows traces_end slash_literal trace_apart part in
+    seek_second 100 (codes "ependencies") dependencies_rows from_operations d_literal d_apart 116 (codes "races/" ++ part) refl
+    ∙ seek_second 111 (codes "perations") operations_rows from_services o_literal o_apart 116 (codes "races/" ++ part) refl
+    ∙ seek_second 115 (codes "ervices") services_rows from_traces s_literal s_apart 116 (codes "races/" ++ part) refl
+    ∙ seek_behind (codes "traces") traces_rows (47 ∷ part) t_literal
+    ∙ seek_first 47 [] trace_rows traces_end slash_literal trace_apart part in
     part_last the_trace part p.0 (sym (along (codes "traces/" ++ part) ∙ walk) ∙ e)
 
 names_there : (part path : List ℕ) → IsPath OperationNames part path → seek 0 endpoint_rows path ≡ None → ⊥
 names_there part path p n =
     let e : seek 0 endpoint_rows (codes "/api/" ++ (codes "services/" ++ (part ++ codes "/operations"))) ≡ None = subst (λ (x : List ℕ). seek 0 endpoint_rows x ≡ None) p.1 n in
     let walk : seek 0 all_rows (codes "services/" ++ (part ++ codes "/operations")) ≡ seek 0 names_rows (part ++ codes "/operations") =
-      seek_second 100 (codes "ependencies") dependencies_rows from_operations d_literal d_apart 115 (codes "ervices/" ++ (part ++ codes "/operations")) refl
-      ∙ seek_second 111 (codes "perations") operations_rows from_services o_literal o_apart 115 (codes "ervices/" ++ (part ++ codes "/operations")) refl
-      ∙ seek_first 115 (codes "ervices") services_rows from_traces s_literal s_apart (47 ∷ (part ++ codes "/operations"))
-      ∙ seek_first 47 [] names_rows services_end slash_literal names_apart (part ++ codes "/operations") in
+    seek_second 100 (codes "ependencies") dependencies_rows from_operations d_literal d_apart 115 (codes "ervices/" ++ (part ++ codes "/operations")) refl
+    ∙ seek_second 111 (codes "perations") operations_rows from_services o_literal o_apart 115 (codes "ervices/" ++ (part ++ codes "/operations")) refl
+    ∙ seek_first 115 (codes "ervices") services_rows from_traces s_literal s_apart (47 ∷ (part ++ codes "/operations"))
+    ∙ seek_first 47 [] names_rows services_end slash_literal names_apart (part ++ codes "/operations") in
     part_between the_names (codes "operations") more_literal (omega arith) part p.0 (sym (along (codes "services/" ++ (part ++ codes "/operations")) ∙ walk) ∙ e)
 
 -- a path of an endpoint is found
@@ -209,4 +213,3 @@ endpoint_there Operations part path p n = let e : seek 0 endpoint_rows (codes "/
 endpoint_there Dependencies part path p n = let e : seek 0 endpoint_rows (codes "/api/dependencies") ≡ None = subst (λ (x : List ℕ). seek 0 endpoint_rows x ≡ None) p.1 n in some_none _ e
 endpoint_there Trace part path p n = trace_there part path p n
 endpoint_there OperationNames part path p n = names_there part path p n
-

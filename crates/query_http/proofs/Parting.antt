@@ -77,6 +77,7 @@ module _ {K : Type 0} (k : K) where
     where
       goes : (v : Bool) → has_slash (b ∷ path) ≡ v → param_step (([], k) ∷ []) (b ∷ path) ≡ cond v (0, []) (length (b ∷ path), ([], k) ∷ [])
       goes v h = taken_last-is (b ∷ path) ∙ ap (λ (u : Bool). cond {A = ℕ × RowsOf K} u (0, []) (length (b ∷ path), ([], k) ∷ [])) h
+
       by : NoSlash (b ∷ path) ⊎ AtSlash (b ∷ path) → IsPart (b ∷ path) × (found ≡ k)
       by (inl h) =
           let e' : seek (length (b ∷ path) - 1) (([], k) ∷ []) path ≡ Some found = subst (λ (s : ℕ × RowsOf K). seek (s.0 - 1) s.1 path ≡ Some found) (goes false h.none) e in
@@ -102,6 +103,7 @@ module _ {K : Type 0} (k : K) where
           let other : b ≢ 47 = λ q. omega arith in
           (record { some = omega arith; plain = (other, subst (λ (p : List ℕ). AllByRecursion (λ b. b ≢ 47) p) (sym f.0) tt) }, f.1)
       literal false s h = absurd (none_some found (sym (seek_none 0 path) ∙ sym (ap (λ r. seek 0 r path) (step_last b ∙ rw s refl)) ∙ h))
+
       by : (seek 0 (step b ((256 ∷ [], k) ∷ [])) path ≡ Some found) ⊎ (or_else (seek ((param_step (([], k) ∷ []) (b ∷ path)).0 - 1) (param_step (([], k) ∷ []) (b ∷ path)).1 path) None ≡ Some found) → IsPart (b ∷ path) × (found ≡ k)
       by (inl h) = literal (eqb 256 b) refl h
       by (inr h) = last (or_some _ None found h)
@@ -118,8 +120,10 @@ module _ {K : Type 0} (k : K) where
     where
       after : Option K
       after = seek ((param_step (([], k) ∷ []) (b ∷ path)).0 - 1) (param_step (([], k) ∷ []) (b ∷ path)).1 path
+
       none : after ≡ None
       none = or_left after None (or_right (seek 0 (step b ((256 ∷ [], k) ∷ [])) path) (or_else after None) e)
+
       by : NoSlash (b ∷ path) ⊎ AtSlash (b ∷ path) → ⊥
       by (inl h) =
           let goes : param_step (([], k) ∷ []) (b ∷ path) ≡ (length (b ∷ path), ([], k) ∷ []) = taken_last-is (b ∷ path) ∙ rw h.none refl in
@@ -186,6 +190,7 @@ module _ {K : Type 0} (k : K) (w : List ℕ) (l : AreLiteral (47 ∷ w)) (long :
     where
       one_more : (c : ℕ) (x : List ℕ) → length ((c ∷ x) ++ (47 ∷ [])) - 1 - 1 ≡ length x
       one_more c x = omega (arith, length-append (c ∷ x) (47 ∷ []))
+
       by : (part : List ℕ) → b ∷ path ≡ part ++ (47 ∷ h.tail) → segment (b ∷ path) ≡ part ++ (47 ∷ []) → AllByRecursion (λ c. c ≢ 47) part → (drop (length (segment (b ∷ path)) - 1 - 1) path ≡ 47 ∷ w) × (found ≡ k) → Between (b ∷ path) found
       by [] is front plain f =
           absurd (not_alone (segment (b ∷ path)) front cut)
@@ -223,6 +228,7 @@ module _ {K : Type 0} (k : K) (w : List ℕ) (l : AreLiteral (47 ∷ w)) (long :
     where
       at : (v : Bool) → cuts (segment (b ∷ path)) (47 ∷ []) ≡ v → seek ((cut_step (b ∷ path) v).0 - 1) (cut_step (b ∷ path) v).1 path ≡ Some found
       at v c = subst (λ (s : ℕ × RowsOf K). seek (s.0 - 1) s.1 path ≡ Some found) (param_step-is (b ∷ path) ∙ ap (λ (u : Bool). cut_step (b ∷ path) u) c) e
+
       by : (v : Bool) → cuts (segment (b ∷ path)) (47 ∷ []) ≡ v → Between (b ∷ path) found
       by true c = between_cut b path found c (at true c) (slash_cut (b ∷ path))
       by false c = between_whole b path found (at false c) (slash_cut (b ∷ path))
@@ -243,9 +249,11 @@ module _ {K : Type 0} (k : K) (w : List ℕ) (l : AreLiteral (47 ∷ w)) (long :
           let other : b ≢ 47 = λ q. omega arith in
           record { part = b ∷ []; is_part = record { some = omega arith; plain = (other, tt) }; path_is = ap (λ (p : List ℕ). b ∷ p) f.0; found_is = f.1 }
       literal false s h = absurd (none_some found (sym (seek_none 0 path) ∙ sym (ap (λ r. seek 0 r path) (step_more b ∙ rw s refl)) ∙ h))
+
       last : (seek ((param_step (((47 ∷ w), k) ∷ []) (b ∷ path)).0 - 1) (param_step (((47 ∷ w), k) ∷ []) (b ∷ path)).1 path ≡ Some found) ⊎ (None ≡ Some found) → Between (b ∷ path) found
       last (inl g) = between_param b path found g
       last (inr g) = absurd (none_some found g)
+
       by : (seek 0 (step b ((256 ∷ (47 ∷ w), k) ∷ [])) path ≡ Some found) ⊎ (or_else (seek ((param_step (((47 ∷ w), k) ∷ []) (b ∷ path)).0 - 1) (param_step (((47 ∷ w), k) ∷ []) (b ∷ path)).1 path) None ≡ Some found) → Between (b ∷ path) found
       by (inl h) = literal (eqb 256 b) refl h
       by (inr h) = last (or_some _ None found h)

@@ -4,3 +4,4 @@ pub mod Forms
 pub mod Numbers
 pub mod Queries
 pub mod Answering
+pub mod Responses

@@ -56,5 +56,5 @@ microseconds whole part unit = (number_of whole * 10 ^ length part + number_of p
 unfoldable pub read_duration : List ℕ → Option ℕ
 read_duration text =
     if is_digits 19 (front_digits text) then
-      option_and_then (λ (f : List ℕ × List ℕ). option_and_then (λ unit. up_to_limit (microseconds (front_digits text) f.0 unit)) (unit_of f.1)) (fraction (behind_digits text))
+    option_and_then (λ (f : List ℕ × List ℕ). option_and_then (λ unit. up_to_limit (microseconds (front_digits text) f.0 unit)) (unit_of f.1)) (fraction (behind_digits text))
     else None

@@ -5,6 +5,7 @@
 //! * `number`: numbers and durations.
 //! * `tags`: the tags that a search asks for.
 //! * `query`: what a target asks, as a whole.
+//! * `response`: the bytes of a response.
 //! * `fault`: why a target asks no query.
 #![tactic(auto)]
 
@@ -13,9 +14,11 @@ mod form;
 mod number;
 mod paths;
 mod query;
+mod response;
 mod tags;
 
-pub use form::{Pair, form_pairs};
 pub use fault::{Parameter, QueryFault};
-pub use query::{parse_query, read_query};
+pub use form::{Pair, form_pairs};
 pub use paths::{Endpoint, endpoints, find_endpoint};
+pub use query::{parse_query, read_query};
+pub use response::respond;

@@ -33,7 +33,10 @@ pub fn endpoints(alloc: Global) -> Result<Router<Endpoint>, InsertError>
     router.insert("/api/traces", Endpoint::Traces)?;
     router.insert("/api/traces/{id}", Endpoint::Trace)?;
     router.insert("/api/services", Endpoint::Services)?;
-    router.insert("/api/services/{service}/operations", Endpoint::OperationNames)?;
+    router.insert(
+        "/api/services/{service}/operations",
+        Endpoint::OperationNames,
+    )?;
     router.insert("/api/operations", Endpoint::Operations)?;
     router.insert("/api/dependencies", Endpoint::Dependencies)?;
     Ok(router)

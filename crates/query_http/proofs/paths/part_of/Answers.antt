@@ -14,7 +14,7 @@ pub returns-in-OperationNames : goal.returns-in-OperationNames
 returns-in-OperationNames c =
     let p = rw c.in-OperationNames.is at c.requires in
     let whole : c.args.path.now ≡ codes "/api/services/" ++ (c.before-in-OperationNames.result.now ++ codes "/operations") =
-      c.after-in-OperationNames.ensures ∙ ap (λ (x : List ℕ). codes "/api/services/" ++ x) c.before-in-OperationNames.ensures in
+    c.after-in-OperationNames.ensures ∙ ap (λ (x : List ℕ). codes "/api/services/" ++ x) c.before-in-OperationNames.ensures in
     let rest : p.0 ++ codes "/operations" ≡ c.before-in-OperationNames.result.now ++ codes "/operations" = ap (λ (x : List ℕ). drop 14 x) (sym p.1.1 ∙ whole) in
     let same : p.0 ≡ c.before-in-OperationNames.result.now = append_cancel_right p.0 c.before-in-OperationNames.result.now (codes "/operations") rest in
     rw c.in-OperationNames.is (subst (λ (x : List ℕ). IsPart x) same p.1.0, whole)
