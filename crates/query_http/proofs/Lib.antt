@@ -1,0 +1,6 @@
+pub mod Seeking
+pub mod Parting
+pub mod Finding
+pub mod Digits
+pub mod TagLoops
+pub mod PartTexts

@@ -1,0 +1,20 @@
+use Rattle.std.proofs.Common.{◌≡◌, ◌++◌, ◌∷◌, List, ℕ, drop, sym, ap, ◌∙◌, subst}
+use Rattle.std.specs.Prelude.{codes}
+use Rattle.query_http.specs.declared.paths.Endpoint.TheVariants.{OperationNames}
+use Rattle.query_http.specs.Paths.{IsPart, IsPath}
+use Rattle.std.proofs.lemmas.List.{append_cancel_right}
+use Rattle.query_http.proofs.paths.part_of.Goals as goal
+
+pub after-requires-in-OperationNames : goal.after-requires-in-OperationNames
+after-requires-in-OperationNames c =
+    let p = rw c.in-OperationNames.is at c.requires in
+    (p.0 ++ codes "/operations", p.1.1)
+
+pub returns-in-OperationNames : goal.returns-in-OperationNames
+returns-in-OperationNames c =
+    let p = rw c.in-OperationNames.is at c.requires in
+    let whole : c.args.path.now ≡ codes "/api/services/" ++ (c.before-in-OperationNames.result.now ++ codes "/operations") =
+    c.after-in-OperationNames.ensures ∙ ap (λ (x : List ℕ). codes "/api/services/" ++ x) c.before-in-OperationNames.ensures in
+    let rest : p.0 ++ codes "/operations" ≡ c.before-in-OperationNames.result.now ++ codes "/operations" = ap (λ (x : List ℕ). drop 14 x) (sym p.1.1 ∙ whole) in
+    let same : p.0 ≡ c.before-in-OperationNames.result.now = append_cancel_right p.0 c.before-in-OperationNames.result.now (codes "/operations") rest in
+    rw c.in-OperationNames.is (subst (λ (x : List ℕ). IsPart x) same p.1.0, whole)

@@ -1,0 +1,60 @@
+-- Numbers and durations as a query's parameters spell them.
+use Rattle.std.specs.Prelude.{ℕ, ◌+◌, ◌*◌, ◌-◌, ◌/◌, ◌^◌, ◌==◌, List, [], ◌∷◌, length, drop, fold, Bool, not, ◌&&◌, Option, Some, None, option_and_then, if◌then◌else◌, nat_lt, nat_le, codes}
+use Rattle.std.specs.List.{list_all, before_first}
+use Rattle.std.specs.Char.{is_ascii_digit}
+use Rattle.jaeger_model.specs.Texts.{same_text}
+
+-- the value of a decimal digit, 0 of any other byte
+abbrev pub digit : ℕ → ℕ
+digit c = if nat_le 48 c && nat_le c 57 then c - 48 else 0
+
+-- the number that decimal digits spell
+abbrev pub number_of : List ℕ → ℕ
+number_of digits = fold (λ n c. n * 10 + digit c) 0 digits
+
+-- so many digits and nothing else
+abbrev pub is_digits : ℕ → List ℕ → Bool
+is_digits most text = nat_lt 0 (length text) && nat_le (length text) most && list_all is_ascii_digit text
+
+abbrev pub up_to_limit : ℕ → Option ℕ
+up_to_limit n = if nat_lt n (2 ^ 63) then Some n else None
+
+-- 1 to 19 digits of at most 9223372036854775807
+unfoldable pub read_number : List ℕ → Option ℕ
+read_number text = if is_digits 19 text then up_to_limit (number_of text) else None
+
+-- the microseconds of a unit
+abbrev pub unit_of : List ℕ → Option ℕ
+unit_of text =
+    if same_text text (codes "us") then Some 1
+    else if same_text text (codes "ms") then Some 1000
+    else if same_text text (codes "s") then Some 1000000
+    else if same_text text (codes "m") then Some 60000000
+    else if same_text text (codes "h") then Some 3600000000
+    else None
+
+abbrev pub is_other : ℕ → Bool
+is_other c = not (is_ascii_digit c)
+
+-- the digits in front
+abbrev pub front_digits : List ℕ → List ℕ
+front_digits text = before_first is_other text
+
+abbrev pub behind_digits : List ℕ → List ℕ
+behind_digits text = drop (length (front_digits text)) text
+
+-- the digits of the fraction, none where there is no point, and what follows
+abbrev pub fraction : List ℕ → Option (List ℕ × List ℕ)
+fraction [] = Some ([], [])
+fraction (b ∷ rest) = if b == 46 then (if is_digits 9 (front_digits rest) then Some (front_digits rest, behind_digits rest) else None) else Some ([], b ∷ rest)
+
+-- whole digits and the fraction's digits, in units of so many microseconds, cut to a whole number
+abbrev pub microseconds : List ℕ → List ℕ → ℕ → ℕ
+microseconds whole part unit = (number_of whole * 10 ^ length part + number_of part) * unit / 10 ^ length part
+
+-- 1 to 19 digits, perhaps a point and 1 to 9 digits, and a unit
+unfoldable pub read_duration : List ℕ → Option ℕ
+read_duration text =
+    if is_digits 19 (front_digits text) then
+    option_and_then (λ (f : List ℕ × List ℕ). option_and_then (λ unit. up_to_limit (microseconds (front_digits text) f.0 unit)) (unit_of f.1)) (fraction (behind_digits text))
+    else None

@@ -1,0 +1,80 @@
+ghost use Rattle.std.specs.Prelude.{◌≡◌, ◌++◌, ℕ, List, IfOk, map, option_copied, option_map, string_bytes};
+ghost use Rattle.query_http.specs.Forms.{pairs_of, is_given, parameter, values_of, split_at};
+
+use std::alloc::{AllocError, Global};
+use std::marker::Model;
+
+/// A name with its value, both decoded.
+#[derive(Debug, Drop)]
+pub struct Pair {
+    name: String,
+    value: String,
+}
+
+impl Model for Pair {
+    ghost use Rattle.std.specs.Prelude.{List, ℕ, string_bytes};
+
+    ghost Value = { List ℕ × List ℕ };
+
+    ghost view = { λ s. (string_bytes s.name, string_bytes s.value) };
+}
+
+impl Pair {
+    /// The value, decoded.
+    pub fn value(&self) -> &str
+        ensures { result.now ≡ self.now.1 }
+    {
+        self.value.as_str()
+    }
+
+    /// It has this name, and a value that isn't empty.
+    pub(crate) fn is_given(&self, name: &str) -> bool
+        ensures { result ≡ is_given name.now self.now }
+    {
+        self.name.as_str() == name && !self.value.is_empty()
+    }
+}
+
+/// What stands before the first `?` and what stands behind it.
+pub(crate) fn split_query(target: &str) -> Option<(&str, &str)>
+    ensures { option_map (λ p. (p.0.now, p.1.now)) result ≡ split_at 63 target.now }
+{
+    target.split_once('?')
+}
+
+/// What stands before the first colon and what stands behind it.
+pub(crate) fn split_tag(tag: &str) -> Option<(&str, &str)>
+    ensures { option_map (λ p. (p.0.now, p.1.now)) result ≡ split_at 58 tag.now }
+{
+    tag.split_once(':')
+}
+
+/// The pairs of a form (`application/x-www-form-urlencoded`), decoded once.
+///
+/// # Errors
+///
+/// Want of memory alone.
+pub fn form_pairs(alloc: Global, form: &[u8]) -> Result<Vec<Pair>, AllocError>
+    ensures { IfOk result (λ v. v.items ≡ pairs_of form.now) }
+{
+    let mut all = Vec::new(alloc);
+    for (name, value) in form_urlencoded::raw_pairs(form) {
+        let name = form_urlencoded::decode(alloc, name)?.into_owned(alloc)?;
+        let value = form_urlencoded::decode(alloc, value)?.into_owned(alloc)?;
+        all.push(Pair { name, value })?;
+    }
+    Ok(all)
+}
+
+/// The value of the first pair of that name; absent where it is empty.
+pub(crate) fn find_parameter<'a>(pairs: &'a [Pair], name: &str) -> Option<&'a str>
+    ensures { option_copied result ≡ parameter name.now pairs.now }
+{
+    for pair in pairs {
+        if pair.name.as_str() == name {
+            let value = pair.value.as_str();
+            return if value.is_empty() { None } else { Some(value) };
+        }
+    }
+    None
+}

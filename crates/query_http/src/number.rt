@@ -1,0 +1,143 @@
+ghost use Rattle.std.specs.Prelude.{◌≡◌, ◌^◌, ◌<◌, ◌≤◌, length, position, option_map, IfSome};
+ghost use Rattle.query_http.specs.Queries.{time_of};
+ghost use Rattle.std.specs.List.{list_all, position_or_len};
+ghost use Rattle.std.specs.Char.{is_ascii_digit};
+ghost use Rattle.query_http.specs.Numbers.{digit, is_other, number_of, is_digits, read_number, unit_of, front_digits, behind_digits, fraction, microseconds, read_duration};
+
+/// The value of a decimal digit, 0 of any other byte.
+fn digit_of(c: u8) -> u8
+    ensures value { result ≡ digit c }
+    ensures small { result < 10 }
+{
+    match c {
+        48..=57 => c - 48,
+        _ => 0,
+    }
+}
+
+fn are_digits(text: &[u8]) -> bool
+    ensures { result ≡ list_all is_ascii_digit text.now }
+{
+    text.iter().all(|c| c.is_ascii_digit())
+}
+
+fn is_number(text: &[u8], most: usize) -> bool
+    ensures { result ≡ is_digits most text.now }
+{
+    !text.is_empty() && text.len() <= most && are_digits(text)
+}
+
+/// The number that decimal digits spell.
+fn value_of(digits: &[u8]) -> u128
+    requires { length digits.now ≤ 19 }
+    ensures value { result ≡ number_of digits.now }
+    ensures small { result < 10 ^ 19 }
+{
+    let mut n: u128 = 0;
+    for c in digits {
+        n = n * 10 + u128::from(digit_of(*c));
+    }
+    n
+}
+
+/// A number of 1 to 19 digits, of at most 9223372036854775807.
+#[tactic(auto, unfolding(crate::specs::Numbers::read_number))]
+pub(crate) fn read_number(text: &str) -> Option<i64>
+    ensures { result ≡ time_of (read_number text.now) }
+{
+    let digits = text.as_bytes();
+    if !is_number(digits, 19) {
+        return None;
+    }
+    i64::try_from(value_of(digits)).ok()
+}
+
+/// The microseconds of a unit.
+fn unit_of(text: &[u8]) -> Option<u64>
+    ensures value { result ≡ unit_of text.now }
+    ensures small { IfSome result (λ unit. unit ≤ 3600000000) }
+{
+    match text {
+        b"us" => Some(1),
+        b"ms" => Some(1000),
+        b"s" => Some(1_000_000),
+        b"m" => Some(60_000_000),
+        b"h" => Some(3_600_000_000),
+        _ => None,
+    }
+}
+
+/// The place of the first byte that is no digit.
+fn first_other(text: &[u8]) -> Option<usize>
+    ensures { result ≡ position is_other text.now }
+{
+    text.iter().position(|c| !c.is_ascii_digit())
+}
+
+/// How many digits are in front.
+#[tactic(auto, using(crate::proofs::Digits::position_or_end))]
+fn digit_count(text: &[u8]) -> usize
+    ensures count { result ≡ position_or_len is_other text.now }
+    ensures within { result ≤ length text.now }
+{
+    first_other(text).unwrap_or(text.len())
+}
+
+/// The digits in front, and what follows them.
+fn split_digits(text: &[u8]) -> (&[u8], &[u8])
+    ensures front { result.0.now ≡ front_digits text.now }
+    ensures behind { result.1.now ≡ behind_digits text.now }
+{
+    text.split_at(digit_count(text))
+}
+
+/// The digits behind a point and what follows; no digits where there is no point.
+fn split_fraction(text: &[u8]) -> Option<(&[u8], &[u8])>
+    ensures value { option_map (λ p. (p.0.now, p.1.now)) result ≡ fraction text.now }
+    ensures short { IfSome result (λ p. length p.0.now ≤ 9) }
+{
+    match text {
+        [b'.', rest @ ..] => {
+            let (digits, unit) = split_digits(rest);
+            if is_number(digits, 9) {
+                Some((digits, unit))
+            } else {
+                None
+            }
+        }
+        _ => Some((&[], text)),
+    }
+}
+
+fn power_of_ten(exponent: usize) -> u128
+    requires { exponent ≤ 9 }
+    ensures { result ≡ 10 ^ exponent }
+{
+    10u128.pow(exponent as u32)
+}
+
+/// Whole digits and a fraction's digits, in units of so many microseconds.
+fn scaled(whole: &[u8], part: &[u8], unit: u64) -> u128
+    requires whole { length whole.now ≤ 19 }
+    requires part { length part.now ≤ 9 }
+    requires unit { unit ≤ 3600000000 }
+    ensures { result ≡ microseconds whole.now part.now unit }
+{
+    let ten = power_of_ten(part.len());
+    (value_of(whole) * ten + value_of(part)) * u128::from(unit) / ten
+}
+
+/// A duration in microseconds, cut to a whole number: 1 to 19 digits, perhaps a point and 1 to 9
+/// digits, then `us`, `ms`, `s`, `m` or `h`; of at most 9223372036854775807 microseconds.
+#[tactic(auto, unfolding(crate::specs::Numbers::read_duration))]
+pub(crate) fn read_duration(text: &str) -> Option<i64>
+    ensures { result ≡ time_of (read_duration text.now) }
+{
+    let (whole, rest) = split_digits(text.as_bytes());
+    if !is_number(whole, 19) {
+        return None;
+    }
+    let (part, unit) = split_fraction(rest)?;
+    let unit = unit_of(unit)?;
+    i64::try_from(scaled(whole, part, unit)).ok()
+}

@@ -1,0 +1,94 @@
+ghost use Rattle.std.specs.Prelude.{◌≡◌, ◌++◌, ℕ, List, IfOk, MatchOption};
+ghost use Rattle.query_http.specs.Paths.{endpoint_rows, IsPath, IsNoPath};
+
+use matchit::{InsertError, Router};
+use std::alloc::Global;
+
+/// What a path leads to.
+#[derive(Clone, Copy, Debug, PartialEq, Eq)]
+pub enum Endpoint {
+    /// `/api/traces`: a search, or a batch that is handed in.
+    Traces,
+    /// `/api/traces/{id}`: one trace.
+    Trace,
+    /// `/api/services`.
+    Services,
+    /// `/api/services/{service}/operations`: the operation names of a service.
+    OperationNames,
+    /// `/api/operations`: the operations of a service with their kinds.
+    Operations,
+    /// `/api/dependencies`.
+    Dependencies,
+}
+
+/// The router of all endpoints.
+///
+/// # Errors
+///
+/// Want of memory alone.
+pub fn endpoints(alloc: Global) -> Result<Router<Endpoint>, InsertError>
+    ensures { IfOk result (λ r. r ≡ endpoint_rows) }
+{
+    let mut router = Router::new(alloc);
+    router.insert("/api/traces", Endpoint::Traces)?;
+    router.insert("/api/traces/{id}", Endpoint::Trace)?;
+    router.insert("/api/services", Endpoint::Services)?;
+    router.insert(
+        "/api/services/{service}/operations",
+        Endpoint::OperationNames,
+    )?;
+    router.insert("/api/operations", Endpoint::Operations)?;
+    router.insert("/api/dependencies", Endpoint::Dependencies)?;
+    Ok(router)
+}
+
+/// What follows the text at the front of a path.
+fn after<'p>(path: &'p str, front: &str) -> &'p str
+    requires { (rest : List ℕ) × (path.now ≡ front.now ++ rest) }
+    ensures { path.now ≡ front.now ++ result.now }
+{
+    path.strip_prefix(front).unwrap_or("")
+}
+
+/// What comes before the text at the end of a path.
+fn before<'p>(path: &'p str, end: &str) -> &'p str
+    requires { (part : List ℕ) × (path.now ≡ part ++ end.now) }
+    ensures { path.now ≡ result.now ++ end.now }
+{
+    path.strip_suffix(end).unwrap_or("")
+}
+
+/// The part of an endpoint's path, as it stands there; empty where the endpoint has none.
+fn part_of(endpoint: Endpoint, path: &str) -> &str
+    requires { (part : List ℕ) × IsPath endpoint part path.now }
+    ensures { IsPath endpoint result.now path.now }
+{
+    match endpoint {
+        Endpoint::Trace => after(path, "/api/traces/"),
+        Endpoint::OperationNames => before(after(path, "/api/services/"), "/operations"),
+        _ => "",
+    }
+}
+
+/// The endpoint that the router finds.
+fn endpoint_of(router: &Router<Endpoint>, path: &str) -> Option<Endpoint>
+    requires { router.now ≡ endpoint_rows }
+    ensures { MatchOption result (IsNoPath path.now) (λ e. (part : List ℕ) × IsPath e part path.now) }
+{
+    match router.at(path) {
+        Ok(found) => Some(*found.value),
+        Err(_) => None,
+    }
+}
+
+/// The endpoint of a path with the path's part, as it stands there; empty where the endpoint has
+/// none. `None` where no endpoint has the path.
+pub fn find_endpoint<'p>(router: &Router<Endpoint>, path: &'p str) -> Option<(Endpoint, &'p str)>
+    requires { router.now ≡ endpoint_rows }
+    ensures { MatchOption result (IsNoPath path.now) (λ r. IsPath r.0 r.1.now path.now) }
+{
+    match endpoint_of(router, path) {
+        Some(endpoint) => Some((endpoint, part_of(endpoint, path))),
+        None => None,
+    }
+}

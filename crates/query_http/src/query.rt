@@ -1,0 +1,218 @@
+ghost use Rattle.std.specs.Prelude.{◌≡◌, IfOk};
+ghost use Rattle.query_http.specs.Answering.{Asks, AsksTarget};
+ghost use Rattle.query_http.specs.Forms.{pairs_of};
+ghost use Rattle.query_http.specs.Paths.{endpoint_rows};
+ghost use Rattle.query_http.specs.Queries.{time_at, length_at, limit_at, required, text_of, find_at, text_part, raw_at, operations_at, links_at, query_at, path_of, form_of};
+ghost use Rattle.query_http.specs.declared.paths.Endpoint.TheVariants as at;
+
+use crate::fault::{Parameter, QueryFault};
+use crate::form::{Pair, find_parameter, form_pairs, split_query};
+use crate::number::{read_duration, read_number};
+use crate::paths::{Endpoint, find_endpoint};
+use crate::tags::{asked_tags, copied};
+use jaeger_model::{Text, parse_trace};
+use matchit::Router;
+use percent_encoding::{DecodeError, percent_decode};
+use std::alloc::{AllocError, Global};
+use trace_model::{Find, Query};
+
+/// A bound on starts in microseconds, where it is given.
+#[tactic(auto, unfolding(crate::specs::Queries::time_at))]
+fn time_bound(pairs: &[Pair], parameter: Parameter) -> Result<Option<i64>, QueryFault>
+    ensures { Asks (λ n. n) result (time_at parameter pairs.now) }
+{
+    let Some(text) = find_parameter(pairs, parameter.name()) else {
+        return Ok(None);
+    };
+    match read_number(text) {
+        Some(number) => Ok(Some(number)),
+        None => Err(QueryFault::Bad(parameter)),
+    }
+}
+
+/// A bound on durations in microseconds, 0 where it is absent.
+#[tactic(auto, unfolding(crate::specs::Queries::length_at))]
+fn duration_bound(pairs: &[Pair], parameter: Parameter) -> Result<i64, QueryFault>
+    ensures { Asks (λ n. n) result (length_at parameter pairs.now) }
+{
+    let Some(text) = find_parameter(pairs, parameter.name()) else {
+        return Ok(0);
+    };
+    match read_duration(text) {
+        Some(duration) => Ok(duration),
+        None => Err(QueryFault::Bad(parameter)),
+    }
+}
+
+/// How many traces are asked for.
+#[tactic(auto, unfolding(crate::specs::Queries::limit_at))]
+fn asked_limit(pairs: &[Pair]) -> Result<u64, QueryFault>
+    ensures { Asks (λ n. n) result (limit_at pairs.now) }
+{
+    let Some(text) = find_parameter(pairs, "limit") else {
+        return Ok(100);
+    };
+    match read_number(text) {
+        Some(number) => Ok(number.unsigned_abs()),
+        None => Err(QueryFault::Bad(Parameter::Limit)),
+    }
+}
+
+/// A parameter that has to be there.
+#[tactic(auto, unfolding(crate::specs::Queries::required))]
+fn required_text(alloc: Global, pairs: &[Pair], parameter: Parameter) -> Result<Text, QueryFault>
+    ensures { Asks (λ t. t) result (required parameter pairs.now) }
+{
+    match find_parameter(pairs, parameter.name()) {
+        Some(text) => Ok(copied(alloc, text)?),
+        None => Err(QueryFault::Bad(parameter)),
+    }
+}
+
+/// A parameter of any text, empty where it is absent.
+fn optional_text(alloc: Global, pairs: &[Pair], name: &str) -> Result<Text, AllocError>
+    ensures { IfOk result (λ t. t ≡ text_of name.now pairs.now) }
+{
+    copied(alloc, find_parameter(pairs, name).unwrap_or(""))
+}
+
+/// What a search asks. The first parameter that can't be read is told in the order of the fields.
+#[tactic(auto, unfolding(crate::specs::Queries::find_at))]
+fn read_find(alloc: Global, pairs: &[Pair]) -> Result<Find, QueryFault>
+    ensures { Asks (λ f. f) result (find_at pairs.now) }
+{
+    let service = required_text(alloc, pairs, Parameter::Service)?;
+    let start_min = time_bound(pairs, Parameter::Start)?;
+    let start_max = time_bound(pairs, Parameter::End)?;
+    let limit = asked_limit(pairs)?;
+    let duration_min = duration_bound(pairs, Parameter::MinDuration)?;
+    let duration_max = duration_bound(pairs, Parameter::MaxDuration)?;
+    let tags = asked_tags(alloc, pairs)?;
+    let operation = optional_text(alloc, pairs, "operation")?;
+    Ok(Find {
+        service,
+        operation,
+        tags,
+        start_min,
+        start_max,
+        duration_min,
+        duration_max,
+        limit,
+    })
+}
+
+/// A part of a path as text.
+#[tactic(auto, unfolding(crate::specs::Queries::text_part))]
+fn service_part(alloc: Global, part: &str) -> Result<Text, QueryFault>
+    ensures { Asks (λ t. t) result (text_part part.now) }
+{
+    match percent_decode(part.as_bytes()).decode_utf8(alloc) {
+        Ok(text) => Ok(Text::from_string(text.into_owned(alloc)?)),
+        Err(DecodeError::OutOfMemory) => Err(QueryFault::NoMemory),
+        Err(DecodeError::Utf8(_)) => Err(QueryFault::Bad(Parameter::Service)),
+    }
+}
+
+/// The parameter asks for the spans as they arrived.
+fn is_raw(pairs: &[Pair]) -> bool
+    ensures { result ≡ raw_at pairs.now }
+{
+    matches!(
+        find_parameter(pairs, "raw").unwrap_or(""),
+        "1" | "t" | "T" | "true" | "True" | "TRUE"
+    )
+}
+
+/// What the trace's endpoint asks.
+fn read_trace_query(pairs: &[Pair], part: &str) -> Result<Query, QueryFault>
+    ensures { Asks (λ q. q) result (query_at at.Trace part.now pairs.now) }
+{
+    let Some(id) = parse_trace(part) else {
+        return Err(QueryFault::Bad(Parameter::TraceId));
+    };
+    Ok(Query::Trace {
+        id,
+        raw: is_raw(pairs),
+    })
+}
+
+/// What the endpoint of operations with their kinds asks.
+#[tactic(auto, unfolding(crate::specs::Queries::operations_at))]
+fn read_operations(alloc: Global, pairs: &[Pair]) -> Result<Query, QueryFault>
+    ensures { Asks (λ q. q) result (operations_at pairs.now) }
+{
+    let service = required_text(alloc, pairs, Parameter::Service)?;
+    let kind = optional_text(alloc, pairs, "spanKind")?;
+    Ok(Query::Operations { service, kind })
+}
+
+/// What the endpoint of dependencies asks.
+#[tactic(auto, unfolding(crate::specs::Queries::links_at))]
+fn read_links(pairs: &[Pair]) -> Result<Query, QueryFault>
+    ensures { Asks (λ q. q) result (links_at pairs.now) }
+{
+    let Some(end_ms) = time_bound(pairs, Parameter::EndTs)? else {
+        return Err(QueryFault::Bad(Parameter::EndTs));
+    };
+    let lookback_ms = time_bound(pairs, Parameter::Lookback)?.unwrap_or(86_400_000);
+    Ok(Query::Links {
+        end_ms,
+        lookback_ms,
+    })
+}
+
+/// What a GET of an endpoint asks, with the part of its path and the rest of its target.
+///
+/// # Errors
+///
+/// [`QueryFault::Bad`] with the first parameter that can't be read, in the order of the endpoint's
+/// table, or want of memory.
+pub fn read_query(
+    alloc: Global,
+    endpoint: Endpoint,
+    part: &str,
+    form: &str,
+) -> Result<Query, QueryFault>
+    ensures { Asks (λ q. q) result (query_at endpoint part.now (pairs_of form.now)) }
+{
+    let pairs = form_pairs(alloc, form.as_bytes())?;
+    match endpoint {
+        Endpoint::Traces => Ok(Query::Find(read_find(alloc, &pairs)?)),
+        Endpoint::Trace => read_trace_query(&pairs, part),
+        Endpoint::Services => Ok(Query::Services),
+        Endpoint::OperationNames => Ok(Query::OperationNames {
+            service: service_part(alloc, part)?,
+        }),
+        Endpoint::Operations => read_operations(alloc, &pairs),
+        Endpoint::Dependencies => read_links(&pairs),
+    }
+}
+
+/// A target's path, and the rest behind its first `?`.
+fn path_and_form(target: &str) -> (&str, &str)
+    ensures path { result.0.now ≡ path_of target.now }
+    ensures form { result.1.now ≡ form_of target.now }
+{
+    split_query(target).unwrap_or((target, ""))
+}
+
+/// What a GET of a target asks.
+///
+/// # Errors
+///
+/// [`QueryFault::NoPath`] where no endpoint has the path; [`QueryFault::Bad`] with the first parameter
+/// that can't be read, in the order of the endpoint's table; or want of memory.
+pub fn parse_query(
+    alloc: Global,
+    router: &Router<Endpoint>,
+    target: &str,
+) -> Result<Query, QueryFault>
+    requires { router.now ≡ endpoint_rows }
+    ensures { AsksTarget result target.now }
+{
+    let (path, form) = path_and_form(target);
+    let Some((endpoint, part)) = find_endpoint(router, path) else {
+        return Err(QueryFault::NoPath);
+    };
+    read_query(alloc, endpoint, part, form)
+}

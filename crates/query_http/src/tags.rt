@@ -1,0 +1,109 @@
+ghost use Rattle.std.specs.Prelude.{◌≡◌, IfOk, codes, map};
+ghost use Rattle.query_http.specs.Answering.{Asks};
+ghost use Rattle.query_http.specs.Queries.{tags_from, or_bad, texts_in, object_texts, tags_at};
+ghost use Rattle.serde_json.specs.View.{view, members_view};
+ghost use Rattle.serde_json.specs.Read.{read};
+ghost use Rattle.query_http.specs.declared.fault.Parameter.TheVariants as bad;
+ghost use Rattle.query_http.specs.Forms.{values_of, split_at};
+
+use crate::fault::{Parameter, QueryFault};
+use crate::form::{Pair, find_parameter, split_tag};
+use jaeger_model::{Seq, Text};
+use serde_json::{Map, Value};
+use std::alloc::{AllocError, Global};
+
+/// A copy of a text.
+pub(crate) fn copied(alloc: Global, text: &str) -> Result<Text, AllocError>
+    ensures { IfOk result (λ t. t ≡ text.now) }
+{
+    Ok(Text::from_string(String::from_str(alloc, text)?))
+}
+
+/// The values of each `tag`.
+fn tag_values<'a>(alloc: Global, pairs: &'a [Pair]) -> Result<Vec<&'a str>, AllocError>
+    ensures { IfOk result (λ v. map (λ s. s.now) v.items ≡ values_of (codes "tag") pairs.now) }
+{
+    let mut values = Vec::new(alloc);
+    for pair in pairs {
+        if pair.is_given("tag") {
+            values.push(pair.value())?;
+        }
+    }
+    Ok(values)
+}
+
+/// A key and a text around the first colon of a `tag`.
+fn read_tag(alloc: Global, tag: &str) -> Result<(Text, Text), QueryFault>
+    ensures { Asks (λ p. p) result (or_bad bad.Tag (split_at 58 tag.now)) }
+{
+    let Some((key, value)) = split_tag(tag) else {
+        return Err(QueryFault::Bad(Parameter::Tag));
+    };
+    Ok((copied(alloc, key)?, copied(alloc, value)?))
+}
+
+/// The asked pairs of key and text: those of each `tag`, in order, split at their first colon.
+fn single_tags(alloc: Global, tags: &[&str]) -> Result<Vec<(Text, Text)>, QueryFault>
+    ensures { Asks (λ v. v.items) result (tags_from (map (λ s. s.now) tags.now)) }
+{
+    let mut pairs = Vec::new(alloc);
+    for tag in tags {
+        pairs.push(read_tag(alloc, tag)?)?;
+    }
+    Ok(pairs)
+}
+
+/// The members of an object, all of them texts.
+fn object_texts(
+    alloc: Global,
+    members: &Map<String, Value>,
+) -> Result<Vec<(Text, Text)>, QueryFault>
+    ensures { Asks (λ v. v.items) result (or_bad bad.Tags (texts_in (members_view members.now.entries))) }
+{
+    let mut pairs = Vec::new(alloc);
+    for (key, value) in members {
+        let Some(value) = value.as_str() else {
+            return Err(QueryFault::Bad(Parameter::Tags));
+        };
+        pairs.push((copied(alloc, key.as_str())?, copied(alloc, value)?))?;
+    }
+    Ok(pairs)
+}
+
+/// A JSON text, unless it is none.
+fn read_json(alloc: Global, text: &str) -> Result<Value, QueryFault>
+    ensures { Asks view result (or_bad bad.Tags (read text.now)) }
+{
+    Value::from_str(alloc, text).map_err(|fault| {
+        if fault.is_memory() {
+            QueryFault::NoMemory
+        } else {
+            QueryFault::Bad(Parameter::Tags)
+        }
+    })
+}
+
+/// The asked pairs of `tags`: a JSON object of texts, in the order of its keys.
+fn member_tags(alloc: Global, tags: &str) -> Result<Vec<(Text, Text)>, QueryFault>
+    ensures { Asks (λ v. v.items) result (or_bad bad.Tags (object_texts (read tags.now))) }
+{
+    let value = read_json(alloc, tags)?;
+    let Some(members) = value.as_object() else {
+        return Err(QueryFault::Bad(Parameter::Tags));
+    };
+    object_texts(alloc, members)
+}
+
+#[tactic(auto, unfolding(crate::specs::Queries::tags_at))]
+/// All asked pairs of key and text: those of each `tag`, then those of `tags`.
+pub(crate) fn asked_tags(alloc: Global, pairs: &[Pair]) -> Result<Seq<(Text, Text)>, QueryFault>
+    ensures { Asks (λ v. v) result (tags_at pairs.now) }
+{
+    let values = tag_values(alloc, pairs)?;
+    let mut tags = single_tags(alloc, &values)?;
+    if let Some(members) = find_parameter(pairs, "tags") {
+        let mut more = member_tags(alloc, members)?;
+        tags.append(&mut more)?;
+    }
+    Ok(Seq::from_vec(tags))
+}
