@@ -6,5 +6,7 @@ pub mod Ranking
 pub mod Chains
 pub mod Legality
 pub mod Parents
+pub mod Steps
+pub mod Places
 pub mod Prefixes
 pub mod RingFacts

@@ -28,8 +28,12 @@ calls_of trace = filter_map (λ p. call_from p (parent_in trace p)) trace
 abbrev pub in_window : ℤ → ℤ → Placed → Bool
 in_window end_ms lookback_ms p = int_lt (pos 1000 *ℤ (end_ms -ℤ lookback_ms)) p.span.start && int_lt p.span.start (pos 1000 *ℤ end_ms)
 
+-- the calls of a trace with a span in the window
+abbrev pub calls_within : ℤ → ℤ → List Placed → List (List ℕ × List ℕ)
+calls_within end_ms lookback_ms t = if list_any (in_window end_ms lookback_ms) t then calls_of t else []
+
 abbrev pub calls : ℤ → ℤ → List (List Placed) → List (List ℕ × List ℕ)
-calls end_ms lookback_ms ts = flat_map (λ t. if list_any (in_window end_ms lookback_ms) t then calls_of t else []) ts
+calls end_ms lookback_ms ts = flat_map (calls_within end_ms lookback_ms) ts
 
 abbrev pub call_cmp : List ℕ × List ℕ → List ℕ × List ℕ → Ordering
 call_cmp a b = ordering_then (text_cmp a.0 b.0) (text_cmp a.1 b.1)
