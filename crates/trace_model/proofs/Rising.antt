@@ -1,7 +1,8 @@
 -- A sorted set rises strictly and has the members of the list that it is made of.
 use Rattle.std.proofs.Common.{◌≡◌, Bool, true, false, ◌||◌, List, [], ◌∷◌, refl, sym, ap, ◌∙◌}
 use Rattle.std.specs.Prelude.{fold}
-use Rattle.std.specs.List.{list_any}
+use Rattle.std.specs.List.{list_any, AllByRecursion}
+use Rattle.std.specs.List.Sorted.{IsStrictlySortedBy}
 use Rattle.std.specs.declared.cmp.Ordering.{Ordering}
 use Rattle.std.specs.declared.cmp.Ordering.TheVariants.{Less, Equal, Greater}
 use Rattle.std.specs.Ordering.{eq_by_cmp, is_eq, ordering_reverse}
@@ -12,13 +13,7 @@ use Rattle.std.proofs.lemmas.Bool.{false≢true}
 use Rattle.jaeger_model.specs.Texts.{insert_once, placed_by, sorted_set}
 
 abbrev pub Below : {K : Type 0} → (K → K → Ordering) → K → List K → Type 0
-Below cmp x [] = Unit {0}
-Below cmp x (y ∷ ys) = (cmp x y ≡ Less) × Below cmp x ys
-
--- each is below all later ones
-abbrev pub Rises : {K : Type 0} → (K → K → Ordering) → List K → Type 0
-Rises cmp [] = Unit {0}
-Rises cmp (x ∷ xs) = Below cmp x xs × Rises cmp xs
+Below cmp x ys = AllByRecursion (λ y. cmp x y ≡ Less) ys
 
 abbrev pub has : {K : Type 0} → (K → K → Ordering) → K → List K → Bool
 has cmp q xs = list_any (eq_by_cmp cmp q) xs
@@ -31,6 +26,16 @@ or_swap false b c = refl
 or_again : (a c : Bool) → (a || c) ≡ (a || (a || c))
 or_again true c = refl
 or_again false c = refl
+
+or_turn : (a b c : Bool) → (a || (b || c)) ≡ ((b || a) || c)
+or_turn true true c = refl
+or_turn true false c = refl
+or_turn false true c = refl
+or_turn false false c = refl
+
+or_nothing : (a : Bool) → (a || false) ≡ a
+or_nothing true = refl
+or_nothing false = refl
 
 module _ {K : Type 0} {cmp : K → K → Ordering} (o : IsTotalOrder cmp) where
   below_chain : (x y : K) (ys : List K) → cmp x y ≡ Less → Below cmp y ys → Below cmp x ys
@@ -45,19 +50,21 @@ module _ {K : Type 0} {cmp : K → K → Ordering} (o : IsTotalOrder cmp) where
     | Greater ↦ (b.0, below_insert y x ys e b.1)
   ]
 
-  pub rises_insert : (xs : List K) (x : K) → Rises cmp xs → Rises cmp (insert_once cmp xs x)
+  pub rises_insert : (xs : List K) (x : K) → IsStrictlySortedBy cmp xs → IsStrictlySortedBy cmp (insert_once cmp xs x)
+  unfolding IsStrictlySortedBy
   rises_insert [] x r = (tt, tt)
-  rises_insert (y ∷ ys) x r = elim (cmp x y) as (λ a. cmp x y ≡ a → Rises cmp (placed_by a (insert_once cmp ys) x y ys)) [
+  rises_insert (y ∷ ys) x r = elim (cmp x y) as (λ a. cmp x y ≡ a → IsStrictlySortedBy cmp (placed_by a (insert_once cmp ys) x y ys)) [
     | Less ↦ λ e. ((e, below_chain x y ys e r.0), r)
     | Equal ↦ λ e. r
     | Greater ↦ λ e. (below_insert y x ys (o.antisymm y x ∙ ap ordering_reverse e) r.0, rises_insert ys x r.1)
   ] refl
 
-  pub rises_set_from : (xs ys : List K) → Rises cmp ys → Rises cmp (fold (insert_once cmp) ys xs)
+  pub rises_set_from : (xs ys : List K) → IsStrictlySortedBy cmp ys → IsStrictlySortedBy cmp (fold (insert_once cmp) ys xs)
   rises_set_from [] ys r = r
   rises_set_from (x ∷ xs) ys r = rises_set_from xs (insert_once cmp ys x) (rises_insert ys x r)
 
-  pub sorted_set-rises : (xs : List K) → Rises cmp (sorted_set cmp xs)
+  pub sorted_set-rises : (xs : List K) → IsStrictlySortedBy cmp (sorted_set cmp xs)
+  unfolding IsStrictlySortedBy
   sorted_set-rises xs = rises_set_from xs [] tt
 
   tied : (q x y : K) → cmp x y ≡ Equal → cmp q y ≡ cmp q x
@@ -71,24 +78,32 @@ module _ {K : Type 0} {cmp : K → K → Ordering} (o : IsTotalOrder cmp) where
     | Greater ↦ λ e. ap (λ b. eq_by_cmp cmp q y || b) (has_insert q ys x) ∙ or_swap (eq_by_cmp cmp q y) (eq_by_cmp cmp q x) (has cmp q ys)
   ] refl
 
-  or_rest : (a b c : Bool) → (a || (b || c)) ≡ ((b || a) || c)
-  or_rest true true c = refl
-  or_rest true false c = refl
-  or_rest false true c = refl
-  or_rest false false c = refl
-
   pub has_set_from : (q : K) (xs ys : List K) → has cmp q (fold (insert_once cmp) ys xs) ≡ (has cmp q xs || has cmp q ys)
   has_set_from q [] ys = refl
   has_set_from q (x ∷ xs) ys =
-      has_set_from q xs (insert_once cmp ys x) ∙ ap (λ b. has cmp q xs || b) (has_insert q ys x) ∙ or_rest (has cmp q xs) (eq_by_cmp cmp q x) (has cmp q ys)
-
-  or_none : (a : Bool) → (a || false) ≡ a
-  or_none true = refl
-  or_none false = refl
+      has_set_from q xs (insert_once cmp ys x) ∙ ap (λ b. has cmp q xs || b) (has_insert q ys x) ∙ or_turn (has cmp q xs) (eq_by_cmp cmp q x) (has cmp q ys)
 
   -- a text is in the set exactly where it is in the list
   pub sorted_set-has : (q : K) (xs : List K) → has cmp q (sorted_set cmp xs) ≡ has cmp q xs
-  sorted_set-has q xs = has_set_from q xs [] ∙ or_none (has cmp q xs)
+  sorted_set-has q xs = has_set_from q xs [] ∙ or_nothing (has cmp q xs)
+
+-- ---- where only equal keys tie, a test finds the same in a set as in its list
+module _ {K : Type 0} {cmp : K → K → Ordering} (exact : IsAntisymmetric cmp) (p : K → Bool) where
+  any_insert : (xs : List K) (x : K) → list_any p (insert_once cmp xs x) ≡ (p x || list_any p xs)
+  any_insert [] x = refl
+  any_insert (y ∷ ys) x = elim (cmp x y) as (λ a. cmp x y ≡ a → list_any p (placed_by a (insert_once cmp ys) x y ys) ≡ (p x || (p y || list_any p ys))) [
+    | Less ↦ λ e. refl
+    | Equal ↦ λ e. or_again (p y) (list_any p ys) ∙ ap (λ z. p z || (p y || list_any p ys)) (sym (exact x y e))
+    | Greater ↦ λ e. ap (λ b. p y || b) (any_insert ys x) ∙ or_swap (p y) (p x) (list_any p ys)
+  ] refl
+
+  any_set_from : (xs ys : List K) → list_any p (fold (insert_once cmp) ys xs) ≡ (list_any p xs || list_any p ys)
+  any_set_from [] ys = refl
+  any_set_from (x ∷ xs) ys =
+      any_set_from xs (insert_once cmp ys x) ∙ ap (λ b. list_any p xs || b) (any_insert ys x) ∙ or_turn (list_any p xs) (p x) (list_any p ys)
+
+  pub any_set : (xs : List K) → list_any p (sorted_set cmp xs) ≡ list_any p xs
+  any_set xs = any_set_from xs [] ∙ or_nothing (list_any p xs)
 
 -- ---- two rising lists with the same members are equal
 module _ {K : Type 0} {cmp : K → K → Ordering} (o : IsTotalOrder cmp) (exact : IsAntisymmetric cmp) where
@@ -112,7 +127,8 @@ module _ {K : Type 0} {cmp : K → K → Ordering} (o : IsTotalOrder cmp) (exact
     | Greater ↦ λ e s. s
   ] refl (same q)
 
-  pub rises_same : (xs ys : List K) → Rises cmp xs → Rises cmp ys → ((q : K) → has cmp q xs ≡ has cmp q ys) → xs ≡ ys
+  pub rises_same : (xs ys : List K) → IsStrictlySortedBy cmp xs → IsStrictlySortedBy cmp ys → ((q : K) → has cmp q xs ≡ has cmp q ys) → xs ≡ ys
+  unfolding IsStrictlySortedBy
   rises_same [] [] r s same = refl
   rises_same [] (y ∷ ys) r s same = absurd (false≢true (same y ∙ present y ys))
   rises_same (x ∷ xs) [] r s same = absurd (false≢true (sym (same x) ∙ present x xs))

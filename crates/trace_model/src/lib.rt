@@ -13,6 +13,7 @@ mod answer;
 mod clock;
 mod entry;
 pub mod laws;
+pub mod laws_search;
 mod limits;
 mod links;
 mod names;
