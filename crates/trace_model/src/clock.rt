@@ -187,7 +187,9 @@ fn with_warning(alloc: Global, placed: Placed, warning: Text) -> Result<Shown, A
 fn past_limit(alloc: Global, delta: i128, max_skew: u64) -> Result<Text, AllocError>
     ensures { IfOk result (λ t. t ≡ past_limit delta max_skew) }
 {
-    let text = format!(in alloc; "clock skew of {delta} us not applied: the limit is {max_skew} us")?;
+    let text = format!(in alloc;
+        "clock skew of {delta} us not applied: the limit is {max_skew} us"
+    )?;
     Ok(Text::from_string(text))
 }
 
