@@ -3,6 +3,8 @@
 //!
 //! * `limits`, `entry`, `refusal`: what is kept, and why an entry is turned away.
 //! * `query`, `answer`: what can be asked, and what is answered.
+//! * `links`: calls between services; `clock`, `adjust`: a trace with its clocks put right;
+//!   `skew`: arithmetic on times.
 //! * `plain`: the plain store as a slow program, whose contracts are the definitions of `specs/`;
 //!   it leans on `showing` (ring and shown spans), `names`, `search`, `links` and `adjust`.
 //! * `laws`: facts about the definitions in the subject's own words.
@@ -31,7 +33,7 @@ pub use answer::{Answer, Link, Operation, Shown};
 pub use clock::{Clock, clock_below, root_clock, shifted, unadjusted};
 pub use entry::Entry;
 pub use limits::Limits;
-pub use links::service_links;
+pub use links::{is_in_window, service_links};
 pub use names::{operation_names, operations, services};
 pub use plain::{get_trace, plain_answer};
 pub use query::{Find, Query};

@@ -3,7 +3,7 @@
 ghost use Rattle.std.specs.Prelude.{◌≡◌, ◌++◌, IfOk, OnOk, pos, ◌-ℤ◌, ◌*ℤ◌, ◌≤ℤ◌, ◌^◌, int_lt};
 ghost use Rattle.std.specs.Option.{option_copied};
 ghost use Rattle.std.specs.List.{list_any};
-ghost use Rattle.trace_model.specs.Linking.{parent_in, call_from, calls_of, in_window, calls_within, calls, counted, same_call, links};
+ghost use Rattle.trace_model.specs.Linking.{parent_in, call_from, calls_of, is_between, in_window, calls_within, calls, counted, same_call, links};
 
 use crate::answer::Link;
 use crate::sets::insert_once;
@@ -70,19 +70,20 @@ fn is_before(time: i64, bound: i128) -> bool
     wide(time) < bound
 }
 
-/// The span starts strictly between the bounds.
-fn is_in_window(placed: &Placed, end_ms: i64, lookback_ms: i64) -> bool
-    ensures { result ≡ in_window end_ms lookback_ms placed.now }
+/// The start of a span, in microseconds, lies strictly between `end_ms - lookback_ms` and `end_ms`,
+/// both in milliseconds. No bound overflows.
+pub fn is_in_window(start: i64, end_ms: i64, lookback_ms: i64) -> bool
+    ensures { result ≡ is_between end_ms lookback_ms start }
 {
-    is_after(placed.span.start, micros(difference(end_ms, lookback_ms)))
-        && is_before(placed.span.start, micros(wide(end_ms)))
+    is_after(start, micros(difference(end_ms, lookback_ms)))
+        && is_before(start, micros(wide(end_ms)))
 }
 
 /// Some span of the trace starts strictly between the bounds.
 fn reaches_window(trace: &[Placed], end_ms: i64, lookback_ms: i64) -> bool
     ensures { result ≡ list_any (in_window end_ms lookback_ms) trace.now }
 {
-    trace.iter().any(|p| is_in_window(p, end_ms, lookback_ms))
+    trace.iter().any(|p| is_in_window(p.span.start, end_ms, lookback_ms))
 }
 
 /// The same for a trace with a span in the window; another one adds nothing.
