@@ -5,7 +5,7 @@
 //! Truncated have Truncated beginnings only. So bytes that come in pieces are refused as soon as the fault's
 //! place has come, and never before, however they are cut.
 
-ghost use Rattle.std.specs.Prelude.{◌≡◌, ◌<◌, ◌^◌, ℕ, ℤ, List, ◌++◌, Bool, true, FitsSigned, length};
+ghost use Rattle.std.specs.Prelude.{◌≡◌, ◌<◌, ◌^◌, ℕ, ℤ, List, [], ◌++◌, Bool, true, FitsSigned, length};
 ghost use Rattle.std.specs.Int.{w16, w32, w64};
 ghost use Rattle.std.specs.List.{AllByRecursion};
 ghost use Rattle.thrift_binary.specs.Reading.{bool_at, bytes_at, signed_at, field_at, list_at, string_at, is_code};
@@ -41,6 +41,18 @@ pub fn cuts_of_strings()
     ensures faults { FaultsHavePlaces Truncated string_at }
     ensures values { ValuesHaveEnds Truncated string_at }
     ensures truncated { ShortStaysShort Truncated string_at }
+{}
+
+/// Of no bytes every reading is Truncated: so after a refusal, which leaves none, every later call is.
+pub fn nothing_left_is_truncated()
+    ensures bool { bool_at [] ≡ Err Truncated }
+    ensures i32 { signed_at w32 4 [] ≡ Err Truncated }
+    ensures i64 { signed_at w64 8 [] ≡ Err Truncated }
+    ensures double { bytes_at 8 [] ≡ Err Truncated }
+    ensures bytes { string_at [] ≡ Err Truncated }
+    ensures field { field_at [] ≡ Err Truncated }
+    ensures list_head { list_at [] ≡ Err Truncated }
+    ensures skipped { (c : ℕ) → skip_at c [] ≡ Err Truncated }
 {}
 
 /// What spells a value is read as that value, whatever follows, and all that follows is left.
