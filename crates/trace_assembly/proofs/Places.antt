@@ -1,15 +1,19 @@
 -- Where the spans of a history lie.
-use Rattle.std.proofs.Common.{◌≡◌, ℕ, suc, ◌+◌, List, [], ◌∷◌, ◌++◌, length, map, refl, sym, ap, subst, ◌∙◌, arith, append_assoc, length-append, Some}
+use Rattle.std.proofs.Common.{◌≡◌, ℕ, suc, ◌+◌, List, [], ◌∷◌, ◌++◌, length, map, refl, sym, ap, subst, ◌∙◌, arith, append_assoc, length-append, Some, ◌<◌, take, get_or}
 use Rattle.std.specs.Prelude.{slice_get}
 use Rattle.std.specs.Option.{option_and_then}
-use Rattle.std.proofs.lemmas.List.{append-nil, map-append}
+use Rattle.std.proofs.lemmas.List.{append-nil, map-append, map_more, take_all, length-map, length-take}
 use Rattle.jaeger_model.specs.declared.placed.Placed.{Placed}
 use Rattle.jaeger_model.specs.declared.ids.TraceId.{TraceId}
-use Rattle.jaeger_model.specs.Parents.{domain}
+use Rattle.jaeger_model.specs.declared.batch.Batch.{Batch}
+use Rattle.jaeger_model.specs.declared.span.Span.{Span}
+use Rattle.jaeger_model.specs.Parents.{domain, placed}
+use Rattle.trace_model.proofs.Parents.{with_parent-trace}
 use Rattle.trace_model.specs.declared.entry.Entry.{Entry}
 use Rattle.trace_model.specs.Histories.{arrivals}
+use Rattle.trace_model.specs.Showing.{trace_of}
 use Rattle.trace_assembly.specs.declared.spot.Spot.{Spot}
-use Rattle.trace_assembly.specs.Located.{located_in, located_from, located, span_at, spans_in, spots_in, stands_in, shown_in, own_of}
+use Rattle.trace_assembly.specs.Located.{located_in, located_from, located, span_at, spans_in, spots_in, stands_in, shown_in, own_of, located_upto}
 use Rattle.trace_assembly.proofs.Lists.{Each, each_append, each_filter, each_lasting, slice_get_middle}
 
 spans-located_in : (place index : ℕ) (ps : List Placed) → spans_in (located_in place index ps) ≡ ps
@@ -77,3 +81,21 @@ spans_at_located_law h = at_spots h (located h) (located-lies h) ∙ ap (map (λ
 
 pub shown-lies : (h : List Entry) (n : ℕ) (t : TraceId) → Each (LiesIn h) (own_of t (shown_in n (located h)))
 shown-lies h n t = each_filter (LiesIn h) _ (shown_in n (located h)) (each_lasting (LiesIn h) (stands_in n) [] (located h) (located-lies h))
+
+-- ---- one more batch, span by span
+pub trace_of-placed : (b : Batch) (s : Span) → trace_of (placed b s) ≡ s.trace
+trace_of-placed b s = with_parent-trace s
+
+pub upto_none : (h : List Entry) (b : Batch) → located_upto h b 0 ≡ located h
+upto_none h b = append-nil (located h)
+
+pub upto_more : (h : List Entry) (b : Batch) (i : ℕ) (s : Span) → i < length b.spans → get_or b.spans i s ≡ s
+    → located_upto h b (i + 1) ≡ located_upto h b i ++ (record { place = length h + 1; index = i }, placed b s) ∷ []
+upto_more h b i s below at =
+    let long : i ≡ 0 + length (map (placed b) (take i b.spans)) = omega (arith, length-map (take i b.spans) (placed b), length-take i b.spans) in
+    ap (λ ps. located h ++ located_in (length h + 1) 0 ps) (map_more (placed b) b.spans i s below ∙ ap (λ x. map (placed b) (take i b.spans) ++ placed b x ∷ []) at)
+    ∙ ap (λ ls. located h ++ ls) (located_in-push (length h + 1) 0 i (map (placed b) (take i b.spans)) (placed b s) long)
+    ∙ sym (append_assoc (located h) (located_in (length h + 1) 0 (map (placed b) (take i b.spans))) ((record { place = length h + 1; index = i }, placed b s) ∷ []))
+
+pub upto_all : (h : List Entry) (e : Entry) → located_upto h e.batch (length e.batch.spans) ≡ located (h ++ e ∷ [])
+upto_all h e = ap (λ ss. located h ++ located_in (length h + 1) 0 (map (placed e.batch) ss)) (take_all (length e.batch.spans) e.batch.spans (omega arith)) ∙ sym (located_push_law h e)

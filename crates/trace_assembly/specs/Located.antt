@@ -1,9 +1,10 @@
 -- Where the spans of a history lie, and which spots are shown.
-use Rattle.std.specs.Prelude.{ℕ, zero, suc, Bool, List, [], ◌∷◌, ◌++◌, map, filter, Option, Some, None, slice_get}
+use Rattle.std.specs.Prelude.{ℕ, zero, suc, Bool, List, [], ◌∷◌, ◌++◌, map, filter, Option, Some, None, slice_get, ◌+◌, length, take}
 use Rattle.std.specs.Option.{option_and_then}
 use Rattle.jaeger_model.specs.declared.ids.TraceId.{TraceId}
+use Rattle.jaeger_model.specs.declared.batch.Batch.{Batch}
 use Rattle.jaeger_model.specs.declared.placed.Placed.{Placed}
-use Rattle.jaeger_model.specs.Parents.{domain, same_trace}
+use Rattle.jaeger_model.specs.Parents.{domain, placed, same_trace}
 use Rattle.trace_model.specs.declared.entry.Entry.{Entry}
 use Rattle.trace_model.specs.Rings.{holds}
 use Rattle.trace_model.specs.Showing.{trace_of, ring, lasting_after}
@@ -27,6 +28,10 @@ located h = located_from 1 h
 abbrev pub entry_at : List Entry → ℕ → Option Entry
 entry_at h zero = None
 entry_at h (suc before) = slice_get h before
+
+-- those of a history and of the spans below this index of one more batch
+abbrev pub located_upto : List Entry → Batch → ℕ → List (Spot × Placed)
+located_upto h b index = located h ++ located_in (length h + 1) 0 (map (placed b) (take index b.spans))
 
 -- the span at a spot
 abbrev pub span_at : List Entry → Spot → Option Placed
