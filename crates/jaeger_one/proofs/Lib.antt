@@ -1,0 +1,3 @@
+pub mod Feeds
+pub mod LineEnds
+pub mod Taking

@@ -1,0 +1,7 @@
+//! The program.
+#![tactic(auto)]
+
+pub mod halt;
+pub mod lines;
+
+fn main() {}
