@@ -1,22 +1,14 @@
 -- What is skipped is a value.
-use Rattle.std.proofs.Common.{◌≡◌, ℕ, ℤ, zero, suc, ◌+◌, ◌<◌, ◌≤◌, Bool, true, false, cond, eqb, ltb, ◌&&◌, ◌||◌, List, [], ◌∷◌, ◌++◌, length, take, drop, Result, Ok, Err, refl, sym, ap, subst, ◌∙◌, append_assoc, arith}
+use Rattle.std.proofs.Common.{◌≡◌, ℕ, ℤ, zero, suc, ◌<◌, ◌≤◌, Bool, true, false, cond, eqb, ltb, ◌&&◌, ◌||◌, List, [], ◌∷◌, ◌++◌, length, take, drop, Ok, Err, refl, sym, ap, subst, ◌∙◌, append_assoc, arith}
 use Rattle.std.specs.Prelude.{MatchBool}
 use Rattle.std.specs.List.{AllByRecursion}
 use Rattle.std.proofs.lemmas.Bool.{ltb-false, ltb-true}
 use Rattle.std.proofs.lemmas.List.{take-append-drop, length-take}
-use Rattle.thrift_binary.specs.declared.fault.WireError.{WireError}
 use Rattle.thrift_binary.specs.declared.fault.WireError.TheVariants.{Truncated, BadType, TooDeep}
-use Rattle.thrift_binary.specs.Reading.{◌>>=◌, Read, byte_at, size_at, string_at, list_at, map_at, is_code}
-use Rattle.thrift_binary.specs.Fields.{Take, fields_at}
-use Rattle.thrift_binary.specs.Skipping.{Skip, past, both, times, text, struct, items, pairs, container, width, leaf, is_container, value_at, value_at-leaf}
-use Rattle.thrift_binary.specs.Spelling.{IsSize, IsString, Field, IsFields, IsRun, IsLeaf, IsStructOf, IsListOf, IsPair, IsMapOf, IsContainer, IsValue}
-use Rattle.thrift_binary.proofs.Found.{bind_ok, guard_ok, pass_ok, ok_is, Path, Took, Fielded, fields_found, string_found, size_found}
-
--- the front of the bytes is spelled so
-pub record Front (Is : List ℕ → Type 0) (w r : List ℕ) : Type 0 where
-  pub text : List ℕ
-  pub parts : w ≡ text ++ r
-  pub spells : Is text
+use Rattle.thrift_binary.specs.Reading.{Read, size_at, string_at, list_at, map_at, is_code}
+use Rattle.thrift_binary.specs.Skipping.{Skip, past, both, times, text, struct, items, pairs, container, width, leaf, is_container, skip_at, value_at}
+use Rattle.thrift_binary.specs.Spelling.{Front, IsSize, IsString, Field, IsRun, IsLeaf, IsStructOf, IsListOf, IsPair, IsMapOf, IsContainer, IsValue}
+use Rattle.thrift_binary.proofs.Found.{bind_ok, guard_ok, pass_ok, ok_is, Path, Took, fields_found, string_found, size_found}
 
 -- a reading that takes only such fronts
 abbrev pub Finds : Skip → (List ℕ → Type 0) → Type 0
@@ -59,7 +51,7 @@ text_found w r e =
     record { text = s.text; parts = s.parts ∙ ap (λ (t : List ℕ). s.text ++ t) (rest_is k.0.1 r k.2); spells = (k.0.0, s.spells) }
 
 -- a field of a skipped struct
-abbrev Kept : (ℕ → List ℕ → Type 0) → Unit {0} → Field → Unit {0} → Type 0
+abbrev pub Kept : (ℕ → List ℕ → Type 0) → Unit {0} → Field → Unit {0} → Type 0
 Kept Value s f t = Value f.code f.text
 
 all_kept : (Value : ℕ → List ℕ → Type 0) (fs : List Field) (s t : Unit {0}) → Path (Kept Value) s fs t → AllByRecursion (λ f. Value f.code f.text) fs
@@ -75,12 +67,12 @@ struct_found value Value f w r e =
     took : (s : Unit {0}) (c : ℕ) (i : ℤ) (w : List ℕ) (t : Unit {0}) (r : List ℕ) → value c w ≡ Ok (t, r) → Took (Kept Value) s c i w t r
     took s c i w t r e = let h = f c w r e in record { text = h.text; parts = h.parts; does = h.spells }
 
-record Listed (w : List ℕ) (c n : ℕ) (r : List ℕ) : Type 0 where
-  size : List ℕ
-  parts : w ≡ c ∷ (size ++ r)
-  spells : IsSize size n
+pub record Listed (w : List ℕ) (c n : ℕ) (r : List ℕ) : Type 0 where
+  pub size : List ℕ
+  pub parts : w ≡ c ∷ (size ++ r)
+  pub spells : IsSize size n
 
-list_head_found : (w : List ℕ) (c n : ℕ) (r : List ℕ) → list_at w ≡ Ok ((c, n), r) → Listed w c n r
+pub list_head_found : (w : List ℕ) (c n : ℕ) (r : List ℕ) → list_at w ≡ Ok ((c, n), r) → Listed w c n r
 unfolding list_at
 list_head_found [] c n r e = absurd cc
 list_head_found (b ∷ w) c n r e =
@@ -108,6 +100,43 @@ items_found value Value f w r e =
       spells = (k.0.0.0, k.0.0.1, h.size, run.text, h.spells, refl, run.spells);
     }
 
+record Mapped (w : List ℕ) (k c n : ℕ) (r : List ℕ) : Type 0 where
+  size : List ℕ
+  parts : w ≡ k ∷ (c ∷ (size ++ r))
+  spells : IsSize size n
+
+map_head_found : (w : List ℕ) (k c n : ℕ) (r : List ℕ) → map_at w ≡ Ok (((k, c), n), r) → Mapped w k c n r
+unfolding map_at
+map_head_found [] k c n r e = absurd cc
+map_head_found (a ∷ []) k c n r e = absurd cc
+map_head_found (a ∷ (b ∷ w)) k c n r e =
+    let m = bind_ok (size_at w) (λ m. cond (eqb m.0 0 || (is_code a && is_code b)) (Ok (((a, b), m.0), m.1)) (Err BadType)) (((k, c), n), r) e in
+    let p = pass_ok (eqb m.0.0 0 || (is_code a && is_code b)) BadType (((a, b), m.0.0), m.0.1) (((k, c), n), r) m.2 in
+    let s = size_found w m.0.0 m.0.1 m.1 in
+    let k-is : a ≡ k = ap (λ (x : ((ℕ × ℕ) × ℕ) × List ℕ). x.0.0.0) p.1 in
+    let c-is : b ≡ c = ap (λ (x : ((ℕ × ℕ) × ℕ) × List ℕ). x.0.0.1) p.1 in
+    let n-is : m.0.0 ≡ n = ap (λ (x : ((ℕ × ℕ) × ℕ) × List ℕ). x.0.1) p.1 in
+    let r-is : m.0.1 ≡ r = ap (λ (x : ((ℕ × ℕ) × ℕ) × List ℕ). x.1) p.1 in
+    record {
+      size = s.text;
+      parts = ap (λ (t : List ℕ). a ∷ (b ∷ t)) (s.parts ∙ ap (λ (t : List ℕ). s.text ++ t) r-is) ∙ ap (λ (x : ℕ). x ∷ (b ∷ (s.text ++ r))) k-is ∙ ap (λ (x : ℕ). k ∷ (x ∷ (s.text ++ r))) c-is;
+      spells = subst (λ i. IsSize s.text i) n-is s.spells;
+    }
+
+pairs_found : (value : ℕ → Skip) (Value : ℕ → List ℕ → Type 0) → ((c : ℕ) → Finds (value c) (Value c)) → Finds (pairs value) (IsMapOf Value)
+unfolding pairs
+pairs_found value Value f w r e =
+    let m = bind_ok (map_at w) (λ h. times h.0.1 (both (value h.0.0.0) (value h.0.0.1)) h.1) (tt, r) e in
+    let k = m.0.0.0.0 in
+    let c = m.0.0.0.1 in
+    let h = map_head_found w k c m.0.0.1 m.0.1 m.1 in
+    let run = times_found (both (value k) (value c)) (IsPair Value k c) (both_found (value k) (value c) (Value k) (Value c) (f k) (f c)) m.0.0.1 m.0.1 r m.2 in
+    record {
+      text = k ∷ (c ∷ (h.size ++ run.text));
+      parts = h.parts ∙ ap (λ (t : List ℕ). k ∷ (c ∷ (h.size ++ t))) run.parts ∙ ap (λ (t : List ℕ). k ∷ (c ∷ t)) (sym (append_assoc h.size run.text r));
+      spells = (k, c, m.0.0.1, h.size, run.text, h.spells, refl, run.spells);
+    }
+
 -- ---- by the type
 
 leaf_found : (c : ℕ) → Finds (leaf c) (IsLeaf c)
@@ -121,23 +150,32 @@ leaf_found c w r e = by (eqb c 11) e
     by true h = text_found w r h
     by false h = fixed (ltb 0 (width c)) refl h
 
-container_found : (value : ℕ → Skip) (Value : ℕ → List ℕ → Type 0) → ((c : ℕ) → Finds (value c) (Value c)) → Finds (pairs value) (IsMapOf Value) → (c : ℕ) → Finds (container value c) (IsContainer Value c)
-container_found value Value f maps c w r e = by (eqb c 12) (eqb c 13) e
+container_found : (value : ℕ → Skip) (Value : ℕ → List ℕ → Type 0) → ((c : ℕ) → Finds (value c) (Value c)) → (c : ℕ) → Finds (container value c) (IsContainer Value c)
+container_found value Value f c w r e = by (eqb c 12) (eqb c 13) e
   where
     by : (a b : Bool) → cond a (struct value w) (cond b (pairs value w) (items value w)) ≡ Ok (tt, r) → Front (λ t. MatchBool a (IsStructOf Value t) (MatchBool b (IsMapOf Value t) (IsListOf Value t))) w r
     by true b h = struct_found value Value f w r h
-    by false true h = maps w r h
+    by false true h = pairs_found value Value f w r h
     by false false h = items_found value Value f w r h
 
-value_found : ((value : ℕ → Skip) (Value : ℕ → List ℕ → Type 0) → ((c : ℕ) → Finds (value c) (Value c)) → Finds (pairs value) (IsMapOf Value)) → (levels c : ℕ) → Finds (value_at levels c) (IsValue levels c)
+value_found : (levels c : ℕ) → Finds (value_at levels c) (IsValue levels c)
 unfolding value_at IsValue
-value_found maps zero c w r e = by (is_container c) e
+value_found zero c w r e = by (is_container c) e
   where
     by : (a : Bool) → cond a (Err TooDeep) (leaf c w) ≡ Ok (tt, r) → Front (λ t. MatchBool a ⊥ (IsLeaf c t)) w r
     by true h = absurd cc
     by false h = leaf_found c w r h
-value_found maps (suc levels) c w r e = by (container_found (value_at levels) (IsValue levels) (λ d. value_found maps levels d) (maps (value_at levels) (IsValue levels) (λ d. value_found maps levels d)) c) (is_container c) e
+value_found (suc levels) c w r e = by (container_found (value_at levels) (IsValue levels) (λ d. value_found levels d) c) (is_container c) e
   where
     by : Finds (container (value_at levels) c) (IsContainer (IsValue levels) c) → (a : Bool) → cond a (container (value_at levels) c w) (leaf c w) ≡ Ok (tt, r) → Front (λ t. MatchBool a (IsContainer (IsValue levels) c t) (IsLeaf c t)) w r
     by f true h = f w r h
     by f false h = leaf_found c w r h
+
+-- what is skipped is a value of the type
+pub skip_found : (c : ℕ) (w r : List ℕ) → skip_at c w ≡ Ok (tt, r) → Front (IsValue 64 c) w r
+unfolding skip_at
+skip_found c w r e = by (eqb (length w) 0) e
+  where
+    by : (a : Bool) → cond a (Err Truncated) (value_at 64 c w) ≡ Ok (tt, r) → Front (IsValue 64 c) w r
+    by true h = absurd cc
+    by false h = value_found 64 c w r h

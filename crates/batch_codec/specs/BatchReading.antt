@@ -1,0 +1,35 @@
+-- A batch, read from left to right.
+use Rattle.std.specs.Prelude.{◌≡◌, ℕ, ℤ, pos, List, [], ◌∷◌, length, Option, Some, None, Result, Ok, Err, Bool, ◌&&◌, ◌==◌, if◌then◌else◌}
+use Rattle.std.specs.Ordering.{int_eq}
+use Rattle.thrift_binary.specs.Reading.{◌>>=◌, lift}
+use Rattle.thrift_binary.specs.Fields.{Take, fields_at}
+use Rattle.batch_codec.specs.declared.fault.DecodeError.{DecodeError}
+use Rattle.batch_codec.specs.declared.fault.Part.TheVariants as parts
+use Rattle.jaeger_model.specs.declared.batch.Batch.{Batch}
+use Rattle.batch_codec.specs.declared.fault.DecodeError.TheVariants.{Trailing}
+use Rattle.batch_codec.specs.declared.batch.BatchSlots.{BatchSlots}
+use Rattle.batch_codec.specs.Decoding.{wire, skipped, required, i64_at}
+use Rattle.batch_codec.specs.ItemsReading.{list_of}
+use Rattle.batch_codec.specs.Gathered.{no_batch}
+use Rattle.batch_codec.specs.ProcessReading.{process_at}
+use Rattle.batch_codec.specs.SpanReading.{span_at}
+
+unfoldable pub take_batch : Take BatchSlots DecodeError
+take_batch s c i w =
+    if (c == 12) && int_eq i (pos 1) then (process_at w >>= λ x. Ok (record s { process = Some x.0 }, x.1))
+    else if (c == 15) && int_eq i (pos 2) then (list_of span_at w >>= λ x. Ok (record s { spans = Some x.0 }, x.1))
+    else if (c == 10) && int_eq i (pos 3) then (i64_at w >>= λ x. Ok (record s { seq_no = Some x.0 }, x.1))
+    else skipped s c w
+
+unfoldable pub batch_from : BatchSlots → Result Batch DecodeError
+batch_from s = do
+  process ← required s.process parts.Batch 1
+  spans ← required s.spans parts.Batch 2
+  Ok (record { process = process; spans = spans; seq_no = s.seq_no })
+
+-- the one struct that spans all of the bytes, or the first fault
+unfoldable pub batch_at : List ℕ → Result Batch DecodeError
+batch_at w = do
+  x ← fields_at wire take_batch no_batch w
+  b ← batch_from x.0
+  if length x.1 == 0 then Ok b else Err Trailing

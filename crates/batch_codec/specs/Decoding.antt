@@ -1,0 +1,90 @@
+-- Reading from left to right, with the first fault that is met; and what the calls that read give.
+use Rattle.std.specs.Prelude.{◌≡◌, ℕ, ℤ, List, Option, Some, None, Result, Ok, Err, Bool, if◌then◌else◌}
+use Rattle.std.specs.Str.{is_utf8}
+use Rattle.std.specs.Int.{w32, w64, cast_unsigned}
+use Rattle.thrift_binary.specs.declared.fault.WireError.{WireError}
+use Rattle.thrift_binary.specs.declared.fault.WireError.TheVariants.{BadText}
+use Rattle.thrift_binary.specs.Reading.{◌>>=◌, lift, bytes_at, string_at, signed_at}
+use Rattle.thrift_binary.specs.Reading as wires
+use Rattle.thrift_binary.specs.Skipping.{skip_at}
+use Rattle.thrift_binary.specs.Fields.{Take}
+use Rattle.batch_codec.specs.declared.fault.DecodeError.{DecodeError}
+use Rattle.batch_codec.specs.declared.fault.DecodeError.TheVariants.{Wire, Missing, BadEnum, Trailing, Memory}
+use Rattle.batch_codec.specs.declared.fault.Part.{Part}
+
+-- what is read and the bytes after it, or the first fault
+abbrev pub Reading : Type 0 → Type 0
+Reading A = List ℕ → Result (A × List ℕ) DecodeError
+
+abbrev pub wire : WireError → DecodeError
+wire e = Wire e
+
+-- ---- values
+
+unfoldable pub bool_at : Reading Bool
+bool_at w = lift wire (wires.bool_at w)
+
+unfoldable pub double_at : Reading (List ℕ)
+double_at w = lift wire (bytes_at 8 w)
+
+unfoldable pub i32_at : Reading ℤ
+i32_at w = lift wire (signed_at w32 4 w)
+
+unfoldable pub i64_at : Reading ℤ
+i64_at w = lift wire (signed_at w64 8 w)
+
+-- 64 bits of an id, which the wire has as a signed number, as an unsigned one
+unfoldable pub id_at : Reading ℕ
+id_at w = i64_at w >>= λ x. Ok (cast_unsigned w64 x.0, x.1)
+
+-- a string, which has to be UTF-8
+unfoldable pub text_at : Reading (List ℕ)
+text_at w = lift wire (string_at w) >>= λ x. if is_utf8 x.0 then Ok (x.0, x.1) else Err (Wire BadText)
+
+-- a binary: any bytes
+unfoldable pub binary_at : Reading (List ℕ)
+binary_at w = lift wire (string_at w)
+
+-- ---- fields
+
+-- a value of any type, which changes nothing of what was gathered
+abbrev pub skipped : {S : Type 0} → S → ℕ → Reading S
+skipped s c w = lift wire (skip_at c w) >>= λ x. Ok (s, x.1)
+
+-- a required field at its struct's stop byte
+abbrev pub required : {A : Type 0} → Option A → Part → ℕ → Result A DecodeError
+required None part i = Err (Missing part i)
+required (Some x) part i = Ok x
+
+-- ---- calls
+
+-- the reading's fault, unless memory ran out
+abbrev pub Fails : {A : Type 0} → DecodeError → Result A DecodeError → Type 0
+Fails Memory r = Unit {0}
+Fails (Wire e) r = r ≡ Err (Wire e)
+Fails (Missing p i) r = r ≡ Err (Missing p i)
+Fails BadEnum r = r ≡ Err BadEnum
+Fails Trailing r = r ≡ Err Trailing
+
+-- A call on a cursor that held `old` gave what the reading gives, and left the bytes after it.
+abbrev pub Decodes : {X Y : Type 0} → (X → Y) → Reading Y → List ℕ → Result X DecodeError → List ℕ → Type 0
+Decodes view read old (Ok x) new = read old ≡ Ok (view x, new)
+Decodes view read old (Err e) new = Fails e (read old)
+
+-- the same of one field, which changes what was gathered so far
+abbrev pub Takes : {S : Type 0} → Take S DecodeError → S → ℕ → ℤ → List ℕ → Result (Unit {0}) DecodeError → S → List ℕ → Type 0
+Takes take s c i old (Ok x) t new = take s c i old ≡ Ok (t, new)
+Takes take s c i old (Err e) t new = Fails e (take s c i old)
+
+-- A call gave what the reading gives, unless memory ran out.
+abbrev pub Gives : {A : Type 0} → Result A DecodeError → Result A DecodeError → Type 0
+Gives (Ok x) read = read ≡ Ok x
+Gives (Err e) read = Fails e read
+
+-- a fault of a part is the fault of the whole
+pub Fails-whole : {A B : Type 0} (e : DecodeError) (part : Result A DecodeError) (whole : Result B DecodeError) → ((f : DecodeError) → part ≡ Err f → whole ≡ Err f) → Fails e part → Fails e whole
+Fails-whole Memory part whole same h = tt
+Fails-whole (Wire x) part whole same h = same (Wire x) h
+Fails-whole (Missing p i) part whole same h = same (Missing p i) h
+Fails-whole BadEnum part whole same h = same BadEnum h
+Fails-whole Trailing part whole same h = same Trailing h

@@ -1,0 +1,27 @@
+-- What was gathered of a struct before its first field. An absent optional list is empty, and a tag
+-- without the value that its type names has the empty text, eight zero bytes, false, 0 or no bytes.
+use Rattle.std.specs.Prelude.{ℕ, pos, List, [], ◌∷◌, None, false}
+use Rattle.batch_codec.specs.declared.tag.TagSlots.{TagSlots}
+use Rattle.batch_codec.specs.declared.log.LogSlots.{LogSlots}
+use Rattle.batch_codec.specs.declared.reference.ReferenceSlots.{ReferenceSlots}
+use Rattle.batch_codec.specs.declared.process.ProcessSlots.{ProcessSlots}
+use Rattle.batch_codec.specs.declared.span.SpanSlots.{SpanSlots}
+use Rattle.batch_codec.specs.declared.batch.BatchSlots.{BatchSlots}
+
+abbrev pub no_tag : TagSlots
+no_tag = record { key = None; kind = None; text = []; double = 0 ∷ 0 ∷ 0 ∷ 0 ∷ 0 ∷ 0 ∷ 0 ∷ 0 ∷ []; boolean = false; long = pos 0; binary = [] }
+
+abbrev pub no_log : LogSlots
+no_log = record { at = None; fields = None }
+
+abbrev pub no_reference : ReferenceSlots
+no_reference = record { kind = None; trace_low = None; trace_high = None; id = None }
+
+abbrev pub no_process : ProcessSlots
+no_process = record { service = None; tags = [] }
+
+abbrev pub no_span : SpanSlots
+no_span = record { trace_low = None; trace_high = None; id = None; parent = None; operation = None; references = []; flags = None; start = None; duration = None; tags = []; logs = [] }
+
+abbrev pub no_batch : BatchSlots
+no_batch = record { process = None; spans = None; seq_no = None }

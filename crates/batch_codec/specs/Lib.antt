@@ -1,0 +1,9 @@
+pub mod Decoding
+pub mod ItemsReading
+pub mod Gathered
+pub mod TagReading
+pub mod LogReading
+pub mod ReferenceReading
+pub mod ProcessReading
+pub mod SpanReading
+pub mod BatchReading

@@ -1,0 +1,31 @@
+-- A log of a span, read from left to right.
+use Rattle.std.specs.Prelude.{◌≡◌, ℕ, ℤ, pos, List, [], ◌∷◌, length, Option, Some, None, Result, Ok, Err, Bool, ◌&&◌, ◌==◌, if◌then◌else◌}
+use Rattle.std.specs.Ordering.{int_eq}
+use Rattle.thrift_binary.specs.Reading.{◌>>=◌, lift}
+use Rattle.thrift_binary.specs.Fields.{Take, fields_at}
+use Rattle.batch_codec.specs.declared.fault.DecodeError.{DecodeError}
+use Rattle.batch_codec.specs.declared.fault.Part.TheVariants as parts
+use Rattle.jaeger_model.specs.declared.span.Log.{Log}
+use Rattle.batch_codec.specs.declared.log.LogSlots.{LogSlots}
+use Rattle.batch_codec.specs.Decoding.{Reading, wire, skipped, required, i64_at}
+use Rattle.batch_codec.specs.ItemsReading.{list_of}
+use Rattle.batch_codec.specs.Gathered.{no_log}
+use Rattle.batch_codec.specs.TagReading.{tag_at}
+
+unfoldable pub take_log : Take LogSlots DecodeError
+take_log s c i w =
+    if (c == 10) && int_eq i (pos 1) then (i64_at w >>= λ x. Ok (record s { at = Some x.0 }, x.1))
+    else if (c == 15) && int_eq i (pos 2) then (list_of tag_at w >>= λ x. Ok (record s { fields = Some x.0 }, x.1))
+    else skipped s c w
+
+unfoldable pub log_from : LogSlots → Result Log DecodeError
+log_from s = do
+  at ← required s.at parts.Log 1
+  fields ← required s.fields parts.Log 2
+  Ok (record { at = at; fields = fields })
+
+unfoldable pub log_at : Reading Log
+log_at w = do
+  x ← fields_at wire take_log no_log w
+  l ← log_from x.0
+  Ok (l, x.1)

@@ -1,0 +1,42 @@
+-- A reference to a span, read from left to right.
+use Rattle.std.specs.Prelude.{◌≡◌, ℕ, ℤ, pos, List, [], ◌∷◌, length, Option, Some, None, Result, Ok, Err, Bool, ◌&&◌, ◌==◌, if◌then◌else◌}
+use Rattle.std.specs.Ordering.{int_eq}
+use Rattle.thrift_binary.specs.Reading.{◌>>=◌, lift}
+use Rattle.thrift_binary.specs.Fields.{Take, fields_at}
+use Rattle.batch_codec.specs.declared.fault.DecodeError.{DecodeError}
+use Rattle.batch_codec.specs.declared.fault.Part.TheVariants as parts
+use Rattle.jaeger_model.specs.declared.span.RefKind.{RefKind}
+use Rattle.jaeger_model.specs.declared.span.RefKind.TheVariants.{ChildOf, FollowsFrom}
+use Rattle.jaeger_model.specs.declared.span.SpanRef.{SpanRef}
+use Rattle.batch_codec.specs.declared.fault.DecodeError.TheVariants.{BadEnum}
+use Rattle.batch_codec.specs.declared.reference.ReferenceSlots.{ReferenceSlots}
+use Rattle.batch_codec.specs.Decoding.{Reading, wire, skipped, required, i32_at, id_at}
+use Rattle.batch_codec.specs.Gathered.{no_reference}
+
+unfoldable pub kind_at : Reading RefKind
+kind_at w = i32_at w >>= λ x.
+    if int_eq x.0 (pos 0) then Ok (ChildOf, x.1)
+    else if int_eq x.0 (pos 1) then Ok (FollowsFrom, x.1)
+    else Err BadEnum
+
+unfoldable pub take_reference : Take ReferenceSlots DecodeError
+take_reference s c i w =
+    if (c == 8) && int_eq i (pos 1) then (kind_at w >>= λ x. Ok (record s { kind = Some x.0 }, x.1))
+    else if (c == 10) && int_eq i (pos 2) then (id_at w >>= λ x. Ok (record s { trace_low = Some x.0 }, x.1))
+    else if (c == 10) && int_eq i (pos 3) then (id_at w >>= λ x. Ok (record s { trace_high = Some x.0 }, x.1))
+    else if (c == 10) && int_eq i (pos 4) then (id_at w >>= λ x. Ok (record s { id = Some x.0 }, x.1))
+    else skipped s c w
+
+unfoldable pub reference_from : ReferenceSlots → Result SpanRef DecodeError
+reference_from s = do
+  kind ← required s.kind parts.SpanRef 1
+  low ← required s.trace_low parts.SpanRef 2
+  high ← required s.trace_high parts.SpanRef 3
+  id ← required s.id parts.SpanRef 4
+  Ok (record { kind = kind; trace = record { high = high; low = low }; id = record { 0 = id } })
+
+unfoldable pub reference_at : Reading SpanRef
+reference_at w = do
+  x ← fields_at wire take_reference no_reference w
+  r ← reference_from x.0
+  Ok (r, x.1)

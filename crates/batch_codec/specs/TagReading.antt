@@ -1,0 +1,56 @@
+-- A tag, read from left to right.
+use Rattle.std.specs.Prelude.{◌≡◌, ℕ, ℤ, pos, List, [], ◌∷◌, length, Option, Some, None, Result, Ok, Err, Bool, ◌&&◌, ◌==◌, if◌then◌else◌}
+use Rattle.std.specs.Ordering.{int_eq}
+use Rattle.thrift_binary.specs.Reading.{◌>>=◌, lift}
+use Rattle.thrift_binary.specs.Fields.{Take, fields_at}
+use Rattle.batch_codec.specs.declared.fault.DecodeError.{DecodeError}
+use Rattle.batch_codec.specs.declared.fault.Part.TheVariants as parts
+use Rattle.jaeger_model.specs.declared.tag.Tag.{Tag}
+use Rattle.jaeger_model.specs.declared.tag.Value.{Value}
+use Rattle.jaeger_model.specs.declared.tag.Value.TheVariants as values
+use Rattle.batch_codec.specs.declared.fault.DecodeError.TheVariants.{BadEnum}
+use Rattle.batch_codec.specs.declared.tag.TagType.{TagType}
+use Rattle.batch_codec.specs.declared.tag.TagType.TheVariants as types
+use Rattle.batch_codec.specs.declared.tag.TagSlots.{TagSlots}
+use Rattle.batch_codec.specs.Decoding.{Reading, wire, skipped, required, bool_at, double_at, i32_at, i64_at, text_at, binary_at}
+use Rattle.batch_codec.specs.Gathered.{no_tag}
+
+unfoldable pub type_at : Reading TagType
+type_at w = i32_at w >>= λ x.
+    if int_eq x.0 (pos 0) then Ok (types.Text, x.1)
+    else if int_eq x.0 (pos 1) then Ok (types.Double, x.1)
+    else if int_eq x.0 (pos 2) then Ok (types.Bool, x.1)
+    else if int_eq x.0 (pos 3) then Ok (types.Long, x.1)
+    else if int_eq x.0 (pos 4) then Ok (types.Binary, x.1)
+    else Err BadEnum
+
+unfoldable pub take_tag : Take TagSlots DecodeError
+take_tag s c i w =
+    if (c == 11) && int_eq i (pos 1) then (text_at w >>= λ x. Ok (record s { key = Some x.0 }, x.1))
+    else if (c == 8) && int_eq i (pos 2) then (type_at w >>= λ x. Ok (record s { kind = Some x.0 }, x.1))
+    else if (c == 11) && int_eq i (pos 3) then (text_at w >>= λ x. Ok (record s { text = x.0 }, x.1))
+    else if (c == 4) && int_eq i (pos 4) then (double_at w >>= λ x. Ok (record s { double = x.0 }, x.1))
+    else if (c == 2) && int_eq i (pos 5) then (bool_at w >>= λ x. Ok (record s { boolean = x.0 }, x.1))
+    else if (c == 10) && int_eq i (pos 6) then (i64_at w >>= λ x. Ok (record s { long = x.0 }, x.1))
+    else if (c == 11) && int_eq i (pos 7) then (binary_at w >>= λ x. Ok (record s { binary = x.0 }, x.1))
+    else skipped s c w
+
+-- the value that the type names
+abbrev pub value_named : TagType → TagSlots → Value
+value_named types.Text s = values.Text s.text
+value_named types.Double s = values.Double s.double
+value_named types.Bool s = values.Bool s.boolean
+value_named types.Long s = values.Long s.long
+value_named types.Binary s = values.Bytes s.binary
+
+unfoldable pub tag_from : TagSlots → Result Tag DecodeError
+tag_from s = do
+  key ← required s.key parts.Tag 1
+  kind ← required s.kind parts.Tag 2
+  Ok (record { key = key; value = value_named kind s })
+
+unfoldable pub tag_at : Reading Tag
+tag_at w = do
+  x ← fields_at wire take_tag no_tag w
+  t ← tag_from x.0
+  Ok (t, x.1)

@@ -1,0 +1,76 @@
+ghost use Rattle.std.specs.Prelude.{◌≡◌};
+ghost use Rattle.batch_codec.specs.BatchReading.{batch_from, batch_at};
+ghost use Rattle.batch_codec.specs.Decoding.{Gives};
+
+use crate::code::{I64, LIST, STRUCT};
+use crate::fault::{DecodeError, Part};
+use crate::fields::{Slots, read_fields, required};
+use crate::items::read_list;
+use crate::process::read_process;
+use crate::values::read_i64;
+use jaeger_model::{Batch, Process, Seq, Span};
+use std::alloc::Global;
+use thrift_binary::Cursor;
+
+#[derive(Drop)]
+pub(crate) struct BatchSlots {
+    pub(crate) process: Option<Process>,
+    pub(crate) spans: Option<Seq<Span>>,
+    pub(crate) seq_no: Option<i64>,
+}
+
+impl Slots for BatchSlots {
+    ghost use Rattle.batch_codec.specs.BatchReading.{take_batch};
+
+    ghost puts = { take_batch };
+
+    #[tactic(auto, unfolding(crate::specs::BatchReading::take_batch))]
+    fn put(
+        &mut self,
+        alloc: Global,
+        code: u8,
+        id: i16,
+        cursor: &mut Cursor<'_>,
+    ) -> Result<(), DecodeError> {
+        match (code, id) {
+            (STRUCT, 1) => self.process = Some(read_process(alloc, cursor)?),
+            (LIST, 2) => self.spans = Some(read_list(alloc, cursor)?),
+            (I64, 3) => self.seq_no = Some(read_i64(cursor)?),
+            _ => cursor.skip(code)?,
+        }
+        Ok(())
+    }
+}
+
+#[tactic(auto, unfolding(crate::specs::BatchReading::batch_from))]
+fn batch_of(slots: BatchSlots) -> Result<Batch, DecodeError>
+    ensures { result ≡ batch_from slots }
+{
+    let process = required(slots.process, Part::Batch, 1)?;
+    let spans = required(slots.spans, Part::Batch, 2)?;
+    Ok(Batch {
+        process,
+        spans,
+        seq_no: slots.seq_no,
+    })
+}
+
+/// The batch that the bytes spell, all of the bytes.
+#[tactic(auto, unfolding(crate::specs::BatchReading::batch_at))]
+pub fn decode(alloc: Global, bytes: &[u8]) -> Result<Batch, DecodeError>
+    // The batch, or the first fault.
+    ensures exact { Gives result (batch_at bytes.now) }
+{
+    let mut cursor = Cursor::new(bytes);
+    let none = BatchSlots {
+        process: None,
+        spans: None,
+        seq_no: None,
+    };
+    let slots = read_fields(alloc, none, &mut cursor)?;
+    let batch = batch_of(slots)?;
+    if !cursor.rest().is_empty() {
+        return Err(DecodeError::Trailing);
+    }
+    Ok(batch)
+}

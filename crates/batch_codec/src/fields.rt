@@ -1,0 +1,47 @@
+ghost use Rattle.std.specs.Prelude.{◌≡◌, ◌≤◌, ◌<◌, ℕ, ℤ, List, length, Result, OnOk};
+ghost use Rattle.batch_codec.specs.declared.fault.DecodeError.{DecodeError};
+ghost use Rattle.batch_codec.specs.Decoding.{Takes, Decodes, required, wire};
+ghost use Rattle.thrift_binary.specs.Fields.{fields_at};
+
+use crate::fault::{DecodeError, Part};
+use std::alloc::Global;
+use thrift_binary::Cursor;
+
+/// What was gathered of a struct so far.
+pub(crate) trait Slots: Drop {
+    ghost puts: { Self → ℕ → ℤ → List ℕ → Result (Self × List ℕ) DecodeError };
+
+    /// Reads the value of a field of this type and id.
+    fn put(
+        &mut self,
+        alloc: Global,
+        code: u8,
+        id: i16,
+        cursor: &mut Cursor<'_>,
+    ) -> Result<(), DecodeError>
+        ensures exact { Takes puts self.old code id cursor.old result self.new cursor.new }
+        ensures no_longer { OnOk result (length cursor.new ≤ length cursor.old) };
+}
+
+/// All fields up to the stop byte.
+pub(crate) fn read_fields<S: Slots>(
+    alloc: Global,
+    slots: S,
+    cursor: &mut Cursor<'_>,
+) -> Result<S, DecodeError>
+    ensures exact { Decodes (λ s. s) (fields_at wire S.puts slots) cursor.old result cursor.new }
+    ensures shorter { OnOk result (length cursor.new < length cursor.old) }
+{
+    let mut slots = slots;
+    while let Some((code, id)) = cursor.field()? {
+        slots.put(alloc, code, id, cursor)?;
+    }
+    Ok(slots)
+}
+
+/// The value of a required field, or that it is missing.
+pub(crate) fn required<T>(slot: Option<T>, part: Part, id: u8) -> Result<T, DecodeError>
+    ensures { result ≡ required slot part id }
+{
+    slot.ok_or(DecodeError::Missing(part, id))
+}

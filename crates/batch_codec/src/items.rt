@@ -1,0 +1,51 @@
+ghost use Rattle.std.specs.Prelude.{◌≡◌, ◌≤◌, ◌<◌, ℕ, List, length, Result, OnOk};
+ghost use Rattle.batch_codec.specs.declared.fault.DecodeError.{DecodeError};
+ghost use Rattle.batch_codec.specs.Decoding.{Decodes};
+ghost use Rattle.batch_codec.specs.ItemsReading.{items_at, list_of};
+
+use crate::code;
+use crate::fault::DecodeError;
+use jaeger_model::Seq;
+use std::alloc::Global;
+use thrift_binary::{Cursor, WireError};
+
+/// A struct that stands in lists.
+pub(crate) trait Element: Drop + Sized {
+    ghost reads: { List ℕ → Result (Self × List ℕ) DecodeError };
+
+    fn read(alloc: Global, cursor: &mut Cursor<'_>) -> Result<Self, DecodeError>
+        ensures exact { Decodes (λ s. s) reads cursor.old result cursor.new }
+        ensures shorter { OnOk result (length cursor.new < length cursor.old) };
+}
+
+fn read_items<T: Element>(
+    alloc: Global,
+    size: u32,
+    cursor: &mut Cursor<'_>,
+) -> Result<Vec<T>, DecodeError>
+    ensures exact { Decodes (λ v. v.items) (items_at T.reads size) cursor.old result cursor.new }
+    ensures no_longer { OnOk result (length cursor.new ≤ length cursor.old) }
+{
+    let mut items = Vec::new(alloc);
+    for _ in 0..size {
+        let item = T::read(alloc, cursor)?;
+        items.push(item)?;
+    }
+    Ok(items)
+}
+
+/// A list of structs. Nothing is reserved by its size, which may be any that the bytes claim.
+#[tactic(auto, unfolding(crate::specs::ItemsReading::list_of))]
+pub(crate) fn read_list<T: Element>(
+    alloc: Global,
+    cursor: &mut Cursor<'_>,
+) -> Result<Seq<T>, DecodeError>
+    ensures exact { Decodes (λ v. v) (list_of T.reads) cursor.old result cursor.new }
+    ensures no_longer { OnOk result (length cursor.new ≤ length cursor.old) }
+{
+    let (found, size) = cursor.list_head()?;
+    if size != 0 && found != code::STRUCT {
+        return Err(DecodeError::Wire(WireError::BadType));
+    }
+    Ok(Seq::from_vec(read_items(alloc, size, cursor)?))
+}

@@ -1,0 +1,62 @@
+ghost use Rattle.std.specs.Prelude.{◌≡◌};
+ghost use Rattle.batch_codec.specs.LogReading.{log_at, log_from};
+
+use crate::code::{I64, LIST};
+use crate::fault::{DecodeError, Part};
+use crate::fields::{Slots, read_fields, required};
+use crate::items::{Element, read_list};
+use crate::values::read_i64;
+use jaeger_model::{Log, Seq, Tag};
+use std::alloc::Global;
+use thrift_binary::Cursor;
+
+#[derive(Drop)]
+pub(crate) struct LogSlots {
+    pub(crate) at: Option<i64>,
+    pub(crate) fields: Option<Seq<Tag>>,
+}
+
+impl Slots for LogSlots {
+    ghost use Rattle.batch_codec.specs.LogReading.{take_log};
+
+    ghost puts = { take_log };
+
+    #[tactic(auto, unfolding(crate::specs::LogReading::take_log))]
+    fn put(
+        &mut self,
+        alloc: Global,
+        code: u8,
+        id: i16,
+        cursor: &mut Cursor<'_>,
+    ) -> Result<(), DecodeError> {
+        match (code, id) {
+            (I64, 1) => self.at = Some(read_i64(cursor)?),
+            (LIST, 2) => self.fields = Some(read_list(alloc, cursor)?),
+            _ => cursor.skip(code)?,
+        }
+        Ok(())
+    }
+}
+
+#[tactic(auto, unfolding(crate::specs::LogReading::log_from))]
+fn log_of(slots: LogSlots) -> Result<Log, DecodeError>
+    ensures { result ≡ log_from slots }
+{
+    let at = required(slots.at, Part::Log, 1)?;
+    let fields = required(slots.fields, Part::Log, 2)?;
+    Ok(Log { at, fields })
+}
+
+impl Element for Log {
+    ghost reads = { log_at };
+
+    #[tactic(auto, unfolding(crate::specs::LogReading::log_at))]
+    fn read(alloc: Global, cursor: &mut Cursor<'_>) -> Result<Self, DecodeError> {
+        let none = LogSlots {
+            at: None,
+            fields: None,
+        };
+        let slots = read_fields(alloc, none, cursor)?;
+        log_of(slots)
+    }
+}

@@ -1,0 +1,64 @@
+ghost use Rattle.std.specs.Prelude.{◌≡◌, ◌≤◌, ◌<◌, length, OnOk};
+ghost use Rattle.batch_codec.specs.Decoding.{Decodes};
+ghost use Rattle.batch_codec.specs.ProcessReading.{process_at, process_from};
+
+use crate::code::{LIST, STRING};
+use crate::fault::{DecodeError, Part};
+use crate::fields::{Slots, read_fields, required};
+use crate::items::read_list;
+use crate::values::read_text;
+use jaeger_model::{Process, Seq, Tag, Text};
+use std::alloc::Global;
+use thrift_binary::Cursor;
+
+#[derive(Drop)]
+pub(crate) struct ProcessSlots {
+    pub(crate) service: Option<Text>,
+    pub(crate) tags: Seq<Tag>,
+}
+
+impl Slots for ProcessSlots {
+    ghost use Rattle.batch_codec.specs.ProcessReading.{take_process};
+
+    ghost puts = { take_process };
+
+    #[tactic(auto, unfolding(crate::specs::ProcessReading::take_process))]
+    fn put(
+        &mut self,
+        alloc: Global,
+        code: u8,
+        id: i16,
+        cursor: &mut Cursor<'_>,
+    ) -> Result<(), DecodeError> {
+        match (code, id) {
+            (STRING, 1) => self.service = Some(read_text(alloc, cursor)?),
+            (LIST, 2) => self.tags = read_list(alloc, cursor)?,
+            _ => cursor.skip(code)?,
+        }
+        Ok(())
+    }
+}
+
+#[tactic(auto, unfolding(crate::specs::ProcessReading::process_from))]
+fn process_of(slots: ProcessSlots) -> Result<Process, DecodeError>
+    ensures { result ≡ process_from slots }
+{
+    let service = required(slots.service, Part::Process, 1)?;
+    Ok(Process {
+        service,
+        tags: slots.tags,
+    })
+}
+
+#[tactic(auto, unfolding(crate::specs::ProcessReading::process_at))]
+pub(crate) fn read_process(alloc: Global, cursor: &mut Cursor<'_>) -> Result<Process, DecodeError>
+    ensures exact { Decodes (λ p. p) process_at cursor.old result cursor.new }
+    ensures no_longer { OnOk result (length cursor.new ≤ length cursor.old) }
+{
+    let none = ProcessSlots {
+        service: None,
+        tags: Seq::new(alloc),
+    };
+    let slots = read_fields(alloc, none, cursor)?;
+    process_of(slots)
+}

@@ -1,0 +1,87 @@
+ghost use Rattle.std.specs.Prelude.{◌≡◌, ◌≤◌, length, OnOk};
+ghost use Rattle.batch_codec.specs.Decoding.{Decodes};
+ghost use Rattle.batch_codec.specs.ReferenceReading.{reference_at, reference_from, kind_at};
+
+use crate::code::{I32, I64};
+use crate::fault::{DecodeError, Part};
+use crate::fields::{Slots, read_fields, required};
+use crate::items::Element;
+use crate::values::{read_i32, read_id};
+use jaeger_model::{RefKind, SpanId, SpanRef, TraceId};
+use std::alloc::Global;
+use thrift_binary::Cursor;
+
+#[derive(Drop)]
+pub(crate) struct ReferenceSlots {
+    pub(crate) kind: Option<RefKind>,
+    pub(crate) trace_low: Option<u64>,
+    pub(crate) trace_high: Option<u64>,
+    pub(crate) id: Option<u64>,
+}
+
+impl Slots for ReferenceSlots {
+    ghost use Rattle.batch_codec.specs.ReferenceReading.{take_reference};
+
+    ghost puts = { take_reference };
+
+    #[tactic(auto, unfolding(crate::specs::ReferenceReading::take_reference))]
+    fn put(
+        &mut self,
+        _alloc: Global,
+        code: u8,
+        id: i16,
+        cursor: &mut Cursor<'_>,
+    ) -> Result<(), DecodeError> {
+        match (code, id) {
+            (I32, 1) => self.kind = Some(read_kind(cursor)?),
+            (I64, 2) => self.trace_low = Some(read_id(cursor)?),
+            (I64, 3) => self.trace_high = Some(read_id(cursor)?),
+            (I64, 4) => self.id = Some(read_id(cursor)?),
+            _ => cursor.skip(code)?,
+        }
+        Ok(())
+    }
+}
+
+#[tactic(auto, unfolding(crate::specs::ReferenceReading::kind_at))]
+fn read_kind(cursor: &mut Cursor<'_>) -> Result<RefKind, DecodeError>
+    ensures exact { Decodes (λ k. k) kind_at cursor.old result cursor.new }
+    ensures no_longer { OnOk result (length cursor.new ≤ length cursor.old) }
+{
+    match read_i32(cursor)? {
+        0 => Ok(RefKind::ChildOf),
+        1 => Ok(RefKind::FollowsFrom),
+        _ => Err(DecodeError::BadEnum),
+    }
+}
+
+#[tactic(auto, unfolding(crate::specs::ReferenceReading::reference_from))]
+fn reference_of(slots: ReferenceSlots) -> Result<SpanRef, DecodeError>
+    ensures { result ≡ reference_from slots }
+{
+    let kind = required(slots.kind, Part::SpanRef, 1)?;
+    let low = required(slots.trace_low, Part::SpanRef, 2)?;
+    let high = required(slots.trace_high, Part::SpanRef, 3)?;
+    let id = required(slots.id, Part::SpanRef, 4)?;
+    Ok(SpanRef {
+        kind,
+        trace: TraceId { high, low },
+        id: SpanId(id),
+    })
+}
+
+impl Element for SpanRef {
+    ghost reads = { reference_at };
+
+    #[tactic(auto, unfolding(crate::specs::ReferenceReading::reference_at))]
+    fn read(alloc: Global, cursor: &mut Cursor<'_>) -> Result<Self, DecodeError> {
+        let none = ReferenceSlots {
+            kind: None,
+            trace_low: None,
+            trace_high: None,
+            id: None,
+        };
+        let slots = read_fields(alloc, none, cursor)?;
+        reference_of(slots)
+    }
+}

@@ -1,0 +1,115 @@
+ghost use Rattle.std.specs.Prelude.{◌≡◌};
+ghost use Rattle.batch_codec.specs.SpanReading.{span_at, span_from};
+
+use crate::code::{I32, I64, LIST, STRING};
+use crate::fault::{DecodeError, Part};
+use crate::fields::{Slots, read_fields, required};
+use crate::items::{Element, read_list};
+use crate::values::{read_i32, read_i64, read_id, read_text};
+use jaeger_model::{Log, Seq, Span, SpanId, SpanRef, Tag, Text, TraceId};
+use std::alloc::Global;
+use thrift_binary::Cursor;
+
+#[derive(Drop)]
+pub(crate) struct SpanSlots {
+    pub(crate) trace_low: Option<u64>,
+    pub(crate) trace_high: Option<u64>,
+    pub(crate) id: Option<u64>,
+    pub(crate) parent: Option<u64>,
+    pub(crate) operation: Option<Text>,
+    pub(crate) references: Seq<SpanRef>,
+    pub(crate) flags: Option<i32>,
+    pub(crate) start: Option<i64>,
+    pub(crate) duration: Option<i64>,
+    pub(crate) tags: Seq<Tag>,
+    pub(crate) logs: Seq<Log>,
+}
+
+impl SpanSlots {
+    ghost use Rattle.batch_codec.specs.Gathered.{no_span};
+
+    fn new(alloc: Global) -> Self
+        ensures { result ≡ no_span }
+    {
+        SpanSlots {
+            trace_low: None,
+            trace_high: None,
+            id: None,
+            parent: None,
+            operation: None,
+            references: Seq::new(alloc),
+            flags: None,
+            start: None,
+            duration: None,
+            tags: Seq::new(alloc),
+            logs: Seq::new(alloc),
+        }
+    }
+}
+
+impl Slots for SpanSlots {
+    ghost use Rattle.batch_codec.specs.SpanReading.{take_span};
+
+    ghost puts = { take_span };
+
+    #[tactic(auto, unfolding(crate::specs::SpanReading::take_span))]
+    fn put(
+        &mut self,
+        alloc: Global,
+        code: u8,
+        id: i16,
+        cursor: &mut Cursor<'_>,
+    ) -> Result<(), DecodeError> {
+        match (code, id) {
+            (I64, 1) => self.trace_low = Some(read_id(cursor)?),
+            (I64, 2) => self.trace_high = Some(read_id(cursor)?),
+            (I64, 3) => self.id = Some(read_id(cursor)?),
+            (I64, 4) => self.parent = Some(read_id(cursor)?),
+            (STRING, 5) => self.operation = Some(read_text(alloc, cursor)?),
+            (LIST, 6) => self.references = read_list(alloc, cursor)?,
+            (I32, 7) => self.flags = Some(read_i32(cursor)?),
+            (I64, 8) => self.start = Some(read_i64(cursor)?),
+            (I64, 9) => self.duration = Some(read_i64(cursor)?),
+            (LIST, 10) => self.tags = read_list(alloc, cursor)?,
+            (LIST, 11) => self.logs = read_list(alloc, cursor)?,
+            _ => cursor.skip(code)?,
+        }
+        Ok(())
+    }
+}
+
+#[tactic(auto, unfolding(crate::specs::SpanReading::span_from))]
+fn span_of(slots: SpanSlots) -> Result<Span, DecodeError>
+    ensures { result ≡ span_from slots }
+{
+    let low = required(slots.trace_low, Part::Span, 1)?;
+    let high = required(slots.trace_high, Part::Span, 2)?;
+    let id = required(slots.id, Part::Span, 3)?;
+    let parent = required(slots.parent, Part::Span, 4)?;
+    let operation = required(slots.operation, Part::Span, 5)?;
+    let flags = required(slots.flags, Part::Span, 7)?;
+    let start = required(slots.start, Part::Span, 8)?;
+    let duration = required(slots.duration, Part::Span, 9)?;
+    Ok(Span {
+        trace: TraceId { high, low },
+        id: SpanId(id),
+        parent: SpanId(parent),
+        operation,
+        references: slots.references,
+        flags,
+        start,
+        duration,
+        tags: slots.tags,
+        logs: slots.logs,
+    })
+}
+
+impl Element for Span {
+    ghost reads = { span_at };
+
+    #[tactic(auto, unfolding(crate::specs::SpanReading::span_at))]
+    fn read(alloc: Global, cursor: &mut Cursor<'_>) -> Result<Self, DecodeError> {
+        let slots = read_fields(alloc, SpanSlots::new(alloc), cursor)?;
+        span_of(slots)
+    }
+}

@@ -1,0 +1,119 @@
+ghost use Rattle.std.specs.Prelude.{◌≡◌, ◌≤◌, ◌<◌, length, OnOk};
+ghost use Rattle.batch_codec.specs.Decoding.{Decodes};
+ghost use Rattle.batch_codec.specs.TagReading.{tag_at, tag_from, type_at};
+
+use crate::code::{BOOL, DOUBLE, I32, I64, STRING};
+use crate::fault::{DecodeError, Part};
+use crate::fields::{Slots, read_fields, required};
+use crate::items::Element;
+use crate::values::{read_binary, read_bool, read_double, read_i32, read_i64, read_text};
+use jaeger_model::{Seq, Tag, Text, Value};
+use std::alloc::Global;
+use thrift_binary::Cursor;
+
+/// Which of its values a tag has (`TagType` of `jaeger.thrift`).
+#[derive(Clone, Copy)]
+pub(crate) enum TagType {
+    Text,
+    Double,
+    Bool,
+    Long,
+    Binary,
+}
+
+#[derive(Drop)]
+pub(crate) struct TagSlots {
+    pub(crate) key: Option<Text>,
+    pub(crate) kind: Option<TagType>,
+    pub(crate) text: Text,
+    pub(crate) double: [u8; 8],
+    pub(crate) boolean: bool,
+    pub(crate) long: i64,
+    pub(crate) binary: Seq<u8>,
+}
+
+impl TagSlots {
+    ghost use Rattle.batch_codec.specs.Gathered.{no_tag};
+
+    fn new(alloc: Global) -> Self
+        ensures { result ≡ no_tag }
+    {
+        TagSlots {
+            key: None,
+            kind: None,
+            text: Text::new(alloc),
+            double: [0; 8],
+            boolean: false,
+            long: 0,
+            binary: Seq::new(alloc),
+        }
+    }
+}
+
+impl Slots for TagSlots {
+    ghost use Rattle.batch_codec.specs.TagReading.{take_tag};
+
+    ghost puts = { take_tag };
+
+    #[tactic(auto, unfolding(crate::specs::TagReading::take_tag))]
+    fn put(
+        &mut self,
+        alloc: Global,
+        code: u8,
+        id: i16,
+        cursor: &mut Cursor<'_>,
+    ) -> Result<(), DecodeError> {
+        match (code, id) {
+            (STRING, 1) => self.key = Some(read_text(alloc, cursor)?),
+            (I32, 2) => self.kind = Some(read_type(cursor)?),
+            (STRING, 3) => self.text = read_text(alloc, cursor)?,
+            (DOUBLE, 4) => self.double = read_double(cursor)?,
+            (BOOL, 5) => self.boolean = read_bool(cursor)?,
+            (I64, 6) => self.long = read_i64(cursor)?,
+            (STRING, 7) => self.binary = read_binary(alloc, cursor)?,
+            _ => cursor.skip(code)?,
+        }
+        Ok(())
+    }
+}
+
+#[tactic(auto, unfolding(crate::specs::TagReading::type_at))]
+fn read_type(cursor: &mut Cursor<'_>) -> Result<TagType, DecodeError>
+    ensures exact { Decodes (λ t. t) type_at cursor.old result cursor.new }
+    ensures no_longer { OnOk result (length cursor.new ≤ length cursor.old) }
+{
+    match read_i32(cursor)? {
+        0 => Ok(TagType::Text),
+        1 => Ok(TagType::Double),
+        2 => Ok(TagType::Bool),
+        3 => Ok(TagType::Long),
+        4 => Ok(TagType::Binary),
+        _ => Err(DecodeError::BadEnum),
+    }
+}
+
+#[tactic(auto, unfolding(crate::specs::TagReading::tag_from))]
+fn tag_of(slots: TagSlots) -> Result<Tag, DecodeError>
+    ensures { result ≡ tag_from slots }
+{
+    let key = required(slots.key, Part::Tag, 1)?;
+    let kind = required(slots.kind, Part::Tag, 2)?;
+    let value = match kind {
+        TagType::Text => Value::Text(slots.text),
+        TagType::Double => Value::Double(slots.double),
+        TagType::Bool => Value::Bool(slots.boolean),
+        TagType::Long => Value::Long(slots.long),
+        TagType::Binary => Value::Bytes(slots.binary),
+    };
+    Ok(Tag { key, value })
+}
+
+impl Element for Tag {
+    ghost reads = { tag_at };
+
+    #[tactic(auto, unfolding(crate::specs::TagReading::tag_at))]
+    fn read(alloc: Global, cursor: &mut Cursor<'_>) -> Result<Self, DecodeError> {
+        let slots = read_fields(alloc, TagSlots::new(alloc), cursor)?;
+        tag_of(slots)
+    }
+}
