@@ -1,2 +1,10 @@
 pub mod Texts
 pub mod ItemsLoop
+pub mod ValuesSpelled
+pub mod Structs
+pub mod TagSpelled
+pub mod LogSpelled
+pub mod ReferenceSpelled
+pub mod ProcessSpelled
+pub mod SpanSpelled
+pub mod BatchSpelled

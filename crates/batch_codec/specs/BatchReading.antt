@@ -9,7 +9,7 @@ use Rattle.jaeger_model.specs.declared.batch.Batch.{Batch}
 use Rattle.batch_codec.specs.declared.fault.DecodeError.TheVariants.{Trailing}
 use Rattle.batch_codec.specs.declared.batch.BatchSlots.{BatchSlots}
 use Rattle.batch_codec.specs.Decoding.{wire, skipped, required, i64_at}
-use Rattle.batch_codec.specs.ItemsReading.{list_of}
+use Rattle.thrift_binary.specs.Lists.{list_of}
 use Rattle.batch_codec.specs.Gathered.{no_batch}
 use Rattle.batch_codec.specs.ProcessReading.{process_at}
 use Rattle.batch_codec.specs.SpanReading.{span_at}
@@ -17,7 +17,7 @@ use Rattle.batch_codec.specs.SpanReading.{span_at}
 unfoldable pub take_batch : Take BatchSlots DecodeError
 take_batch s c i w =
     if (c == 12) && int_eq i (pos 1) then (process_at w >>= λ x. Ok (record s { process = Some x.0 }, x.1))
-    else if (c == 15) && int_eq i (pos 2) then (list_of span_at w >>= λ x. Ok (record s { spans = Some x.0 }, x.1))
+    else if (c == 15) && int_eq i (pos 2) then (list_of wire 12 span_at w >>= λ x. Ok (record s { spans = Some x.0 }, x.1))
     else if (c == 10) && int_eq i (pos 3) then (i64_at w >>= λ x. Ok (record s { seq_no = Some x.0 }, x.1))
     else skipped s c w
 

@@ -1,5 +1,4 @@
 pub mod Decoding
-pub mod ItemsReading
 pub mod Gathered
 pub mod TagReading
 pub mod LogReading
@@ -7,3 +6,4 @@ pub mod ReferenceReading
 pub mod ProcessReading
 pub mod SpanReading
 pub mod BatchReading
+pub mod Batches

@@ -8,14 +8,14 @@ use Rattle.batch_codec.specs.declared.fault.Part.TheVariants as parts
 use Rattle.jaeger_model.specs.declared.span.Log.{Log}
 use Rattle.batch_codec.specs.declared.log.LogSlots.{LogSlots}
 use Rattle.batch_codec.specs.Decoding.{Reading, wire, skipped, required, i64_at}
-use Rattle.batch_codec.specs.ItemsReading.{list_of}
+use Rattle.thrift_binary.specs.Lists.{list_of}
 use Rattle.batch_codec.specs.Gathered.{no_log}
 use Rattle.batch_codec.specs.TagReading.{tag_at}
 
 unfoldable pub take_log : Take LogSlots DecodeError
 take_log s c i w =
     if (c == 10) && int_eq i (pos 1) then (i64_at w >>= λ x. Ok (record s { at = Some x.0 }, x.1))
-    else if (c == 15) && int_eq i (pos 2) then (list_of tag_at w >>= λ x. Ok (record s { fields = Some x.0 }, x.1))
+    else if (c == 15) && int_eq i (pos 2) then (list_of wire 12 tag_at w >>= λ x. Ok (record s { fields = Some x.0 }, x.1))
     else skipped s c w
 
 unfoldable pub log_from : LogSlots → Result Log DecodeError

@@ -8,14 +8,14 @@ use Rattle.batch_codec.specs.declared.fault.Part.TheVariants as parts
 use Rattle.jaeger_model.specs.declared.batch.Process.{Process}
 use Rattle.batch_codec.specs.declared.process.ProcessSlots.{ProcessSlots}
 use Rattle.batch_codec.specs.Decoding.{Reading, wire, skipped, required, text_at}
-use Rattle.batch_codec.specs.ItemsReading.{list_of}
+use Rattle.thrift_binary.specs.Lists.{list_of}
 use Rattle.batch_codec.specs.Gathered.{no_process}
 use Rattle.batch_codec.specs.TagReading.{tag_at}
 
 unfoldable pub take_process : Take ProcessSlots DecodeError
 take_process s c i w =
     if (c == 11) && int_eq i (pos 1) then (text_at w >>= λ x. Ok (record s { service = Some x.0 }, x.1))
-    else if (c == 15) && int_eq i (pos 2) then (list_of tag_at w >>= λ x. Ok (record s { tags = x.0 }, x.1))
+    else if (c == 15) && int_eq i (pos 2) then (list_of wire 12 tag_at w >>= λ x. Ok (record s { tags = x.0 }, x.1))
     else skipped s c w
 
 unfoldable pub process_from : ProcessSlots → Result Process DecodeError

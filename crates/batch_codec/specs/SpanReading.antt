@@ -8,7 +8,7 @@ use Rattle.batch_codec.specs.declared.fault.Part.TheVariants as parts
 use Rattle.jaeger_model.specs.declared.span.Span.{Span}
 use Rattle.batch_codec.specs.declared.span.SpanSlots.{SpanSlots}
 use Rattle.batch_codec.specs.Decoding.{Reading, wire, skipped, required, i32_at, i64_at, id_at, text_at}
-use Rattle.batch_codec.specs.ItemsReading.{list_of}
+use Rattle.thrift_binary.specs.Lists.{list_of}
 use Rattle.batch_codec.specs.Gathered.{no_span}
 use Rattle.batch_codec.specs.TagReading.{tag_at}
 use Rattle.batch_codec.specs.LogReading.{log_at}
@@ -21,12 +21,12 @@ take_span s c i w =
     else if (c == 10) && int_eq i (pos 3) then (id_at w >>= λ x. Ok (record s { id = Some x.0 }, x.1))
     else if (c == 10) && int_eq i (pos 4) then (id_at w >>= λ x. Ok (record s { parent = Some x.0 }, x.1))
     else if (c == 11) && int_eq i (pos 5) then (text_at w >>= λ x. Ok (record s { operation = Some x.0 }, x.1))
-    else if (c == 15) && int_eq i (pos 6) then (list_of reference_at w >>= λ x. Ok (record s { references = x.0 }, x.1))
+    else if (c == 15) && int_eq i (pos 6) then (list_of wire 12 reference_at w >>= λ x. Ok (record s { references = x.0 }, x.1))
     else if (c == 8) && int_eq i (pos 7) then (i32_at w >>= λ x. Ok (record s { flags = Some x.0 }, x.1))
     else if (c == 10) && int_eq i (pos 8) then (i64_at w >>= λ x. Ok (record s { start = Some x.0 }, x.1))
     else if (c == 10) && int_eq i (pos 9) then (i64_at w >>= λ x. Ok (record s { duration = Some x.0 }, x.1))
-    else if (c == 15) && int_eq i (pos 10) then (list_of tag_at w >>= λ x. Ok (record s { tags = x.0 }, x.1))
-    else if (c == 15) && int_eq i (pos 11) then (list_of log_at w >>= λ x. Ok (record s { logs = x.0 }, x.1))
+    else if (c == 15) && int_eq i (pos 10) then (list_of wire 12 tag_at w >>= λ x. Ok (record s { tags = x.0 }, x.1))
+    else if (c == 15) && int_eq i (pos 11) then (list_of wire 12 log_at w >>= λ x. Ok (record s { logs = x.0 }, x.1))
     else skipped s c w
 
 unfoldable pub span_from : SpanSlots → Result Span DecodeError

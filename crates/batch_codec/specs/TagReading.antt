@@ -6,14 +6,12 @@ use Rattle.thrift_binary.specs.Fields.{Take, fields_at}
 use Rattle.batch_codec.specs.declared.fault.DecodeError.{DecodeError}
 use Rattle.batch_codec.specs.declared.fault.Part.TheVariants as parts
 use Rattle.jaeger_model.specs.declared.tag.Tag.{Tag}
-use Rattle.jaeger_model.specs.declared.tag.Value.{Value}
-use Rattle.jaeger_model.specs.declared.tag.Value.TheVariants as values
 use Rattle.batch_codec.specs.declared.fault.DecodeError.TheVariants.{BadEnum}
 use Rattle.batch_codec.specs.declared.tag.TagType.{TagType}
 use Rattle.batch_codec.specs.declared.tag.TagType.TheVariants as types
 use Rattle.batch_codec.specs.declared.tag.TagSlots.{TagSlots}
 use Rattle.batch_codec.specs.Decoding.{Reading, wire, skipped, required, bool_at, double_at, i32_at, i64_at, text_at, binary_at}
-use Rattle.batch_codec.specs.Gathered.{no_tag}
+use Rattle.batch_codec.specs.Gathered.{no_tag, value_named}
 
 unfoldable pub type_at : Reading TagType
 type_at w = i32_at w >>= λ x.
@@ -34,14 +32,6 @@ take_tag s c i w =
     else if (c == 10) && int_eq i (pos 6) then (i64_at w >>= λ x. Ok (record s { long = x.0 }, x.1))
     else if (c == 11) && int_eq i (pos 7) then (binary_at w >>= λ x. Ok (record s { binary = x.0 }, x.1))
     else skipped s c w
-
--- the value that the type names
-abbrev pub value_named : TagType → TagSlots → Value
-value_named types.Text s = values.Text s.text
-value_named types.Double s = values.Double s.double
-value_named types.Bool s = values.Bool s.boolean
-value_named types.Long s = values.Long s.long
-value_named types.Binary s = values.Bytes s.binary
 
 unfoldable pub tag_from : TagSlots → Result Tag DecodeError
 tag_from s = do

@@ -1,4 +1,5 @@
-ghost use Rattle.std.specs.Prelude.{◌≡◌};
+ghost use Rattle.std.specs.Prelude.{◌≡◌, IfOk};
+ghost use Rattle.batch_codec.specs.Batches.{Answers, IsBatch};
 ghost use Rattle.batch_codec.specs.BatchReading.{batch_from, batch_at};
 ghost use Rattle.batch_codec.specs.Decoding.{Gives};
 
@@ -55,11 +56,9 @@ fn batch_of(slots: BatchSlots) -> Result<Batch, DecodeError>
     })
 }
 
-/// The batch that the bytes spell, all of the bytes.
 #[tactic(auto, unfolding(crate::specs::BatchReading::batch_at))]
-pub fn decode(alloc: Global, bytes: &[u8]) -> Result<Batch, DecodeError>
-    // The batch, or the first fault.
-    ensures exact { Gives result (batch_at bytes.now) }
+fn read_batch(alloc: Global, bytes: &[u8]) -> Result<Batch, DecodeError>
+    ensures { Gives result (batch_at bytes.now) }
 {
     let mut cursor = Cursor::new(bytes);
     let none = BatchSlots {
@@ -73,4 +72,22 @@ pub fn decode(alloc: Global, bytes: &[u8]) -> Result<Batch, DecodeError>
         return Err(DecodeError::Trailing);
     }
     Ok(batch)
+}
+
+/// The batch that the bytes spell, all of the bytes: the struct `Batch` of `jaeger.thrift` in the
+/// Thrift binary protocol.
+///
+/// # Errors
+///
+/// The first fault from left to right, or [`DecodeError::Memory`] where there was no memory for the
+/// batch. Nothing is reserved by a size that the bytes claim.
+pub fn decode(alloc: Global, bytes: &[u8]) -> Result<Batch, DecodeError>
+    // What is read is spelled so, and what is spelled so is read.
+    ensures found { IfOk result (λ b. IsBatch bytes.now b) }
+    ensures complete { Answers bytes.now result }
+
+    // The batch or the first fault, unless memory ran out.
+    ensures exact { Gives result (batch_at bytes.now) }
+{
+    read_batch(alloc, bytes)
 }

@@ -1,7 +1,7 @@
 ghost use Rattle.std.specs.Prelude.{◌≡◌, ◌≤◌, ◌<◌, ℕ, List, length, Result, OnOk};
 ghost use Rattle.batch_codec.specs.declared.fault.DecodeError.{DecodeError};
-ghost use Rattle.batch_codec.specs.Decoding.{Decodes};
-ghost use Rattle.batch_codec.specs.ItemsReading.{items_at, list_of};
+ghost use Rattle.batch_codec.specs.Decoding.{Decodes, wire};
+ghost use Rattle.thrift_binary.specs.Lists.{items_at, list_of};
 
 use crate::code;
 use crate::fault::DecodeError;
@@ -35,12 +35,12 @@ fn read_items<T: Element>(
 }
 
 /// A list of structs. Nothing is reserved by its size, which may be any that the bytes claim.
-#[tactic(auto, unfolding(crate::specs::ItemsReading::list_of))]
+#[tactic(auto, unfolding(thrift_binary::specs::Lists::list_of))]
 pub(crate) fn read_list<T: Element>(
     alloc: Global,
     cursor: &mut Cursor<'_>,
 ) -> Result<Seq<T>, DecodeError>
-    ensures exact { Decodes (λ v. v) (list_of T.reads) cursor.old result cursor.new }
+    ensures exact { Decodes (λ v. v) (list_of wire 12 T.reads) cursor.old result cursor.new }
     ensures no_longer { OnOk result (length cursor.new ≤ length cursor.old) }
 {
     let (found, size) = cursor.list_head()?;

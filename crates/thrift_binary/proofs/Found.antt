@@ -59,7 +59,7 @@ got_none c i r v e = none_some (c, i) (ap (λ (x : Option (ℕ × ℤ) × List �
     none_some x h = absurd cc
 
 -- a number in the front of a longer text
-big_number-take : (n : ℕ) (w : List ℕ) → n ≤ length w → big_number n w ≡ big_number n (take n w)
+pub big_number-take : (n : ℕ) (w : List ℕ) → n ≤ length w → big_number n w ≡ big_number n (take n w)
 big_number-take n w le =
     let long : n ≤ length (take n w) = omega (arith, length-take n w) in
     ap (λ v. big_number n v) (sym (take-append-drop n w)) ∙ big_from-append n (take n w) (drop n w) long

@@ -175,7 +175,7 @@ leaf_some c t is = by (eqb c 11) is
     by true (bytes, (h, size, is)) = omega (arith, ap length is, length-append h bytes, size.0)
     by false h = omega (arith, h.0, h.1)
 
-value_some : (levels c : ℕ) (t : List ℕ) → IsValue levels c t → 0 < length t
+pub value_some : (levels c : ℕ) (t : List ℕ) → IsValue levels c t → 0 < length t
 unfolding IsValue
 value_some zero c t is = by (is_container c) is
   where

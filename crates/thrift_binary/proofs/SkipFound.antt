@@ -158,7 +158,7 @@ container_found value Value f c w r e = by (eqb c 12) (eqb c 13) e
     by false true h = pairs_found value Value f w r h
     by false false h = items_found value Value f w r h
 
-value_found : (levels c : ℕ) → Finds (value_at levels c) (IsValue levels c)
+pub value_found : (levels c : ℕ) → Finds (value_at levels c) (IsValue levels c)
 unfolding value_at IsValue
 value_found zero c w r e = by (is_container c) e
   where

@@ -1,0 +1,115 @@
+-- A batch that is read is spelled so, and one that is spelled so is read.
+use Rattle.std.proofs.Common.{◌≡◌, ℕ, ℤ, pos, true, cond, eqb, List, [], ◌∷◌, ◌++◌, length, Some, Result, Ok, Err, refl, sym, ap, subst, ◌∙◌, arith, ◌⊎◌, inl, inr}
+use Rattle.std.specs.Prelude.{IfOk}
+use Rattle.std.proofs.lemmas.Bool.{eqb-true}
+use Rattle.std.proofs.lemmas.List.{append-nil}
+use Rattle.jaeger_model.specs.declared.batch.Batch.{Batch}
+use Rattle.thrift_binary.specs.Reading.{◌>>=◌, is_code}
+use Rattle.thrift_binary.specs.Spelling.{Front, Field}
+use Rattle.thrift_binary.specs.Fields.{fields_at}
+use Rattle.thrift_binary.proofs.Found.{bind_ok, pass_ok, ok_is}
+use Rattle.thrift_binary.proofs.Again.{fields_again}
+use Rattle.batch_codec.specs.declared.fault.DecodeError.{DecodeError}
+use Rattle.batch_codec.specs.declared.fault.DecodeError.TheVariants.{Memory, Wire, Missing, BadEnum, Trailing}
+use Rattle.batch_codec.specs.declared.fault.Part.TheVariants as parts
+use Rattle.batch_codec.specs.declared.batch.BatchSlots.{BatchSlots}
+use Rattle.batch_codec.specs.Decoding.{Gives, wire, required}
+use Rattle.batch_codec.specs.Gathered.{no_batch}
+use Rattle.batch_codec.specs.BatchReading.{take_batch, batch_from, batch_at}
+use Rattle.batch_codec.specs.Batches.{BatchField, IsStruct, whole_batch, IsBatch, Answers}
+use Rattle.batch_codec.proofs.ValuesSpelled.{is_i64}
+use Rattle.batch_codec.proofs.Structs.{known_found, known_again, known_coded, skipped_found, skipped_again, skipped_coded, struct_at, struct_found, path_gathers, required_found, is_list}
+use Rattle.batch_codec.proofs.ProcessSpelled.{is_process}
+use Rattle.batch_codec.proofs.SpanSpelled.{is_span}
+
+takes : (s : BatchSlots) (c : ℕ) (i : ℤ) (w : List ℕ) (t : BatchSlots) (r : List ℕ) → take_batch s c i w ≡ Ok (t, r) → Front (λ v. BatchField s (record { code = c; id = i; text = v }) t) w r
+unfolding take_batch BatchField
+takes s c i w t r =
+    known_found is_process (λ x. record s { process = Some x }) c 12 i (pos 1) w t r _ _ (
+    known_found (is_list is_span) (λ x. record s { spans = Some x }) c 15 i (pos 2) w t r _ _ (
+    known_found is_i64 (λ x. record s { seq_no = Some x }) c 10 i (pos 3) w t r _ _ (
+    skipped_found s c w t r)))
+
+again : (s : BatchSlots) (f : Field) (t : BatchSlots) (r : List ℕ) → BatchField s f t → take_batch s f.code f.id (f.text ++ r) ≡ Ok (t, r)
+unfolding take_batch BatchField
+again s f t r =
+    known_again is_process (λ x. record s { process = Some x }) f.code 12 f.id (pos 1) f.text t r _ _ (
+    known_again (is_list is_span) (λ x. record s { spans = Some x }) f.code 15 f.id (pos 2) f.text t r _ _ (
+    known_again is_i64 (λ x. record s { seq_no = Some x }) f.code 10 f.id (pos 3) f.text t r _ _ (
+    skipped_again s f.code f.text t r)))
+
+coded : (s : BatchSlots) (f : Field) (t : BatchSlots) → BatchField s f t → is_code f.code ≡ true
+unfolding BatchField
+coded s f t =
+    known_coded _ f.code 12 f.id (pos 1) _ refl (
+    known_coded _ f.code 15 f.id (pos 2) _ refl (
+    known_coded _ f.code 10 f.id (pos 3) _ refl (
+    λ m. skipped_coded f.code f.text m.0)))
+
+all_there : (s : BatchSlots) (x : Batch) → s.process ≡ Some x.process → s.spans ≡ Some x.spans → s.seq_no ≡ x.seq_no → s ≡ whole_batch x
+all_there s x a b c = rw (a, b, c) refl
+
+made : (s : BatchSlots) (x : Batch) → batch_from s ≡ Ok x → s ≡ whole_batch x
+unfolding batch_from
+made s x e =
+    let a = required_found s.process parts.Batch 1 _ x e in
+    let b = required_found s.spans parts.Batch 2 _ x a.2 in
+    let whole : Batch = record { process = a.0; spans = b.0; seq_no = s.seq_no } in
+    let same : whole ≡ x = ok_is whole x b.2 in
+    let there : s ≡ whole_batch whole = all_there s whole a.1 b.1 refl in
+    there ∙ ap (λ (y : Batch). whole_batch y) same
+
+makes : (s : BatchSlots) (x : Batch) → s ≡ whole_batch x → batch_from s ≡ Ok x
+unfolding batch_from
+makes s x m = rw m refl
+
+-- the fields of a batch, whatever follows its stop byte
+abbrev behind : List ℕ → Batch → Result Batch DecodeError
+behind rest b = cond (eqb (length rest) 0) (Ok b) (Err Trailing)
+
+to_the_end : (w v : List ℕ) (s : BatchSlots) (x b : Batch) → fields_at wire take_batch no_batch w ≡ Ok (s, v) → batch_from s ≡ Ok x → v ≡ [] → x ≡ b
+    → struct_at take_batch BatchField no_batch batch_from (λ s y. s ≡ whole_batch y) w ≡ Ok (b, [])
+to_the_end w v s x b fields from none same = rw (fields, from, none, same) refl
+
+pub batch_found : (w : List ℕ) (b : Batch) → batch_at w ≡ Ok b → IsBatch w b
+unfolding batch_at IsBatch
+batch_found w b e =
+    let x = bind_ok (fields_at wire take_batch no_batch w) (λ y. batch_from y.0 >>= behind y.1) b e in
+    let k = bind_ok (batch_from x.0.0) (behind x.0.1) b x.2 in
+    let p = pass_ok (eqb (length x.0.1) 0) Trailing k.0 b k.2 in
+    let none : x.0.1 ≡ [] = no_bytes x.0.1 (eqb-true (length x.0.1) 0 p.0) in
+    let whole = to_the_end w x.0.1 x.0.0 k.0 b x.1 k.1 none p.1 in
+    let f = struct_found take_batch BatchField no_batch batch_from (λ s y. s ≡ whole_batch y) takes made w b [] whole in
+    let same : f.text ≡ w = sym (f.parts ∙ append-nil f.text) in
+    subst (λ (v : List ℕ). IsStruct BatchField no_batch (λ s y. s ≡ whole_batch y) v b) same f.spells
+  where
+    no_bytes : (v : List ℕ) → length v ≡ 0 → v ≡ []
+    no_bytes [] e = refl
+    no_bytes (y ∷ v) e = absurd (omega arith)
+
+pub batch_again : (w : List ℕ) (b : Batch) → IsBatch w b → batch_at w ≡ Ok b
+unfolding batch_at IsBatch
+batch_again w b is =
+    let fields : fields_at wire take_batch no_batch (w ++ []) ≡ Ok (is.gathered, []) = fields_again wire take_batch BatchField coded again is.fields no_batch is.gathered w [] is.spelled (path_gathers BatchField is.fields no_batch is.gathered is.gathers) in
+    let whole = makes is.gathered b is.makes in
+    let here : fields_at wire take_batch no_batch w ≡ Ok (is.gathered, []) = ap (fields_at wire take_batch no_batch) (sym (append-nil w)) ∙ fields in
+    rw (here, whole) refl
+
+pub decoded_found : (w : List ℕ) (result : Result Batch DecodeError) → Gives result (batch_at w) → IfOk result (λ b. IsBatch w b)
+decoded_found w (Ok b) e = batch_found w b e
+decoded_found w (Err d) e = tt
+
+abbrev ok_batch : Batch → Result Batch DecodeError
+ok_batch b = Ok b
+
+-- the answer of a call whose reading gives a batch
+decoded_so : (read : Result Batch DecodeError) (b : Batch) (result : Result Batch DecodeError) → read ≡ ok_batch b → Gives result read → (result ≡ ok_batch b) ⊎ (result ≡ Err Memory)
+decoded_so read b (Ok x) e g = inl (sym g ∙ e)
+decoded_so read b (Err Memory) e g = inr refl
+decoded_so read b (Err (Wire d)) e g = absurd cc
+decoded_so read b (Err (Missing p i)) e g = absurd cc
+decoded_so read b (Err BadEnum) e g = absurd cc
+decoded_so read b (Err Trailing) e g = absurd cc
+
+pub decoded_complete : (w : List ℕ) (result : Result Batch DecodeError) → Gives result (batch_at w) → Answers w result
+decoded_complete w result g b is = decoded_so (batch_at w) b result (batch_again w b is) g

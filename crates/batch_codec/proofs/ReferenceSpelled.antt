@@ -1,0 +1,68 @@
+-- A reference that is read is spelled so, and one that is spelled so is read.
+use Rattle.std.proofs.Common.{◌≡◌, ℕ, ℤ, pos, true, List, ◌++◌, Some, Result, Ok, refl, sym, ap, ◌∙◌}
+use Rattle.jaeger_model.specs.declared.span.SpanRef.{SpanRef}
+use Rattle.thrift_binary.specs.Reading.{◌>>=◌, is_code}
+use Rattle.thrift_binary.specs.Spelling.{Front, Field}
+use Rattle.thrift_binary.proofs.Found.{ok_is}
+use Rattle.batch_codec.specs.declared.fault.DecodeError.{DecodeError}
+use Rattle.batch_codec.specs.declared.fault.Part.TheVariants as parts
+use Rattle.batch_codec.specs.declared.reference.ReferenceSlots.{ReferenceSlots}
+use Rattle.batch_codec.specs.Decoding.{required}
+use Rattle.batch_codec.specs.Gathered.{no_reference}
+use Rattle.batch_codec.specs.ReferenceReading.{take_reference, reference_from, reference_at}
+use Rattle.batch_codec.specs.Batches.{ReferenceField, whole_reference, IsReference}
+use Rattle.batch_codec.proofs.ValuesSpelled.{Agrees, is_kind, is_id}
+use Rattle.batch_codec.proofs.Structs.{known_found, known_again, known_coded, skipped_found, skipped_again, skipped_coded, struct_found, struct_again, required_found}
+
+takes : (s : ReferenceSlots) (c : ℕ) (i : ℤ) (w : List ℕ) (t : ReferenceSlots) (r : List ℕ) → take_reference s c i w ≡ Ok (t, r) → Front (λ v. ReferenceField s (record { code = c; id = i; text = v }) t) w r
+unfolding take_reference ReferenceField
+takes s c i w t r =
+    known_found is_kind (λ x. record s { kind = Some x }) c 8 i (pos 1) w t r _ _ (
+    known_found is_id (λ x. record s { trace_low = Some x }) c 10 i (pos 2) w t r _ _ (
+    known_found is_id (λ x. record s { trace_high = Some x }) c 10 i (pos 3) w t r _ _ (
+    known_found is_id (λ x. record s { id = Some x }) c 10 i (pos 4) w t r _ _ (
+    skipped_found s c w t r))))
+
+again : (s : ReferenceSlots) (f : Field) (t : ReferenceSlots) (r : List ℕ) → ReferenceField s f t → take_reference s f.code f.id (f.text ++ r) ≡ Ok (t, r)
+unfolding take_reference ReferenceField
+again s f t r =
+    known_again is_kind (λ x. record s { kind = Some x }) f.code 8 f.id (pos 1) f.text t r _ _ (
+    known_again is_id (λ x. record s { trace_low = Some x }) f.code 10 f.id (pos 2) f.text t r _ _ (
+    known_again is_id (λ x. record s { trace_high = Some x }) f.code 10 f.id (pos 3) f.text t r _ _ (
+    known_again is_id (λ x. record s { id = Some x }) f.code 10 f.id (pos 4) f.text t r _ _ (
+    skipped_again s f.code f.text t r))))
+
+coded : (s : ReferenceSlots) (f : Field) (t : ReferenceSlots) → ReferenceField s f t → is_code f.code ≡ true
+unfolding ReferenceField
+coded s f t =
+    known_coded _ f.code 8 f.id (pos 1) _ refl (
+    known_coded _ f.code 10 f.id (pos 2) _ refl (
+    known_coded _ f.code 10 f.id (pos 3) _ refl (
+    known_coded _ f.code 10 f.id (pos 4) _ refl (
+    λ m. skipped_coded f.code f.text m.0))))
+
+all_there : (s : ReferenceSlots) (x : SpanRef) → s.kind ≡ Some x.kind → s.trace_low ≡ Some x.trace.low → s.trace_high ≡ Some x.trace.high → s.id ≡ Some x.id.0 → s ≡ whole_reference x
+all_there s x a b c d = rw (a, b, c, d) refl
+
+made : (s : ReferenceSlots) (x : SpanRef) → reference_from s ≡ Ok x → s ≡ whole_reference x
+unfolding reference_from
+made s x e =
+    let a = required_found s.kind parts.SpanRef 1 _ x e in
+    let b = required_found s.trace_low parts.SpanRef 2 _ x a.2 in
+    let c = required_found s.trace_high parts.SpanRef 3 _ x b.2 in
+    let d = required_found s.id parts.SpanRef 4 _ x c.2 in
+    let whole : SpanRef = record { kind = a.0; trace = record { high = c.0; low = b.0 }; id = record { 0 = d.0 } } in
+    let same : whole ≡ x = ok_is whole x d.2 in
+    let there : s ≡ whole_reference whole = all_there s whole a.1 b.1 c.1 d.1 in
+    there ∙ ap (λ (y : SpanRef). whole_reference y) same
+
+makes : (s : ReferenceSlots) (x : SpanRef) → s ≡ whole_reference x → reference_from s ≡ Ok x
+unfolding reference_from
+makes s x m = rw m refl
+
+pub is_reference : Agrees reference_at IsReference
+unfolding reference_at IsReference
+is_reference = record {
+  found = struct_found take_reference ReferenceField no_reference reference_from (λ s x. s ≡ whole_reference x) takes made;
+  again = struct_again take_reference ReferenceField no_reference reference_from (λ s x. s ≡ whole_reference x) coded again makes;
+}

@@ -1,0 +1,171 @@
+-- Structs: what is read is spelled so, and what is spelled so is read, of any struct whose fields do.
+use Rattle.std.proofs.Common.{◌≡◌, ℕ, ℤ, Bool, true, false, cond, eqb, ltb, ◌&&◌, ◌||◌, ◌<◌, List, length, arith, [], ◌∷◌, ◌++◌, Option, Some, None, Result, Ok, Err, refl, sym, ap, subst, ◌∙◌}
+use Rattle.std.specs.Prelude.{MatchBool}
+use Rattle.std.specs.Ordering.{int_eq}
+use Rattle.std.proofs.lemmas.Bool.{eqb-true, ltb-true, lt-ltb}
+use Rattle.thrift_binary.specs.Reading.{◌>>=◌, lift, is_code}
+use Rattle.thrift_binary.specs.Skipping.{skip_at, width}
+use Rattle.thrift_binary.specs.Fields.{Take, fields_at}
+use Rattle.thrift_binary.specs.Lists.{list_of}
+use Rattle.thrift_binary.specs.Spelling.{Front, Field, IsFields, IsString, IsLeaf, IsContainer, IsValue, IsTypedList}
+use Rattle.thrift_binary.proofs.Found.{bind_ok, lift_ok, ok_is, Path, Took, fields_found}
+use Rattle.thrift_binary.proofs.Again.{fields_again}
+use Rattle.thrift_binary.proofs.SkipFound.{skip_found}
+use Rattle.thrift_binary.proofs.SkipAgain.{skip_again}
+use Rattle.thrift_binary.proofs.Lists.{list_found, list_again}
+use Rattle.batch_codec.specs.declared.fault.DecodeError.{DecodeError}
+use Rattle.batch_codec.specs.declared.fault.Part.{Part}
+use Rattle.batch_codec.specs.Decoding.{Reading, wire, skipped, required}
+use Rattle.batch_codec.specs.Batches.{Gathers, IsStruct, IsListOf}
+use Rattle.batch_codec.proofs.ValuesSpelled.{Found, Again, Agrees}
+
+-- ---- one field
+
+-- a field of this type and id, or what the others give
+pub known_found : {A S : Type 0} {read : Reading A} {Spells : List ℕ → A → Type 0} → Agrees read Spells → (set : A → S) (c d : ℕ) (i j : ℤ) (w : List ℕ) (t : S) (r : List ℕ) (others : Result (S × List ℕ) DecodeError) (Others : List ℕ → Type 0)
+    → (others ≡ Ok (t, r) → Front Others w r)
+    → cond (eqb c d && int_eq i j) (read w >>= λ x. Ok (set x.0, x.1)) others ≡ Ok (t, r)
+    → Front (λ v. MatchBool (eqb c d && int_eq i j) ((x : A) × Spells v x × (t ≡ set x)) (Others v)) w r
+known_found {A = A} {S = S} {read = read} {Spells = Spells} value set c d i j w t r others Others more e = by (eqb c d && int_eq i j) e
+  where
+    by : (b : Bool) → cond b (read w >>= λ x. Ok (set x.0, x.1)) others ≡ Ok (t, r) → Front (λ v. MatchBool b ((x : A) × Spells v x × (t ≡ set x)) (Others v)) w r
+    by true h =
+        let k = bind_ok (read w) (λ x. Ok (set x.0, x.1)) (t, r) h in
+        let f = value.found w k.0.0 k.0.1 k.1 in
+        let made : S × List ℕ = (set k.0.0, k.0.1) in
+        let same : made ≡ (t, r) = ok_is made (t, r) k.2 in
+        record {
+          text = f.text;
+          parts = f.parts ∙ ap (λ (p : S × List ℕ). f.text ++ p.1) same;
+          spells = (k.0.0, f.spells, sym (ap (λ (p : S × List ℕ). p.0) same));
+        }
+    by false h = let m = more h in record { text = m.text; parts = m.parts; spells = m.spells }
+
+pub known_again : {A S : Type 0} {read : Reading A} {Spells : List ℕ → A → Type 0} → Agrees read Spells → (set : A → S) (c d : ℕ) (i j : ℤ) (v : List ℕ) (t : S) (r : List ℕ) (others : Result (S × List ℕ) DecodeError) (Others : Type 0)
+    → (Others → others ≡ Ok (t, r))
+    → MatchBool (eqb c d && int_eq i j) ((x : A) × Spells v x × (t ≡ set x)) Others
+    → cond (eqb c d && int_eq i j) (read (v ++ r) >>= λ x. Ok (set x.0, x.1)) others ≡ Ok (t, r)
+known_again {A = A} {S = S} {read = read} {Spells = Spells} value set c d i j v t r others Others more is = by (eqb c d && int_eq i j) is
+  where
+    by : (b : Bool) → MatchBool b ((x : A) × Spells v x × (t ≡ set x)) Others → cond b (read (v ++ r) >>= λ x. Ok (set x.0, x.1)) others ≡ Ok (t, r)
+    by true (x, spells, t-is) = let h = value.again v r x spells in rw (h, t-is) refl
+    by false o = more o
+
+-- a known type is one of the table, as is that of a skipped value
+pub known_coded : (A : Type 0) (c d : ℕ) (i j : ℤ) (Others : Type 0) → is_code d ≡ true → (Others → is_code c ≡ true) → MatchBool (eqb c d && int_eq i j) A Others → is_code c ≡ true
+known_coded A c d i j Others coded more is = by (eqb c d) (int_eq i j) refl is
+  where
+    by : (a b : Bool) → eqb c d ≡ a → MatchBool (a && b) A Others → is_code c ≡ true
+    by true b e m = let same : c ≡ d = eqb-true c d e in rw same coded
+    by false b e m = more m
+
+pub skipped_found : {S : Type 0} (s : S) (c : ℕ) (w : List ℕ) (t : S) (r : List ℕ) → skipped s c w ≡ Ok (t, r) → Front (λ v. IsValue 64 c v × (t ≡ s)) w r
+skipped_found {S = S} s c w t r e =
+    let k = bind_ok (lift wire (skip_at c w)) (λ x. Ok (s, x.1)) (t, r) e in
+    let f = skip_found c w k.0.1 (lift_ok wire (skip_at c w) k.0 k.1) in
+    let made : S × List ℕ = (s, k.0.1) in
+    let same : made ≡ (t, r) = ok_is made (t, r) k.2 in
+    record {
+      text = f.text;
+      parts = f.parts ∙ ap (λ (p : S × List ℕ). f.text ++ p.1) same;
+      spells = (f.spells, sym (ap (λ (p : S × List ℕ). p.0) same));
+    }
+
+pub skipped_again : {S : Type 0} (s : S) (c : ℕ) (v : List ℕ) (t : S) (r : List ℕ) → IsValue 64 c v × (t ≡ s) → skipped s c (v ++ r) ≡ Ok (t, r)
+skipped_again s c v t r (is, same) = let h = skip_again c v r is in rw (h, same) refl
+
+skipped_coded_wide : (a b c d e f g : Bool) → 0 < cond (a || b) 1 (cond d 2 (cond e 4 (cond (c || f) 8 0))) → (a || b || c || d || e || f || g) ≡ true
+skipped_coded_wide true b c d e f g h = refl
+skipped_coded_wide false true c d e f g h = refl
+skipped_coded_wide false false true d e f g h = refl
+skipped_coded_wide false false false true e f g h = refl
+skipped_coded_wide false false false false true f g h = refl
+skipped_coded_wide false false false false false true g h = refl
+skipped_coded_wide false false false false false false g h = absurd (omega arith)
+
+or_true : (a : Bool) → (a || true) ≡ true
+or_true true = refl
+or_true false = refl
+
+both_true : (a b : Bool) → (a && b) ≡ true → (a ≡ true) × (b ≡ true)
+both_true true true e = (refl, refl)
+both_true true false e = absurd cc
+both_true false b e = absurd cc
+
+pub skipped_coded : (c : ℕ) (v : List ℕ) → IsValue 64 c v → is_code c ≡ true
+unfolding IsValue
+skipped_coded c v is = by (ltb 11 c && ltb c 16) refl is
+  where
+    leaf : (a : Bool) → eqb c 11 ≡ a → MatchBool a ((bytes : List ℕ) × IsString v bytes) ((length v ≡ width c) × (0 < width c)) → is_code c ≡ true
+    leaf true e h = let c-is : c ≡ 11 = eqb-true c 11 e in rw c-is refl
+    leaf false e h = skipped_coded_wide (eqb c 2) (eqb c 3) (eqb c 4) (eqb c 6) (eqb c 8) (eqb c 10) (ltb 10 c && ltb c 16) h.1
+
+    by : (a : Bool) → (ltb 11 c && ltb c 16) ≡ a → MatchBool a (IsContainer (IsValue 63) c v) (IsLeaf c v) → is_code c ≡ true
+    by true e h =
+        let p = both_true (ltb 11 c) (ltb c 16) e in
+        let more : 11 < c = ltb-true 11 c p.0 in
+        let above : ltb 10 c ≡ true = lt-ltb 10 c (omega arith) in
+        let below : ltb c 16 ≡ true = p.1 in
+        rw (above, below) (or_true (eqb c 2 || eqb c 3 || eqb c 4 || eqb c 6 || eqb c 8 || eqb c 10))
+    by false e h = leaf (eqb c 11) refl h
+
+-- ---- lists of structs
+
+pub is_list : {X : Type 0} {read : Reading X} {Spells : List ℕ → X → Type 0} → Agrees read Spells → Agrees (list_of wire 12 read) (IsListOf Spells)
+is_list {read = read} {Spells = Spells} value = record {
+  found = λ w xs r e. list_found wire 12 read Spells value.found w xs r e;
+  again = λ t r xs is. list_again wire 12 read Spells refl value.again t r xs is;
+}
+
+-- ---- fields up to the stop byte
+
+gathers_path : {S : Type 0} (Does : S → Field → S → Type 0) (fs : List Field) (s t : S) → Path Does s fs t → Gathers Does s fs t
+gathers_path Does [] s t p = p
+gathers_path Does (f ∷ fs) s t (u, d, p) = (u, d, gathers_path Does fs u t p)
+
+pub path_gathers : {S : Type 0} (Does : S → Field → S → Type 0) (fs : List Field) (s t : S) → Gathers Does s fs t → Path Does s fs t
+path_gathers Does [] s t p = p
+path_gathers Does (f ∷ fs) s t (u, d, p) = (u, d, path_gathers Does fs u t p)
+
+module _ {S X : Type 0} (take : Take S DecodeError) (Does : S → Field → S → Type 0) (none : S) (from : S → Result X DecodeError) (Makes : S → X → Type 0) where
+  abbrev pub struct_at : Reading X
+  struct_at w = fields_at wire take none w >>= λ y. from y.0 >>= λ z. Ok (z, y.1)
+
+  pub struct_found : ((s : S) (c : ℕ) (i : ℤ) (w : List ℕ) (t : S) (r : List ℕ) → take s c i w ≡ Ok (t, r) → Front (λ v. Does s (record { code = c; id = i; text = v }) t) w r)
+      → ((s : S) (x : X) → from s ≡ Ok x → Makes s x)
+      → Found struct_at (IsStruct Does none Makes)
+  struct_found takes made w x r e =
+      let b = bind_ok (fields_at wire take none w) (λ y. from y.0 >>= λ z. Ok (z, y.1)) (x, r) e in
+      let f = fields_found wire take Does took none w b.0.0 b.0.1 b.1 in
+      let k = bind_ok (from b.0.0) (λ z. Ok (z, b.0.1)) (x, r) b.2 in
+      let pair : X × List ℕ = (k.0, b.0.1) in
+      let same : pair ≡ (x, r) = ok_is pair (x, r) k.2 in
+      let x-is : k.0 ≡ x = ap (λ (p : X × List ℕ). p.0) same in
+      record {
+        text = f.text;
+        parts = f.parts ∙ ap (λ (p : X × List ℕ). f.text ++ p.1) same;
+        spells = record {
+          fields = f.fields;
+          spelled = f.spells;
+          gathered = b.0.0;
+          gathers = gathers_path Does f.fields none b.0.0 f.path;
+          makes = subst (λ (z : X). Makes b.0.0 z) x-is (made b.0.0 k.0 k.1);
+        };
+      }
+    where
+      took : (s : S) (c : ℕ) (i : ℤ) (w : List ℕ) (t : S) (r : List ℕ) → take s c i w ≡ Ok (t, r) → Took Does s c i w t r
+      took s c i w t r e = let m = takes s c i w t r e in record { text = m.text; parts = m.parts; does = m.spells }
+
+  pub struct_again : ((s : S) (f : Field) (t : S) → Does s f t → is_code f.code ≡ true)
+      → ((s : S) (f : Field) (t : S) (r : List ℕ) → Does s f t → take s f.code f.id (f.text ++ r) ≡ Ok (t, r))
+      → ((s : S) (x : X) → Makes s x → from s ≡ Ok x)
+      → Again struct_at (IsStruct Does none Makes)
+  struct_again coded again made t r x is =
+      let fields = fields_again wire take Does coded again is.fields none is.gathered t r is.spelled (path_gathers Does is.fields none is.gathered is.gathers) in
+      let whole = made is.gathered x is.makes in
+      rw (fields, whole) refl
+
+-- a required slot that is there
+pub required_found : {A B : Type 0} (o : Option A) (part : Part) (i : ℕ) (f : A → Result B DecodeError) (y : B) → (required o part i >>= f) ≡ Ok y → (x : A) × (o ≡ Some x) × (f x ≡ Ok y)
+required_found None part i f y e = absurd cc
+required_found (Some x) part i f y e = (x, refl, e)
