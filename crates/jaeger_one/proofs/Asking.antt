@@ -1,0 +1,27 @@
+-- What the words behind the subcommand's name ask for.
+use Rattle.std.proofs.Common.{◌≡◌, ℕ, List, [], ◌∷◌, Some, Result, Ok, Err, IfOk, map, codes, sym, ap, subst, ◌∙◌}
+use Rattle.std.specs.Prelude.{slice_get}
+use Rattle.clap.specs.Words.{Text}
+use Rattle.jaeger_one.specs.Words.{ReadsGet}
+use Rattle.jaeger_one.specs.Asked.{Asks, AsksGetBy}
+use Rattle.jaeger_one.specs.declared.words.Command.{Command}
+use Rattle.jaeger_one.specs.declared.words.Command.TheVariants.{Get}
+
+module _ {S : Type 0} (text : S → Text) where
+  asks : (words rest : List S) (program name : S) → words ≡ program ∷ rest → Some name ≡ slice_get rest 0 → text name ≡ codes "get"
+      → (command : Command) → AsksGetBy (map text rest) command → Asks (map text words) command
+  asks words [] program name all first get command reads = absurd cc
+  asks words (y ∷ ys) program name all first get (Get limits id) reads =
+      let same : name ≡ y = cc in
+      let named : text y ≡ codes "get" = ap text (sym same) ∙ get in
+      record {
+        program = text program;
+        others = map text ys;
+        words_are = ap (map text) all ∙ ap (λ t. text program ∷ t ∷ map text ys) named;
+        reads = subst (λ t. ReadsGet (t ∷ map text ys) limits id) named reads;
+      }
+
+  pub asked : (words rest : List S) (program name : S) → words ≡ program ∷ rest → Some name ≡ slice_get rest 0 → text name ≡ codes "get"
+      → (r : Result Command ℕ) → IfOk r (AsksGetBy (map text rest)) → IfOk r (Asks (map text words))
+  asked words rest program name all first get (Ok command) reads = asks words rest program name all first get command reads
+  asked words rest program name all first get (Err status) reads = reads

@@ -1,0 +1,214 @@
+//! The program's words.
+ghost use Rattle.std.specs.Prelude.{◌≡◌, IfOk, IfErr, IfSome, map, false};
+ghost use Rattle.clap.specs.Words.{HasMatchesOf, app_of, found_of, rows_of, rule_of};
+ghost use Rattle.jaeger_one.specs.Words.{HasLimits, HasTrace, IsFault, get_app, number_rule, with_limits as limits_on};
+ghost use Rattle.jaeger_one.specs.Asked.{Asks, AsksGetBy};
+
+use clap::builder::ValueParser;
+use clap::error::ErrorKind;
+use clap::{Arg, ArgMatches, Error, value_parser};
+use jaeger_model::{TraceId, parse_trace};
+use std::alloc::{AllocError, Global};
+use std::convert::AsStr;
+use std::io::Write;
+use trace_model::Limits;
+
+/// A subcommand with its options.
+#[derive(Drop)]
+pub enum Command {
+    /// The spans of a trace.
+    Get { limits: Limits, trace: TraceId },
+}
+
+/// An option that takes a number.
+fn number<'a>(
+    alloc: Global,
+    name: &'a str,
+    numbers: ValueParser<'a>,
+    default: &'a str,
+    help: &'a str,
+) -> Arg<'a>
+    ensures rule { rule_of result ≡ number_rule name.entry.now numbers.entry default.entry.now }
+    ensures own { result.global ≡ false }
+{
+    Arg::new(alloc, name)
+        .long(name)
+        .value_name("N")
+        .value_parser(numbers)
+        .default_value(default)
+        .help(help)
+}
+
+/// The options that each subcommand has.
+fn with_limits(alloc: Global, command: clap::Command<'_>) -> Result<clap::Command<'_>, AllocError>
+    ensures { IfOk result (λ c. app_of c ≡ limits_on (app_of command.entry)) }
+{
+    let batches = value_parser!(u32).range(1..=1_000_000);
+    let spans = value_parser!(u32).range(1..=10_000_000);
+    let traces = value_parser!(u32).range(0..=1_000_000);
+    let skew = value_parser!(u64).range(0..=9_223_372_036_854_775_807);
+    command
+        .arg(number(
+            alloc,
+            "batches",
+            batches,
+            "1000",
+            "How many batches are kept, 1 to 1000000",
+        ))?
+        .arg(number(
+            alloc,
+            "spans",
+            spans,
+            "100000",
+            "How many spans are kept, 1 to 10000000",
+        ))?
+        .arg(number(
+            alloc,
+            "traces",
+            traces,
+            "0",
+            "How many of the newest traces are shown, up to 1000000; 0 for all",
+        ))?
+        .arg(number(
+            alloc,
+            "max-skew",
+            skew,
+            "0",
+            "By how many microseconds a span may be moved to mend clock skew",
+        ))
+}
+
+/// The subcommand `get`.
+fn get_command<'a>(alloc: Global) -> Result<clap::Command<'a>, AllocError>
+    ensures { IfOk result (λ c. app_of c ≡ get_app) }
+{
+    let trace = Arg::new(alloc, "TRACE")
+        .required(true)
+        .help("The trace's id, 1 to 32 hexadecimal digits");
+    let command = clap::Command::new(alloc, "get")
+        .bin_name("jaeger_one get")?
+        .about(
+            "Reads batches from standard input, a line of hexadecimal text each, and prints the spans of a trace",
+        )
+        .arg(trace)?;
+    with_limits(alloc, command)
+}
+
+/// The program with its subcommands, for the texts of help and faults.
+fn program<'a>(alloc: Global) -> Result<clap::Command<'a>, AllocError> {
+    clap::Command::new(alloc, "jaeger_one")
+        .about("Collects traces of Jaeger clients and answers queries on them")
+        .subcommand_required(true)
+        .subcommand(get_command(alloc)?)
+}
+
+/// Writes what is wrong with the words, or the help that they call for, and gives the status.
+fn explain<W: Write>(writer: &mut W, error: &Error) -> u8
+    ensures { IsFault result }
+{
+    if error.kind() == ErrorKind::OutOfMemory {
+        return 5;
+    }
+    match write!(writer, "{error}") {
+        Ok(()) => 2,
+        Err(_) => 4,
+    }
+}
+
+/// Reads the words as clap does, or says what is wrong with them.
+fn matches_of<'a, S: AsStr, W: Write>(
+    command: clap::Command<'a>,
+    words: &'a [S],
+    writer: &mut W,
+) -> Result<ArgMatches<'a>, u8>
+    ensures matches { IfOk result (HasMatchesOf (app_of command.entry) (map S.text words.entry.now)) }
+    ensures status { IfErr result IsFault }
+{
+    match command.try_get_matches_from(words) {
+        Ok(matches) => Ok(matches),
+        Err(error) => Err(explain(writer, &error)),
+    }
+}
+
+/// The limits that the options give.
+fn limits_of(matches: &ArgMatches<'_>) -> Option<Limits>
+    ensures { IfSome result (HasLimits (rows_of (found_of matches.now))) }
+{
+    let batches = matches.get_one::<u32>("batches")?;
+    let spans = matches.get_one::<u32>("spans")?;
+    let traces = matches.get_one::<u32>("traces")?;
+    let max_skew = matches.get_one::<u64>("max-skew")?;
+    Limits::new(batches, spans, traces, max_skew)
+}
+
+/// The trace that is asked for.
+fn trace_of<W: Write>(matches: &ArgMatches<'_>, writer: &mut W) -> Result<TraceId, u8>
+    ensures trace { IfOk result (HasTrace (rows_of (found_of matches.now))) }
+    ensures status { IfErr result IsFault }
+{
+    if let Some(text) = matches.get_str("TRACE") {
+        if let Some(trace) = parse_trace(text) {
+            return Ok(trace);
+        }
+    }
+    match writeln!(writer, "bad trace id") {
+        Ok(()) => Err(2),
+        Err(_) => Err(4),
+    }
+}
+
+/// The subcommand `get`, whose own name is the first of the words.
+fn read_get<S: AsStr, W: Write>(alloc: Global, words: &[S], writer: &mut W) -> Result<Command, u8>
+    ensures asked { IfOk result (AsksGetBy (map S.text words.now)) }
+    ensures status { IfErr result IsFault }
+{
+    let Ok(command) = get_command(alloc) else {
+        return Err(5);
+    };
+    let matches = matches_of(command, words, writer)?;
+    let Some(limits) = limits_of(&matches) else {
+        return Err(2);
+    };
+    let trace = trace_of(&matches, writer)?;
+    Ok(Command::Get { limits, trace })
+}
+
+/// What the words ask for, the first of them being the program's name.
+///
+/// The word behind it is the subcommand, and clap reads those that follow. A fault of the words, and
+/// a call for help, is answered on the writer.
+///
+/// # Errors
+///
+/// The exit status: 2 for a fault of the words, a call for help or a trace's id that can't be read,
+/// 4 where the writer failed, and 5 for want of memory.
+pub fn read_words<S: AsStr, W: Write>(
+    alloc: Global,
+    words: &[S],
+    writer: &mut W,
+) -> Result<Command, u8>
+    ensures asked { IfOk result (Asks (map S.text words.now)) }
+    ensures status { IfErr result IsFault }
+{
+    if let Some((_, rest)) = words.split_first() {
+        if let Some(name) = rest.first() {
+            if name.as_str() == "get" {
+                return read_get(alloc, rest, writer);
+            }
+        }
+    }
+    Err(refuse(alloc, words, writer))
+}
+
+/// Says what is wrong with words that name no subcommand, and gives the status.
+fn refuse<S: AsStr, W: Write>(alloc: Global, words: &[S], writer: &mut W) -> u8
+    ensures { IsFault result }
+{
+    let Ok(command) = program(alloc) else {
+        return 5;
+    };
+    match matches_of(command, words, writer) {
+        Ok(_) => 2,
+        Err(status) => status,
+    }
+}
