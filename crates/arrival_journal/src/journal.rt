@@ -1,0 +1,171 @@
+ghost use Rattle.std.specs.Prelude.{◌≡◌, ◌+◌, ◌<◌, ◌≤◌, ◌==◌, [], length, map, None, OnOk, OnErr, IfOk, IfErr, IsOk, option_map};
+ghost use Rattle.std.specs.Arc.{arc_value};
+ghost use Rattle.std.specs.Option.{option_copied};
+ghost use Rattle.std.specs.Result.{result_err};
+ghost use Rattle.trace_model.specs.Histories.{span_count, last_number, IsLegal};
+ghost use Rattle.trace_model.specs.Refusals.{followed_by};
+ghost use Rattle.arrival_journal.specs.Journals.{Journaled, refusal_by, turned_away_by, entry_at};
+
+use std::alloc::{AllocError, Global};
+use std::collections::HashMap;
+use std::marker::Model;
+use std::sync::Arc;
+use trace_model::{Entry, Limits, Refusal};
+
+/// The accepted entries, in the order of their arrival and within their limits.
+#[derive(Drop)]
+pub struct Journal {
+    limits: Limits,
+    entries: Vec<Arc<Entry>>,
+    spans: u64,
+    /// Of each seat that has an entry, the number of its last one.
+    last_numbers: HashMap<u16, u64>,
+}
+
+impl Model for Journal {
+    ghost use Rattle.std.specs.Prelude.{map, min, ◌-◌};
+    ghost use Rattle.std.specs.Arc.{arc_value};
+    ghost use Rattle.std.specs.Vec.{vec_len, vec_capacity};
+    ghost use Rattle.std.specs.HashMap.{spare};
+    ghost use Rattle.arrival_journal.specs.Journals.{Journaled};
+
+    ghost Value = { Journaled };
+
+    ghost use Rattle.arrival_journal.specs.Invariants.{IsKept};
+
+    ghost view = { λ j. record { held = record { limits = j.limits; entries = map arc_value j.entries.items }; room = min (vec_capacity j.entries - vec_len j.entries) (spare j.last_numbers) } };
+
+    ghost invariant = { λ j. IsKept j.limits (map arc_value j.entries.items) j.spans j.last_numbers };
+}
+
+impl Journal {
+    /// A journal with no entry.
+    pub fn new(alloc: Global, limits: Limits) -> Self
+        ensures { result.held ≡ record { limits = limits; entries = [] } }
+    {
+        Journal {
+            limits,
+            entries: Vec::new(alloc),
+            spans: 0,
+            last_numbers: HashMap::new(alloc),
+        }
+    }
+
+    pub fn limits(&self) -> Limits
+        ensures { result ≡ self.now.held.limits }
+    {
+        self.limits
+    }
+
+    /// How many entries it holds. They are legal.
+    pub fn len(&self) -> u64
+        ensures length { result ≡ length self.now.held.entries }
+        ensures legal { IsLegal self.now.held.limits self.now.held.entries }
+    {
+        self.entries.len() as u64
+    }
+
+    pub fn is_empty(&self) -> bool
+        ensures { result ≡ (length self.now.held.entries == 0) }
+    {
+        self.entries.is_empty()
+    }
+
+    /// How many spans its entries hold.
+    pub fn span_count(&self) -> u64
+        ensures { result ≡ span_count self.now.held.entries }
+    {
+        self.spans
+    }
+
+    /// The entries, oldest first.
+    pub fn entries(&self) -> &[Arc<Entry>]
+        ensures { map arc_value result.now ≡ self.now.held.entries }
+    {
+        &self.entries
+    }
+
+    /// The entry at a place. The oldest one stands at place 1; there is none at 0.
+    pub fn entry(&self, place: u64) -> Option<&Arc<Entry>>
+        ensures { option_map arc_value (option_copied result) ≡ entry_at self.now.held.entries place }
+    {
+        let before = usize::try_from(place.checked_sub(1)?).ok()?;
+        self.entries.get(before)
+    }
+
+    /// The number of the seat's last entry, 0 if it has none.
+    fn last_number(&self, seat: u16) -> u64
+        ensures { result ≡ last_number seat self.now.held.entries }
+    {
+        self.last_numbers.get(&seat).copied().unwrap_or(0)
+    }
+
+    /// Says whether the entry may follow: first whether its number is above the last one of its
+    /// seat ([`Refusal::Stale`]), then whether it and its spans are within the limits
+    /// ([`Refusal::JournalFull`], with the counts now held).
+    pub fn judge(&self, entry: &Entry) -> Result<(), Refusal>
+        ensures answer { result_err result ≡ refusal_by self.now.held entry.now }
+        ensures legal { IsLegal self.now.held.limits self.now.held.entries }
+    {
+        let batches = self.len();
+        let spans = self.spans;
+        let last = self.last_number(entry.seat);
+        if entry.number <= last {
+            return Err(Refusal::Stale { last });
+        }
+        let more = entry.batch.spans.len() as u64;
+        if batches >= u64::from(self.limits.batches)
+            || more > u64::from(self.limits.spans) - spans
+        {
+            return Err(Refusal::JournalFull { batches, spans });
+        }
+        Ok(())
+    }
+
+    /// Takes the room for so many more entries. The entries stay in either case.
+    pub fn reserve(&mut self, additional: usize) -> Result<(), AllocError>
+        ensures entries { self.new.held ≡ self.old.held }
+        ensures ok { OnOk result (additional ≤ self.new.room) }
+        ensures room { self.old.room ≤ self.new.room }
+        ensures succeeds { additional ≤ self.old.room → IsOk result }
+    {
+        self.entries.reserve(additional)?;
+        self.last_numbers.reserve(additional)
+    }
+
+    /// Adds an entry that may follow, in room that was taken before.
+    pub fn append(&mut self, entry: Arc<Entry>)
+        requires admissible { refusal_by self.old.held (arc_value entry) ≡ None }
+        requires room { 0 < self.old.room }
+        ensures appended { self.new.held ≡ followed_by self.old.held (arc_value entry) }
+        ensures room { self.old.room ≤ self.new.room + 1 }
+        ensures legal { IsLegal self.new.held.limits self.new.held.entries }
+    {
+        self.spans += entry.batch.spans.len() as u64;
+        let _ = self.last_numbers.insert(entry.seat, entry.number);
+        self.entries.push_reserved(entry);
+    }
+
+    /// Adds an entry at the end and gives its place, the first one being 1.
+    ///
+    /// The refusals are those of [`judge`](Self::judge), and after them [`Refusal::NoMemory`]. Any of
+    /// them leaves the entries as they were.
+    pub fn admit(&mut self, entry: Arc<Entry>) -> Result<u64, Refusal>
+        ensures admissible { OnOk result (refusal_by self.old.held (arc_value entry) ≡ None) }
+        ensures admitted { OnOk result (self.new.held ≡ followed_by self.old.held (arc_value entry)) }
+        ensures place { IfOk result (λ place. place ≡ length self.new.held.entries) }
+
+        ensures unchanged { OnErr result (self.new.held ≡ self.old.held) }
+        ensures reason { IfErr result (λ why. why ≡ turned_away_by self.old.held (arc_value entry)) }
+        ensures succeeds { refusal_by self.old.held (arc_value entry) ≡ None → 0 < self.old.room → IsOk result }
+
+        ensures legal { IsLegal self.new.held.limits self.new.held.entries }
+    {
+        self.judge(&entry)?;
+        if self.reserve(1).is_err() {
+            return Err(Refusal::NoMemory);
+        }
+        self.append(entry);
+        Ok(self.len())
+    }
+}

@@ -1,0 +1,16 @@
+//! The journal of one store: the batches that were accepted, in the order of their arrival.
+//!
+//! The list of entries is legal at every moment: each entry's number is above every earlier number
+//! of its seat, and the counts of entries and of spans are within the limits. An entry that would
+//! break this is turned away, and nothing has changed then. Judging and adding an entry costs the
+//! same however long the list is.
+//!
+//! * `journal`: the [`Journal`].
+#![tactic(auto)]
+
+mod journal;
+
+pub use journal::Journal;
+
+#[cfg(test)]
+mod tests;
