@@ -1,0 +1,5 @@
+pub mod Lists
+pub mod Places
+pub mod Feeding
+pub mod Written
+pub mod Counting

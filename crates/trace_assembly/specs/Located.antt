@@ -1,0 +1,68 @@
+-- Where the spans of a history lie, and which spots are shown.
+use Rattle.std.specs.Prelude.{ℕ, zero, suc, Bool, List, [], ◌∷◌, ◌++◌, map, filter, Option, Some, None, slice_get, ◌+◌, length, take}
+use Rattle.std.specs.Option.{option_and_then}
+use Rattle.jaeger_model.specs.declared.ids.TraceId.{TraceId}
+use Rattle.jaeger_model.specs.declared.batch.Batch.{Batch}
+use Rattle.jaeger_model.specs.declared.placed.Placed.{Placed}
+use Rattle.jaeger_model.specs.Parents.{domain, placed, same_trace}
+use Rattle.trace_model.specs.declared.entry.Entry.{Entry}
+use Rattle.trace_model.specs.Rings.{holds}
+use Rattle.trace_model.specs.Showing.{trace_of, ring, lasting_after}
+use Rattle.trace_assembly.specs.declared.spot.Spot.{Spot}
+use Rattle.trace_assembly.specs.Rows.{with_spot, without_spots}
+
+-- the spans of the entry at this place from this index on, each with its spot
+abbrev pub located_in : ℕ → ℕ → List Placed → List (Spot × Placed)
+located_in place index [] = []
+located_in place index (p ∷ ps) = (record { place = place; index = index }, p) ∷ located_in place (suc index) ps
+
+-- those of the entries from this place on
+abbrev pub located_from : ℕ → List Entry → List (Spot × Placed)
+located_from place [] = []
+located_from place (e ∷ es) = located_in place 0 (domain e.batch) ++ located_from (suc place) es
+
+-- the arrivals of a history, each with its spot; the first entry stands at place 1
+abbrev pub located : List Entry → List (Spot × Placed)
+located h = located_from 1 h
+
+abbrev pub entry_at : List Entry → ℕ → Option Entry
+entry_at h zero = None
+entry_at h (suc before) = slice_get h before
+
+-- those of a history and of the spans below this index of one more batch
+abbrev pub located_upto : List Entry → Batch → ℕ → List (Spot × Placed)
+located_upto h b index = located h ++ located_in (length h + 1) 0 (map (placed b) (take index b.spans))
+
+-- the span at a spot
+abbrev pub span_at : List Entry → Spot → Option Placed
+span_at h s = option_and_then (λ (e : Entry). slice_get (domain e.batch) s.index) (entry_at h s.place)
+
+abbrev pub spans_in : List (Spot × Placed) → List Placed
+spans_in ls = map (λ l. l.1) ls
+
+abbrev pub spots_in : List (Spot × Placed) → List Spot
+spots_in ls = map (λ l. l.0) ls
+
+-- after these arrivals the span's trace stands in the ring
+abbrev pub stands_in : ℕ → List (Spot × Placed) → Spot × Placed → Bool
+stands_in n ls l = holds (ring n (spans_in ls)) (trace_of l.1)
+
+-- the located spans that are shown: each one's trace stands in the ring of every beginning that holds the span
+abbrev pub shown_in : ℕ → List (Spot × Placed) → List (Spot × Placed)
+shown_in n ls = lasting_after (stands_in n) [] ls
+
+abbrev pub own_of : TraceId → List (Spot × Placed) → List (Spot × Placed)
+own_of t ls = filter (λ l. same_trace t (trace_of l.1)) ls
+
+-- the spots of a trace's shown spans, in the order of their arrival
+abbrev pub shown_spots : ℕ → List (Spot × Placed) → TraceId → List Spot
+shown_spots n ls t = spots_in (own_of t (shown_in n ls))
+
+-- the spots of each trace once this trace has left, if one has
+abbrev pub after_leaving : Option TraceId → (TraceId → List Spot) → TraceId → List Spot
+after_leaving None spots t = spots t
+after_leaving (Some gone) spots t = without_spots gone spots t
+
+-- the spots of each trace after an arrival, for which this trace has left
+abbrev pub after_arrival : Spot × Placed → Option TraceId → (TraceId → List Spot) → TraceId → List Spot
+after_arrival l left spots t = with_spot (trace_of l.1) l.0 (after_leaving left spots) t
