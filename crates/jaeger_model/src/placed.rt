@@ -67,6 +67,20 @@ fn with_reference(alloc: Global, span: &Span) -> Result<Span, AllocError>
     Ok(copy)
 }
 
+/// A span with its process, its parent among its references as [`domain`] puts it there.
+///
+/// # Errors
+///
+/// Want of memory alone.
+pub fn place_span(alloc: Global, process: &Process, span: &Span) -> Result<Placed, AllocError>
+    ensures { IfOk result (λ p. p ≡ record { process = process.now; span = with_parent span.now }) }
+{
+    Ok(Placed {
+        process: process.clone()?,
+        span: with_reference(alloc, span)?,
+    })
+}
+
 /// The spans of a batch in order, each with its process.
 ///
 /// A parent id that is not 0 becomes a child-of reference to the span's own trace, in front of the
@@ -81,9 +95,7 @@ pub fn domain(alloc: Global, batch: &Batch) -> Result<Vec<Placed>, AllocError>
 {
     let mut placed = Vec::new(alloc);
     for span in batch.spans.as_slice() {
-        let span = with_reference(alloc, span)?;
-        let process = batch.process.clone()?;
-        placed.push(Placed { process, span })?;
+        placed.push(place_span(alloc, &batch.process, span)?)?;
     }
     Ok(placed)
 }

@@ -35,7 +35,7 @@ pub use entry::Entry;
 pub use limits::Limits;
 pub use links::{is_in_window, service_links};
 pub use names::{operation_names, operations, services};
-pub use plain::{get_trace, plain_answer};
+pub use plain::{get_trace, plain_answer, trace_shown};
 pub use query::{Find, Query};
 pub use refusal::Refusal;
 pub use search::{find_traces, trace_ids};

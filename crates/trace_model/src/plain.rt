@@ -77,8 +77,12 @@ fn without_warnings(alloc: Global, spans: Vec<Placed>) -> Result<Seq<Shown>, All
     Ok(Seq::from_vec(shown))
 }
 
-/// The trace as it is shown: as it arrived, or adjusted.
-fn trace_shown(
+/// The spans of a trace as they are shown: as they arrived where `raw` is asked, else adjusted.
+///
+/// # Errors
+///
+/// Want of memory alone.
+pub fn trace_shown(
     alloc: Global,
     spans: Vec<Placed>,
     limits: Limits,
