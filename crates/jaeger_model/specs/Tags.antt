@@ -1,5 +1,5 @@
 -- What a tag says as text, and the kind of a span.
-use Rattle.std.specs.Prelude.{ℕ, ◌+◌, ◌/◌, ◌%◌, Bool, true, false, ◌||◌, List, [], ◌∷◌, Option, Some, None, flat_map, find, if◌then◌else◌, nat_lt, codes}
+use Rattle.std.specs.Prelude.{ℕ, ◌/◌, ◌%◌, Bool, true, false, ◌||◌, List, [], ◌∷◌, Option, Some, None, flat_map, find, if◌then◌else◌, codes}
 use Rattle.std.specs.Fmt.{signed_decimal}
 use Rattle.jaeger_model.specs.declared.tag.Tag.{Tag}
 use Rattle.jaeger_model.specs.declared.span.Span.{Span}
@@ -28,12 +28,19 @@ abbrev pub text_or_empty : Option Tag → List ℕ
 text_or_empty None = []
 text_or_empty (Some t) = tag_text t.value
 
+abbrev pub has_key : List ℕ → Tag → Bool
+has_key key t = same_text key t.key
+
 abbrev pub first_text : List ℕ → List Tag → List ℕ
-first_text key tags = text_or_empty (find (λ (t : Tag). same_text key t.key) tags)
+first_text key tags = text_or_empty (find (has_key key) tags)
 
 abbrev pub is_kind : List ℕ → Bool
 is_kind t = same_text t (codes "client") || same_text t (codes "server") || same_text t (codes "producer") || same_text t (codes "consumer") || same_text t (codes "internal")
 
+-- the text, where it is one of the five kinds, else empty
+abbrev pub kind_in : List ℕ → List ℕ
+kind_in t = if is_kind t then t else []
+
 -- the text of the span's own first tag `span.kind`, where it is one of the five kinds, else empty
 abbrev pub kind_of : Span → List ℕ
-kind_of s = let k = first_text (codes "span.kind") s.tags in if is_kind k then k else []
+kind_of s = kind_in (first_text (codes "span.kind") s.tags)

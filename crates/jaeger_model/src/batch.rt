@@ -1,4 +1,6 @@
-ghost use Rattle.std.specs.Prelude.{◌≡◌};
+ghost use Rattle.std.specs.Prelude.{◌≡◌, ◌↔◌, IsTrue};
+ghost use Rattle.std.specs.Cmp.{decided, partial_equiv_from_equiv};
+ghost use Rattle.jaeger_model.specs.Same.{same_process, same_process-decides, same_batch, same_batch-decides};
 
 use crate::seq::Seq;
 use crate::span::Span;
@@ -7,7 +9,7 @@ use crate::text::Text;
 use std::alloc::AllocError;
 
 /// What a client sends at once: spans of one process (`Batch` of `jaeger.thrift`).
-#[derive(Debug, PartialEq, Eq, Drop)]
+#[derive(Debug, Drop)]
 pub struct Batch {
     pub process: Process,
     pub spans: Seq<Span>,
@@ -16,7 +18,7 @@ pub struct Batch {
 }
 
 /// The service that reports, and what is the same for all of its spans (`Process` of `jaeger.thrift`).
-#[derive(Debug, PartialEq, Eq, Drop)]
+#[derive(Debug, Drop)]
 pub struct Process {
     pub service: Text,
     pub tags: Seq<Tag>,
@@ -42,5 +44,51 @@ impl Clone for Process {
             service: self.service.clone()?,
             tags: self.tags.clone()?,
         })
+    }
+}
+
+impl PartialEq for Batch {
+    ghost eq = { same_batch };
+
+    ghost laws = { partial_equiv_from_equiv (decided same_batch same_batch-decides) };
+
+    fn eq(&self, other: &Batch) -> bool {
+        self.seq_no == other.seq_no && self.process == other.process && self.spans == other.spans
+    }
+}
+
+impl Eq for Batch {
+    ghost laws = { decided same_batch same_batch-decides };
+}
+
+impl PartialEq for Process {
+    ghost eq = { same_process };
+
+    ghost laws = { partial_equiv_from_equiv (decided same_process same_process-decides) };
+
+    fn eq(&self, other: &Process) -> bool {
+        self.service == other.service && self.tags == other.tags
+    }
+}
+
+impl Eq for Process {
+    ghost laws = { decided same_process same_process-decides };
+}
+
+impl Batch {
+    /// Both report the same: the process, each span in order, and the number or that there is none.
+    pub fn is_same(&self, other: &Batch) -> bool
+        ensures { IsTrue result ↔ (self.now ≡ other.now) }
+    {
+        self == other
+    }
+}
+
+impl Process {
+    /// The same service with the same tags in the same order.
+    pub fn is_same(&self, other: &Process) -> bool
+        ensures { IsTrue result ↔ (self.now ≡ other.now) }
+    {
+        self == other
     }
 }

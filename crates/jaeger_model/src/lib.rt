@@ -6,13 +6,18 @@
 //! exactly what was reported.
 //!
 //! * `ids`: the ids of traces and spans, and their hexadecimal text.
-//! * `tag`, `span`, `batch`: what `jaeger.thrift` declares, with ids as unsigned numbers.
+//! * `tag`, `span`, `batch`: what `jaeger.thrift` declares, with ids as unsigned numbers, and a tag's
+//!   text.
+//! * `kind`: a span's kind, by its tag `span.kind`.
 //! * `parent`: which span is the parent of a span.
 //! * `placed`: a span together with the process that reported it.
+//! * `laws`: facts about these rules in the subject's own words.
 #![tactic(auto)]
 
 mod batch;
 mod ids;
+mod kind;
+pub mod laws;
 mod parent;
 mod placed;
 mod seq;
@@ -21,10 +26,11 @@ mod tag;
 mod text;
 
 pub use batch::{Batch, Process};
-pub use ids::{SpanId, TraceId, parse_trace};
+pub use ids::{SpanId, TraceId, parse_trace, span_text, trace_text};
+pub use kind::kind_of;
 pub use parent::parent_of;
 pub use placed::{Placed, Seen, domain};
 pub use seq::Seq;
 pub use span::{Log, RefKind, Span, SpanRef};
-pub use tag::{Tag, Value};
+pub use tag::{Tag, Value, first_tag, first_text, tag_text};
 pub use text::Text;

@@ -1,4 +1,6 @@
-ghost use Rattle.std.specs.Prelude.{◌≡◌, IfOk};
+ghost use Rattle.std.specs.Prelude.{◌≡◌, ◌↔◌, IfOk, IsTrue};
+ghost use Rattle.std.specs.Cmp.{decided, partial_equiv_from_equiv};
+ghost use Rattle.jaeger_model.specs.Same.{same_placed, same_placed-decides};
 ghost use Rattle.jaeger_model.specs.Parents.{with_parent, domain};
 
 use crate::batch::{Batch, Process};
@@ -8,7 +10,7 @@ use crate::span::{RefKind, Span, SpanRef};
 use std::alloc::{AllocError, Global};
 
 /// A span with the process that reported it, its parent among its references.
-#[derive(Debug, PartialEq, Eq, Drop)]
+#[derive(Debug, Drop)]
 pub struct Placed {
     pub process: Process,
     pub span: Span,
@@ -30,6 +32,20 @@ impl Clone for Placed {
             span: self.span.clone()?,
         })
     }
+}
+
+impl PartialEq for Placed {
+    ghost eq = { same_placed };
+
+    ghost laws = { partial_equiv_from_equiv (decided same_placed same_placed-decides) };
+
+    fn eq(&self, other: &Placed) -> bool {
+        self.span == other.span && self.process == other.process
+    }
+}
+
+impl Eq for Placed {
+    ghost laws = { decided same_placed same_placed-decides };
 }
 
 /// The span, with a reference to its parent in front where its references name no such span.
