@@ -1,12 +1,14 @@
 -- As many steps as the trace has spans are enough for each chain that ends.
-use Rattle.std.proofs.Common.{◌≡◌, ℕ, zero, suc, ◌+◌, ◌<◌, ◌≤◌, Bool, true, false, List, [], ◌∷◌, ◌++◌, length, refl, sym, ap, ◌∙◌, arith, cond, subst, ◌⊎◌, inl, inr, ⊎_elim, pos}
+use Rattle.std.proofs.Common.{◌≡◌, ℕ, zero, suc, ◌+◌, ◌-◌, ◌<◌, ◌≤◌, Bool, true, false, List, [], ◌∷◌, ◌++◌, length, refl, sym, ap, ◌∙◌, arith, cond, subst, ◌⊎◌, inl, inr, ⊎_elim, pos}
 use Rattle.std.specs.Prelude.{Option, Some, None, is_some, option_map, option_and_then, find, if◌then◌else◌, ◌==◌}
 use Rattle.std.proofs.lemmas.Bool.{false≢true}
 use Rattle.std.proofs.lemmas.List.Sums.{fold_push}
 use Rattle.jaeger_model.specs.declared.placed.Placed.{Placed}
 use Rattle.jaeger_model.specs.Parents.{parent}
 use Rattle.trace_model.specs.Linking.{has_id, parent_in}
-use Rattle.trace_model.specs.Adjusting.{chain, chain_through, Clock, clock_of, clock_along, clock_below, clock_at, host_of}
+use Rattle.std.specs.List.{list_any}
+use Rattle.trace_model.specs.declared.clock.Clock.{Clock}
+use Rattle.trace_model.specs.Adjusting.{chain, chain_through, clock_within, clock_of, clock_along, clock_below, clock_at, host_of, unadjusted, shifted_by, shown_after}
 
 -- P of each
 abbrev pub Each : {X : Type 0} → (X → Type 0) → List X → Type 0
@@ -173,10 +175,41 @@ clock_push max_skew None p h = refl
 clock_push max_skew (Some []) p h = absurd h
 clock_push max_skew (Some (x ∷ xs)) p h = ap (λ c. Some c) (fold_push (clock_below max_skew) (clock_at max_skew (host_of x) (pos 0) x.span) xs p)
 
+clock_through : (max_skew n : ℕ) (trace : List Placed) (p : Placed) (o : Option Placed)
+    → option_and_then (clock_along max_skew) (chain_through p (λ q. chain n trace q) o) ≡ clock_by max_skew (clock_within max_skew n trace) p o
+clock_through max_skew n trace p None = refl
+clock_through max_skew n trace p (Some q) = clock_push max_skew (chain n trace q) p (not_nil n trace q)
+
+-- a clock by the parent's, one step nearer to the root
+pub within_step : (max_skew n : ℕ) (trace : List Placed) (p : Placed) → clock_within max_skew (suc n) trace p ≡ clock_by max_skew (clock_within max_skew n trace) p (parent_in trace p)
+within_step max_skew n trace p = ap (option_and_then (clock_along max_skew)) (chain_step n trace p) ∙ clock_through max_skew n trace p (parent_in trace p)
+
+pub within_none : (max_skew : ℕ) (trace : List Placed) (p : Placed) → clock_within max_skew 0 trace p ≡ None
+within_none max_skew trace p = ap (option_and_then (clock_along max_skew)) (chain_none trace p)
+
+pub within_down : (max_skew n : ℕ) (trace : List Placed) (p : Placed) → (n ≡ 0 → ⊥) → clock_within max_skew n trace p ≡ clock_by max_skew (clock_within max_skew (n - 1) trace) p (parent_in trace p)
+within_down max_skew n trace p some =
+    let e : n ≡ suc (n - 1) = omega arith in
+    ap (λ k. clock_within max_skew k trace p) e ∙ within_step max_skew (n - 1) trace p
+
 -- each span of the trace has the clock that its parent's makes
 pub clocks : (max_skew : ℕ) (trace : List Placed) → Each (λ p. clock_of max_skew trace p ≡ clock_by max_skew (clock_of max_skew trace) p (parent_in trace p)) trace
-clocks max_skew trace = each_map trace _ _ (λ p e. ap (option_and_then (clock_along max_skew)) e ∙ by_parent p (parent_in trace p)) trace (chains trace)
-  where
-    by_parent : (p : Placed) (o : Option Placed) → option_and_then (clock_along max_skew) (chain_through p (λ q. chain (length trace) trace q) o) ≡ clock_by max_skew (clock_of max_skew trace) p o
-    by_parent p None = refl
-    by_parent p (Some q) = clock_push max_skew (chain (length trace) trace q) p (not_nil (length trace) trace q)
+clocks max_skew trace = each_map trace _ _ (λ p e. ap (option_and_then (clock_along max_skew)) e ∙ clock_through max_skew (length trace) trace p (parent_in trace p)) trace (chains trace)
+
+-- ---- the same for a program that goes up by one step at a time
+pub at_root : (max_skew n : ℕ) (trace : List Placed) (p : Placed) (c : Clock) → (n ≡ 0 → ⊥) → None ≡ parent_in trace p → c ≡ clock_at max_skew (host_of p) (pos 0) p.span → Some c ≡ clock_within max_skew n trace p
+at_root max_skew n trace p c some none e =
+    ap (λ x. Some x) e ∙ ap (clock_by max_skew (clock_within max_skew (n - 1) trace) p) none ∙ sym (within_down max_skew n trace p some)
+
+pub below_root : (max_skew n : ℕ) (trace : List Placed) (p q : Placed) (above c : Clock) → (n ≡ 0 → ⊥) → Some q ≡ parent_in trace p → Some above ≡ clock_within max_skew (n - 1) trace q → c ≡ clock_below max_skew above p → Some c ≡ clock_within max_skew n trace p
+below_root max_skew n trace p q above c some parent up e =
+    ap (λ x. Some x) e ∙ ap (option_map (λ a. clock_below max_skew a p)) up
+    ∙ ap (clock_by max_skew (clock_within max_skew (n - 1) trace) p) parent ∙ sym (within_down max_skew n trace p some)
+
+pub without_root : (max_skew n : ℕ) (trace : List Placed) (p q : Placed) → (n ≡ 0 → ⊥) → Some q ≡ parent_in trace p → None ≡ clock_within max_skew (n - 1) trace q → None ≡ clock_within max_skew n trace p
+without_root max_skew n trace p q some parent up =
+    ap (option_map (λ a. clock_below max_skew a p)) up
+    ∙ ap (clock_by max_skew (clock_within max_skew (n - 1) trace) p) parent ∙ sym (within_down max_skew n trace p some)
+
+pub shown_with : (max_skew : ℕ) (trace before : List Placed) (p : Placed) (o : Option Clock) → list_any (has_id p.span.id) before ≡ false → o ≡ clock_of max_skew trace p → shifted_by max_skew p o ≡ shown_after max_skew trace before p
+shown_with max_skew trace before p o new e = ap (shifted_by max_skew p) e ∙ ap (λ b. if b then unadjusted p else shifted_by max_skew p (clock_of max_skew trace p)) (sym new)

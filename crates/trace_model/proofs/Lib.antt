@@ -6,7 +6,10 @@ pub mod Ranking
 pub mod Chains
 pub mod Legality
 pub mod Parents
+pub mod Steps
+pub mod Places
 pub mod Finding
 pub mod NameLaws
 pub mod SearchLaws
 pub mod Prefixes
+pub mod RingFacts

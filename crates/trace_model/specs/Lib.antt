@@ -8,6 +8,7 @@ pub mod Linking
 pub mod Adjusting
 pub mod Answers
 pub mod Splits
+pub mod Subsequences
 pub mod Held
 pub mod Refusals
 pub mod RefusalTexts

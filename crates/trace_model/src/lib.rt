@@ -10,6 +10,7 @@
 
 mod adjust;
 mod answer;
+mod clock;
 mod entry;
 pub mod laws;
 pub mod laws_search;
@@ -27,6 +28,7 @@ mod skew;
 
 pub use adjust::adjusted_trace;
 pub use answer::{Answer, Link, Operation, Shown};
+pub use clock::{Clock, clock_below, root_clock, shifted, unadjusted};
 pub use entry::Entry;
 pub use limits::Limits;
 pub use links::service_links;
