@@ -41,13 +41,13 @@ impl ServiceIndex {
     /// # Errors
     ///
     /// Want of memory; the index then is what it was.
-    pub fn add(&mut self, service: &Text, operation: &Text, kind: &Text) -> Result<(), AllocError>
+    pub fn add(&mut self, service: &Text, operation: &Text, kind: &str) -> Result<(), AllocError>
         ensures ok { OnOk result (self.new ≡ insert_once listed_cmp self.old (record { service = service.now; operation = record { name = operation.now; kind = kind.now } })) }
         ensures err { OnErr result (self.new ≡ self.old) }
     {
         let operation = Operation {
             name: operation.clone()?,
-            kind: kind.clone()?,
+            kind: Text::from_str(self.alloc, kind)?,
         };
         if let Some(known) = self.services.get_mut(service) {
             known.insert(operation)?;
