@@ -9,7 +9,7 @@ ghost use Rattle.trace_model.specs.Searching.{at_least, at_most, bound, is_named
 
 use crate::query::Find;
 use crate::ranks::rank;
-use jaeger_model::{Log, Placed, Seq, Tag, Text, TraceId, Value};
+use jaeger_model::{Log, Placed, Seq, Tag, Text, TraceId, Value, tag_text};
 use std::alloc::{AllocError, Global};
 
 /// Whether the text is the asked one; an empty one asks for any.
@@ -42,16 +42,6 @@ fn bound(duration: i64) -> Option<i64>
     ensures { result ≡ bound duration }
 {
     if duration == 0 { None } else { Some(duration) }
-}
-
-// PLACEHOLDER until jaeger_model has it
-fn tag_text(alloc: Global, value: &Value) -> Result<Text, AllocError>
-    ensures { IfOk result (λ t. t ≡ tag_text value.now) }
-{
-    match value {
-        Value::Text(t) => t.clone(),
-        _ => Err(AllocError)
-    }
 }
 
 /// Whether the tag's value reads as the asked text.

@@ -1,0 +1,135 @@
+-- The traces at the places are those that a search finds.
+use Rattle.std.proofs.Common.{◌≡◌, ℕ, zero, suc, ◌+◌, true, false, cond, List, [], ◌∷◌, ◌++◌, map, length, get_or, take, refl, sym, ap, subst, ◌∙◌, arith, append_assoc, length-append, ◌<◌, Vec, Option, Some, None}
+use Rattle.std.specs.Prelude.{filter, if◌then◌else◌, ◌==◌}
+use Rattle.std.specs.List.{list_any, All, filter_map, cons_option}
+use Rattle.std.specs.Global.{Global}
+use Rattle.std.proofs.lemmas.List.{append-nil, length-map, length-take-le, map_push, take_more}
+use Rattle.std.proofs.lemmas.List.Elements.{All-nil, All-cons, All-head, All-tail, All-take, All-filter, filter-append, filter_map-append}
+use Rattle.jaeger_model.specs.declared.placed.Seen.{Seen}
+use Rattle.std.proofs.lemmas.List.Sorted.{All-permutation}
+use Rattle.jaeger_model.specs.declared.placed.Placed.{Placed}
+use Rattle.trace_model.specs.declared.query.Find.{Find}
+use Rattle.trace_model.specs.Searching.{matches, matching, first_start, first_id, ids_of, ranked, cut, found_in}
+use Rattle.trace_model.proofs.Ranking.{ranked-permutation, ranked-map}
+use Rattle.find_traces.specs.Seeing.{seen_all, seen_traces}
+use Rattle.find_traces.specs.Places.{numbered, is_hit, start_of, hits, hit_of, place_of, places_found, trace_at, id_at}
+
+abbrev place : ℕ × List Placed → ℕ
+place e = e.0
+
+abbrev trace : ℕ × List Placed → List Placed
+trace e = e.1
+
+pub map_take : {X Y : Type 0} (f : X → Y) (n : ℕ) (xs : List X) → map f (take n xs) ≡ take n (map f xs)
+map_take f zero xs = refl
+map_take f (suc n) [] = refl
+map_take f (suc n) (x ∷ xs) = ap (λ l. f x ∷ l) (map_take f n xs)
+
+pub map_cut : {X Y : Type 0} (f : X → Y) (n : ℕ) (xs : List X) → map f (cut n xs) ≡ cut n (map f xs)
+map_cut f n xs = elim (n == 0) as (λ b. map f (if b then xs else take n xs) ≡ (if b then map f xs else take n (map f xs))) [ true ↦ refl | false ↦ map_take f n xs ]
+
+pub map_twice : {X Y Z : Type 0} (g : Y → Z) (f : X → Y) (xs : List X) → map g (map f xs) ≡ map (λ x. g (f x)) xs
+map_twice g f [] = refl
+map_twice g f (x ∷ xs) = ap (λ l. g (f x) ∷ l) (map_twice g f xs)
+
+map_agree : {X Y : Type 0} (f g : X → Y) (xs : List X) → All (λ x. f x ≡ g x) xs → map f xs ≡ map g xs
+map_agree f g [] h = refl
+map_agree f g (x ∷ xs) h =
+    let first = All-head (λ x. f x ≡ g x) x xs h in
+    let rest = map_agree f g xs (All-tail (λ x. f x ≡ g x) x xs h) in
+    λ i. first i ∷ rest i
+
+-- what the sorted and cut hits name
+pub places_of_hits : (q : Find) (ts : List (List Placed)) → map place_of (cut q.limit (map hit_of (ranked start_of (hits q ts)))) ≡ places_found q ts
+places_of_hits q ts =
+    ap (map place_of) (sym (map_cut hit_of q.limit (ranked start_of (hits q ts)))) ∙ map_twice place_of hit_of (cut q.limit (ranked start_of (hits q ts)))
+
+-- ---- each number leads back to its trace
+found_at : (before : List (List Placed)) (t : List Placed) (rest : List (List Placed)) → trace_at (before ++ t ∷ rest) (length before) ≡ t
+found_at [] t rest = refl
+found_at (b ∷ before) t rest = found_at before t rest
+
+numbers_lead : (before rest : List (List Placed)) (n : ℕ) → n ≡ length before → All (λ (e : ℕ × List Placed). trace_at (before ++ rest) e.0 ≡ e.1) (numbered n rest)
+numbers_lead before [] n e = All-nil (λ (e : ℕ × List Placed). trace_at (before ++ []) e.0 ≡ e.1)
+numbers_lead before (t ∷ rest) n e =
+    All-cons (λ (x : ℕ × List Placed). trace_at (before ++ t ∷ rest) x.0 ≡ x.1) (n, t) (numbered (n + 1) rest)
+    (ap (trace_at (before ++ t ∷ rest)) e ∙ found_at before t rest)
+    (subst (λ l. All (λ (x : ℕ × List Placed). trace_at l x.0 ≡ x.1) (numbered (n + 1) rest)) (append_assoc before (t ∷ []) rest)
+    (numbers_lead (before ++ t ∷ []) rest (n + 1) (let l = length-append before (t ∷ []) in omega arith)))
+
+hits_lead : (q : Find) (ts : List (List Placed)) → All (λ (e : ℕ × List Placed). trace_at ts e.0 ≡ e.1) (cut q.limit (ranked start_of (hits q ts)))
+hits_lead q ts =
+    cut_all q.limit (ranked start_of (hits q ts))
+    (All-permutation P (hits q ts) (ranked start_of (hits q ts)) (ranked-permutation start_of (hits q ts)) (All-filter (is_hit q) P (numbered 0 ts) (numbers_lead [] ts 0 refl)))
+  where
+    P : ℕ × List Placed → Type 0
+    P e = trace_at ts e.0 ≡ e.1
+
+    cut_all : (n : ℕ) (xs : List (ℕ × List Placed)) → All P xs → All P (cut n xs)
+    cut_all n xs h = elim (n == 0) as (λ b. All P (if b then xs else take n xs)) [ true ↦ h | false ↦ All-take P n xs h ]
+
+hits_match : (q : Find) (n : ℕ) (ts : List (List Placed)) → map trace (filter (is_hit q) (numbered n ts)) ≡ matching q ts
+hits_match q n [] = refl
+hits_match q n (t ∷ ts) = elim (list_any (matches q) t) as (λ b. map trace (cond b ((n, t) ∷ filter (is_hit q) (numbered (n + 1) ts)) (filter (is_hit q) (numbered (n + 1) ts))) ≡ cond b (t ∷ matching q ts) (matching q ts)) [
+  | true ↦ ap (λ l. t ∷ l) (hits_match q (n + 1) ts)
+  | false ↦ hits_match q (n + 1) ts
+]
+
+pub traces_found : (q : Find) (ts : List (List Placed)) → map (trace_at ts) (places_found q ts) ≡ found_in q ts
+traces_found q ts =
+    map_twice (trace_at ts) place (cut q.limit (ranked start_of (hits q ts)))
+    ∙ map_agree (λ e. trace_at ts (place e)) trace (cut q.limit (ranked start_of (hits q ts))) (hits_lead q ts)
+    ∙ map_cut trace q.limit (ranked start_of (hits q ts))
+    ∙ ap (cut q.limit) (ranked-map trace first_start (hits q ts) ∙ ap (ranked first_start) (hits_match q 0 ts))
+
+ids_through : (ts : List (List Placed)) (ns : List ℕ) → filter_map (id_at ts) ns ≡ ids_of (map (trace_at ts) ns)
+ids_through ts [] = refl
+ids_through ts (n ∷ ns) = ap (cons_option (first_id (trace_at ts n))) (ids_through ts ns)
+
+pub ids_found : (q : Find) (ts : List (List Placed)) (ns : List ℕ) → map (trace_at ts) ns ≡ found_in q ts → filter_map (id_at ts) ns ≡ ids_of (found_in q ts)
+ids_found q ts ns e = ids_through ts ns ∙ ap ids_of e
+
+-- ---- one more trace
+numbered_push : {X : Type 0} (n : ℕ) (xs : List X) (x : X) → numbered n (xs ++ x ∷ []) ≡ numbered n xs ++ (n + length xs, x) ∷ []
+numbered_push n [] x = let e : n ≡ n + 0 = omega arith in ap (λ m. (m, x) ∷ []) e
+numbered_push n (y ∷ ys) x = let e : (n + 1) + length ys ≡ n + length (y ∷ ys) = omega arith in ap (λ l. (n, y) ∷ l) (numbered_push (n + 1) ys x ∙ ap (λ m. numbered (n + 1) ys ++ (m, x) ∷ []) e)
+
+hits_push : (q : Find) (ts : List (List Placed)) (t : List Placed) → hits q (ts ++ t ∷ []) ≡ hits q ts ++ cond (list_any (matches q) t) ((length ts, t) ∷ []) []
+hits_push q ts t =
+    ap (filter (is_hit q)) (numbered_push 0 ts t ∙ (let e : 0 + length ts ≡ length ts = omega arith in ap (λ m. numbered 0 ts ++ (m, t) ∷ []) e))
+    ∙ filter-append (is_hit q) (numbered 0 ts) ((length ts, t) ∷ [])
+
+-- the hits once one more trace is looked at
+hits_read : (q : Find) (vs : List (Vec Seen Global)) (i : ℕ) (v : Vec Seen Global) → i < length vs → v ≡ get_or vs i v
+    → map hit_of (hits q (seen_traces (take (i + 1) vs))) ≡ map hit_of (hits q (seen_traces (take i vs)) ++ cond (list_any (matches q) (seen_all v.items)) ((i, seen_all v.items) ∷ []) [])
+hits_read q vs i v h e =
+    let all : Vec Seen Global → List Placed = λ u. seen_all u.items in
+    let count : length (map all (take i vs)) ≡ i = length-map (take i vs) all ∙ length-take-le i vs (omega arith) in
+    ap (map hit_of) (
+    ap (λ l. hits q (map all l)) (take_more vs i v h ∙ ap (λ u. take i vs ++ u ∷ []) (sym e)) ∙ ap (hits q) (map_push all (take i vs) v)
+    ∙ hits_push q (map all (take i vs)) (all v)
+    ∙ ap (λ n. hits q (map all (take i vs)) ++ cond (list_any (matches q) (all v)) ((n, all v) ∷ []) []) count)
+
+pub hits_hit : (q : Find) (vs : List (Vec Seen Global)) (i : ℕ) (v : Vec Seen Global) → i < length vs → v ≡ get_or vs i v → list_any (matches q) (seen_all v.items) ≡ true
+    → map hit_of (hits q (seen_traces (take (i + 1) vs))) ≡ map hit_of (hits q (seen_traces (take i vs))) ++ hit_of (i, seen_all v.items) ∷ []
+hits_hit q vs i v h e m =
+    hits_read q vs i v h e ∙ ap (λ b. map hit_of (hits q (seen_traces (take i vs)) ++ cond b ((i, seen_all v.items) ∷ []) [])) m
+    ∙ map_push hit_of (hits q (seen_traces (take i vs))) (i, seen_all v.items)
+
+pub hits_miss : (q : Find) (vs : List (Vec Seen Global)) (i : ℕ) (v : Vec Seen Global) → i < length vs → v ≡ get_or vs i v → list_any (matches q) (seen_all v.items) ≡ false
+    → map hit_of (hits q (seen_traces (take (i + 1) vs))) ≡ map hit_of (hits q (seen_traces (take i vs)))
+hits_miss q vs i v h e m =
+    hits_read q vs i v h e ∙ ap (λ b. map hit_of (hits q (seen_traces (take i vs)) ++ cond b ((i, seen_all v.items) ∷ []) [])) m
+    ∙ ap (map hit_of) (append-nil (hits q (seen_traces (take i vs))))
+
+pub kept_some : {X Y : Type 0} (f : X → Option Y) (xs : List X) (x : X) (y : Y) → f x ≡ Some y → filter_map f (xs ++ x ∷ []) ≡ filter_map f xs ++ y ∷ []
+kept_some f xs x y e = filter_map-append f xs (x ∷ []) ∙ ap (λ o. filter_map f xs ++ cons_option o []) e
+
+pub kept_none : {X Y : Type 0} (f : X → Option Y) (xs : List X) (x : X) → f x ≡ None → filter_map f (xs ++ x ∷ []) ≡ filter_map f xs
+kept_none f xs x e = filter_map-append f xs (x ∷ []) ∙ ap (λ o. filter_map f xs ++ cons_option o []) e ∙ append-nil (filter_map f xs)
+
+pub read_some : {X Y : Type 0} (f : X → Option Y) (xs : List X) (i : ℕ) (d : X) (y : Y) → i < length xs → f (get_or xs i d) ≡ Some y → filter_map f (take (i + 1) xs) ≡ filter_map f (take i xs) ++ y ∷ []
+read_some f xs i d y h e = ap (filter_map f) (take_more xs i d h) ∙ kept_some f (take i xs) (get_or xs i d) y e
+
+pub read_none : {X Y : Type 0} (f : X → Option Y) (xs : List X) (i : ℕ) (d : X) → i < length xs → f (get_or xs i d) ≡ None → filter_map f (take (i + 1) xs) ≡ filter_map f (take i xs)
+read_none f xs i d h e = ap (filter_map f) (take_more xs i d h) ∙ kept_none f (take i xs) (get_or xs i d) e

@@ -1,0 +1,4 @@
+pub mod Tree
+pub mod Asked
+pub mod Runs
+pub mod Arrivals

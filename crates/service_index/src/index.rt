@@ -1,0 +1,163 @@
+ghost use Rattle.std.specs.Prelude.{◌≡◌, IfOk, OnOk, OnErr, List, [], filter};
+ghost use Rattle.std.specs.List.Sorted.{IsStrictlySortedBy};
+ghost use Rattle.jaeger_model.specs.Texts.{insert_once};
+ghost use Rattle.trace_model.specs.Names.{is_asked_kind, operation_cmp};
+ghost use Rattle.service_index.specs.Listing.{Listed, listed_cmp, listing, IsTree, services_in, names_in, names_of, ends_in, operations_in};
+
+use jaeger_model::Text;
+use std::alloc::{AllocError, Global};
+use std::collections::{BTreeMap, BTreeSet};
+use std::marker::Model;
+use trace_model::Operation;
+
+/// The services that were reported, each with its operations and their kinds.
+#[derive(Drop)]
+pub struct ServiceIndex {
+    alloc: Global,
+    services: BTreeMap<Text, BTreeSet<Operation>>,
+}
+
+impl Model for ServiceIndex {
+    ghost Value = { List Listed };
+
+    ghost view = { λ index. listing index.services.entries };
+
+    ghost invariant = { λ index. IsTree index.services.entries };
+}
+
+impl ServiceIndex {
+    /// An index that lists nothing.
+    pub fn new(alloc: Global) -> Self
+        ensures { result ≡ [] }
+    {
+        ServiceIndex {
+            alloc,
+            services: BTreeMap::new(alloc),
+        }
+    }
+
+    /// Lists an operation of a service with its kind, which is empty where it has none.
+    ///
+    /// # Errors
+    ///
+    /// Want of memory; the index then is what it was.
+    pub fn add(&mut self, service: &Text, operation: &Text, kind: &str) -> Result<(), AllocError>
+        ensures ok { OnOk result (self.new ≡ insert_once listed_cmp self.old (record { service = service.now; operation = record { name = operation.now; kind = kind.now } })) }
+        ensures err { OnErr result (self.new ≡ self.old) }
+    {
+        let operation = Operation {
+            name: operation.clone()?,
+            kind: Text::from_str(self.alloc, kind)?,
+        };
+        if let Some(known) = self.services.get_mut(service) {
+            known.insert(operation)?;
+            return Ok(());
+        }
+        let mut known = BTreeSet::new(self.alloc);
+        known.insert(operation)?;
+        self.services.insert(service.clone()?, known)?;
+        Ok(())
+    }
+
+    /// The services, each once, in the order of their bytes.
+    ///
+    /// # Errors
+    ///
+    /// Want of memory alone.
+    pub fn services(&self) -> Result<Vec<Text>, AllocError>
+        ensures { IfOk result (λ names. names.items ≡ services_in self.now) }
+    {
+        let mut names = Vec::new(self.alloc);
+        for service in self.services.keys() {
+            names.push(service.clone()?)?;
+        }
+        Ok(names)
+    }
+
+    /// The pairs of operation and kind of a service, each once, in order of operation and then of
+    /// kind. An empty kind asks for all.
+    ///
+    /// # Errors
+    ///
+    /// Want of memory alone.
+    pub fn operations(&self, service: &Text, kind: &Text) -> Result<Vec<Operation>, AllocError>
+        ensures { IfOk result (λ found. found.items ≡ operations_in service.now kind.now self.now) }
+    {
+        match self.services.get(service) {
+            Some(known) => of_kind(self.alloc, known, kind),
+            None => Ok(Vec::new(self.alloc)),
+        }
+    }
+
+    /// The operations of a service, each once, in the order of their bytes.
+    ///
+    /// # Errors
+    ///
+    /// Want of memory alone.
+    pub fn names(&self, service: &Text) -> Result<Vec<Text>, AllocError>
+        ensures { IfOk result (λ names. names.items ≡ names_in service.now self.now) }
+    {
+        match self.services.get(service) {
+            Some(known) => distinct_names(self.alloc, known),
+            None => Ok(Vec::new(self.alloc)),
+        }
+    }
+}
+
+fn copy(operation: &Operation) -> Result<Operation, AllocError>
+    ensures { IfOk result (λ copy. copy ≡ operation.now) }
+{
+    Ok(Operation {
+        name: operation.name.clone()?,
+        kind: operation.kind.clone()?,
+    })
+}
+
+/// Whether the operation has the asked kind; an empty one asks for any.
+fn has_kind(operation: &Operation, kind: &Text) -> bool
+    ensures { result ≡ is_asked_kind kind.now operation.now }
+{
+    kind.as_str() == "" || *kind == operation.kind
+}
+
+/// Those of the operations that have the asked kind.
+fn of_kind(
+    alloc: Global,
+    known: &BTreeSet<Operation>,
+    kind: &Text,
+) -> Result<Vec<Operation>, AllocError>
+    ensures found { IfOk result (λ v. v.items ≡ filter (is_asked_kind kind.now) known.now.keys) }
+    ensures ordered { IsStrictlySortedBy operation_cmp known.now.keys }
+{
+    let mut found = Vec::new(alloc);
+    for operation in known.iter() {
+        if has_kind(operation, kind) {
+            found.push(copy(operation)?)?;
+        }
+    }
+    Ok(found)
+}
+
+/// Whether the last of the names is this one.
+fn ends_in(names: &[Text], name: &Text) -> bool
+    ensures { result ≡ ends_in name.now names.now }
+{
+    match names.last() {
+        Some(last) => *last == *name,
+        None => false,
+    }
+}
+
+/// The names of the operations, each once.
+fn distinct_names(alloc: Global, known: &BTreeSet<Operation>) -> Result<Vec<Text>, AllocError>
+    ensures names { IfOk result (λ v. v.items ≡ names_of known.now.keys) }
+    ensures ordered { IsStrictlySortedBy operation_cmp known.now.keys }
+{
+    let mut names = Vec::new(alloc);
+    for operation in known.iter() {
+        if !ends_in(&names, &operation.name) {
+            names.push(operation.name.clone()?)?;
+        }
+    }
+    Ok(names)
+}

@@ -1,0 +1,20 @@
+//! Facts about what is listed. Each function does nothing, and its contract is the fact.
+
+ghost use Rattle.std.specs.Prelude.{◌≡◌, ℕ, List, [], ◌∷◌, ◌++◌};
+ghost use Rattle.jaeger_model.specs.declared.placed.Placed.{Placed as Span};
+ghost use Rattle.jaeger_model.specs.Texts.{insert_once};
+ghost use Rattle.trace_model.specs.Names.{services, operation_names, operations};
+ghost use Rattle.service_index.specs.Listing.{listed, listed_cmp, listed_in, services_in, names_in, operations_in};
+
+/// What is listed of all arrivals answers as the plain store does.
+pub fn listed_answers()
+    ensures services { (ps : List Span) → services_in (listed_in ps) ≡ services ps }
+    ensures names { (service : List ℕ) (ps : List Span) → names_in service (listed_in ps) ≡ operation_names service ps }
+    ensures operations { (service kind : List ℕ) (ps : List Span) → operations_in service kind (listed_in ps) ≡ operations service kind ps }
+{}
+
+/// One more arrival lists what it reports, unless that is listed.
+pub fn listed_once_more()
+    ensures none { listed_in [] ≡ [] }
+    ensures more { (ps : List Span) (p : Span) → listed_in (ps ++ p ∷ []) ≡ insert_once listed_cmp (listed_in ps) (listed p) }
+{}
