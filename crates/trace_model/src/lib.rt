@@ -28,7 +28,7 @@ mod sets;
 mod showing;
 mod skew;
 
-pub use adjust::adjusted_trace;
+pub use adjust::{adjusted_trace, parent_place};
 pub use answer::{Answer, Link, Operation, Shown};
 pub use clock::{Clock, clock_below, root_clock, shifted, unadjusted};
 pub use entry::Entry;

@@ -83,7 +83,9 @@ pub fn is_in_window(start: i64, end_ms: i64, lookback_ms: i64) -> bool
 fn reaches_window(trace: &[Placed], end_ms: i64, lookback_ms: i64) -> bool
     ensures { result ≡ list_any (in_window end_ms lookback_ms) trace.now }
 {
-    trace.iter().any(|p| is_in_window(p.span.start, end_ms, lookback_ms))
+    trace
+        .iter()
+        .any(|p| is_in_window(p.span.start, end_ms, lookback_ms))
 }
 
 /// The same for a trace with a span in the window; another one adds nothing.

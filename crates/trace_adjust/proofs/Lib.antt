@@ -1,0 +1,3 @@
+pub mod Places
+pub mod Settled
+pub mod Shifting

@@ -1,0 +1,60 @@
+-- Clocks of the spans of a trace by their places, as far as they are known.
+use Rattle.std.specs.Prelude.{◌≡◌, ℕ, suc, pos, ◌<◌, ◌+◌, ◌⊎◌, Bool, not, ◌&&◌, List, [], ◌∷◌, map, length, get_or, set, count_by, Option, Some, None, option_map, is_some, unwrap_or, ℤ, ◌==◌, cond, if◌then◌else◌}
+use Rattle.jaeger_model.specs.declared.placed.Placed.{Placed}
+use Rattle.jaeger_model.specs.Parents.{parent}
+use Rattle.trace_model.specs.declared.clock.Clock.{Clock}
+use Rattle.trace_model.specs.Adjusting.{host_of, clock_at, clock_below, clock_of}
+
+-- the place of the first span with the id
+abbrev pub first_at : ℕ → List Placed → Option ℕ
+first_at id [] = None
+first_at id (p ∷ ps) = cond (p.span.id.0 == id) (Some 0) (option_map suc (first_at id ps))
+
+-- the place of the parent
+abbrev pub place_in : List Placed → Placed → Option ℕ
+place_in trace p = if (parent p.span).0 == 0 then None else first_at (parent p.span).0 trace
+
+-- the clock of a span by that of the span at the place, where that is known
+abbrev pub near : ℕ → List (Option Clock) → Placed → Option ℕ → Option Clock
+near max_skew cs p None = Some (clock_at max_skew (host_of p) (pos 0) p.span)
+near max_skew cs p (Some j) = option_map (λ above. clock_below max_skew above p) (get_or cs j None)
+
+abbrev pub is_unset : Option Clock → Bool
+is_unset o = not (is_some o)
+
+abbrev pub settle : ℕ → List (Option Clock) → ℕ → Placed → Option ℕ → List (Option Clock)
+settle max_skew cs i p o = if is_unset (get_or cs i None) then set cs i (near max_skew cs p o) else cs
+
+abbrev pub sets : ℕ → List (Option Clock) → ℕ → Placed → Option ℕ → Bool
+sets max_skew cs i p o = is_unset (get_or cs i None) && is_some (near max_skew cs p o)
+
+-- each clock that is set is the span's
+abbrev pub AreRight : ℕ → List Placed → List (Option Clock) → Type 0
+AreRight max_skew trace cs = (length cs ≡ length trace) × ((k : ℕ) (d : Placed) → k < length trace → (get_or cs k None ≡ None) ⊎ (get_or cs k None ≡ clock_of max_skew trace (get_or trace k d)))
+
+-- the span at the place has a clock, or none can be set there
+abbrev pub IsClosed : ℕ → List Placed → ℕ → List (Option Clock) → Type 0
+IsClosed max_skew trace k cs = (d : Placed) → get_or cs k None ≡ None → near max_skew cs (get_or trace k d) (place_in trace (get_or trace k d)) ≡ None
+
+-- the same for each of the first n spans
+abbrev pub AreClosed : ℕ → List Placed → ℕ → List (Option Clock) → Type 0
+AreClosed max_skew trace n cs = (k : ℕ) → k < n → IsClosed max_skew trace k cs
+
+-- each span has its clock, or None where it has none
+abbrev pub AreClocks : ℕ → List Placed → List (Option Clock) → Type 0
+AreClocks max_skew trace cs = (length cs ≡ length trace) × ((k : ℕ) (d : Placed) → k < length trace → get_or cs k None ≡ clock_of max_skew trace (get_or trace k d))
+
+abbrev pub unset_count : List (Option Clock) → ℕ
+unset_count cs = count_by is_unset cs
+
+-- the same by a table of first places
+abbrev pub parent_at : (ℕ → Option ℕ) → Placed → Option ℕ
+parent_at first p = if (parent p.span).0 == 0 then None else first (parent p.span).0
+
+abbrev pub delta_or_none : Option Clock → ℤ
+delta_or_none None = pos 0
+delta_or_none (Some c) = c.delta
+
+-- the delta of a span: its clock's where it is the first of its id
+abbrev pub delta_at : (ℕ → Option ℕ) → List (Option Clock) → ℕ → ℕ → ℤ
+delta_at first cs i id = if unwrap_or (first id) i == i then delta_or_none (get_or cs i None) else pos 0

@@ -1,0 +1,16 @@
+//! A trace as it is shown, made from the one that is kept: in each span the reference to its parent
+//! in front, and its times moved into those of its root's host. The answers are those of
+//! `trace_model::adjusted_trace`, in time linear in the spans up to a logarithm and without
+//! recursion, however deep the trace is.
+//!
+//! * `parents`: references to parents, and the places of parents in a trace.
+//! * `clocks`: the clock of each span.
+//! * `skew`: the spans moved by their clocks.
+#![tactic(auto)]
+
+mod clocks;
+mod parents;
+mod skew;
+
+pub use parents::parent_first;
+pub use skew::{adjust_skew, adjusted};

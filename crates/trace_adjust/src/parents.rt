@@ -1,0 +1,66 @@
+//! References to parents, and where the parents stand.
+
+ghost use Rattle.std.specs.Prelude.{◌≡◌, ℕ, IfOk, map};
+ghost use Rattle.std.specs.Ordering.{nat_cmp};
+ghost use Rattle.std.specs.BTreeMap.{get};
+ghost use Rattle.trace_model.specs.Adjusting.{parent_first};
+ghost use Rattle.trace_adjust.specs.Settling.{first_at, parent_at, place_in};
+
+use jaeger_model::{Placed, Span, parent_of};
+use std::alloc::{AllocError, Global};
+use std::collections::BTreeMap;
+use trace_model::parent_place;
+
+/// Puts the reference to the span's parent in front: the first child-of reference to its own trace,
+/// else the first other one, changes places with the first of all. Takes no memory.
+pub fn parent_first(span: &mut Span)
+    ensures { span.new ≡ parent_first span.old }
+{
+    if let Some(place) = parent_place(span.references.as_slice(), span.trace) {
+        span.references.swap(0, place);
+    }
+}
+
+/// The place of the first span with each id.
+pub(crate) fn first_places(
+    alloc: Global,
+    trace: &[Placed],
+) -> Result<BTreeMap<u64, usize>, AllocError>
+    ensures { IfOk result (λ m. (id : ℕ) → get nat_cmp m id ≡ first_at id trace.now) }
+{
+    let mut first = BTreeMap::new(alloc);
+    for (place, placed) in trace.iter().enumerate() {
+        let id = placed.span.id.0;
+        if !first.contains_key(&id) {
+            first.insert(id, place)?;
+        }
+    }
+    Ok(first)
+}
+
+/// The place of a span's parent.
+fn place_of_parent(first: &BTreeMap<u64, usize>, placed: &Placed) -> Option<usize>
+    ensures { result ≡ parent_at (λ id. get nat_cmp first.now id) placed.now }
+{
+    let parent = parent_of(&placed.span);
+    if parent.0 == 0 {
+        return None;
+    }
+    first.get(&parent.0).copied()
+}
+
+/// The places of the parents of the spans.
+pub(crate) fn parent_places(
+    alloc: Global,
+    trace: &[Placed],
+    first: &BTreeMap<u64, usize>,
+) -> Result<Vec<Option<usize>>, AllocError>
+    requires { (id : ℕ) → get nat_cmp first.now id ≡ first_at id trace.now }
+    ensures { IfOk result (λ v. v.items ≡ map (place_in trace.now) trace.now) }
+{
+    let mut parents = Vec::new(alloc);
+    for placed in trace {
+        parents.push(place_of_parent(first, placed))?;
+    }
+    Ok(parents)
+}
