@@ -1,6 +1,6 @@
 -- What is read is spelled so.
 use Rattle.std.proofs.Common.{◌≡◌, ℕ, ℤ, pos, zero, suc, ◌≤◌, ◌^◌, Bool, true, false, cond, eqb, ltb, List, [], ◌∷◌, ◌++◌, length, take, drop, Option, Some, None, Result, Ok, Err, refl, sym, ap, subst, ◌∙◌, append_assoc, arith, w16, w32, w64}
-use Rattle.std.specs.Prelude.{MatchBool}
+use Rattle.std.specs.Prelude.{MatchBool, IfOk}
 use Rattle.std.specs.Int.{Width, cast_signed}
 use Rattle.std.proofs.lemmas.Bool.{ltb-false, eqb-true, ltb-true}
 use Rattle.std.proofs.lemmas.List.{take-append-drop, length-take}
@@ -8,9 +8,9 @@ use Rattle.byteorder.specs.Endian.{big_number}
 use Rattle.byteorder.specs.Numbers.{big_from-append}
 use Rattle.thrift_binary.specs.declared.fault.WireError.{WireError}
 use Rattle.thrift_binary.specs.declared.fault.WireError.TheVariants.{Truncated, BadLength, BadType, BadBool}
-use Rattle.thrift_binary.specs.Reading.{◌>>=◌, lift, Read, stopped, typed, bool_at, bytes_at, number_at, signed_at, size_at, string_at, field_at, field_behind, is_code}
+use Rattle.thrift_binary.specs.Reading.{◌>>=◌, lift, Read, Reads, stopped, typed, bool_at, bytes_at, number_at, signed_at, size_at, string_at, field_at, field_behind, is_code}
 use Rattle.thrift_binary.specs.Fields.{Take, fields_in, fields_at, behind_field}
-use Rattle.thrift_binary.specs.Spelling.{Front, IsBool, IsI32, IsI64, IsDouble, IsSize, IsString, Field, IsFields, has, IsLast}
+use Rattle.thrift_binary.specs.Spelling.{Front, IsBool, IsI32, IsI64, IsDouble, IsSize, IsString, Field, IsFieldHead, IsFields, has, IsLast}
 
 -- the value of a step that did not fail
 pub bind_ok : {A B E : Type 0} (r : Result A E) (f : A → Result B E) (y : B) → (r >>= f) ≡ Ok y → (x : A) × (r ≡ Ok x) × (f x ≡ Ok y)
@@ -282,3 +282,17 @@ path_last {A = A} P place c i Spells one (f ∷ fs) s t (u, d, p) = by (path_las
     by : IsLast c i Spells (place u) fs (place t) → (b : Bool) → MatchBool b ((x : A) × Spells f.text x × (place u ≡ Some x)) (place u ≡ place s) → MatchBool b ((x : A) × Spells f.text x × IsLast c i Spells (Some x) fs (place t)) (IsLast c i Spells (place s) fs (place t))
     by rest true m = (m.0, m.1, subst (λ (o : Option A). IsLast c i Spells o fs (place t)) m.2 rest)
     by rest false m = subst (λ (o : Option A). IsLast c i Spells o fs (place t)) m rest
+
+-- ---- what a call on a cursor gave
+
+pub reads_spelled : {X Y : Type 0} (view : X → Y) (read : List ℕ → Read Y) (Spells : List ℕ → Y → Type 0)
+    → ((w : List ℕ) (y : Y) (r : List ℕ) → read w ≡ Ok (y, r) → Front (λ t. Spells t y) w r)
+    → (old : List ℕ) (result : Result X WireError) (new : List ℕ) → Reads view read old result new → IfOk result (λ x. Front (λ t. Spells t (view x)) old new)
+reads_spelled view read Spells f old (Ok x) new h = f old (view x) new h
+reads_spelled view read Spells f old (Err e) new h = tt
+
+pub string_front : (w bytes r : List ℕ) → string_at w ≡ Ok (bytes, r) → Front (λ t. IsString t bytes) w r
+string_front w bytes r e = let s = string_found w bytes r e in record { text = s.text; parts = s.parts; spells = s.spells }
+
+pub field_front : (w : List ℕ) (c : ℕ) (i : ℤ) (r : List ℕ) → field_at w ≡ Ok (Some (c, i), r) → Front (IsFieldHead c i) w r
+field_front w c i r e = let h = field_found w c i r e in record { text = c ∷ h.text; parts = h.parts; spells = (h.text, h.long, h.value, refl) }

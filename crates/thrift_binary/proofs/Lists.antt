@@ -109,6 +109,11 @@ list_head_again wire c n t r coded (e, h, kind, size, is) = (e, lifted, (open_to
     lifted : lift wire (list_at (t ++ r)) ≡ Ok ((e, n), r)
     lifted = let known = (open_to c (λ i. i)).0 in rw is (rw sized (rw known refl))
 
+pub list_head_read : (c n : ℕ) (t r : List ℕ) → IsListHead c n t → is_code c ≡ true → (e : ℕ) × (list_at (t ++ r) ≡ Ok ((e, n), r)) × (0 < n → e ≡ c)
+list_head_read c n t r is coded =
+    let k = list_head_again (λ e. e) c n t r coded is in
+    (k.0, lift_ok (λ e. e) (list_at (t ++ r)) ((k.0, n), r) k.1, allowed n k.0 c k.2)
+
 pub list_again : {A E : Type 0} (wire : WireError → E) (c : ℕ) (one : List ℕ → Result (A × List ℕ) E) (Spells : List ℕ → A → Type 0) → is_code c ≡ true
     → ((t r : List ℕ) (x : A) → Spells t x → one (t ++ r) ≡ Ok (x, r))
     → (t r : List ℕ) (xs : List A) → IsTypedList c Spells t xs → list_of wire c one (t ++ r) ≡ Ok (xs, r)

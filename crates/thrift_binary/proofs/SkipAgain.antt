@@ -1,16 +1,20 @@
 -- What is a value is skipped, whatever follows it.
-use Rattle.std.proofs.Common.{◌≡◌, ℕ, zero, suc, ◌<◌, Bool, true, false, cond, eqb, ltb, ◌&&◌, ◌||◌, List, [], ◌∷◌, ◌++◌, length, Ok, Err, refl, ap, ◌∙◌, append_assoc, length-append, arith}
-use Rattle.std.specs.Prelude.{MatchBool}
+use Rattle.std.proofs.Common.{◌≡◌, ℕ, zero, suc, ◌<◌, Bool, true, false, cond, eqb, ltb, ◌&&◌, ◌||◌, List, [], ◌∷◌, ◌++◌, length, Result, Ok, Err, refl, sym, ap, ◌∙◌, append_assoc, length-append, arith}
+use Rattle.std.specs.Prelude.{MatchBool, OnOk}
 use Rattle.std.specs.List.{AllByRecursion}
 use Rattle.std.proofs.lemmas.Bool.{le-ltb, lt-ltb, ltb-true, eqb-true, ne_eqb}
 use Rattle.std.proofs.lemmas.List.{drop_at}
+use Rattle.thrift_binary.specs.declared.fault.WireError.{WireError}
 use Rattle.thrift_binary.specs.declared.fault.WireError.TheVariants.{BadType, TooDeep}
-use Rattle.thrift_binary.specs.Reading.{size_at, list_at, map_at, is_code}
+use Rattle.thrift_binary.specs.Reading.{Reads, size_at, list_at, map_at, is_code}
 use Rattle.thrift_binary.specs.Skipping.{Skip, past, both, times, text, struct, items, pairs, container, width, leaf, is_container, value_at, skip_at}
-use Rattle.thrift_binary.specs.Spelling.{IsString, Field, IsFields, IsRun, IsLeaf, IsStructOf, IsListOf, IsPair, IsMapOf, IsContainer, IsValue}
+use Rattle.thrift_binary.specs.Spelling.{Front, IsString, Field, IsFields, IsRun, IsLeaf, IsStructOf, IsListOf, IsPair, IsMapOf, IsContainer, IsValue}
 use Rattle.thrift_binary.proofs.Found.{Path}
-use Rattle.thrift_binary.proofs.SkipFound.{Kept}
+use Rattle.thrift_binary.proofs.SkipFound.{Kept, gone, rest_is, skip_found}
 use Rattle.thrift_binary.proofs.Again.{size_again, string_again, fields_again}
+
+gone_is_no_err : (r : List ℕ) (e : WireError) → gone r ≡ Err e → ⊥
+gone_is_no_err r e h = absurd cc
 
 or_true : (a : Bool) → (a || true) ≡ true
 or_true true = refl
@@ -195,3 +199,16 @@ skip_again c t r is = rw some (value_again 64 c t r is)
   where
     some : eqb (length (t ++ r)) 0 ≡ false
     some = ne_eqb (length (t ++ r)) 0 (λ e. let s = value_some 64 c t is in absurd (omega (arith, length-append t r)))
+
+-- ---- what a call of `skip` gave
+
+pub skip_reads_found : (c : ℕ) (old : List ℕ) (result : Result (Unit {0}) WireError) (new : List ℕ) → Reads (λ x. tt) (skip_at c) old result new → OnOk result (Front (IsValue 64 c) old new)
+skip_reads_found c old (Ok x) new h = skip_found c old new h
+skip_reads_found c old (Err e) new h = tt
+
+pub skip_reads_complete : (c : ℕ) (old : List ℕ) (result : Result (Unit {0}) WireError) (new : List ℕ) → Reads (λ x. tt) (skip_at c) old result new
+    → (t r : List ℕ) → IsValue 64 c t → old ≡ t ++ r → (result ≡ Ok tt) × (new ≡ r)
+skip_reads_complete c old (Ok x) new h t r is parts =
+    let there : skip_at c old ≡ Ok (tt, r) = ap (skip_at c) parts ∙ skip_again c t r is in
+    (refl, rest_is new r (sym h ∙ there))
+skip_reads_complete c old (Err e) new h t r is parts = absurd (gone_is_no_err r e (sym (ap (skip_at c) parts ∙ skip_again c t r is) ∙ h.0))

@@ -7,17 +7,17 @@ use Rattle.std.proofs.lemmas.List.{take-append-drop, length-take}
 use Rattle.thrift_binary.specs.declared.fault.WireError.TheVariants.{Truncated, BadType, TooDeep}
 use Rattle.thrift_binary.specs.Reading.{Read, size_at, string_at, list_at, map_at, is_code}
 use Rattle.thrift_binary.specs.Skipping.{Skip, past, both, times, text, struct, items, pairs, container, width, leaf, is_container, skip_at, value_at}
-use Rattle.thrift_binary.specs.Spelling.{Front, IsSize, IsString, Field, IsRun, IsLeaf, IsStructOf, IsListOf, IsPair, IsMapOf, IsContainer, IsValue}
+use Rattle.thrift_binary.specs.Spelling.{Front, IsSize, IsString, Field, IsRun, IsLeaf, IsStructOf, IsListOf, IsPair, IsMapOf, IsContainer, IsValue, IsListHead}
 use Rattle.thrift_binary.proofs.Found.{bind_ok, guard_ok, pass_ok, ok_is, Path, Took, fields_found, string_found, size_found}
 
 -- a reading that takes only such fronts
 abbrev pub Finds : Skip → (List ℕ → Type 0) → Type 0
 Finds read Is = (w r : List ℕ) → read w ≡ Ok (tt, r) → Front Is w r
 
-abbrev gone : List ℕ → Read (Unit {0})
+abbrev pub gone : List ℕ → Read (Unit {0})
 gone w = Ok (tt, w)
 
-rest_is : (v r : List ℕ) → gone v ≡ gone r → v ≡ r
+pub rest_is : (v r : List ℕ) → gone v ≡ gone r → v ≡ r
 rest_is v r e = let made : Unit {0} × List ℕ = (tt, v) in let other : Unit {0} × List ℕ = (tt, r) in ap (λ (x : Unit {0} × List ℕ). x.1) (ok_is made other e)
 
 past_found : (n : ℕ) → Finds (past n) (λ t. length t ≡ n)
@@ -179,3 +179,7 @@ skip_found c w r e = by (eqb (length w) 0) e
     by : (a : Bool) → cond a (Err Truncated) (value_at 64 c w) ≡ Ok (tt, r) → Front (IsValue 64 c) w r
     by true h = absurd cc
     by false h = value_found 64 c w r h
+
+-- the head of a list
+pub list_head_front : (w : List ℕ) (h : ℕ × ℕ) (r : List ℕ) → list_at w ≡ Ok (h, r) → Front (IsListHead h.0 h.1) w r
+list_head_front w (c, n) r e = let h = list_head_found w c n r e in record { text = c ∷ h.size; parts = h.parts; spells = (c, h.size, (λ some. refl), h.spells, refl) }

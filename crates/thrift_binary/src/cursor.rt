@@ -1,12 +1,21 @@
-ghost use Rattle.std.specs.Prelude.{◌≡◌, ◌<◌, ◌≤◌, List, ℕ, length, take, drop, [], OnOk};
+ghost use Rattle.std.specs.Prelude.{◌≡◌, ◌<◌, ◌≤◌, List, ℕ, length, take, drop, [], ◌∷◌, OnOk, IfOk, MatchOption};
 ghost use Rattle.std.specs.Int.{w16, w32, w64};
+ghost use Rattle.thrift_binary.specs.Spelling.{Front, IsBool, IsI32, IsI64, IsDouble, IsString, IsFieldHead, IsListHead};
 ghost use Rattle.thrift_binary.specs.Reading.{Reads, bytes_at, byte_at, bool_at, number_at, signed_at, is_code, size_at, string_at, field_at, list_at, map_at};
 
 use crate::fault::WireError;
+use crate::types;
 use byteorder::{BigEndian, ByteOrder};
 use std::marker::Model;
 
-/// Reads values from the front of bytes. A refusal leaves nothing to read.
+/// Reads values from the front of bytes, in the Thrift binary protocol. It takes no memory.
+///
+/// Contracts see a cursor as the list of the bytes that are left. A call that succeeds takes the bytes of its value
+/// from the front. A refusal leaves no bytes, so every later call answers [`WireError::Truncated`].
+///
+/// Each clause `exact` names the reading from left to right (`specs/Reading.antt`) that the call is, faults included;
+/// each clause `spelled` says that the bytes taken spell the value, by the protocol's rules for whole texts
+/// (`specs/Spelling.antt`).
 #[derive(Debug, Drop)]
 pub struct Cursor<'a> {
     bytes: &'a [u8],
@@ -19,18 +28,23 @@ impl<'a> Model for Cursor<'a> {
 }
 
 impl<'a> Cursor<'a> {
+    /// A cursor in front of all the bytes.
+    #[inline]
     pub fn new(bytes: &'a [u8]) -> Self
-        ensures { result ≡ bytes.now }
+        ensures bytes { result ≡ bytes.now }
     {
         Cursor { bytes }
     }
 
+    /// The bytes that are left.
+    #[inline]
     pub fn rest(&self) -> &'a [u8]
-        ensures { result.now ≡ self.now }
+        ensures bytes { result.now ≡ self.now }
     {
         self.bytes
     }
 
+    #[cold]
     pub(crate) fn refuse<T>(&mut self, error: WireError) -> Result<T, WireError>
         ensures spent { self.new ≡ [] }
         ensures error { result ≡ Err error }
@@ -40,6 +54,7 @@ impl<'a> Cursor<'a> {
     }
 
     /// The first n bytes.
+    #[inline]
     pub(crate) fn take(&mut self, n: usize) -> Result<&'a [u8], WireError>
         ensures exact { Reads (λ x. x.now) (bytes_at n) self.old result self.new }
         ensures no_longer { OnOk result (length self.new ≤ length self.old) }
@@ -53,10 +68,14 @@ impl<'a> Cursor<'a> {
     }
 
     /// A bool: one byte, 1 for true and 0 for false. Any other byte is [`WireError::BadBool`].
+    ///
+    /// (Thrift binary protocol, base types; Apache's readers take other bytes too.)
     #[tactic(auto, unfolding(crate::specs::Reading::bool_at))]
+    #[inline]
     pub fn read_bool(&mut self) -> Result<bool, WireError>
         ensures exact { Reads (λ x. x) bool_at self.old result self.new }
         ensures shorter { OnOk result (length self.new < length self.old) }
+        ensures spelled { IfOk result (λ b. Front (λ t. IsBool t b) self.old self.new) }
     {
         match self.read_byte()? {
             0 => Ok(false),
@@ -66,9 +85,13 @@ impl<'a> Cursor<'a> {
     }
 
     /// The eight bytes of a double as they stand, the highest first; they are not interpreted.
+    ///
+    /// (Thrift binary protocol, base types.)
+    #[inline]
     pub fn read_double(&mut self) -> Result<[u8; 8], WireError>
         ensures exact { Reads (λ x. x) (bytes_at 8) self.old result self.new }
         ensures no_longer { OnOk result (length self.new ≤ length self.old) }
+        ensures spelled { IfOk result (λ d. Front (λ t. IsDouble t d) self.old self.new) }
     {
         let front = self.take(8)?;
         let mut bytes = [0; 8];
@@ -76,10 +99,14 @@ impl<'a> Cursor<'a> {
         Ok(bytes)
     }
 
-    /// A signed number of 32 bits, the highest byte first (`i32`, and each enum).
+    /// A signed number of 32 bits, the highest byte first: an i32 or an enum.
+    ///
+    /// (Thrift binary protocol, integer and enum encoding.)
+    #[inline]
     pub fn read_i32(&mut self) -> Result<i32, WireError>
         ensures exact { Reads (λ x. x) (signed_at w32 4) self.old result self.new }
         ensures no_longer { OnOk result (length self.new ≤ length self.old) }
+        ensures spelled { IfOk result (λ z. Front (λ t. IsI32 t z) self.old self.new) }
     {
         if self.bytes.len() < 4 {
             return self.refuse(WireError::Truncated);
@@ -89,10 +116,14 @@ impl<'a> Cursor<'a> {
         Ok(number)
     }
 
-    /// A signed number of 64 bits, the highest byte first.
+    /// A signed number of 64 bits, the highest byte first: an i64.
+    ///
+    /// (Thrift binary protocol, integer encoding.)
+    #[inline]
     pub fn read_i64(&mut self) -> Result<i64, WireError>
         ensures exact { Reads (λ x. x) (signed_at w64 8) self.old result self.new }
         ensures no_longer { OnOk result (length self.new ≤ length self.old) }
+        ensures spelled { IfOk result (λ z. Front (λ t. IsI64 t z) self.old self.new) }
     {
         if self.bytes.len() < 8 {
             return self.refuse(WireError::Truncated);
@@ -102,6 +133,7 @@ impl<'a> Cursor<'a> {
         Ok(number)
     }
 
+    #[inline]
     fn read_i16(&mut self) -> Result<i16, WireError>
         ensures exact { Reads (λ x. x) (signed_at w16 2) self.old result self.new }
         ensures shorter { OnOk result (length self.new < length self.old) }
@@ -114,6 +146,7 @@ impl<'a> Cursor<'a> {
         Ok(number)
     }
 
+    #[inline]
     fn read_u32(&mut self) -> Result<u32, WireError>
         ensures exact { Reads (λ x. x) (number_at 4) self.old result self.new }
         ensures shorter { OnOk result (length self.new < length self.old) }
@@ -126,6 +159,7 @@ impl<'a> Cursor<'a> {
         Ok(number)
     }
 
+    #[inline]
     fn read_byte(&mut self) -> Result<u8, WireError>
         ensures exact { Reads (λ x. x) byte_at self.old result self.new }
         ensures shorter { OnOk result (length self.new < length self.old) }
@@ -139,7 +173,9 @@ impl<'a> Cursor<'a> {
         }
     }
 
+    /// A length or a size: a number of 32 bits that is not negative.
     #[tactic(auto, unfolding(crate::specs::Reading::size_at))]
+    #[inline]
     fn read_size(&mut self) -> Result<u32, WireError>
         ensures exact { Reads (λ x. x) size_at self.old result self.new }
         ensures shorter { OnOk result (length self.new < length self.old) }
@@ -151,20 +187,31 @@ impl<'a> Cursor<'a> {
         Ok(number)
     }
 
+    /// The bytes of a string or binary: a length of four bytes, then that many bytes. Nothing is copied.
+    /// A negative length is [`WireError::BadLength`].
+    ///
+    /// (Thrift binary protocol, string and binary encoding.)
     #[tactic(auto, unfolding(crate::specs::Reading::string_at))]
+    #[inline]
     pub fn read_bytes(&mut self) -> Result<&'a [u8], WireError>
         ensures exact { Reads (λ x. x.now) string_at self.old result self.new }
         ensures shorter { OnOk result (length self.new < length self.old) }
+        ensures spelled { IfOk result (λ b. Front (λ t. IsString t b.now) self.old self.new) }
     {
         let len = self.read_size()?;
         self.take(len as usize)
     }
 
-    /// The type and the id of the next field; `None` at the stop byte.
+    /// The type and the id of the next field of a struct; `None` at the stop byte, which is taken too.
+    /// A type outside the table ([`crate::types`]) is [`WireError::BadType`], once the id was there.
+    ///
+    /// (Thrift binary protocol, struct encoding.)
     #[tactic(auto, unfolding(crate::specs::Reading::field_at))]
+    #[inline]
     pub fn field(&mut self) -> Result<Option<(u8, i16)>, WireError>
         ensures exact { Reads (λ x. x) field_at self.old result self.new }
         ensures shorter { OnOk result (length self.new < length self.old) }
+        ensures spelled { IfOk result (λ f. MatchOption f (self.old ≡ 0 ∷ self.new) (λ h. Front (IsFieldHead h.0 h.1) self.old self.new)) }
     {
         let code = self.read_byte()?;
         if code == 0 {
@@ -177,10 +224,16 @@ impl<'a> Cursor<'a> {
         Ok(Some((code, id)))
     }
 
+    /// The type and the number of the elements of a list or set. A negative number is [`WireError::BadLength`];
+    /// a type outside the table ([`crate::types`]) is [`WireError::BadType`], except before no elements.
+    ///
+    /// (Thrift binary protocol, list and set encoding.)
     #[tactic(auto, unfolding(crate::specs::Reading::list_at))]
+    #[inline]
     pub fn list_head(&mut self) -> Result<(u8, u32), WireError>
         ensures exact { Reads (λ x. x) list_at self.old result self.new }
         ensures shorter { OnOk result (length self.new < length self.old) }
+        ensures spelled { IfOk result (λ h. Front (IsListHead h.0 h.1) self.old self.new) }
     {
         let code = self.read_byte()?;
         let size = self.read_size()?;
@@ -190,6 +243,7 @@ impl<'a> Cursor<'a> {
         Ok((code, size))
     }
 
+    /// The key type, the value type and the number of the pairs of a map.
     #[tactic(auto, unfolding(crate::specs::Reading::map_at))]
     pub(crate) fn map_head(&mut self) -> Result<(u8, u8, u32), WireError>
         ensures exact { Reads (λ x. ((x.0, x.1), x.2)) map_at self.old result self.new }
@@ -206,8 +260,18 @@ impl<'a> Cursor<'a> {
 }
 
 /// The code is one of the table.
-pub fn is_code(code: u8) -> bool
+#[inline]
+pub(crate) fn is_code(code: u8) -> bool
     ensures { result ≡ is_code code }
 {
-    matches!(code, 2 | 3 | 4 | 6 | 8 | 10 | 11..=15)
+    matches!(
+        code,
+        types::BOOL
+            | types::BYTE
+            | types::DOUBLE
+            | types::I16
+            | types::I32
+            | types::I64
+            | types::STRING..=types::LIST
+    )
 }

@@ -1,9 +1,11 @@
-ghost use Rattle.std.specs.Prelude.{◌≡◌, ◌<◌, ◌≤◌, length, OnOk};
+ghost use Rattle.std.specs.Prelude.{◌≡◌, ◌<◌, ◌≤◌, ◌++◌, List, ℕ, length, OnOk};
+ghost use Rattle.thrift_binary.specs.Spelling.{Front, IsValue};
 ghost use Rattle.thrift_binary.specs.Reading.{Reads};
 ghost use Rattle.thrift_binary.specs.Skipping.{value_at, skip_at, past, text, struct, items, pairs, times, both, container, leaf, is_container};
 
 use crate::cursor::Cursor;
 use crate::fault::WireError;
+use crate::types;
 
 /// The levels of containers that a skipped value may have.
 const LEVELS: u8 = 64;
@@ -32,20 +34,31 @@ impl<'a> Cursor<'a> {
         ensures no_longer { OnOk result (length self.new ≤ length self.old) }
     {
         match code {
-            2 | 3 => self.past(1),
-            6 => self.past(2),
-            8 => self.past(4),
-            4 | 10 => self.past(8),
-            11 => self.past_text(),
+            types::BOOL | types::BYTE => self.past(1),
+            types::I16 => self.past(2),
+            types::I32 => self.past(4),
+            types::I64 | types::DOUBLE => self.past(8),
+            types::STRING => self.past_text(),
             _ => self.refuse(WireError::BadType),
         }
     }
 
-    /// Reads past a value of the type.
+    /// Reads past a value of the type: one with a type code of the table ([`crate::types`]) and with at most
+    /// 64 levels of containers. A container that holds none has one level. A bool may be any byte here, and a
+    /// string any bytes.
+    ///
+    /// Without bytes the answer is [`WireError::Truncated`]. Else a type outside the table is
+    /// [`WireError::BadType`], and a container below 64 levels is [`WireError::TooDeep`], before any of its bytes
+    /// is read.
+    ///
+    /// (Thrift binary protocol, all encodings; the bound on levels is this crate's own.)
     #[tactic(auto, unfolding(crate::specs::Skipping::skip_at))]
     pub fn skip(&mut self, code: u8) -> Result<(), WireError>
         ensures exact { Reads (λ _. tt) (skip_at code) self.old result self.new }
         ensures no_longer { OnOk result (length self.new ≤ length self.old) }
+        ensures found { OnOk result (Front (IsValue 64 code) self.old self.new) }
+        ensures complete { (value rest : List ℕ) → IsValue 64 code value → self.old ≡ value ++ rest
+            → (result ≡ Ok tt) × (self.new ≡ rest) }
     {
         if self.rest().is_empty() {
             return self.refuse(WireError::Truncated);
@@ -72,9 +85,9 @@ impl<'a> Cursor<'a> {
         ensures exact { Reads (λ _. tt) (container (value_at levels) code) self.old result self.new }
         ensures no_longer { OnOk result (length self.new ≤ length self.old) }
     {
-        if code == 12 {
+        if code == types::STRUCT {
             self.fields(levels)
-        } else if code == 13 {
+        } else if code == types::MAP {
             self.pairs(levels)
         } else {
             self.items(levels)
@@ -121,5 +134,5 @@ impl<'a> Cursor<'a> {
 fn is_container(code: u8) -> bool
     ensures { result ≡ is_container code }
 {
-    11 < code && code < 16
+    types::STRUCT <= code && code <= types::LIST
 }

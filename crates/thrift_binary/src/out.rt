@@ -1,0 +1,192 @@
+ghost use Rattle.std.specs.Prelude.{◌≡◌, List, ℕ, [], length};
+ghost use Rattle.thrift_binary.specs.Writing.{Writes, WritesSized, bool_text, i32_text, i64_text, string_text, field_text, stop_text, list_head_text};
+ghost use Rattle.thrift_binary.specs.declared.out.WriteError.TheVariants.{Memory};
+
+use byteorder::{BigEndian, ByteOrder};
+use std::alloc::{AllocError, Global};
+use std::error::Error;
+use std::fmt;
+use std::marker::Model;
+
+/// The greatest length or size that the protocol has.
+const MAX_LENGTH: usize = 0x7fff_ffff;
+
+/// Why a value could not be written.
+#[derive(Clone, Copy, Debug, PartialEq, Eq)]
+pub enum WriteError {
+    /// A length or a size is above 2,147,483,647.
+    BadLength,
+    /// The output could not grow.
+    Memory,
+}
+
+impl From<AllocError> for WriteError {
+    ghost from_gives = { λ _ e. e ≡ Memory };
+
+    fn from(_error: AllocError) -> Self {
+        WriteError::Memory
+    }
+}
+
+/// Writes the variant's meaning.
+impl fmt::Display for WriteError {
+    fn fmt<W: fmt::Write>(&self, f: &mut fmt::Formatter<W>) -> fmt::Result {
+        match self {
+            WriteError::BadLength => f.write_str("a length is above 2147483647"),
+            WriteError::Memory => f.write_str("out of memory"),
+        }
+    }
+}
+
+impl Error for WriteError {}
+
+/// Writes values at the end of bytes, in the Thrift binary protocol.
+///
+/// Contracts see an output as the list of the bytes written so far. A refusal writes nothing: the output is as it was
+/// before the call. The one text of each value is defined in `specs/Writing.antt`, and
+/// [`crate::laws::written_values_spell`] says that it spells the value.
+#[derive(Debug, Drop)]
+pub struct Out {
+    bytes: Vec<u8>,
+}
+
+impl Model for Out {
+    ghost Value = { List ℕ };
+
+    ghost view = { λ o. o.bytes.items };
+}
+
+impl Out {
+    /// An output without bytes.
+    pub fn new(alloc: Global) -> Self
+        ensures empty { result ≡ [] }
+    {
+        Out {
+            bytes: Vec::new(alloc),
+        }
+    }
+
+    /// The bytes that were written.
+    pub fn into_bytes(self) -> Vec<u8>
+        ensures bytes { result.items ≡ self }
+    {
+        self.bytes
+    }
+
+    fn append(&mut self, text: &[u8]) -> Result<(), WriteError>
+        ensures appends { Writes text.now self.old result self.new }
+    {
+        self.bytes.extend_from_slice(text)?;
+        Ok(())
+    }
+
+    /// The head of a field: the type code of its value ([`crate::types`]), and its id. Its value is written next.
+    /// (Thrift binary protocol, struct encoding.)
+    ///
+    /// # Errors
+    /// [`WriteError::Memory`] alone.
+    #[tactic(auto, unfolding(crate::specs::Writing::field_text))]
+    pub fn field(&mut self, code: u8, id: i16) -> Result<(), WriteError>
+        ensures appends { Writes (field_text code id) self.old result self.new }
+    {
+        let mut text = [code, 0, 0];
+        BigEndian::write_i16(&mut text[1..], id);
+        self.append(&text)
+    }
+
+    /// The byte that ends a struct, behind its last field. (Thrift binary protocol, struct encoding.)
+    ///
+    /// # Errors
+    /// [`WriteError::Memory`] alone.
+    pub fn stop(&mut self) -> Result<(), WriteError>
+        ensures appends { Writes stop_text self.old result self.new }
+    {
+        self.append(&[0])
+    }
+
+    /// A bool: one byte, 1 for true and 0 for false. (Thrift binary protocol, base types.)
+    ///
+    /// # Errors
+    /// [`WriteError::Memory`] alone.
+    pub fn bool(&mut self, value: bool) -> Result<(), WriteError>
+        ensures appends { Writes (bool_text value) self.old result self.new }
+    {
+        self.append(&[u8::from(value)])
+    }
+
+    /// A signed number of 32 bits, the highest byte first: an i32 or an enum.
+    /// (Thrift binary protocol, integer and enum encoding.)
+    ///
+    /// # Errors
+    /// [`WriteError::Memory`] alone.
+    #[tactic(auto, unfolding(crate::specs::Writing::i32_text))]
+    pub fn i32(&mut self, number: i32) -> Result<(), WriteError>
+        ensures appends { Writes (i32_text number) self.old result self.new }
+    {
+        let mut text = [0; 4];
+        BigEndian::write_i32(&mut text, number);
+        self.append(&text)
+    }
+
+    /// A signed number of 64 bits, the highest byte first: an i64. (Thrift binary protocol, integer encoding.)
+    ///
+    /// # Errors
+    /// [`WriteError::Memory`] alone.
+    #[tactic(auto, unfolding(crate::specs::Writing::i64_text))]
+    pub fn i64(&mut self, number: i64) -> Result<(), WriteError>
+        ensures appends { Writes (i64_text number) self.old result self.new }
+    {
+        let mut text = [0; 8];
+        BigEndian::write_i64(&mut text, number);
+        self.append(&text)
+    }
+
+    /// A double: its eight bytes as they stand, the highest first. (Thrift binary protocol, base types.)
+    ///
+    /// # Errors
+    /// [`WriteError::Memory`] alone.
+    pub fn double(&mut self, bytes: [u8; 8]) -> Result<(), WriteError>
+        ensures appends { Writes bytes self.old result self.new }
+    {
+        self.append(&bytes)
+    }
+
+    /// A string or binary: its length, then its bytes. (Thrift binary protocol, string and binary encoding.)
+    ///
+    /// # Errors
+    /// [`WriteError::BadLength`] where there are more than 2,147,483,647 bytes, else [`WriteError::Memory`] alone.
+    #[tactic(auto, unfolding(crate::specs::Writing::string_text, crate::specs::Writing::size_text))]
+    pub fn bytes(&mut self, bytes: &[u8]) -> Result<(), WriteError>
+        ensures appends { WritesSized (length bytes.now) (string_text bytes.now) self.old result self.new }
+    {
+        if bytes.len() > MAX_LENGTH {
+            return Err(WriteError::BadLength);
+        }
+        let start = self.bytes.len();
+        let mut size = [0; 4];
+        BigEndian::write_u32(&mut size, bytes.len() as u32);
+        self.append(&size)?;
+        if let Err(error) = self.append(bytes) {
+            self.bytes.truncate(start);
+            return Err(error);
+        }
+        Ok(())
+    }
+
+    /// The head of a list: the type code ([`crate::types`]) and the number of its elements. They are written next.
+    /// (Thrift binary protocol, list encoding.)
+    ///
+    /// # Errors
+    /// [`WriteError::BadLength`] where the number is above 2,147,483,647, else [`WriteError::Memory`] alone.
+    #[tactic(auto, unfolding(crate::specs::Writing::list_head_text, crate::specs::Writing::size_text))]
+    pub fn list_head(&mut self, code: u8, size: usize) -> Result<(), WriteError>
+        ensures appends { WritesSized size (list_head_text code size) self.old result self.new }
+    {
+        if size > MAX_LENGTH {
+            return Err(WriteError::BadLength);
+        }
+        let mut text = [code, 0, 0, 0, 0];
+        BigEndian::write_u32(&mut text[1..], size as u32);
+        self.append(&text)
+    }
+}

@@ -1,0 +1,24 @@
+//! The type codes of the protocol. No other code is a type; 0 in a field's place is the stop byte.
+
+/// One byte, 1 for true and 0 for false.
+pub const BOOL: u8 = 2;
+/// One byte.
+pub const BYTE: u8 = 3;
+/// Eight bytes, IEEE 754, the highest first.
+pub const DOUBLE: u8 = 4;
+/// Two bytes in two's complement, the highest first.
+pub const I16: u8 = 6;
+/// Four bytes in two's complement, the highest first; an enum too.
+pub const I32: u8 = 8;
+/// Eight bytes in two's complement, the highest first.
+pub const I64: u8 = 10;
+/// A length of four bytes, then that many bytes; binary too.
+pub const STRING: u8 = 11;
+/// Fields, then the stop byte.
+pub const STRUCT: u8 = 12;
+/// A key type, a value type, a size of four bytes, then that many pairs.
+pub const MAP: u8 = 13;
+/// An element type, a size of four bytes, then that many elements.
+pub const SET: u8 = 14;
+/// An element type, a size of four bytes, then that many elements.
+pub const LIST: u8 = 15;
