@@ -13,3 +13,4 @@ pub mod CutBatches
 pub mod NeverTrailing
 pub mod CutLaws
 pub mod LastOf
+pub mod Rows
