@@ -14,3 +14,4 @@ pub mod NeverTrailing
 pub mod CutLaws
 pub mod LastOf
 pub mod Rows
+pub mod CanonTexts

@@ -10,3 +10,5 @@ pub mod BatchReading
 pub mod Batches
 pub mod Cuts
 pub mod LastCounts
+pub mod Canon
+pub mod CanonBatches

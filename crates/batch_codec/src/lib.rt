@@ -13,6 +13,7 @@
 #![tactic(auto)]
 
 mod batch;
+mod writer;
 mod fault;
 mod fields;
 mod items;
@@ -25,6 +26,7 @@ mod tag;
 mod values;
 
 pub use batch::decode;
+pub use writer::encode;
 pub use fault::{DecodeError, Part};
 
 #[cfg(test)]
