@@ -15,3 +15,4 @@ pub mod CutLaws
 pub mod LastOf
 pub mod Rows
 pub mod CanonTexts
+pub mod CanonSpelled

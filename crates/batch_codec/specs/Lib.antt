@@ -12,3 +12,4 @@ pub mod Cuts
 pub mod LastCounts
 pub mod Canon
 pub mod CanonBatches
+pub mod Proper
