@@ -19,7 +19,7 @@ use Rattle.batch_codec.specs.declared.process.ProcessSlots.{ProcessSlots}
 use Rattle.batch_codec.specs.declared.span.SpanSlots.{SpanSlots}
 use Rattle.batch_codec.specs.declared.batch.BatchSlots.{BatchSlots}
 use Rattle.batch_codec.specs.Gathered.{no_tag, no_log, no_reference, no_process, no_span, no_batch, value_named}
-use Rattle.batch_codec.specs.Batches.{Gathers, IsText, IsId, IsTagType, IsRefKind, IsListOf, TagField, LogField, ReferenceField, ProcessField, SpanField, BatchField, whole_log, whole_reference, whole_process, whole_span, whole_batch, IsTag, IsLog, IsReference, IsProcess, IsSpan, IsBatch}
+use Rattle.batch_codec.specs.Batches.{Gathers, IsText, IsId, IsTagType, IsRefKind, IsStructList, TagField, LogField, ReferenceField, ProcessField, SpanField, BatchField, whole_log, whole_reference, whole_process, whole_span, whole_batch, IsTag, IsLog, IsReference, IsProcess, IsSpan, IsBatch}
 use Rattle.batch_codec.specs.LastCounts.{TagLast, LogLast, ReferenceLast, ProcessLast, SpanLast, BatchLast}
 use Rattle.batch_codec.proofs.Structs.{path_gathers}
 
@@ -90,7 +90,7 @@ tag_last w x is = (
 abbrev LogKeeps : LogSlots → Field → LogSlots → Type 0
 LogKeeps s f t =
     Keeps (λ u. u.at) 10 (pos 1) IsI64 s f t
-    × Keeps (λ u. u.fields) 15 (pos 2) (IsListOf IsTag) s f t
+    × Keeps (λ u. u.fields) 15 (pos 2) (IsStructList IsTag) s f t
 
 log_keeps : (s : LogSlots) (f : Field) (t : LogSlots) → LogField s f t → LogKeeps s f t
 unfolding LogField
@@ -106,7 +106,7 @@ log_last w x is = (
   is.spelled,
   record {
     at = slot_last LogField no_log is.fields is.gathered (whole_log x) is.gathers is.makes (λ u. u.at) 10 (pos 1) IsI64 (λ s f t m. (log_keeps s f t m).0);
-    fields = slot_last LogField no_log is.fields is.gathered (whole_log x) is.gathers is.makes (λ u. u.fields) 15 (pos 2) (IsListOf IsTag) (λ s f t m. (log_keeps s f t m).1);
+    fields = slot_last LogField no_log is.fields is.gathered (whole_log x) is.gathers is.makes (λ u. u.fields) 15 (pos 2) (IsStructList IsTag) (λ s f t m. (log_keeps s f t m).1);
   },
 )
 
@@ -146,7 +146,7 @@ reference_last w x is = (
 abbrev ProcessKeeps : ProcessSlots → Field → ProcessSlots → Type 0
 ProcessKeeps s f t =
     Keeps (λ u. u.service) 11 (pos 1) IsText s f t
-    × Keeps (λ u. Some u.tags) 15 (pos 2) (IsListOf IsTag) s f t
+    × Keeps (λ u. Some u.tags) 15 (pos 2) (IsStructList IsTag) s f t
 
 process_keeps : (s : ProcessSlots) (f : Field) (t : ProcessSlots) → ProcessField s f t → ProcessKeeps s f t
 unfolding ProcessField
@@ -162,7 +162,7 @@ process_last w x is = (
   is.spelled,
   record {
     service = slot_last ProcessField no_process is.fields is.gathered (whole_process x) is.gathers is.makes (λ u. u.service) 11 (pos 1) IsText (λ s f t m. (process_keeps s f t m).0);
-    tags = slot_last ProcessField no_process is.fields is.gathered (whole_process x) is.gathers is.makes (λ u. Some u.tags) 15 (pos 2) (IsListOf IsTag) (λ s f t m. (process_keeps s f t m).1);
+    tags = slot_last ProcessField no_process is.fields is.gathered (whole_process x) is.gathers is.makes (λ u. Some u.tags) 15 (pos 2) (IsStructList IsTag) (λ s f t m. (process_keeps s f t m).1);
   },
 )
 
@@ -175,12 +175,12 @@ SpanKeeps s f t =
     × Keeps (λ u. u.id) 10 (pos 3) IsId s f t
     × Keeps (λ u. u.parent) 10 (pos 4) IsId s f t
     × Keeps (λ u. u.operation) 11 (pos 5) IsText s f t
-    × Keeps (λ u. Some u.references) 15 (pos 6) (IsListOf IsReference) s f t
+    × Keeps (λ u. Some u.references) 15 (pos 6) (IsStructList IsReference) s f t
     × Keeps (λ u. u.flags) 8 (pos 7) IsI32 s f t
     × Keeps (λ u. u.start) 10 (pos 8) IsI64 s f t
     × Keeps (λ u. u.duration) 10 (pos 9) IsI64 s f t
-    × Keeps (λ u. Some u.tags) 15 (pos 10) (IsListOf IsTag) s f t
-    × Keeps (λ u. Some u.logs) 15 (pos 11) (IsListOf IsLog) s f t
+    × Keeps (λ u. Some u.tags) 15 (pos 10) (IsStructList IsTag) s f t
+    × Keeps (λ u. Some u.logs) 15 (pos 11) (IsStructList IsLog) s f t
 
 span_keeps : (s : SpanSlots) (f : Field) (t : SpanSlots) → SpanField s f t → SpanKeeps s f t
 unfolding SpanField
@@ -209,12 +209,12 @@ span_last w x is = (
     id = slot_last SpanField no_span is.fields is.gathered (whole_span x) is.gathers is.makes (λ u. u.id) 10 (pos 3) IsId (λ s f t m. (span_keeps s f t m).2);
     parent = slot_last SpanField no_span is.fields is.gathered (whole_span x) is.gathers is.makes (λ u. u.parent) 10 (pos 4) IsId (λ s f t m. (span_keeps s f t m).3);
     operation = slot_last SpanField no_span is.fields is.gathered (whole_span x) is.gathers is.makes (λ u. u.operation) 11 (pos 5) IsText (λ s f t m. (span_keeps s f t m).4);
-    references = slot_last SpanField no_span is.fields is.gathered (whole_span x) is.gathers is.makes (λ u. Some u.references) 15 (pos 6) (IsListOf IsReference) (λ s f t m. (span_keeps s f t m).5);
+    references = slot_last SpanField no_span is.fields is.gathered (whole_span x) is.gathers is.makes (λ u. Some u.references) 15 (pos 6) (IsStructList IsReference) (λ s f t m. (span_keeps s f t m).5);
     flags = slot_last SpanField no_span is.fields is.gathered (whole_span x) is.gathers is.makes (λ u. u.flags) 8 (pos 7) IsI32 (λ s f t m. (span_keeps s f t m).6);
     start = slot_last SpanField no_span is.fields is.gathered (whole_span x) is.gathers is.makes (λ u. u.start) 10 (pos 8) IsI64 (λ s f t m. (span_keeps s f t m).7);
     duration = slot_last SpanField no_span is.fields is.gathered (whole_span x) is.gathers is.makes (λ u. u.duration) 10 (pos 9) IsI64 (λ s f t m. (span_keeps s f t m).8);
-    tags = slot_last SpanField no_span is.fields is.gathered (whole_span x) is.gathers is.makes (λ u. Some u.tags) 15 (pos 10) (IsListOf IsTag) (λ s f t m. (span_keeps s f t m).9);
-    logs = slot_last SpanField no_span is.fields is.gathered (whole_span x) is.gathers is.makes (λ u. Some u.logs) 15 (pos 11) (IsListOf IsLog) (λ s f t m. (span_keeps s f t m).10);
+    tags = slot_last SpanField no_span is.fields is.gathered (whole_span x) is.gathers is.makes (λ u. Some u.tags) 15 (pos 10) (IsStructList IsTag) (λ s f t m. (span_keeps s f t m).9);
+    logs = slot_last SpanField no_span is.fields is.gathered (whole_span x) is.gathers is.makes (λ u. Some u.logs) 15 (pos 11) (IsStructList IsLog) (λ s f t m. (span_keeps s f t m).10);
   },
 )
 
@@ -223,7 +223,7 @@ span_last w x is = (
 abbrev BatchKeeps : BatchSlots → Field → BatchSlots → Type 0
 BatchKeeps s f t =
     Keeps (λ u. u.process) 12 (pos 1) IsProcess s f t
-    × Keeps (λ u. u.spans) 15 (pos 2) (IsListOf IsSpan) s f t
+    × Keeps (λ u. u.spans) 15 (pos 2) (IsStructList IsSpan) s f t
     × Keeps (λ u. u.seq_no) 10 (pos 3) IsI64 s f t
 
 batch_keeps : (s : BatchSlots) (f : Field) (t : BatchSlots) → BatchField s f t → BatchKeeps s f t
@@ -241,7 +241,7 @@ batch_last w x is = (
   is.spelled,
   record {
     process = slot_last BatchField no_batch is.fields is.gathered (whole_batch x) is.gathers is.makes (λ u. u.process) 12 (pos 1) IsProcess (λ s f t m. (batch_keeps s f t m).0);
-    spans = slot_last BatchField no_batch is.fields is.gathered (whole_batch x) is.gathers is.makes (λ u. u.spans) 15 (pos 2) (IsListOf IsSpan) (λ s f t m. (batch_keeps s f t m).1);
+    spans = slot_last BatchField no_batch is.fields is.gathered (whole_batch x) is.gathers is.makes (λ u. u.spans) 15 (pos 2) (IsStructList IsSpan) (λ s f t m. (batch_keeps s f t m).1);
     seq_no = slot_last BatchField no_batch is.fields is.gathered (whole_batch x) is.gathers is.makes (λ u. u.seq_no) 10 (pos 3) IsI64 (λ s f t m. (batch_keeps s f t m).2);
   },
 )

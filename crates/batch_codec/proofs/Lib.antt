@@ -13,3 +13,6 @@ pub mod CutBatches
 pub mod NeverTrailing
 pub mod CutLaws
 pub mod LastOf
+pub mod Rows
+pub mod CanonTexts
+pub mod CanonSpelled

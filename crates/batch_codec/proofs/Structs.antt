@@ -16,7 +16,7 @@ use Rattle.thrift_binary.proofs.Lists.{list_found, list_again}
 use Rattle.batch_codec.specs.declared.fault.DecodeError.{DecodeError}
 use Rattle.batch_codec.specs.declared.fault.Part.{Part}
 use Rattle.batch_codec.specs.Decoding.{Reading, wire, skipped, required}
-use Rattle.batch_codec.specs.Batches.{Gathers, IsStruct, IsListOf}
+use Rattle.batch_codec.specs.Batches.{Gathers, IsStruct, IsStructList}
 use Rattle.batch_codec.proofs.ValuesSpelled.{Found, Again, Agrees}
 
 -- ---- one field
@@ -111,7 +111,7 @@ skipped_coded c v is = by (ltb 11 c && ltb c 16) refl is
 
 -- ---- lists of structs
 
-pub is_list : {X : Type 0} {read : Reading X} {Spells : List ℕ → X → Type 0} → Agrees read Spells → Agrees (list_of wire 12 read) (IsListOf Spells)
+pub is_list : {X : Type 0} {read : Reading X} {Spells : List ℕ → X → Type 0} → Agrees read Spells → Agrees (list_of wire 12 read) (IsStructList Spells)
 is_list {read = read} {Spells = Spells} value = record {
   found = λ w xs r e. list_found wire 12 read Spells value.found w xs r e;
   again = λ t r xs is. list_again wire 12 read Spells refl value.again t r xs is;

@@ -79,8 +79,8 @@ pub record IsStruct {S X : Type 0} (Does : S → Field → S → Type 0) (none :
   pub makes : Makes gathered x
 
 -- a list of structs
-abbrev pub IsListOf : {X : Type 0} → (List ℕ → X → Type 0) → List ℕ → List X → Type 0
-IsListOf Spells w xs = IsTypedList 12 Spells w xs
+abbrev pub IsStructList : {X : Type 0} → (List ℕ → X → Type 0) → List ℕ → List X → Type 0
+IsStructList Spells w xs = IsTypedList 12 Spells w xs
 
 -- ---- Tag
 
@@ -110,7 +110,7 @@ IsTag w x = IsStruct TagField no_tag MakesTag w x
 unfoldable pub LogField : LogSlots → Field → LogSlots → Type 0
 LogField s f t =
     MatchBool (has 10 (pos 1) f) (Sets IsI64 (λ x. record s { at = Some x }) f t) (
-    MatchBool (has 15 (pos 2) f) (Sets (IsListOf IsTag) (λ x. record s { fields = Some x }) f t) (
+    MatchBool (has 15 (pos 2) f) (Sets (IsStructList IsTag) (λ x. record s { fields = Some x }) f t) (
     Skips s f t))
 
 -- what was gathered where all is there
@@ -141,7 +141,7 @@ IsReference w x = IsStruct ReferenceField no_reference (λ s y. s ≡ whole_refe
 unfoldable pub ProcessField : ProcessSlots → Field → ProcessSlots → Type 0
 ProcessField s f t =
     MatchBool (has 11 (pos 1) f) (Sets IsText (λ x. record s { service = Some x }) f t) (
-    MatchBool (has 15 (pos 2) f) (Sets (IsListOf IsTag) (λ x. record s { tags = x }) f t) (
+    MatchBool (has 15 (pos 2) f) (Sets (IsStructList IsTag) (λ x. record s { tags = x }) f t) (
     Skips s f t))
 
 abbrev pub whole_process : Process → ProcessSlots
@@ -159,12 +159,12 @@ SpanField s f t =
     MatchBool (has 10 (pos 3) f) (Sets IsId (λ x. record s { id = Some x }) f t) (
     MatchBool (has 10 (pos 4) f) (Sets IsId (λ x. record s { parent = Some x }) f t) (
     MatchBool (has 11 (pos 5) f) (Sets IsText (λ x. record s { operation = Some x }) f t) (
-    MatchBool (has 15 (pos 6) f) (Sets (IsListOf IsReference) (λ x. record s { references = x }) f t) (
+    MatchBool (has 15 (pos 6) f) (Sets (IsStructList IsReference) (λ x. record s { references = x }) f t) (
     MatchBool (has 8 (pos 7) f) (Sets IsI32 (λ x. record s { flags = Some x }) f t) (
     MatchBool (has 10 (pos 8) f) (Sets IsI64 (λ x. record s { start = Some x }) f t) (
     MatchBool (has 10 (pos 9) f) (Sets IsI64 (λ x. record s { duration = Some x }) f t) (
-    MatchBool (has 15 (pos 10) f) (Sets (IsListOf IsTag) (λ x. record s { tags = x }) f t) (
-    MatchBool (has 15 (pos 11) f) (Sets (IsListOf IsLog) (λ x. record s { logs = x }) f t) (
+    MatchBool (has 15 (pos 10) f) (Sets (IsStructList IsTag) (λ x. record s { tags = x }) f t) (
+    MatchBool (has 15 (pos 11) f) (Sets (IsStructList IsLog) (λ x. record s { logs = x }) f t) (
     Skips s f t)))))))))))
 
 abbrev pub whole_span : Span → SpanSlots
@@ -190,7 +190,7 @@ IsSpan w x = IsStruct SpanField no_span (λ s y. s ≡ whole_span y) w x
 unfoldable pub BatchField : BatchSlots → Field → BatchSlots → Type 0
 BatchField s f t =
     MatchBool (has 12 (pos 1) f) (Sets IsProcess (λ x. record s { process = Some x }) f t) (
-    MatchBool (has 15 (pos 2) f) (Sets (IsListOf IsSpan) (λ x. record s { spans = Some x }) f t) (
+    MatchBool (has 15 (pos 2) f) (Sets (IsStructList IsSpan) (λ x. record s { spans = Some x }) f t) (
     MatchBool (has 10 (pos 3) f) (Sets IsI64 (λ x. record s { seq_no = Some x }) f t) (
     Skips s f t)))
 

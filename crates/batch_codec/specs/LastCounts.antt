@@ -10,7 +10,7 @@ use Rattle.thrift_binary.specs.Spelling.{Field, IsFields, IsLast, IsString, IsBo
 use Rattle.batch_codec.specs.declared.tag.TagType.{TagType}
 use Rattle.batch_codec.specs.declared.tag.TagSlots.{TagSlots}
 use Rattle.batch_codec.specs.Gathered.{no_tag, value_named}
-use Rattle.batch_codec.specs.Batches.{IsText, IsId, IsTagType, IsRefKind, IsListOf, IsTag, IsLog, IsReference, IsProcess, IsSpan, IsBatch}
+use Rattle.batch_codec.specs.Batches.{IsText, IsId, IsTagType, IsRefKind, IsStructList, IsTag, IsLog, IsReference, IsProcess, IsSpan, IsBatch}
 
 -- the values that the fields of a tag leave, and the one that its type names
 pub record LastOfTag (fs : List Field) (x : Tag) : Type 0 where
@@ -27,7 +27,7 @@ pub record LastOfTag (fs : List Field) (x : Tag) : Type 0 where
 
 pub record LastOfLog (fs : List Field) (x : Log) : Type 0 where
   pub at : IsLast 10 (pos 1) IsI64 None fs (Some x.at)
-  pub fields : IsLast 15 (pos 2) (IsListOf IsTag) None fs (Some x.fields)
+  pub fields : IsLast 15 (pos 2) (IsStructList IsTag) None fs (Some x.fields)
 
 pub record LastOfReference (fs : List Field) (x : SpanRef) : Type 0 where
   pub kind : IsLast 8 (pos 1) IsRefKind None fs (Some x.kind)
@@ -37,7 +37,7 @@ pub record LastOfReference (fs : List Field) (x : SpanRef) : Type 0 where
 
 pub record LastOfProcess (fs : List Field) (x : Process) : Type 0 where
   pub service : IsLast 11 (pos 1) IsText None fs (Some x.service)
-  pub tags : IsLast 15 (pos 2) (IsListOf IsTag) (Some []) fs (Some x.tags)
+  pub tags : IsLast 15 (pos 2) (IsStructList IsTag) (Some []) fs (Some x.tags)
 
 pub record LastOfSpan (fs : List Field) (x : Span) : Type 0 where
   pub low : IsLast 10 (pos 1) IsId None fs (Some x.trace.low)
@@ -45,16 +45,16 @@ pub record LastOfSpan (fs : List Field) (x : Span) : Type 0 where
   pub id : IsLast 10 (pos 3) IsId None fs (Some x.id.0)
   pub parent : IsLast 10 (pos 4) IsId None fs (Some x.parent.0)
   pub operation : IsLast 11 (pos 5) IsText None fs (Some x.operation)
-  pub references : IsLast 15 (pos 6) (IsListOf IsReference) (Some []) fs (Some x.references)
+  pub references : IsLast 15 (pos 6) (IsStructList IsReference) (Some []) fs (Some x.references)
   pub flags : IsLast 8 (pos 7) IsI32 None fs (Some x.flags)
   pub start : IsLast 10 (pos 8) IsI64 None fs (Some x.start)
   pub duration : IsLast 10 (pos 9) IsI64 None fs (Some x.duration)
-  pub tags : IsLast 15 (pos 10) (IsListOf IsTag) (Some []) fs (Some x.tags)
-  pub logs : IsLast 15 (pos 11) (IsListOf IsLog) (Some []) fs (Some x.logs)
+  pub tags : IsLast 15 (pos 10) (IsStructList IsTag) (Some []) fs (Some x.tags)
+  pub logs : IsLast 15 (pos 11) (IsStructList IsLog) (Some []) fs (Some x.logs)
 
 pub record LastOfBatch (fs : List Field) (x : Batch) : Type 0 where
   pub process : IsLast 12 (pos 1) IsProcess None fs (Some x.process)
-  pub spans : IsLast 15 (pos 2) (IsListOf IsSpan) None fs (Some x.spans)
+  pub spans : IsLast 15 (pos 2) (IsStructList IsSpan) None fs (Some x.spans)
   pub seq_no : IsLast 10 (pos 3) IsI64 None fs x.seq_no
 
 abbrev pub TagLast : Type 0

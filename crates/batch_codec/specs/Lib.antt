@@ -10,3 +10,6 @@ pub mod BatchReading
 pub mod Batches
 pub mod Cuts
 pub mod LastCounts
+pub mod Canon
+pub mod CanonBatches
+pub mod Proper

@@ -3,7 +3,6 @@ ghost use Rattle.batch_codec.specs.Batches.{Answers, IsBatch};
 ghost use Rattle.batch_codec.specs.BatchReading.{batch_from, batch_at, decoded};
 ghost use Rattle.batch_codec.specs.Decoding.{Decodes, Gives};
 
-use crate::code::{I64, LIST, STRUCT};
 use crate::fault::{DecodeError, Part};
 use crate::fields::{Slots, read_fields, required};
 use crate::items::read_list;
@@ -12,7 +11,9 @@ use crate::values::read_i64;
 use jaeger_model::{Batch, Process, Seq, Span};
 use std::alloc::Global;
 use thrift_binary::Cursor;
+use thrift_binary::types::{I64, LIST, STRUCT};
 
+/// What was gathered of a batch so far.
 #[derive(Drop)]
 pub(crate) struct BatchSlots {
     pub(crate) process: Option<Process>,

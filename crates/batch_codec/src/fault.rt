@@ -55,12 +55,7 @@ impl DecodeError {
         ensures { result ≡ number_of self }
     {
         match self {
-            DecodeError::Wire(WireError::Truncated) => 1,
-            DecodeError::Wire(WireError::BadLength) => 2,
-            DecodeError::Wire(WireError::BadType) => 3,
-            DecodeError::Wire(WireError::TooDeep) => 4,
-            DecodeError::Wire(WireError::BadBool) => 5,
-            DecodeError::Wire(WireError::BadText) => 6,
+            DecodeError::Wire(e) => e.number(),
             DecodeError::Missing(..) => 7,
             DecodeError::BadEnum => 8,
             DecodeError::Trailing => 9,
@@ -73,12 +68,7 @@ impl DecodeError {
         ensures { result.now ≡ name_of self }
     {
         match self {
-            DecodeError::Wire(WireError::Truncated) => "Truncated",
-            DecodeError::Wire(WireError::BadLength) => "BadLength",
-            DecodeError::Wire(WireError::BadType) => "BadType",
-            DecodeError::Wire(WireError::TooDeep) => "TooDeep",
-            DecodeError::Wire(WireError::BadBool) => "BadBool",
-            DecodeError::Wire(WireError::BadText) => "BadText",
+            DecodeError::Wire(e) => e.name(),
             DecodeError::Missing(..) => "Missing",
             DecodeError::BadEnum => "BadEnum",
             DecodeError::Trailing => "Trailing",

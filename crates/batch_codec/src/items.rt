@@ -3,11 +3,10 @@ ghost use Rattle.batch_codec.specs.declared.fault.DecodeError.{DecodeError};
 ghost use Rattle.batch_codec.specs.Decoding.{Decodes, wire};
 ghost use Rattle.thrift_binary.specs.Lists.{items_at, list_of};
 
-use crate::code;
 use crate::fault::DecodeError;
 use jaeger_model::Seq;
 use std::alloc::Global;
-use thrift_binary::{Cursor, WireError};
+use thrift_binary::{Cursor, WireError, types};
 
 /// A struct that stands in lists.
 pub(crate) trait Element: Drop + Sized {
@@ -44,7 +43,7 @@ pub(crate) fn read_list<T: Element>(
     ensures no_longer { OnOk result (length cursor.new ≤ length cursor.old) }
 {
     let (found, size) = cursor.list_head()?;
-    if size != 0 && found != code::STRUCT {
+    if size != 0 && found != types::STRUCT {
         return Err(DecodeError::Wire(WireError::BadType));
     }
     Ok(Seq::from_vec(read_items(alloc, size, cursor)?))

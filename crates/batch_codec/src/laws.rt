@@ -1,6 +1,7 @@
 //! Facts about the definitions. Each function does nothing, and its contract is the fact.
 
 ghost use Rattle.batch_codec.specs.Cuts.{FaultsHavePlaces, TrailingHasAPlace, TruncatedBeginsTruncated, BatchesEnd};
+ghost use Rattle.batch_codec.specs.Proper.{CanonSpells, CanonDecodes};
 ghost use Rattle.batch_codec.specs.LastCounts.{TagLast, LogLast, ReferenceLast, ProcessLast, SpanLast, BatchLast};
 
 /// Where the faults of a batch stand. A fault has one place, which is a fact about the bytes alone: so a
@@ -22,4 +23,13 @@ pub fn last_of_repeated_fields()
     ensures process { ProcessLast }
     ensures span { SpanLast }
     ensures batch { BatchLast }
+{}
+
+/// The one spelling that [`encode`](crate::encode) writes of a batch spells that batch, so that decoding
+/// it gives the batch again: for every batch whose texts are UTF-8, whose numbers are in the ranges of
+/// their types and whose lengths are at most 2,147,483,647.
+#[tactic(auto, using(crate::proofs::CanonSpelled::batch_spelled, crate::proofs::CanonSpelled::canon_decodes))]
+pub fn one_spelling_decodes()
+    ensures spells { CanonSpells }
+    ensures decodes { CanonDecodes }
 {}

@@ -7,14 +7,13 @@
 //! (`specs/*Reading.antt`), and [`laws`] says where a fault stands without speaking of any reading.
 //!
 //! * `fault`: why bytes are no batch.
-//! * `code`: the types of the protocol that `jaeger.thrift` uses.
 //! * `values`, `fields`, `items`: single values, a struct's fields up to its stop byte, a list of structs.
 //! * `tag`, `log`, `reference`, `process`, `span`, `batch`: one struct of `jaeger.thrift` each.
 //! * `laws`: facts about the definitions.
 #![tactic(auto)]
 
 mod batch;
-mod code;
+mod writer;
 mod fault;
 mod fields;
 mod items;
@@ -27,6 +26,7 @@ mod tag;
 mod values;
 
 pub use batch::decode;
+pub use writer::encode;
 pub use fault::{DecodeError, Part};
 
 #[cfg(test)]

@@ -1,7 +1,6 @@
 ghost use Rattle.std.specs.Prelude.{◌≡◌};
 ghost use Rattle.batch_codec.specs.LogReading.{log_at, log_from};
 
-use crate::code::{I64, LIST};
 use crate::fault::{DecodeError, Part};
 use crate::fields::{Slots, read_fields, required};
 use crate::items::{Element, read_list};
@@ -9,7 +8,9 @@ use crate::values::read_i64;
 use jaeger_model::{Log, Seq, Tag};
 use std::alloc::Global;
 use thrift_binary::Cursor;
+use thrift_binary::types::{I64, LIST};
 
+/// What was gathered of a log so far.
 #[derive(Drop)]
 pub(crate) struct LogSlots {
     pub(crate) at: Option<i64>,

@@ -2,7 +2,6 @@ ghost use Rattle.std.specs.Prelude.{◌≡◌, ◌≤◌, ◌<◌, length, OnOk}
 ghost use Rattle.batch_codec.specs.Decoding.{Decodes};
 ghost use Rattle.batch_codec.specs.ProcessReading.{process_at, process_from};
 
-use crate::code::{LIST, STRING};
 use crate::fault::{DecodeError, Part};
 use crate::fields::{Slots, read_fields, required};
 use crate::items::read_list;
@@ -10,7 +9,9 @@ use crate::values::read_text;
 use jaeger_model::{Process, Seq, Tag, Text};
 use std::alloc::Global;
 use thrift_binary::Cursor;
+use thrift_binary::types::{LIST, STRING};
 
+/// What was gathered of a process so far.
 #[derive(Drop)]
 pub(crate) struct ProcessSlots {
     pub(crate) service: Option<Text>,

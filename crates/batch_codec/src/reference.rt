@@ -2,7 +2,6 @@ ghost use Rattle.std.specs.Prelude.{◌≡◌, ◌≤◌, length, OnOk};
 ghost use Rattle.batch_codec.specs.Decoding.{Decodes};
 ghost use Rattle.batch_codec.specs.ReferenceReading.{reference_at, reference_from, kind_at};
 
-use crate::code::{I32, I64};
 use crate::fault::{DecodeError, Part};
 use crate::fields::{Slots, read_fields, required};
 use crate::items::Element;
@@ -10,7 +9,9 @@ use crate::values::{read_i32, read_id};
 use jaeger_model::{RefKind, SpanId, SpanRef, TraceId};
 use std::alloc::Global;
 use thrift_binary::Cursor;
+use thrift_binary::types::{I32, I64};
 
+/// What was gathered of a reference so far.
 #[derive(Drop)]
 pub(crate) struct ReferenceSlots {
     pub(crate) kind: Option<RefKind>,

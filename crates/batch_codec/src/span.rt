@@ -1,7 +1,6 @@
 ghost use Rattle.std.specs.Prelude.{◌≡◌};
 ghost use Rattle.batch_codec.specs.SpanReading.{span_at, span_from};
 
-use crate::code::{I32, I64, LIST, STRING};
 use crate::fault::{DecodeError, Part};
 use crate::fields::{Slots, read_fields, required};
 use crate::items::{Element, read_list};
@@ -9,7 +8,9 @@ use crate::values::{read_i32, read_i64, read_id, read_text};
 use jaeger_model::{Log, Seq, Span, SpanId, SpanRef, Tag, Text, TraceId};
 use std::alloc::Global;
 use thrift_binary::Cursor;
+use thrift_binary::types::{I32, I64, LIST, STRING};
 
+/// What was gathered of a span so far.
 #[derive(Drop)]
 pub(crate) struct SpanSlots {
     pub(crate) trace_low: Option<u64>,

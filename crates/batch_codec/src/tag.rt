@@ -2,7 +2,6 @@ ghost use Rattle.std.specs.Prelude.{◌≡◌, ◌≤◌, ◌<◌, length, OnOk}
 ghost use Rattle.batch_codec.specs.Decoding.{Decodes};
 ghost use Rattle.batch_codec.specs.TagReading.{tag_at, tag_from, type_at};
 
-use crate::code::{BOOL, DOUBLE, I32, I64, STRING};
 use crate::fault::{DecodeError, Part};
 use crate::fields::{Slots, read_fields, required};
 use crate::items::Element;
@@ -10,6 +9,7 @@ use crate::values::{read_binary, read_bool, read_double, read_i32, read_i64, rea
 use jaeger_model::{Seq, Tag, Text, Value};
 use std::alloc::Global;
 use thrift_binary::Cursor;
+use thrift_binary::types::{BOOL, DOUBLE, I32, I64, STRING};
 
 /// Which of its values a tag has (`TagType` of `jaeger.thrift`).
 #[derive(Clone, Copy)]
@@ -21,6 +21,7 @@ pub(crate) enum TagType {
     Binary,
 }
 
+/// What was gathered of a tag so far.
 #[derive(Drop)]
 pub(crate) struct TagSlots {
     pub(crate) key: Option<Text>,

@@ -1,22 +1,225 @@
 use super::*;
+use jaeger_model::{RefKind, Value};
+use std::alloc::{AllocError, Global};
 use std::test::*;
 
-const B1: [u8; 104] = [
-    0x0c, 0, 1, 0x0b, 0, 1, 0, 0, 0, 1, 0x61, 0, 0x0f, 0, 2, 0x0c, 0, 0, 0, 1, 0x0a, 0, 1, 0, 0, 0,
-    0, 0, 0, 0, 1, 0x0a, 0, 2, 0, 0, 0, 0, 0, 0, 0, 0, 0x0a, 0, 3, 0, 0, 0, 0, 0, 0, 0, 2, 0x0a, 0,
-    4, 0, 0, 0, 0, 0, 0, 0, 0, 0x0b, 0, 5, 0, 0, 0, 2, 0x6f, 0x70, 8, 0, 7, 0, 0, 0, 1, 0x0a, 0, 8,
-    0, 0, 0, 0, 0, 0, 3, 0xe8, 0x0a, 0, 9, 0, 0, 0, 0, 0, 0, 0, 0x32, 0, 0,
-];
+/// The bytes of hexadecimal text; spaces are skipped.
+fn bytes_of(alloc: Global, hex: &str) -> Result<Vec<u8>, AllocError> {
+    let mut bytes = Vec::new(alloc);
+    let mut high = None;
+    for c in hex.as_bytes() {
+        let digit = match *c {
+            48..=57 => *c - 48,
+            97..=102 => *c - 87,
+            _ => continue,
+        };
+        high = match high {
+            None => Some(digit),
+            Some(high) => {
+                bytes.push(high << 4 | digit)?;
+                None
+            }
+        };
+    }
+    Ok(bytes)
+}
+
+/// One span with required fields alone: the bytes up to its operation, its flags, and the others.
+const FRONT: &str = "0c0001 0b0001 00000001 61 00 0f0002 0c 00000001
+    0a0001 0000000000000001 0a0002 0000000000000000 0a0003 0000000000000002 0a0004 0000000000000000
+    0b0005 00000002 6f70";
+
+const FLAGS: &str = "080007 00000001";
+
+const BACK: &str = "0a0008 00000000000003e8 0a0009 0000000000000032 00 00";
+
+/// Every field, and a tag of each type.
+const ALL: &str = "0c0001 0b0001 00000001 61
+        0f0002 0c 00000002
+            0b0001 00000001 6b 080002 00000000 0b0003 00000001 76 00
+            0b0001 00000001 64 080002 00000001 040004 7ff8000000000001 00 00
+    0f0002 0c 00000001
+        0a0001 0000000000000001 0a0002 ffffffffffffffff 0a0003 0000000000000003 0a0004 0000000000000004
+        0b0005 00000002 6f70
+        0f0006 0c 00000001 080001 00000001 0a0002 0000000000000001 0a0003 0000000000000002 0a0004 0000000000000009 00
+        080007 ffffffff 0a0008 fffffffffffffc18 0a0009 0000000000000032
+        0f000a 0c 00000003
+            0b0001 00000001 62 080002 00000002 020005 01 00
+            0b0001 00000001 6e 080002 00000003 0a0006 fffffffffffffff9 00
+            0b0001 00000001 78 080002 00000004 0b0007 00000002 ff00 00
+        0f000b 0c 00000001
+            0a0001 fffffffffffffffb 0f0002 0c 00000001 0b0001 00000001 65 080002 00000000 00 00 00
+    0a0003 fffffffffffffff7 00";
 
 #[test]
-fn one_batch(rt: HostRuntime) -> Result<(), Fail> {
-    let batch = decode(rt.alloc(), &B1)?;
+fn every_field(rt: HostRuntime) -> Result<(), Fail> {
+    let alloc = rt.alloc();
+    let batch = decode(alloc, &bytes_of(alloc, ALL)?)?;
     assert_eq!(rt; batch.process.service.as_str(), "a");
+    assert_eq!(rt; batch.seq_no, Some(-9));
+    let mut doubles = 0;
+    for tag in batch.process.tags.as_slice() {
+        match &tag.value {
+            Value::Text(text) => assert_eq!(rt; text.as_str(), "v"),
+            Value::Double(bytes) => {
+                assert_eq!(rt; *bytes, [0x7f, 0xf8, 0, 0, 0, 0, 0, 1]);
+                doubles = 1;
+            }
+            _ => assert!(rt; false),
+        }
+    }
+    assert_eq!(rt; doubles, 1);
     assert_eq!(rt; batch.spans.len(), 1);
     for span in batch.spans.as_slice() {
-        assert_eq!(rt; span.trace.low, 1);
+        assert_eq!(rt;
+            (span.trace.high, span.trace.low),
+            (0xffff_ffff_ffff_ffff, 1)
+        );
+        assert_eq!(rt; (span.id.0, span.parent.0), (3, 4));
         assert_eq!(rt; span.operation.as_str(), "op");
-        assert_eq!(rt; span.duration, 50);
+        assert_eq!(rt; (span.flags, span.start, span.duration), (-1, -1000, 50));
+        assert_eq!(rt; span.references.len(), 1);
+        for reference in span.references.as_slice() {
+            assert_eq!(rt; reference.kind, RefKind::FollowsFrom);
+            assert_eq!(rt; (reference.trace.high, reference.trace.low), (2, 1));
+            assert_eq!(rt; reference.id.0, 9);
+        }
+        assert_eq!(rt; span.tags.len(), 3);
+        for tag in span.tags.as_slice() {
+            match &tag.value {
+                Value::Bool(truth) => assert!(rt; *truth),
+                Value::Long(number) => assert_eq!(rt; *number, -7),
+                Value::Bytes(bytes) => assert_eq!(rt; bytes.as_slice(), [0xff, 0].as_slice()),
+                _ => assert!(rt; false),
+            }
+        }
+        assert_eq!(rt; span.logs.len(), 1);
+        for log in span.logs.as_slice() {
+            assert_eq!(rt; (log.at, log.fields.len()), (-5, 1));
+        }
     }
+    Ok(())
+}
+
+/// With enough memory the batch, and without it nothing but want of memory.
+#[test]
+fn want_of_memory(rt: HostRuntime) -> Result<(), Fail> {
+    let alloc = rt.alloc();
+    let Ok(bytes) = bytes_of(alloc, ALL) else {
+        return Ok(());
+    };
+    match decode(alloc, &bytes) {
+        Ok(batch) => assert_eq!(rt; batch.spans.len(), 1),
+        Err(fault) => assert_eq!(rt; fault, DecodeError::Memory),
+    }
+    Ok(())
+}
+
+/// The bytes between `front` and `back`, decoded: the fault's text, or the operation of the last span.
+fn outcome(alloc: Global, parts: (&str, &str, &str)) -> Result<String, Fail> {
+    let mut bytes = bytes_of(alloc, parts.0)?;
+    bytes.extend_from_slice(&bytes_of(alloc, parts.1)?)?;
+    bytes.extend_from_slice(&bytes_of(alloc, parts.2)?)?;
+    let batch = match decode(alloc, &bytes) {
+        Ok(batch) => batch,
+        Err(fault) => return Ok(fault.text(alloc)?),
+    };
+    let mut text = String::from_str(alloc, "ok")?;
+    for span in batch.spans.as_slice() {
+        text.push_str(" ")?;
+        text.push_str(span.operation.as_str())?;
+    }
+    Ok(text)
+}
+
+#[test]
+fn faults_and_what_is_no_fault(rt: HostRuntime) -> Result<(), Fail> {
+    let alloc = rt.alloc();
+    let none = "0c0001 0b0001 00000001 61 00 0f0002 0c 00000000";
+    let tag = "0c0001 0b0001 00000001 61 0f0002 0c 00000001 0b0001 00000001 65";
+    let tag_end = "00 00 0f0002 0c 00000000 00";
+    for (parts, want) in [
+        ((none, "00", ""), "ok"),
+        ((none, "", ""), "1 Truncated"),
+        (("", "", ""), "1 Truncated"),
+        (("00", "", ""), "7 Missing Batch 1"),
+        (("00", "00", ""), "7 Missing Batch 1"),
+        ((none, "00", "00"), "9 Trailing"),
+        (
+            ("0c0001 0b0001 00000001 61 00", "0f0002 0c 7fffffff", ""),
+            "1 Truncated",
+        ),
+        (
+            ("0c0001 0b0001 00000001 61 00", "0f0002 0c ffffffff", ""),
+            "2 BadLength",
+        ),
+        (
+            ("0c0001 0b0001 00000001 61 00", "0f0002 03 00000000", "00"),
+            "ok",
+        ),
+        (
+            ("0c0001 0b0001 00000001 61 00", "0f0002 03 00000001", "00"),
+            "3 BadType",
+        ),
+        (
+            ("0c0001 0b0001 00000001 61 00", "0f0002 10 ffffffff", ""),
+            "2 BadLength",
+        ),
+        (("ff00", "", ""), "1 Truncated"),
+        (("ff00", "01", ""), "3 BadType"),
+        ((none, "0c0004 0a0001 0000000000000001 00", "00"), "ok"),
+        ((tag, "080002 00000002", tag_end), "ok"),
+        ((tag, "080002 00000002 020005 02", tag_end), "5 BadBool"),
+        ((tag, "080002 00000003 020005 02", tag_end), "5 BadBool"),
+        (
+            (tag, "080002 00000003 0b0003 00000001 ff", tag_end),
+            "6 BadText",
+        ),
+        ((tag, "080002 00000003 0b0007 00000001 ff", tag_end), "ok"),
+        ((tag, "080002 00000005", tag_end), "8 BadEnum"),
+        ((tag, "", tag_end), "7 Missing Tag 2"),
+        (("0c0001 00", "", ""), "7 Missing Process 1"),
+        ((FRONT, FLAGS, BACK), "ok op"),
+        ((FRONT, "0a0007 0000000000000001", BACK), "7 Missing Span 7"),
+        ((FRONT, "0b0005 00000001 78 080007 00000001", BACK), "ok x"),
+        (
+            (FRONT, "0f0006 0c 00000001 080001 00000002", BACK),
+            "8 BadEnum",
+        ),
+        (
+            (FRONT, "0f0006 0c 00000001 00", BACK),
+            "7 Missing SpanRef 1",
+        ),
+        ((FRONT, "0f000b 0c 00000001 00", BACK), "7 Missing Log 1"),
+    ] {
+        let text = outcome(alloc, parts)?;
+        assert_eq!(rt; text.as_str(), want);
+    }
+    Ok(())
+}
+
+/// Lists inside lists, the innermost empty, in a field that nobody knows.
+fn nested(alloc: Global, levels: u32) -> Result<Vec<u8>, Fail> {
+    let mut bytes = bytes_of(
+        alloc,
+        "0c0001 0b0001 00000001 61 00 0f0002 0c 00000000 0f0009",
+    )?;
+    for level in 0..levels {
+        let last = level + 1 == levels;
+        bytes.extend_from_slice(if last {
+            &[15, 0, 0, 0, 0]
+        } else {
+            &[15, 0, 0, 0, 1]
+        })?;
+    }
+    bytes.push(0)?;
+    Ok(bytes)
+}
+
+#[test]
+fn levels_of_skipped_lists(rt: HostRuntime) -> Result<(), Fail> {
+    let alloc = rt.alloc();
+    assert!(rt; decode(alloc, &nested(alloc, 64)?).is_ok());
+    assert!(rt; matches!(decode(alloc, &nested(alloc, 65)?), Err(fault) if fault.number() == 4));
     Ok(())
 }

@@ -1,0 +1,11 @@
+use Rattle.std.proofs.Common.{◌≡◌, ◌++◌}
+use Rattle.thrift_binary.specs.Writing.{stop_text}
+use Rattle.batch_codec.specs.Canon.{front_text, span_fields, span_fits, canon_span}
+use Rattle.batch_codec.proofs.CanonTexts.{span_stop, ends}
+use Rattle.batch_codec.proofs.writer.SpanSpelled.write.Goals as goal
+
+pub returns : goal.returns
+unfolding canon_span
+returns c =
+    let s = c.args.self.now in
+    ends (front_text (span_fields s)) (canon_span s) (span_fits s) c.args.out.now c.write_fields.new.out c.stop.new.self c.stop.result c.in_ok-write_fields.ensures.0 c.in_ok-write_fields.ensures.1 (span_stop s) c.stop.ensures.appends

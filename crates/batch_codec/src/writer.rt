@@ -1,0 +1,266 @@
+ghost use Rattle.std.specs.Prelude.{◌≡◌, ◌∷◌, [], ℕ, List, Bool, length, true};
+ghost use Rattle.std.specs.List.{flat_map, list_all};
+ghost use Rattle.batch_codec.specs.Batches.{type_number, kind_number};
+ghost use Rattle.batch_codec.specs.CanonBatches.{WritesBatch};
+ghost use Rattle.batch_codec.specs.Canon.{Encodes, fits_length, front_text, text_field, i32_field, i64_field, id_field, list_field, list_fits, list_if_any, value_type, value_field, value_fits, span_front, span_middle, span_fields, span_fits, canon_process, process_fits, number_if_any, canon, batch_fits};
+
+use crate::fault::DecodeError;
+use jaeger_model::{Batch, Log, Process, RefKind, Span, SpanRef, Tag, Value};
+use std::alloc::Global;
+use thrift_binary::{Out, WireError, WriteError, types};
+
+/// A field that is a text or binary.
+fn write_text(out: &mut Out, id: i16, text: &[u8]) -> Result<(), WriteError>
+    ensures { Encodes (front_text (text_field id text.now ∷ [])) (fits_length (length text.now)) out.old result out.new }
+{
+    out.field(types::STRING, id)?;
+    out.bytes(text)
+}
+
+/// A field that is a number of 32 bits.
+fn write_i32(out: &mut Out, id: i16, number: i32) -> Result<(), WriteError>
+    ensures { Encodes (front_text (i32_field id number ∷ [])) true out.old result out.new }
+{
+    out.field(types::I32, id)?;
+    out.i32(number)
+}
+
+/// A field that is a number of 64 bits.
+fn write_i64(out: &mut Out, id: i16, number: i64) -> Result<(), WriteError>
+    ensures { Encodes (front_text (i64_field id number ∷ [])) true out.old result out.new }
+{
+    out.field(types::I64, id)?;
+    out.i64(number)
+}
+
+/// A field that is an id, of which the wire has the bits as a signed number.
+fn write_id(out: &mut Out, id: i16, bits: u64) -> Result<(), WriteError>
+    ensures { Encodes (front_text (id_field id bits ∷ [])) true out.old result out.new }
+{
+    write_i64(out, id, bits.cast_signed())
+}
+
+/// An element of a list, with its one spelling.
+trait Spelled {
+    ghost spelling: { Self → List ℕ };
+
+    ghost fits: { Self → Bool };
+
+    fn write(&self, out: &mut Out) -> Result<(), WriteError>
+        ensures { Encodes (spelling self.now) (fits self.now) out.old result out.new };
+}
+
+/// The elements one after the other.
+fn write_items<T: Spelled>(out: &mut Out, items: &[T]) -> Result<(), WriteError>
+    ensures { Encodes (flat_map T.spelling items.now) (list_all T.fits items.now) out.old result out.new }
+{
+    for item in items {
+        item.write(out)?;
+    }
+    Ok(())
+}
+
+/// A field that is a list of structs.
+fn write_list<T: Spelled>(out: &mut Out, id: i16, items: &[T]) -> Result<(), WriteError>
+    ensures { Encodes (front_text (list_field id T.spelling items.now ∷ [])) (list_fits T.fits items.now) out.old result out.new }
+{
+    out.field(types::LIST, id)?;
+    out.list_head(types::STRUCT, items.len())?;
+    write_items(out, items)
+}
+
+/// The same, left out where the list is empty.
+fn write_if_any<T: Spelled>(out: &mut Out, id: i16, items: &[T]) -> Result<(), WriteError>
+    ensures { Encodes (front_text (list_if_any id T.spelling items.now)) (list_fits T.fits items.now) out.old result out.new }
+{
+    if items.is_empty() {
+        return Ok(());
+    }
+    write_list(out, id, items)
+}
+
+/// The number of a value's type (`TagType`).
+fn type_number(value: &Value) -> i32
+    ensures { result ≡ type_number (value_type value.now) }
+{
+    match value {
+        Value::Text(_) => 0,
+        Value::Double(_) => 1,
+        Value::Bool(_) => 2,
+        Value::Long(_) => 3,
+        Value::Bytes(_) => 4,
+    }
+}
+
+/// The one value of a tag.
+fn write_value(out: &mut Out, value: &Value) -> Result<(), WriteError>
+    ensures { Encodes (front_text (value_field value.now ∷ [])) (value_fits value.now) out.old result out.new }
+{
+    match value {
+        Value::Text(text) => write_text(out, 3, text.as_str().as_bytes()),
+        Value::Double(bytes) => {
+            out.field(types::DOUBLE, 4)?;
+            out.double(*bytes)
+        }
+        Value::Bool(flag) => {
+            out.field(types::BOOL, 5)?;
+            out.bool(*flag)
+        }
+        Value::Long(number) => write_i64(out, 6, *number),
+        Value::Bytes(bytes) => write_text(out, 7, bytes.as_slice()),
+    }
+}
+
+impl Spelled for Tag {
+    ghost use Rattle.batch_codec.specs.Canon.{canon_tag, tag_fits};
+
+    ghost spelling = { canon_tag };
+
+    ghost fits = { tag_fits };
+
+    #[tactic(auto, unfolding(crate::specs::Canon::canon_tag, crate::specs::Canon::tag_fits))]
+    fn write(&self, out: &mut Out) -> Result<(), WriteError> {
+        write_text(out, 1, self.key.as_str().as_bytes())?;
+        write_i32(out, 2, type_number(&self.value))?;
+        write_value(out, &self.value)?;
+        out.stop()
+    }
+}
+
+impl Spelled for Log {
+    ghost use Rattle.batch_codec.specs.Canon.{canon_log, log_fits};
+
+    ghost spelling = { canon_log };
+
+    ghost fits = { log_fits };
+
+    #[tactic(auto, unfolding(crate::specs::Canon::canon_log, crate::specs::Canon::log_fits))]
+    fn write(&self, out: &mut Out) -> Result<(), WriteError> {
+        write_i64(out, 1, self.at)?;
+        write_list(out, 2, self.fields.as_slice())?;
+        out.stop()
+    }
+}
+
+/// The number of a reference's kind (`SpanRefType`).
+fn kind_number(kind: RefKind) -> i32
+    ensures { result ≡ kind_number kind }
+{
+    match kind {
+        RefKind::ChildOf => 0,
+        RefKind::FollowsFrom => 1,
+    }
+}
+
+impl Spelled for SpanRef {
+    ghost use Rattle.batch_codec.specs.Canon.{canon_reference, reference_fits};
+
+    ghost spelling = { canon_reference };
+
+    ghost fits = { reference_fits };
+
+    #[tactic(auto, unfolding(crate::specs::Canon::canon_reference, crate::specs::Canon::reference_fits))]
+    fn write(&self, out: &mut Out) -> Result<(), WriteError> {
+        write_i32(out, 1, kind_number(self.kind))?;
+        write_id(out, 2, self.trace.low)?;
+        write_id(out, 3, self.trace.high)?;
+        write_id(out, 4, self.id.0)?;
+        out.stop()
+    }
+}
+
+/// The ids and the operation of a span.
+fn write_front(out: &mut Out, span: &Span) -> Result<(), WriteError>
+    ensures { Encodes (front_text (span_front span.now)) (fits_length (length span.now.operation)) out.old result out.new }
+{
+    write_id(out, 1, span.trace.low)?;
+    write_id(out, 2, span.trace.high)?;
+    write_id(out, 3, span.id.0)?;
+    write_id(out, 4, span.parent.0)?;
+    write_text(out, 5, span.operation.as_str().as_bytes())
+}
+
+/// The flags and the times of a span.
+fn write_middle(out: &mut Out, span: &Span) -> Result<(), WriteError>
+    ensures { Encodes (front_text (span_middle span.now)) true out.old result out.new }
+{
+    write_i32(out, 7, span.flags)?;
+    write_i64(out, 8, span.start)?;
+    write_i64(out, 9, span.duration)
+}
+
+/// All fields of a span.
+#[tactic(auto, unfolding(crate::specs::Canon::span_fits), using(crate::proofs::CanonTexts::span_front_parts))]
+fn write_fields(out: &mut Out, span: &Span) -> Result<(), WriteError>
+    ensures { Encodes (front_text (span_fields span.now)) (span_fits span.now) out.old result out.new }
+{
+    write_front(out, span)?;
+    write_if_any(out, 6, span.references.as_slice())?;
+    write_middle(out, span)?;
+    write_if_any(out, 10, span.tags.as_slice())?;
+    write_if_any(out, 11, span.logs.as_slice())?;
+    Ok(())
+}
+
+impl Spelled for Span {
+    ghost use Rattle.batch_codec.specs.Canon.{canon_span, span_fits};
+
+    ghost spelling = { canon_span };
+
+    ghost fits = { span_fits };
+
+    #[tactic(auto, unfolding(crate::specs::Canon::canon_span), using(crate::proofs::CanonTexts::span_stop))]
+    fn write(&self, out: &mut Out) -> Result<(), WriteError> {
+        write_fields(out, self)?;
+        out.stop()
+    }
+}
+
+/// A process.
+#[tactic(auto, unfolding(crate::specs::Canon::canon_process, crate::specs::Canon::process_fits), using(crate::proofs::CanonTexts::process_text_parts))]
+fn write_process(out: &mut Out, process: &Process) -> Result<(), WriteError>
+    ensures { Encodes (canon_process process.now) (process_fits process.now) out.old result out.new }
+{
+    write_text(out, 1, process.service.as_str().as_bytes())?;
+    write_if_any(out, 2, process.tags.as_slice())?;
+    out.stop()
+}
+
+/// A field that is a number of 64 bits, left out where there is none.
+fn write_number_if_any(out: &mut Out, id: i16, number: Option<i64>) -> Result<(), WriteError>
+    ensures { Encodes (front_text (number_if_any id number)) true out.old result out.new }
+{
+    match number {
+        Some(number) => write_i64(out, id, number),
+        None => Ok(()),
+    }
+}
+
+/// A whole batch.
+#[tactic(auto, unfolding(crate::specs::Canon::canon, crate::specs::Canon::batch_fits), using(crate::proofs::CanonTexts::batch_text_parts))]
+fn write_batch(out: &mut Out, batch: &Batch) -> Result<(), WriteError>
+    ensures { Encodes (canon batch.now) (batch_fits batch.now) out.old result out.new }
+{
+    out.field(types::STRUCT, 1)?;
+    write_process(out, &batch.process)?;
+    write_list(out, 2, batch.spans.as_slice())?;
+    write_number_if_any(out, 3, batch.seq_no)?;
+    out.stop()
+}
+
+/// The one spelling of a batch: the struct `Batch` of `jaeger.thrift` in the Thrift binary protocol.
+///
+/// # Errors
+///
+/// [`WireError::BadLength`] where a length or a size is above 2,147,483,647, and only there; else want of
+/// memory alone. The output is given up then.
+pub fn encode(alloc: Global, batch: &Batch) -> Result<Vec<u8>, DecodeError>
+    ensures { WritesBatch batch.now result }
+{
+    let mut out = Out::new(alloc);
+    match write_batch(&mut out, batch) {
+        Ok(()) => Ok(out.into_bytes()),
+        Err(WriteError::BadLength) => Err(DecodeError::Wire(WireError::BadLength)),
+        Err(WriteError::Memory) => Err(DecodeError::Memory),
+    }
+}
