@@ -1,5 +1,5 @@
 -- Ring and spots follow the arrivals.
-use Rattle.std.proofs.Common.{◌≡◌, ℕ, zero, suc, ◌+◌, ◌<◌, ◌≤◌, Bool, true, false, cond, List, [], ◌∷◌, ◌++◌, map, length, take, drop, get_or, Some, None, refl, sym, ap, subst, ◌∙◌, arith, append_assoc, drop-cons}
+use Rattle.std.proofs.Common.{◌≡◌, ℕ, zero, suc, ◌+◌, ◌<◌, ◌≤◌, Bool, true, false, cond, List, [], ◌∷◌, ◌++◌, map, length, take, drop, get_or, Some, None, refl, sym, ap, subst, ◌∙◌, arith, append_assoc}
 use Rattle.std.specs.List.{All}
 use Rattle.std.proofs.lemmas.List.{map_push, map_more, length-take-le, length-map, take_all}
 use Rattle.std.specs.Prelude.{Option, IsSome, option_map, count_by, IfSome, option_to_list, if◌then◌else◌}
@@ -19,7 +19,7 @@ use Rattle.trace_model.proofs.Traces.{same_self}
 use Rattle.trace_ring.specs.Windows.{opened_by}
 use Rattle.trace_assembly.specs.declared.spot.Spot.{Spot}
 use Rattle.trace_assembly.specs.Rows.{with_spot, is_of}
-use Rattle.trace_assembly.specs.Located.{span_at, located, located_in, spans_in, shown_spots, after_leaving, after_arrival}
+use Rattle.trace_assembly.specs.Located.{span_at, located, located_in, spans_in, after_leaving}
 use Rattle.trace_assembly.proofs.Feeding.{after_arrival_law, spans_at_shown_law}
 use Rattle.trace_assembly.proofs.Places.{located_push_law, located_in-push}
 use Rattle.span_store.specs.Kept.{Follows}

@@ -1,4 +1,4 @@
-use Rattle.std.proofs.Common.{rules, ◌≡◌, ◌∙◌, ◌<◌, Some, None, ap, sym, subst, map, length}
+use Rattle.std.proofs.Common.{rules, ◌≡◌, ◌∙◌, ◌<◌, Some, None, ap, sym, subst, length}
 use Rattle.std.specs.Prelude.{option_map}
 use Rattle.trace_model.specs.Held.{Held}
 use Rattle.trace_model.specs.declared.answer.Answer.TheVariants.{Trace}
@@ -6,7 +6,6 @@ use Rattle.trace_model.specs.Answers.{shown_as}
 use Rattle.trace_model.specs.Histories.{arrivals}
 use Rattle.trace_model.specs.Showing.{spans_of_trace, trace_found}
 use Rattle.trace_assembly.specs.Rows.{spots_of}
-use Rattle.trace_assembly.specs.Located.{span_at}
 use Rattle.span_store.proofs.Following.{spots_name, each_named, none_found, some_found}
 use Rattle.span_store.proofs.store.SpanStore.trace.Goals as goal
 
