@@ -1,0 +1,16 @@
+use Rattle.std.proofs.Common.{◌≡◌, ◌+◌, ◌≤◌, ◌++◌, length, take, drop, count_by}
+use Rattle.jaeger_model.specs.declared.ids.TraceId.{TraceId}
+use Rattle.jaeger_model.specs.Parents.{domain}
+use Rattle.trace_assembly.specs.Rows.{spots_of, room_of, is_of}
+use Rattle.trace_assembly.specs.Located.{located, located_in}
+use Rattle.span_store.specs.Kept.{Follows}
+use Rattle.span_store.proofs.arrange.arrange.Given as goal
+
+abbrev pub invariant-loop-span : goal.invariant-loop-span
+invariant-loop-span l = record {
+  index : l.index ≡ l.span-index;
+  limit : l.ring.limit ≡ l.initial.ring.limit;
+  follows : Follows l.initial.ring.limit (located l.journal.held.entries ++ located_in l.place 0 (domain (record l.entry.batch { spans = take l.span-index l.entry.batch.spans }))) l.ring.ids (spots_of l.assembly);
+  ring_room : length l.entry.batch.spans ≤ l.span-index + l.ring.room;
+  assembly_room : (t : TraceId) → count_by (is_of t) (drop l.span-index l.entry.batch.spans) ≤ room_of l.assembly t;
+}

@@ -1,0 +1,62 @@
+//! What one more entry changes in ring and assembly.
+
+ghost use Rattle.std.specs.Prelude.{◌≡◌, ℕ, ◌+◌, ◌<◌, ◌≤◌, List, [], ◌∷◌, ◌++◌, length, count_by, None, if◌then◌else◌};
+ghost use Rattle.jaeger_model.specs.Parents.{same_trace};
+ghost use Rattle.jaeger_model.specs.declared.ids.TraceId.{TraceId as Trace};
+ghost use Rattle.jaeger_model.specs.declared.placed.Placed.{Placed as Arrival};
+ghost use Rattle.trace_model.specs.Showing.{trace_of};
+ghost use Rattle.arrival_journal.specs.Journals.{refusal_by};
+ghost use Rattle.trace_assembly.specs.declared.spot.Spot.{Spot as Where};
+ghost use Rattle.trace_assembly.specs.Rows.{spots_of, room_of, is_of};
+ghost use Rattle.trace_assembly.specs.Located.{located, after_leaving};
+ghost use Rattle.span_store.specs.Kept.{Follows};
+
+use arrival_journal::Journal;
+use jaeger_model::TraceId;
+use trace_assembly::{Assembly, Spot};
+use trace_model::Entry;
+use trace_ring::Ring;
+
+/// Forgets the spots of the trace that left, if one did.
+fn hide_left(assembly: &mut Assembly, left: Option<TraceId>)
+    ensures spots { (t : Trace) → spots_of assembly.new t ≡ after_leaving left (spots_of assembly.old) t }
+    ensures room { (t : Trace) → room_of assembly.old t ≤ room_of assembly.new t }
+{
+    if let Some(left) = left {
+        assembly.hide(left);
+    }
+}
+
+/// Lets one span in, in room that was taken before: its trace may be opened, and another one may
+/// leave for it.
+fn let_in(ring: &mut Ring, assembly: &mut Assembly, trace: TraceId, spot: Spot)
+    requires ring_room { 0 < ring.old.room }
+    requires assembly_room { 0 < room_of assembly.old trace }
+    ensures limit { ring.new.limit ≡ ring.old.limit }
+    ensures follows { (ls : List (Where × Arrival)) (p : Arrival) → Follows ring.old.limit ls ring.old.ids (spots_of assembly.old) →
+        trace_of p ≡ trace → Follows ring.old.limit (ls ++ (spot, p) ∷ []) ring.new.ids (spots_of assembly.new) }
+    ensures ring_room { ring.old.room ≤ ring.new.room + 1 }
+    ensures assembly_room { (t : Trace) → room_of assembly.old t ≤ room_of assembly.new t + (if same_trace t trace then 1 else 0) }
+{
+    let arrived = ring.arrive_reserved(trace);
+    hide_left(assembly, arrived.left);
+    assembly.add_reserved(trace, spot);
+}
+
+/// Lets the spans of an entry in, which will stand at the end of the journal, in room that was taken
+/// before.
+pub(crate) fn arrange(journal: &Journal, ring: &mut Ring, assembly: &mut Assembly, entry: &Entry)
+    requires admissible { refusal_by journal.now.held entry.now ≡ None }
+    requires follows { Follows ring.old.limit (located journal.now.held.entries) ring.old.ids (spots_of assembly.old) }
+    requires ring_room { length entry.now.batch.spans ≤ ring.old.room }
+    requires assembly_room { (t : Trace) → count_by (is_of t) entry.now.batch.spans ≤ room_of assembly.old t }
+    ensures limit { ring.new.limit ≡ ring.old.limit }
+    ensures follows { Follows ring.old.limit (located (journal.now.held.entries ++ entry.now ∷ [])) ring.new.ids (spots_of assembly.new) }
+{
+    let place = journal.len() + 1;
+    let mut index: u32 = 0;
+    for span in entry.batch.spans.as_slice() {
+        let_in(ring, assembly, span.trace, Spot { place, index });
+        index += 1;
+    }
+}

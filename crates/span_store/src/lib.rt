@@ -1,0 +1,20 @@
+//! One store for one thread: the journal of entries, the ring of the newest traces, and where the
+//! spans of each trace stand.
+//!
+//! Contracts see a store as its limits and its list of entries, and nothing else: every answer is
+//! the plain store's answer for that list. What is kept beside the list only makes answers quick,
+//! and one invariant of the type ties it to the list. An entry that is refused changes nothing.
+//!
+//! * `arrange`: what one more entry changes in ring and assembly.
+//! * `gather`: the spans that spots name.
+//! * `store`: the [`SpanStore`].
+#![tactic(auto)]
+
+mod arrange;
+mod gather;
+mod store;
+
+pub use store::SpanStore;
+
+#[cfg(test)]
+mod tests;
