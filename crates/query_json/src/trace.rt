@@ -1,0 +1,128 @@
+ghost use Rattle.std.specs.Prelude.{◌≡◌, IfOk, map, string_bytes};
+ghost use Rattle.serde_json.specs.View.{view};
+ghost use Rattle.query_json.specs.Trees.{list, processes_tree, span_tree, trace_id_text, trace_of, trace_tree, warnings_tree};
+
+use crate::naming::{place_of, process_name, processes_of};
+use crate::tree::{Tree, list};
+use crate::values::flags_number;
+use jaeger_model::{Process, Seq, Text, span_text, trace_text};
+use serde_json::{Map, Value, json, put};
+use std::alloc::{AllocError, Global};
+use trace_model::Shown;
+
+/// A list of texts, or null where there are none.
+fn warnings_json(alloc: Global, warnings: &[Text]) -> Result<Value, AllocError>
+    ensures { IfOk result (λ v. view v ≡ warnings_tree warnings.now) }
+{
+    if warnings.is_empty() {
+        return Ok(Value::Null);
+    }
+    list(alloc, warnings)
+}
+
+fn span_json(alloc: Global, processes: &[&Process], shown: &Shown) -> Result<Value, AllocError>
+    ensures { IfOk result (λ v. view v ≡ span_tree (map (λ p. p.now) processes.now) shown.now) }
+{
+    let span = &shown.placed.span;
+    let place = place_of(processes, &shown.placed.process);
+    let mut map = Map::new(alloc);
+    put(&mut map, alloc, "duration", Value::from(span.duration))?;
+    put(
+        &mut map,
+        alloc,
+        "flags",
+        Value::from(flags_number(span.flags)),
+    )?;
+    put(&mut map, alloc, "logs", list(alloc, span.logs.as_slice())?)?;
+    put(
+        &mut map,
+        alloc,
+        "operationName",
+        span.operation.to_json(alloc)?,
+    )?;
+    put(
+        &mut map,
+        alloc,
+        "processID",
+        Value::String(process_name(alloc, place)?),
+    )?;
+    put(
+        &mut map,
+        alloc,
+        "references",
+        list(alloc, span.references.as_slice())?,
+    )?;
+    put(
+        &mut map,
+        alloc,
+        "spanID",
+        Value::String(span_text(alloc, span.id)?),
+    )?;
+    put(&mut map, alloc, "startTime", Value::from(span.start))?;
+    put(&mut map, alloc, "tags", list(alloc, span.tags.as_slice())?)?;
+    put(&mut map, alloc, "traceID", span.trace.to_json(alloc)?)?;
+    put(
+        &mut map,
+        alloc,
+        "warnings",
+        warnings_json(alloc, shown.warnings.as_slice())?,
+    )?;
+    Ok(Value::Object(map))
+}
+
+fn spans_json(alloc: Global, processes: &[&Process], spans: &[Shown]) -> Result<Value, AllocError>
+    ensures { IfOk result (λ v. view v ≡ list (map (span_tree (map (λ p. p.now) processes.now)) spans.now)) }
+{
+    let mut trees = Vec::new(alloc);
+    for span in spans {
+        trees.push(span_json(alloc, processes, span)?)?;
+    }
+    Ok(Value::Array(trees))
+}
+
+/// The processes under their names.
+fn processes_json(alloc: Global, processes: &[&Process]) -> Result<Value, AllocError>
+    ensures { IfOk result (λ v. view v ≡ processes_tree (map (λ p. p.now) processes.now)) }
+{
+    let mut named = Map::new(alloc);
+    for (place, process) in processes.iter().enumerate() {
+        let name = process_name(alloc, place)?;
+        put(&mut named, alloc, name.as_str(), process.to_json(alloc)?)?;
+    }
+    Ok(Value::Object(named))
+}
+
+/// The id of a trace, that of its first span.
+fn trace_id_text(alloc: Global, spans: &[Shown]) -> Result<String, AllocError>
+    ensures { IfOk result (λ s. string_bytes s ≡ trace_id_text spans.now) }
+{
+    match spans.first() {
+        Some(shown) => trace_text(alloc, shown.placed.span.trace),
+        None => Ok(String::new(alloc)),
+    }
+}
+
+fn trace_json(
+    alloc: Global,
+    processes: Value,
+    spans: Value,
+    id: String,
+) -> Result<Value, AllocError>
+    ensures { IfOk result (λ v. view v ≡ trace_of (view processes) (view spans) (string_bytes id)) }
+{
+    json!(in alloc; {"processes": processes, "spans": spans, "traceID": id, "warnings": null})
+}
+
+/// A trace: its spans in order, and their processes under the names that the spans give.
+impl Tree for Seq<Shown> {
+    ghost tree = { trace_tree };
+
+    fn to_json(&self, alloc: Global) -> Result<Value, AllocError> {
+        let shown = self.as_slice();
+        let known = processes_of(alloc, shown)?;
+        let processes = processes_json(alloc, &known)?;
+        let spans = spans_json(alloc, &known, shown)?;
+        let id = trace_id_text(alloc, shown)?;
+        trace_json(alloc, processes, spans, id)
+    }
+}
