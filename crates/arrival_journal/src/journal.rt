@@ -51,6 +51,7 @@ impl Journal {
         }
     }
 
+    /// How much it may hold.
     pub fn limits(&self) -> Limits
         ensures { result ≡ self.now.held.limits }
     {
@@ -65,6 +66,7 @@ impl Journal {
         self.entries.len() as u64
     }
 
+    /// It holds no entry.
     pub fn is_empty(&self) -> bool
         ensures { result ≡ (length self.now.held.entries == 0) }
     {

@@ -66,6 +66,7 @@ impl Ring {
         }
     }
 
+    /// How many traces stay; 0 where all of them do.
     pub fn limit(&self) -> u32
         ensures { result ≡ self.now.limit }
     {
@@ -81,6 +82,7 @@ impl Ring {
         self.ids.len()
     }
 
+    /// No trace is in the ring.
     pub fn is_empty(&self) -> bool
         ensures { result ≡ (length self.now.ids == 0) }
     {
