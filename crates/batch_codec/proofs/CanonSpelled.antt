@@ -198,37 +198,35 @@ last_slots s xs = record (whole_span s) { logs = xs }
 
 front_gathers : (s : Span) → IsProperSpan s → Gathers SpanField no_span (span_front s) (front_slots s [])
 unfolding SpanField front_slots
-front_gathers s p =
+front_gathers s p = (
+  record no_span { trace_low = Some s.trace.low },
+  (s.trace.low, id_written s.trace.low p.low, refl),
+  (
+    record no_span { trace_low = Some s.trace.low; trace_high = Some s.trace.high },
+    (s.trace.high, id_written s.trace.high p.high, refl),
     (
-      record no_span { trace_low = Some s.trace.low },
-      (s.trace.low, id_written s.trace.low p.low, refl),
+      record no_span { trace_low = Some s.trace.low; trace_high = Some s.trace.high; id = Some s.id.0 },
+      (s.id.0, id_written s.id.0 p.id, refl),
       (
-        record no_span { trace_low = Some s.trace.low; trace_high = Some s.trace.high },
-        (s.trace.high, id_written s.trace.high p.high, refl),
-        (
-          record no_span { trace_low = Some s.trace.low; trace_high = Some s.trace.high; id = Some s.id.0 },
-          (s.id.0, id_written s.id.0 p.id, refl),
-          (
-            record no_span { trace_low = Some s.trace.low; trace_high = Some s.trace.high; id = Some s.id.0; parent = Some s.parent.0 },
-            (s.parent.0, id_written s.parent.0 p.parent, refl),
-            (front_slots s [], (s.operation, (string_written s.operation p.operation.0, p.operation.1), refl), refl),
-          ),
-        ),
+        record no_span { trace_low = Some s.trace.low; trace_high = Some s.trace.high; id = Some s.id.0; parent = Some s.parent.0 },
+        (s.parent.0, id_written s.parent.0 p.parent, refl),
+        (front_slots s [], (s.operation, (string_written s.operation p.operation.0, p.operation.1), refl), refl),
       ),
-    )
+    ),
+  ),
+)
 
 middle_gathers : (s : Span) → IsProperSpan s → Gathers SpanField (front_slots s s.references) (span_middle s) (middle_slots s [])
 unfolding SpanField front_slots middle_slots
-middle_gathers s p =
-    (
-      record (front_slots s s.references) { flags = Some s.flags },
-      (s.flags, i32_written s.flags p.flags, refl),
-      (
-        record (front_slots s s.references) { flags = Some s.flags; start = Some s.start },
-        (s.start, i64_written s.start p.start, refl),
-        (middle_slots s [], (s.duration, i64_written s.duration p.duration, refl), refl),
-      ),
-    )
+middle_gathers s p = (
+  record (front_slots s s.references) { flags = Some s.flags },
+  (s.flags, i32_written s.flags p.flags, refl),
+  (
+    record (front_slots s s.references) { flags = Some s.flags; start = Some s.start },
+    (s.start, i64_written s.start p.start, refl),
+    (middle_slots s [], (s.duration, i64_written s.duration p.duration, refl), refl),
+  ),
+)
 
 references_gather : (s : Span) → IsProperSpan s → Gathers SpanField (front_slots s []) (list_if_any (pos 6) canon_reference s.references) (front_slots s s.references)
 unfolding SpanField front_slots

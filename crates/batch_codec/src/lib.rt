@@ -9,11 +9,11 @@
 //! * `fault`: why bytes are no batch.
 //! * `values`, `fields`, `items`: single values, a struct's fields up to its stop byte, a list of structs.
 //! * `tag`, `log`, `reference`, `process`, `span`, `batch`: one struct of `jaeger.thrift` each.
+//! * `writer`: [`encode`], the one spelling of a batch.
 //! * `laws`: facts about the definitions.
 #![tactic(auto)]
 
 mod batch;
-mod writer;
 mod fault;
 mod fields;
 mod items;
@@ -24,10 +24,11 @@ mod reference;
 mod span;
 mod tag;
 mod values;
+mod writer;
 
 pub use batch::decode;
-pub use writer::encode;
 pub use fault::{DecodeError, Part};
+pub use writer::encode;
 
 #[cfg(test)]
 mod tests;

@@ -223,3 +223,18 @@ fn levels_of_skipped_lists(rt: HostRuntime) -> Result<(), Fail> {
     assert!(rt; matches!(decode(alloc, &nested(alloc, 65)?), Err(fault) if fault.number() == 4));
     Ok(())
 }
+
+/// A batch of no spans with a number, as it is encoded.
+const NUMBERED: &str = "0c0001 0b0001 00000001 61 00 0f0002 0c 00000000 0a0003 0000000000000001 00";
+
+#[test]
+fn one_spelling(rt: HostRuntime) -> Result<(), Fail> {
+    let alloc = rt.alloc();
+    let numbered = bytes_of(alloc, NUMBERED)?;
+    let again = encode(alloc, &decode(alloc, &numbered)?)?;
+    assert_eq!(rt; again.as_slice(), numbered.as_slice());
+    let batch = decode(alloc, &bytes_of(alloc, ALL)?)?;
+    let encoded = encode(alloc, &batch)?;
+    assert!(rt; batch.is_same(&decode(alloc, &encoded)?));
+    Ok(())
+}
