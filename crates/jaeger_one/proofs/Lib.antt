@@ -6,3 +6,4 @@ pub mod Asking
 pub mod Judgings
 pub mod Said
 pub mod Progressing
+pub mod Finding

@@ -3,6 +3,12 @@ ghost use Rattle.std.specs.Prelude.{◌≡◌, ◌≢◌, ℕ, ◌⊎◌, IfOk, 
 ghost use Rattle.std.specs.Io.KnownBytes.{Appends};
 ghost use Rattle.std.specs.Prelude.{flat_map, Some};
 ghost use Rattle.jaeger_one.specs.Judging.{batch_in, next_entry, admitted, judged, is_written, without_blanks};
+ghost use Rattle.std.specs.Prelude.{List, map, ◌++◌};
+ghost use Rattle.std.specs.List.{list_any};
+ghost use Rattle.std.specs.Arc.{arc_value};
+ghost use Rattle.jaeger_model.specs.Parents.{domain, same_trace};
+ghost use Rattle.trace_model.specs.Histories.{arrivals};
+ghost use Rattle.trace_model.specs.Showing.{of_trace};
 ghost use Rattle.trace_model.specs.Refusals.{refusal_of};
 ghost use Rattle.jaeger_one.specs.Runs.{Finishes, fault_line, found_in, ids_text, names_text, times_text, span_line, trace_lines, status_by};
 ghost use Rattle.jaeger_one.specs.Progress.{TakesAll};
@@ -13,8 +19,8 @@ use crate::lines::Lines;
 use arrival_journal::Journal;
 use batch_codec::{DecodeError, decode};
 use hex::FromHexError;
-use jaeger_model::{Batch, Placed, TraceId};
-use std::alloc::Global;
+use jaeger_model::{Batch, Placed, TraceId, domain};
+use std::alloc::{AllocError, Global};
 use std::io::{Read, Write};
 use std::sync::Arc;
 use trace_model::{Entry, Limits, Refusal, get_trace};
@@ -184,6 +190,73 @@ fn say_spans<W: Write>(writer: &mut W, spans: &[Placed]) -> Result<(), Halt>
     Ok(())
 }
 
+fn is_same_trace(a: TraceId, b: TraceId) -> bool
+    ensures { result ≡ same_trace a b }
+{
+    a.high == b.high && a.low == b.low
+}
+
+/// Adds the spans of the trace that the batch has.
+fn add_spans(
+    alloc: Global,
+    found: &mut Vec<Placed>,
+    batch: &Batch,
+    trace: TraceId,
+) -> Result<(), AllocError>
+    ensures { OnOk result (found.new.items ≡ found.old.items ++ of_trace trace (domain batch.now)) }
+{
+    if !has_trace(batch, trace) {
+        return Ok(());
+    }
+    let mut spans = domain(alloc, batch)?;
+    spans.retain(|p| is_same_trace(trace, p.span.trace));
+    found.append(&mut spans)
+}
+
+/// A span of the batch is of the trace.
+fn has_trace(batch: &Batch, trace: TraceId) -> bool
+    ensures { result ≡ list_any (λ s. same_trace trace s.trace) batch.now.spans }
+{
+    batch
+        .spans
+        .as_slice()
+        .iter()
+        .any(|s| is_same_trace(trace, s.trace))
+}
+
+/// The spans of the trace in all entries, in order.
+fn all_spans(
+    alloc: Global,
+    entries: &[Arc<Entry>],
+    trace: TraceId,
+) -> Result<Vec<Placed>, AllocError>
+    ensures { IfOk result (λ v. v.items ≡ of_trace trace (arrivals (map arc_value entries.now))) }
+{
+    let mut found = Vec::new(alloc);
+    for entry in entries {
+        add_spans(alloc, &mut found, &entry.batch, trace)?;
+    }
+    Ok(found)
+}
+
+/// The shown spans of the trace, or None where there are none. Without a trace limit all are shown.
+fn find_trace(
+    alloc: Global,
+    journal: &Journal,
+    trace: TraceId,
+) -> Result<Option<Vec<Placed>>, AllocError>
+    ensures { IfOk result (λ found. option_map (λ v. v.items) found ≡ found_in journal.now.held trace) }
+{
+    if journal.limits().traces > 0 {
+        return get_trace(alloc, journal.entries(), journal.limits(), trace);
+    }
+    let found = all_spans(alloc, journal.entries(), trace)?;
+    if found.is_empty() {
+        return Ok(None);
+    }
+    Ok(Some(found))
+}
+
 /// Writes the spans of the trace, or that it isn't found, and tells whether it is.
 fn say_trace<W: Write>(
     alloc: Global,
@@ -194,7 +267,7 @@ fn say_trace<W: Write>(
     ensures found { IfOk result (λ found. found ≡ is_some (found_in journal.now.held trace)) }
     ensures lines { OnOk result (Appends (W.contents writer.old) (W.contents writer.new) (trace_lines (found_in journal.now.held trace))) }
 {
-    match get_trace(alloc, journal.entries(), journal.limits(), trace)? {
+    match find_trace(alloc, journal, trace)? {
         Some(spans) => {
             say_spans(writer, spans.as_slice())?;
             Ok(true)

@@ -18,6 +18,8 @@ pub mod halt;
 pub mod line_fault;
 pub mod lines;
 pub mod run;
+#[cfg(test)]
+mod tests;
 pub mod words;
 
 use crate::run::run;

@@ -1,0 +1,104 @@
+#!/usr/bin/env python3
+"""How fast `jaeger_one get` reads batches: bodies per second and megabytes of decoded bytes per second.
+
+Each size is one run of the built program on its own input: realistic batches of 10 to 50 spans with
+5 to 15 tags each, as lines of hexadecimal text. The trace asked for is none of them, so that what is
+timed is reading, decoding and keeping.
+
+    bench/decode.py [--bin PATH] [--sizes 1,10,100] [--keep]
+"""
+import argparse
+import os
+import random
+import struct
+import subprocess
+import tempfile
+import time
+
+ROOT = os.path.dirname(os.path.dirname(os.path.abspath(__file__)))
+KEYS = ["http.method", "http.url", "http.status_code", "component", "peer.service", "peer.address",
+        "db.statement", "db.instance", "error", "span.kind", "sampler.type", "internal.span.format",
+        "request.id", "user.agent", "retry.count"]
+
+
+def text(t):
+    data = t.encode()
+    return struct.pack(">i", len(data)) + data
+
+
+def field(code, number):
+    return struct.pack(">bh", code, number)
+
+
+def tag(rng, key):
+    out = field(11, 1) + text(key)
+    kind = rng.choice([0, 0, 0, 0, 3, 2, 1])
+    out += field(8, 2) + struct.pack(">i", kind)
+    if kind == 0:
+        value = "".join(rng.choice("abcdefghijklmnopqrstuvwxyz/.-0123456789") for _ in range(rng.randint(4, 40)))
+        out += field(11, 3) + text(value)
+    elif kind == 1:
+        out += field(4, 4) + struct.pack(">d", rng.random())
+    elif kind == 2:
+        out += field(2, 5) + bytes([rng.randint(0, 1)])
+    else:
+        out += field(10, 6) + struct.pack(">q", rng.randint(0, 100000))
+    return out + b"\0"
+
+
+def span(rng, trace, number, parent):
+    out = field(10, 1) + struct.pack(">Q", trace)
+    out += field(10, 2) + struct.pack(">q", 0)
+    out += field(10, 3) + struct.pack(">Q", number)
+    out += field(10, 4) + struct.pack(">Q", parent)
+    out += field(11, 5) + text(rng.choice(["GET /orders", "POST /orders", "SELECT", "publish", "HandleRequest"]))
+    out += field(8, 7) + struct.pack(">i", 1)
+    out += field(10, 8) + struct.pack(">q", 1_600_000_000_000_000 + rng.randint(0, 10**9))
+    out += field(10, 9) + struct.pack(">q", rng.randint(10, 10**6))
+    keys = rng.sample(KEYS, rng.randint(5, 15))
+    out += field(15, 10) + bytes([12]) + struct.pack(">i", len(keys)) + b"".join(tag(rng, k) for k in keys)
+    return out + b"\0"
+
+
+def batch(rng):
+    process = field(11, 1) + text(rng.choice(["frontend", "orders", "billing", "catalogue"])) + b"\0"
+    trace = rng.getrandbits(63) | 1
+    count = rng.randint(10, 50)
+    numbers = [rng.getrandbits(63) | 1 for _ in range(count)]
+    spans = b"".join(span(rng, trace, n, numbers[i - 1] if i else 0) for i, n in enumerate(numbers))
+    return field(12, 1) + process + field(15, 2) + bytes([12]) + struct.pack(">i", count) + spans + b"\0"
+
+
+def main():
+    asked = argparse.ArgumentParser(description=__doc__, formatter_class=argparse.RawDescriptionHelpFormatter)
+    asked.add_argument("--bin", default=os.path.join(ROOT, "crates/jaeger_one/out/jaeger_one"))
+    asked.add_argument("--sizes", default="1,10,100", help="megabytes of decoded bytes")
+    asked.add_argument("--keep", action="store_true", help="keep every batch (the program's limits are raised)")
+    options = asked.parse_args()
+    rng = random.Random(1)
+    pool = [batch(rng) for _ in range(400)]
+    lines = [b.hex().encode() + b"\n" for b in pool]
+    print(f"{'size':>8} {'bodies':>8} {'seconds':>8} {'bodies/s':>10} {'MB/s':>8} {'s per MB':>9}")
+    for size in [int(s) for s in options.sizes.split(",")]:
+        with tempfile.NamedTemporaryFile() as file:
+            bodies = total = 0
+            while total < size * 1_000_000:
+                file.write(lines[bodies % len(lines)])
+                total += len(pool[bodies % len(pool)])
+                bodies += 1
+            file.flush()
+            words = [options.bin, "get", "ffffffffffffffff", "--batches", "1000000", "--spans", "10000000"]
+            best = None
+            for _ in range(3):
+                with open(file.name, "rb") as stdin:
+                    start = time.perf_counter()
+                    run = subprocess.run(words, stdin=stdin, capture_output=True)
+                    seconds = time.perf_counter() - start
+                assert run.returncode == 1 and run.stdout == b"trace not found\n", (run.returncode, run.stdout[:200])
+                best = seconds if best is None else min(best, seconds)
+            mb = total / 1_000_000
+            print(f"{mb:7.1f}M {bodies:8} {best:8.3f} {bodies / best:10.0f} {mb / best:8.1f} {best / mb:9.5f}")
+
+
+if __name__ == "__main__":
+    main()
