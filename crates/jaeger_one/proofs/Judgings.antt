@@ -7,7 +7,7 @@ use Rattle.jaeger_model.specs.declared.batch.Batch.{Batch}
 use Rattle.batch_codec.specs.declared.fault.DecodeError.{DecodeError}
 use Rattle.batch_codec.specs.declared.fault.DecodeError.TheVariants.{Wire, Missing, BadEnum, Trailing, Memory}
 use Rattle.batch_codec.specs.Decoding.{Fails}
-use Rattle.batch_codec.specs.BatchReading.{batch_at}
+use Rattle.batch_codec.specs.BatchReading.{decoded}
 use Rattle.trace_model.specs.Held.{Held}
 use Rattle.trace_model.specs.Refusals.{refusal_of}
 use Rattle.jaeger_one.specs.declared.line_fault.LineFault.{LineFault}
@@ -26,11 +26,11 @@ unfolding batch_in
 hex_refused text e other (inl same) = absurd (other same)
 hex_refused text e other (inr is) = sym (ap of_bytes is)
 
-pub bytes_refused : (text bytes : List ℕ) (e : DecodeError) → decode_of text ≡ Ok bytes → (e ≡ Memory → ⊥) → Fails e (batch_at bytes) → Err (Undecodable e) ≡ batch_in text
+pub bytes_refused : (text bytes : List ℕ) (e : DecodeError) → decode_of text ≡ Ok bytes → (e ≡ Memory → ⊥) → Fails e (decoded bytes) → Err (Undecodable e) ≡ batch_in text
 unfolding batch_in
-bytes_refused text bytes e hex other f = sym (ap of_bytes hex ∙ ap of_batch (fails e (batch_at bytes) other f))
+bytes_refused text bytes e hex other f = sym (ap of_bytes hex ∙ ap of_batch (fails e (decoded bytes) other f))
 
-pub batch_read : (text bytes : List ℕ) (b : Batch) → decode_of text ≡ Ok bytes → batch_at bytes ≡ Ok b → Ok b ≡ batch_in text
+pub batch_read : (text bytes : List ℕ) (b : Batch) → decode_of text ≡ Ok bytes → decoded bytes ≡ Ok b → Ok b ≡ batch_in text
 unfolding batch_in
 batch_read text bytes b hex is = sym (ap of_bytes hex ∙ ap of_batch is)
 

@@ -4,7 +4,7 @@ use Rattle.hex.specs.Hex.{decode_of}
 use Rattle.hex.specs.declared.error.FromHexError.{FromHexError}
 use Rattle.jaeger_model.specs.declared.batch.Batch.{Batch}
 use Rattle.batch_codec.specs.declared.fault.DecodeError.{DecodeError}
-use Rattle.batch_codec.specs.BatchReading.{batch_at}
+use Rattle.batch_codec.specs.BatchReading.{decoded}
 use Rattle.trace_model.specs.declared.entry.Entry.{Entry}
 use Rattle.trace_model.specs.declared.refusal.Refusal.{Refusal}
 use Rattle.trace_model.specs.Held.{Held}
@@ -25,7 +25,7 @@ of_batch (Ok batch) = Ok batch
 of_batch (Err fault) = Err (Undecodable fault)
 
 abbrev pub of_bytes : Result (List ℕ) FromHexError → Result Batch LineFault
-of_bytes (Ok bytes) = of_batch (batch_at bytes)
+of_bytes (Ok bytes) = of_batch (decoded bytes)
 of_bytes (Err fault) = Err BadHex
 
 -- the batch that hexadecimal text spells

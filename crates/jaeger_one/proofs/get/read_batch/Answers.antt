@@ -1,13 +1,13 @@
 use Rattle.std.proofs.Common.{◌≡◌, Ok}
 use Rattle.hex.specs.Hex.{decode_of}
-use Rattle.batch_codec.specs.BatchReading.{batch_at}
+use Rattle.batch_codec.specs.BatchReading.{decoded}
 use Rattle.jaeger_one.proofs.Judgings.{hex_refused, bytes_refused, batch_read}
 use Rattle.jaeger_one.proofs.get.read_batch.Goals as goal
 
 pub returns-in-Ok-decode : goal.returns-in-Ok-decode
 returns-in-Ok-decode c =
     let hex : decode_of c.args.text.now ≡ Ok c.in-Ok.bytes.items = c.in-Ok.ensures.ok in
-    let is : batch_at c.in-Ok.bytes.items ≡ Ok c.in-Ok-decode.batch = rw c.as_slice.ensures.value at c.in-Ok-decode.ensures.exact in
+    let is : decoded c.in-Ok.bytes.items ≡ Ok c.in-Ok-decode.batch = rw c.as_slice.ensures.value at c.in-Ok-decode.ensures.exact in
     batch_read _ _ _ hex is
 
 pub returns-in-Err : goal.returns-in-Err
