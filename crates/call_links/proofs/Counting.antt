@@ -15,7 +15,8 @@ use Rattle.std.proofs.lemmas.Bool.{false≢true}
 use Rattle.std.proofs.lemmas.Map.Lookups.{exact_bytes, exact_pairs}
 use Rattle.jaeger_model.specs.Texts.{insert_once, sorted_set, placed_by, text_cmp}
 use Rattle.trace_model.specs.Linking.{call_cmp, same_call, counted}
-use Rattle.trace_model.proofs.Rising.{Below, Rises, has, sorted_set-rises, sorted_set-has}
+use Rattle.trace_model.proofs.Rising.{Below, has, sorted_set-rises, sorted_set-has}
+use Rattle.std.specs.List.Sorted.{IsStrictlySortedBy}
 use Rattle.call_links.specs.Seen.{SeenCall, call_seen}
 use Rattle.call_links.specs.Tallies.{tally, entry_seen, link_of}
 
@@ -54,7 +55,8 @@ module _ {K : Type 0} {cmp : K → K → Ordering} (o : IsTotalOrder cmp) (exact
   same_where_apart f g c h (k ∷ ks) a = λ i. (k, h k a.0 i) ∷ same_where_apart f g c h ks a.1 i
 
   -- one more key, where only its own value changes
-  pub insert_paired : (f g : K → ℕ) (c : K) (v : ℕ) → ((k : K) → is_eq (cmp c k) ≡ false → g k ≡ f k) → g c ≡ v → (ks : List K) → Rises cmp ks → paired g (insert_once cmp ks c) ≡ insert_entry cmp (paired f ks) c v
+  pub insert_paired : (f g : K → ℕ) (c : K) (v : ℕ) → ((k : K) → is_eq (cmp c k) ≡ false → g k ≡ f k) → g c ≡ v → (ks : List K) → IsStrictlySortedBy cmp ks → paired g (insert_once cmp ks c) ≡ insert_entry cmp (paired f ks) c v
+  unfolding IsStrictlySortedBy
   insert_paired f g c v h e [] r = λ i. (c, e i) ∷ []
   insert_paired f g c v h e (k ∷ ks) r = elim (cmp c k) as (λ a. cmp c k ≡ a → paired g (placed_by a (insert_once cmp ks) c k ks) ≡ match_ordering a ((c, v) ∷ (k, f k) ∷ paired f ks) ((k, v) ∷ paired f ks) ((k, f k) ∷ insert_entry cmp (paired f ks) c v)) [
     | Less ↦ λ l. λ i. (c, e i) ∷ (k, h k (ap is_eq l) i) ∷ same_where_apart f g c h ks (apart_below c k ks l r.0) i
