@@ -1,0 +1,4 @@
+pub mod Fronts
+pub mod Cuts
+pub mod Readings
+pub mod Wholes

@@ -1,0 +1,93 @@
+-- What a head asks of a session.
+use Rattle.std.specs.Prelude.{ℕ, ◌+◌, ◌*◌, ◌-◌, ◌==◌, ◌&&◌, ◌||◌, ◌≤◌, Bool, false, not, List, [], ◌∷◌, length, fold, map, if◌then◌else◌, nat_lt, nat_le, codes}
+use Rattle.std.specs.List.{list_all, list_any, before_first}
+use Rattle.std.specs.Char.{is_ascii_digit}
+use Rattle.jaeger_model.specs.Texts.{same_text}
+use Rattle.httparse.specs.Grammar.{RequestHead, trim_ows}
+use Rattle.httparse.specs.Spans.{name_and_value}
+use Rattle.http_requests.specs.Fields.{Pairs, same_name, values_of, has_token}
+use Rattle.http_requests.specs.declared.asked.Method.{Method}
+use Rattle.http_requests.specs.declared.asked.Method.TheVariants.{Get, Post, Other}
+use Rattle.http_requests.specs.declared.asked.BodyLength.{BodyLength}
+use Rattle.http_requests.specs.declared.asked.BodyLength.TheVariants.{Bytes, Unreadable, TooLarge}
+
+abbrev pub pairs_of : RequestHead → Pairs
+pairs_of h = map name_and_value h.fields
+
+-- methods are told in their own case
+abbrev pub method_of : List ℕ → Method
+method_of text = if same_text text (codes "GET") then Get else if same_text text (codes "POST") then Post else Other
+
+-- 1 to 19 digits
+abbrev pub is_number : List ℕ → Bool
+is_number text = nat_lt 0 (length text) && nat_le (length text) 19 && list_all is_ascii_digit text
+
+-- the value of a decimal digit, 0 of any other byte
+abbrev pub digit : ℕ → ℕ
+digit c = if nat_le 48 c && nat_le c 57 then c - 48 else 0
+
+-- the number that decimal digits spell
+abbrev pub number_of : List ℕ → ℕ
+number_of digits = fold (λ n c. n * 10 + digit c) 0 digits
+
+-- a body of so many bytes, of at most 4,194,304
+abbrev pub body_of_size : ℕ → BodyLength
+body_of_size n = if nat_le n 4194304 then Bytes n else TooLarge
+
+-- the body's length by the values of Content-Length; none is a body of no bytes
+abbrev pub length_by : List (List ℕ) → BodyLength
+length_by [] = Bytes 0
+length_by (v ∷ []) = if is_number v then body_of_size (number_of v) else Unreadable
+length_by (v ∷ w ∷ more) = Unreadable
+
+-- a body that is read is no larger
+abbrev pub IsBounded : BodyLength → Type 0
+IsBounded (Bytes n) = n ≤ 4194304
+IsBounded Unreadable = Unit {0}
+IsBounded TooLarge = Unit {0}
+
+-- a body in a transfer coding isn't read
+abbrev pub body_by : Pairs → BodyLength
+body_by ps = if list_any (λ (p : List ℕ × List ℕ). same_name p.0 (codes "transfer-encoding")) ps then Unreadable else length_by (values_of (codes "content-length") ps)
+
+-- some Connection field has the token `close`
+abbrev pub closes_by : Pairs → Bool
+closes_by ps = list_any (λ (p : List ℕ × List ℕ). same_name p.0 (codes "connection") && has_token (codes "close") p.1) ps
+
+-- what stands before any `;`, without white space around it
+abbrev pub media_type : List ℕ → List ℕ
+media_type value = trim_ows (before_first (λ b. b == 59) value)
+
+abbrev pub is_thrift : List ℕ → Bool
+is_thrift media = same_name media (codes "application/x-thrift") || same_name media (codes "application/vnd.apache.thrift.binary")
+
+-- the first Content-Type is one of Thrift's binary protocol
+abbrev pub is_thrift_type : List (List ℕ) → Bool
+is_thrift_type [] = false
+is_thrift_type (v ∷ more) = is_thrift (media_type v)
+
+-- each Content-Encoding is `identity`
+abbrev pub is_plain : Pairs → Bool
+is_plain ps = list_all (λ (p : List ℕ × List ℕ). not (same_name p.0 (codes "content-encoding")) || same_text p.1 (codes "identity")) ps
+
+-- the body may be a batch
+abbrev pub has_batch_type : Pairs → Bool
+has_batch_type ps = is_plain ps && is_thrift_type (values_of (codes "content-type") ps)
+
+-- what a session looks at in a head
+pub record Asked : Type 0 where
+  pub method : Method
+  pub target : List ℕ
+  pub has_batch_type : Bool
+  pub closes : Bool
+
+abbrev pub asked_by : RequestHead → Asked
+asked_by h = record {
+  method = method_of h.method;
+  target = h.target;
+  has_batch_type = has_batch_type (pairs_of h);
+  closes = h.minor == 0 || closes_by (pairs_of h);
+}
+
+abbrev pub body_length : RequestHead → BodyLength
+body_length h = body_by (pairs_of h)

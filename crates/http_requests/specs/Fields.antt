@@ -1,0 +1,41 @@
+-- The fields of a head, by name (RFC 9110, sections 5 and 5.6.1).
+use Rattle.std.specs.Prelude.{◌≡◌, ℕ, ◌==◌, Bool, List, [], ◌∷◌, map, filter, length, nat_lt, if◌then◌else◌, Option, Some, None}
+use Rattle.std.specs.List.{list_any, slice_split, position_or_len, before_first, after_first}
+use Rattle.std.specs.Char.{to_ascii_lowercase}
+use Rattle.jaeger_model.specs.Texts.{same_text}
+use Rattle.httparse.specs.Grammar.{trim_ows}
+use Rattle.http_requests.specs.declared.fields.Values.{Values}
+use Rattle.http_requests.specs.declared.fields.Values.TheVariants.{One, Many}
+use Rattle.http_requests.specs.declared.fields.Values.TheVariants as values
+
+-- names and values, in the order of the fields
+abbrev pub Pairs : Type 0
+Pairs = List (List ℕ × List ℕ)
+
+-- equal texts, in any ASCII case
+abbrev pub same_name : List ℕ → List ℕ → Bool
+same_name a b = same_text (map to_ascii_lowercase a) (map to_ascii_lowercase b)
+
+-- the values of the fields of that name
+abbrev pub values_of : List ℕ → Pairs → List (List ℕ)
+values_of name ps = map (λ (p : List ℕ × List ℕ). p.1) (filter (λ (p : List ℕ × List ℕ). same_name p.0 name) ps)
+
+-- some item of a list that is parted by commas is that token, in any case
+abbrev pub has_token : List ℕ → List ℕ → Bool
+has_token token value = list_any (λ item. same_name (trim_ows item) token) (slice_split (λ b. b == 44) value)
+
+-- none, the one value, or two and more
+abbrev pub AreValues : Values → List (List ℕ) → Type 0
+AreValues values.None vs = vs ≡ []
+AreValues (One v) vs = vs ≡ v.now ∷ []
+AreValues Many vs = (v : List ℕ) × (w : List ℕ) × (more : List (List ℕ)) × (vs ≡ v ∷ w ∷ more)
+
+-- those that were found, where it isn't Many
+abbrev pub values_in : Values → List (List ℕ)
+values_in values.None = []
+values_in (One v) = v.now ∷ []
+values_in Many = []
+
+-- what stands before and behind the first such byte; None where there is none
+abbrev pub cut_at : ℕ → List ℕ → Option (List ℕ × List ℕ)
+cut_at c s = if nat_lt (position_or_len (λ b. b == c) s) (length s) then Some (before_first (λ b. b == c) s, after_first (λ b. b == c) s) else None

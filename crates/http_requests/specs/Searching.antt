@@ -1,0 +1,12 @@
+-- What a search for a head finds.
+use Rattle.std.specs.Prelude.{ℕ, List, Option}
+use Rattle.std.specs.Io.KnownBytes.{IsAtEnd}
+use Rattle.httparse.specs.declared.spans.HeaderSpan.{HeaderSpan}
+use Rattle.http_requests.specs.Heads.{HasNoHead, NeverHasHead, IsWholeHead}
+use Rattle.http_requests.specs.declared.reading.Found.{Found}
+use Rattle.http_requests.specs.declared.reading.Found.TheVariants.{Head, End, Never}
+
+abbrev pub FindsHead : Option (List ℕ) → List ℕ → List HeaderSpan → Found → Type 0
+FindsHead input held headers (Head spans) = IsWholeHead held headers spans
+FindsHead input held headers End = IsAtEnd input × HasNoHead held
+FindsHead input held headers Never = NeverHasHead held

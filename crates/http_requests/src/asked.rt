@@ -1,0 +1,199 @@
+ghost use Rattle.std.specs.Prelude.{◌≡◌, ◌==◌, ◌||◌, ◌<◌, ◌≤◌, length};
+ghost use Rattle.std.specs.List.{list_all};
+ghost use Rattle.std.specs.Char.{is_ascii_digit};
+ghost use Rattle.http_requests.specs.Asked.{method_of, digit, number_of, is_number, body_of_size, body_by, IsBounded, closes_by, media_type, is_thrift, has_batch_type};
+ghost use Rattle.http_requests.specs.Framing.{Frames};
+ghost use Rattle.http_requests.specs.Heads.{IsWholeHead};
+
+use crate::fields::{Fields, Values, cut, is_named, trimmed};
+use crate::head::front_of;
+use httparse::spans::{HeaderSpan, RequestSpans, Span};
+
+/// The most bytes of a body.
+const MOST_BODY_BYTES: u64 = 4_194_304;
+
+/// The methods that some path takes.
+#[derive(Clone, Copy, Debug, PartialEq, Eq)]
+pub enum Method {
+    Get,
+    Post,
+    Other,
+}
+
+/// How long a body is, as the head says.
+#[derive(Clone, Copy, Debug, PartialEq, Eq)]
+pub enum BodyLength {
+    Bytes(u64),
+    /// The head says it in no way that is read: a Transfer-Encoding, two Content-Lengths, or one that
+    /// isn't 1 to 19 digits.
+    Unreadable,
+    /// Above 4,194,304 bytes.
+    TooLarge,
+}
+
+/// Why there is no request.
+#[derive(Clone, Copy, Debug, PartialEq, Eq)]
+pub enum Breach {
+    /// There is no head, and none can come.
+    Head,
+    /// There is a head, and its body can't be read.
+    Body,
+    /// There is a head, and its body is too large.
+    TooLarge,
+}
+
+/// A request at the front of the bytes received.
+#[derive(Clone, Copy, Debug)]
+pub struct Request {
+    pub method: Method,
+    /// Where the target is.
+    pub target: Span,
+    /// The body may be a batch: it is in no content coding, and of a type of Thrift's binary protocol.
+    pub has_batch_type: bool,
+    /// The session is to close behind the response.
+    pub closes: bool,
+    /// How many bytes the head has; the body follows it.
+    pub head_length: usize,
+    pub body_length: usize,
+}
+
+fn method_of(method: &[u8]) -> Method
+    ensures { result ≡ method_of method.now }
+{
+    match method {
+        b"GET" => Method::Get,
+        b"POST" => Method::Post,
+        _ => Method::Other,
+    }
+}
+
+/// The value of a decimal digit, 0 of any other byte.
+fn digit_of(byte: u8) -> u8
+    ensures value { result ≡ digit byte }
+    ensures small { result < 10 }
+{
+    match byte {
+        b'0'..=b'9' => byte - b'0',
+        _ => 0,
+    }
+}
+
+/// The number that decimal digits spell.
+fn value_of(digits: &[u8]) -> u64
+    requires { length digits.now ≤ 19 }
+    ensures { result ≡ number_of digits.now }
+{
+    let mut number: u64 = 0;
+    for byte in digits {
+        number = number * 10 + u64::from(digit_of(*byte));
+    }
+    number
+}
+
+fn are_digits(text: &[u8]) -> bool
+    ensures { result ≡ list_all is_ascii_digit text.now }
+{
+    text.iter().all(|byte| byte.is_ascii_digit())
+}
+
+/// 1 to 19 digits.
+fn is_number(text: &[u8]) -> bool
+    ensures { result ≡ is_number text.now }
+{
+    !text.is_empty() && text.len() <= 19 && are_digits(text)
+}
+
+fn body_of_size(size: u64) -> BodyLength
+    ensures length { result ≡ body_of_size size }
+    ensures bound { IsBounded result }
+{
+    if size <= MOST_BODY_BYTES {
+        BodyLength::Bytes(size)
+    } else {
+        BodyLength::TooLarge
+    }
+}
+
+/// How long the body is, by the fields of the head.
+fn body_length(fields: &Fields<'_>) -> BodyLength
+    ensures length { result ≡ body_by fields.now }
+    ensures bound { IsBounded result }
+{
+    if fields.has("transfer-encoding") {
+        return BodyLength::Unreadable;
+    }
+    match fields.values("content-length") {
+        Values::None => BodyLength::Bytes(0),
+        Values::One(value) if is_number(value) => body_of_size(value_of(value)),
+        Values::One(_) | Values::Many => BodyLength::Unreadable,
+    }
+}
+
+/// What stands before any `;`, without white space around it.
+fn media_type(value: &[u8]) -> &[u8]
+    ensures { result.now ≡ media_type value.now }
+{
+    match cut(value, b';') {
+        Some((front, _)) => trimmed(front),
+        None => trimmed(value),
+    }
+}
+
+fn is_thrift(value: &[u8]) -> bool
+    ensures { result ≡ is_thrift (media_type value.now) }
+{
+    let media = media_type(value);
+    is_named(media, "application/x-thrift")
+        || is_named(media, "application/vnd.apache.thrift.binary")
+}
+
+/// Whether the body may be a batch, by the fields of the head.
+fn has_batch_type(fields: &Fields<'_>) -> bool
+    ensures { result ≡ has_batch_type fields.now }
+{
+    if !fields.all_are("content-encoding", "identity") {
+        return false;
+    }
+    match fields.first("content-type") {
+        Some(value) => is_thrift(value),
+        None => false,
+    }
+}
+
+/// Whether the session is to close behind the response: after HTTP/1.0, and where it is asked to.
+fn closes(version: u8, fields: &Fields<'_>) -> bool
+    ensures { result ≡ (version == 0 || closes_by fields.now) }
+{
+    version == 0 || fields.have_token("connection", "close")
+}
+
+/// What a session asks of the head that stands at the front of the bytes.
+///
+/// # Errors
+///
+/// The head's body can't be read, or is too large.
+
+pub(crate) fn frame(
+    bytes: &[u8],
+    headers: &[HeaderSpan],
+    spans: RequestSpans,
+) -> Result<Request, Breach>
+    requires { IsWholeHead bytes.now headers.now spans }
+    ensures { Frames bytes.now spans.len result }
+{
+    let front = front_of(bytes);
+    let fields = Fields::new(front, &headers[..spans.headers]);
+    let body_length = match body_length(&fields) {
+        BodyLength::Bytes(size) => size as usize,
+        BodyLength::Unreadable => return Err(Breach::Body),
+        BodyLength::TooLarge => return Err(Breach::TooLarge),
+    };
+    Ok(Request {
+        method: method_of(spans.method.of(front)),
+        target: spans.path,
+        has_batch_type: has_batch_type(&fields),
+        closes: closes(spans.version, &fields),
+        head_length: spans.len,
+        body_length,
+    })
+}

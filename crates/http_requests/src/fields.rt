@@ -1,0 +1,162 @@
+ghost use Rattle.std.specs.Prelude.{◌≡◌, ◌++◌, ◌∷◌, [], ◌≤◌, ◌&&◌, ◌||◌, not, List, ℕ, All, length, map, reverse, MatchOption, option_map};
+ghost use Rattle.std.specs.List.{list_any, list_all};
+ghost use Rattle.httparse.specs.Grammar.{trim_ows};
+ghost use Rattle.jaeger_model.specs.Texts.{same_text};
+ghost use Rattle.httparse.specs.Spans.{header_bytes, IsHeaderWithin};
+ghost use Rattle.http_requests.specs.Fields.{same_name, values_of, has_token, AreValues, cut_at};
+
+use httparse::spans::HeaderSpan;
+use std::marker::Model;
+
+/// The fields of a head.
+#[derive(Drop)]
+pub(crate) struct Fields<'a> {
+    bytes: &'a [u8],
+    spans: &'a [HeaderSpan],
+}
+
+impl<'a> Model for Fields<'a> {
+    ghost use Rattle.std.specs.Prelude.{List, ℕ, All, length, map};
+    ghost use Rattle.httparse.specs.Spans.{header_bytes, IsHeaderWithin};
+
+    ghost Value = { List (List ℕ × List ℕ) };
+
+    ghost view = { λ s. map (header_bytes s.bytes.now) s.spans.now };
+
+    ghost invariant = { λ s. All (IsHeaderWithin (length s.bytes.now)) s.spans.now };
+}
+
+/// The values of the fields of one name.
+#[derive(Clone, Copy)]
+pub(crate) enum Values<'a> {
+    None,
+    One(&'a [u8]),
+    Many,
+}
+
+/// The same name, in any ASCII case.
+pub(crate) fn is_named(name: &[u8], wanted: &str) -> bool
+    ensures { result ≡ same_name name.now wanted.now }
+{
+    name.eq_ignore_ascii_case(wanted.as_bytes())
+}
+
+/// The bytes without the spaces and tabs at both ends.
+#[tactic(auto, unfolding(httparse::specs::Grammar::trim_ows))]
+pub(crate) fn trimmed(bytes: &[u8]) -> &[u8]
+    ensures { result.now ≡ trim_ows bytes.now }
+{
+    let mut rest = bytes;
+    while let [b' ' | b'\t', more @ ..] = rest {
+        rest = more;
+    }
+    while let [more @ .., b' ' | b'\t'] = rest {
+        rest = more;
+    }
+    rest
+}
+
+/// What stands before the first such byte, and what stands behind it.
+pub(crate) fn cut(bytes: &[u8], at: u8) -> Option<(&[u8], &[u8])>
+    ensures { option_map (λ p. (p.0.now, p.1.now)) result ≡ cut_at at bytes.now }
+{
+    for place in 0..bytes.len() {
+        if bytes[place] == at {
+            return Some((&bytes[..place], &bytes[place + 1..]));
+        }
+    }
+    None
+}
+
+/// Some item of a list that is parted by commas is that token, in any ASCII case.
+#[tactic(auto, using(crate::proofs::Cuts::more_items, crate::proofs::Cuts::last_item))]
+pub(crate) fn has_token(list: &[u8], token: &str) -> bool
+    ensures { result ≡ has_token token.now list.now }
+{
+    let mut rest = list;
+    while let Some((item, more)) = cut(rest, b',') {
+        if is_named(trimmed(item), token) {
+            return true;
+        }
+        rest = more;
+    }
+    is_named(trimmed(rest), token)
+}
+
+impl<'a> Fields<'a> {
+    /// The fields whose names and values the spans cover.
+    pub(crate) fn new(bytes: &'a [u8], spans: &'a [HeaderSpan]) -> Self
+        requires { All (IsHeaderWithin (length bytes.now)) spans.now }
+        ensures { result ≡ map (header_bytes bytes.now) spans.now }
+    {
+        Fields { bytes, spans }
+    }
+
+    /// Whether a field has that name.
+    pub(crate) fn has(&self, name: &str) -> bool
+        ensures { result ≡ list_any (λ (p : List ℕ × List ℕ). same_name p.0 name.now) self.now }
+    {
+        for span in self.spans {
+            if is_named(span.name.of(self.bytes), name) {
+                return true;
+            }
+        }
+        false
+    }
+
+    /// The values of the fields of that name.
+    pub(crate) fn values(&self, name: &str) -> Values<'a>
+        ensures { AreValues result (values_of name.now self.now) }
+    {
+        let mut found = Values::None;
+        for span in self.spans {
+            if is_named(span.name.of(self.bytes), name) {
+                if let Values::One(_) = found {
+                    return Values::Many;
+                }
+                found = Values::One(span.value.of(self.bytes));
+            }
+        }
+        found
+    }
+
+    /// The value of the first field of that name.
+    pub(crate) fn first(&self, name: &str) -> Option<&'a [u8]>
+        ensures { MatchOption result (values_of name.now self.now ≡ []) (λ v. (more : List (List ℕ)) × (values_of name.now self.now ≡ v.now ∷ more)) }
+    {
+        for span in self.spans {
+            if is_named(span.name.of(self.bytes), name) {
+                return Some(span.value.of(self.bytes));
+            }
+        }
+        None
+    }
+
+    /// Whether some field of that name has the token in its list.
+    pub(crate) fn have_token(&self, name: &str, token: &str) -> bool
+        ensures { result ≡ list_any (λ (p : List ℕ × List ℕ). same_name p.0 name.now && has_token token.now p.1) self.now }
+    {
+        for span in self.spans {
+            if is_named(span.name.of(self.bytes), name)
+                && has_token(span.value.of(self.bytes), token)
+            {
+                return true;
+            }
+        }
+        false
+    }
+
+    /// Whether each field of that name has that value.
+    pub(crate) fn all_are(&self, name: &str, value: &str) -> bool
+        ensures { result ≡ list_all (λ (p : List ℕ × List ℕ). not (same_name p.0 name.now) || same_text p.1 value.now) self.now }
+    {
+        for span in self.spans {
+            if is_named(span.name.of(self.bytes), name)
+                && span.value.of(self.bytes) != value.as_bytes()
+            {
+                return false;
+            }
+        }
+        true
+    }
+}

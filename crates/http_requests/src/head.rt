@@ -1,0 +1,57 @@
+ghost use Rattle.std.specs.Prelude.{◌≡◌, ◌≤◌, length, take};
+ghost use Rattle.http_requests.specs.Heads.{Looks};
+
+use httparse::Status;
+use httparse::spans::{HeaderSpan, RequestSpans, parse_request};
+
+/// The most bytes of a head.
+pub(crate) const MOST_BYTES: usize = 8192;
+
+/// The most fields of a head.
+pub(crate) const MOST_FIELDS: usize = 64;
+
+/// What stands at the front of the bytes received so far.
+#[derive(Clone, Copy, Debug)]
+pub(crate) enum Look {
+    /// A head.
+    Whole(RequestSpans),
+    /// None yet.
+    More,
+    /// None, whatever follows.
+    Never,
+}
+
+/// The bytes that a head may take.
+pub(crate) fn front_of(bytes: &[u8]) -> &[u8]
+    ensures { result.now ≡ take 8192 bytes.now }
+{
+    if bytes.len() < MOST_BYTES {
+        bytes
+    } else {
+        &bytes[..MOST_BYTES]
+    }
+}
+
+/// Looks for a head at the front of the bytes.
+pub(crate) fn look_for_head(bytes: &[u8], headers: &mut [HeaderSpan]) -> Look
+    requires { 64 ≤ length headers.old }
+    ensures { Looks bytes.now headers.new result }
+{
+    match parse_request(front_of(bytes), headers) {
+        Ok(Status::Complete(spans)) => {
+            if spans.headers > MOST_FIELDS {
+                Look::Never
+            } else {
+                Look::Whole(spans)
+            }
+        }
+        Ok(Status::Partial) => {
+            if bytes.len() < MOST_BYTES {
+                Look::More
+            } else {
+                Look::Never
+            }
+        }
+        Err(_) => Look::Never,
+    }
+}

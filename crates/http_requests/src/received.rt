@@ -1,0 +1,123 @@
+ghost use Rattle.std.specs.Prelude.{◌≡◌, ◌≤◌, ◌+◌, [], false, IfErr, OnOk, length, drop};
+ghost use Rattle.http_requests.specs.Receiving.{ReadsOn, Stops};
+
+use session_devices::Input;
+use std::alloc::{AllocError, Global};
+use std::marker::Model;
+
+/// The most reads of one session.
+pub const MOST_READS: u64 = 1_099_511_627_776;
+
+/// The bytes asked for by one read.
+const PIECE: usize = 4096;
+
+/// Why no more bytes could be had.
+#[derive(Clone, Copy, Debug, PartialEq, Eq)]
+pub enum Interrupted {
+    /// The input failed, or was to be read more often than a session may.
+    Reading,
+    Memory,
+}
+
+impl From<AllocError> for Interrupted {
+    ghost use Rattle.std.specs.Prelude.{◌≡◌};
+    ghost use Rattle.http_requests.specs.declared.received.Interrupted.TheVariants.{Memory};
+
+    ghost from_gives = { λ _ why. why ≡ Memory };
+
+    fn from(_: AllocError) -> Self {
+        Interrupted::Memory
+    }
+}
+
+/// The bytes that were read from an input and are not taken yet, how many reads may still be made,
+/// and whether the input has ended.
+#[derive(Drop)]
+pub struct Received {
+    bytes: Vec<u8>,
+    at: usize,
+    left: u64,
+    ended: bool,
+}
+
+impl Model for Received {
+    ghost use Rattle.std.specs.Prelude.{◌≤◌, drop, vec_len};
+    ghost use Rattle.http_requests.specs.Receiving.{Received as Reads};
+
+    ghost Value = { Reads };
+
+    ghost view = { λ s. record { held = drop s.at s.bytes.items; left = s.left; ended = s.ended } };
+
+    ghost invariant = { λ s. s.at ≤ vec_len s.bytes };
+}
+
+impl Received {
+    /// Nothing yet.
+    pub fn new(alloc: Global) -> Self
+        ensures { result ≡ record { held = []; left = 1099511627776; ended = false } }
+    {
+        Received {
+            bytes: Vec::new(alloc),
+            at: 0,
+            left: MOST_READS,
+            ended: false,
+        }
+    }
+
+    /// The bytes that are not taken yet.
+    pub fn as_slice(&self) -> &[u8]
+        ensures { result.now ≡ self.now.held }
+    {
+        &self.bytes.as_slice()[self.at..]
+    }
+
+    /// Whether a read has found the end of the input.
+    pub fn has_ended(&self) -> bool
+        ensures { result ≡ self.now.ended }
+    {
+        self.ended
+    }
+
+    /// Takes bytes from the front.
+    pub fn take(&mut self, count: usize)
+        requires { count ≤ length self.old.held }
+        ensures { self.new ≡ record self.old { held = drop count self.old.held } }
+    {
+        self.at += count;
+    }
+
+    /// Moves what is left to the front. It came with the last read, so that no byte is moved twice.
+    fn compact(&mut self)
+        ensures { self.new ≡ self.old }
+    {
+        if self.at > 0 {
+            let left = self.bytes.len() - self.at;
+            self.bytes.copy_within(self.at.., 0);
+            self.bytes.truncate(left);
+            self.at = 0;
+        }
+    }
+
+    /// Makes one read, of an input that has not ended.
+    pub(crate) fn read_on<R: Input>(&mut self, input: &mut R) -> Result<(), Interrupted>
+        requires { self.old.ended ≡ false }
+        ensures ok { OnOk result (ReadsOn (R.remaining input.old) (R.remaining input.new) self.old self.new) }
+        ensures err { IfErr result (λ why. Stops (R.remaining input.old) (R.remaining input.new) (R.has_failed input.new) self.old why) }
+        ensures same { OnOk result (R.has_failed input.new ≡ R.has_failed input.old) }
+        ensures fewer { OnOk result (self.new.left + 1 ≡ self.old.left) }
+    {
+        if self.left == 0 {
+            return Err(Interrupted::Reading);
+        }
+        self.compact();
+        let mut piece = [0u8; PIECE];
+        let count = match input.read(&mut piece) {
+            Ok(count) => count,
+            Err(_) => return Err(Interrupted::Reading),
+        };
+        self.bytes.extend_from_slice(&piece[..count])?;
+        self.left -= 1;
+        self.ended = count == 0;
+        Ok(())
+    }
+}

@@ -1,0 +1,76 @@
+//! Readers and writers of a session, which tell their bytes and whether they have failed.
+//!
+//! A session over an [`Input`] and an [`Output`] can be spoken of by the bytes that were read and
+//! written, and a failure is told from an end by the device itself.
+//!
+//! * `watched`: std's readers and writers, watched.
+//! * `memory`: devices over memory.
+#![tactic(auto)]
+
+ghost use Rattle.std.specs.Prelude.{◌≡◌, ℕ, List, Bool, true, Option, ◌<◌, length, OnErr, IfOk};
+ghost use Rattle.std.specs.Io.KnownBytes.{ReadConsumes, WriteAppends};
+ghost use Rattle.std.specs.Io.{ReadsAtMost, WritesAtMost};
+
+mod memory;
+mod watched;
+
+pub use memory::{MemoryInput, MemoryOutput};
+pub use watched::Watched;
+
+#[cfg(test)]
+mod tests;
+
+/// The device failed.
+#[derive(Clone, Copy, Debug, PartialEq, Eq)]
+pub struct Failed;
+
+/// A reader that remembers whether it has failed.
+pub trait Input {
+    /// The bytes that reads will give from here on, where they are known.
+    ghost remaining: { Self → Option (List ℕ) };
+
+    ghost has_failed: { Self → Bool };
+
+    /// Reads some bytes to the front of the buffer and tells how many. 0 for a buffer with room says
+    /// that the input has ended.
+    ///
+    /// # Errors
+    ///
+    /// The device has failed, now and for good; nothing else makes [`Input::failed`] true, and nothing
+    /// makes it false again.
+    fn read(&mut self, buf: &mut [u8]) -> Result<usize, Failed>
+        ensures bound { ReadsAtMost result buf.new }
+        ensures bytes { ReadConsumes (remaining self.old) (remaining self.new) result buf.new }
+        ensures ok { IfOk result (λ n. has_failed self.new ≡ has_failed self.old) }
+        ensures err { OnErr result (has_failed self.new ≡ true) };
+
+    /// Whether a read has failed.
+    fn failed(&self) -> bool
+        ensures { result ≡ has_failed self.now };
+}
+
+/// A writer that remembers whether it has failed.
+pub trait Output {
+    /// The bytes that the writer holds, where they are known.
+    ghost contents: { Self → Option (List ℕ) };
+
+    ghost has_failed: { Self → Bool };
+
+    /// Writes some bytes from the front of the buffer, at least one where it has any, and tells how
+    /// many.
+    ///
+    /// # Errors
+    ///
+    /// The device has failed, now and for good: also where it took nothing of a buffer that isn't
+    /// empty.
+    fn write(&mut self, buf: &[u8]) -> Result<usize, Failed>
+        ensures bound { WritesAtMost result buf.now }
+        ensures some { IfOk result (λ n. 0 < length buf.now → 0 < n) }
+        ensures bytes { WriteAppends (contents self.old) (contents self.new) result buf.now }
+        ensures ok { IfOk result (λ n. has_failed self.new ≡ has_failed self.old) }
+        ensures err { OnErr result (has_failed self.new ≡ true) };
+
+    /// Whether a write has failed.
+    fn failed(&self) -> bool
+        ensures { result ≡ has_failed self.now };
+}

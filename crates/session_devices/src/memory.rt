@@ -1,0 +1,105 @@
+ghost use Rattle.std.specs.Prelude.{◌≡◌, Some, false, []};
+
+use crate::{Failed, Input, Output};
+use std::alloc::Global;
+
+/// A reader over memory, which gives at most so many bytes a call and can be made to fail.
+#[derive(Drop)]
+pub struct MemoryInput<'a> {
+    bytes: &'a [u8],
+    step: usize,
+    calls: u64,
+    fails_at: u64,
+    failed: bool,
+}
+
+impl<'a> MemoryInput<'a> {
+    /// Gives the bytes, at most `step` a call (one, where that is 0), and fails at call `fails_at`,
+    /// counted from 1; at 0 it never fails.
+    pub fn new(bytes: &'a [u8], step: usize, fails_at: u64) -> Self
+        ensures bytes { result.bytes.now ≡ bytes.now }
+        ensures failed { result.failed ≡ false }
+    {
+        MemoryInput {
+            bytes,
+            step,
+            calls: 0,
+            fails_at,
+            failed: false,
+        }
+    }
+}
+
+impl<'a> Input for MemoryInput<'a> {
+    ghost remaining = { λ s. Some s.bytes.now };
+
+    ghost has_failed = { λ s. s.failed };
+
+    fn read(&mut self, buf: &mut [u8]) -> Result<usize, Failed> {
+        self.calls = self.calls.saturating_add(1);
+        if self.calls == self.fails_at {
+            self.failed = true;
+            return Err(Failed);
+        }
+        let count = buf.len().min(self.step.max(1)).min(self.bytes.len());
+        buf[..count].copy_from_slice(&self.bytes[..count]);
+        self.bytes = &self.bytes[count..];
+        Ok(count)
+    }
+
+    fn failed(&self) -> bool {
+        self.failed
+    }
+}
+
+/// A writer over memory, which takes at most so many bytes a call and has room for so many.
+#[derive(Drop)]
+pub struct MemoryOutput {
+    bytes: Vec<u8>,
+    room: usize,
+    step: usize,
+    failed: bool,
+}
+
+impl MemoryOutput {
+    /// Takes at most `step` bytes a call (one, where that is 0), and `room` bytes in all.
+    pub fn new(alloc: Global, room: usize, step: usize) -> Self
+        ensures bytes { result.bytes.items ≡ [] }
+        ensures failed { result.failed ≡ false }
+    {
+        MemoryOutput {
+            bytes: Vec::new(alloc),
+            room,
+            step,
+            failed: false,
+        }
+    }
+
+    /// What was written.
+    pub fn as_slice(&self) -> &[u8]
+        ensures { result.now ≡ self.now.bytes.items }
+    {
+        self.bytes.as_slice()
+    }
+}
+
+impl Output for MemoryOutput {
+    ghost contents = { λ s. Some s.bytes.items };
+
+    ghost has_failed = { λ s. s.failed };
+
+    fn write(&mut self, buf: &[u8]) -> Result<usize, Failed> {
+        let count = buf.len().min(self.step.max(1)).min(self.room);
+        let taken = self.bytes.extend_from_slice(&buf[..count]).is_ok();
+        if !taken || (count == 0 && !buf.is_empty()) {
+            self.failed = true;
+            return Err(Failed);
+        }
+        self.room -= count;
+        Ok(count)
+    }
+
+    fn failed(&self) -> bool {
+        self.failed
+    }
+}
