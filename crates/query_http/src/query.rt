@@ -189,7 +189,7 @@ pub fn read_query(
 }
 
 /// A target's path, and the rest behind its first `?`.
-fn path_and_form(target: &str) -> (&str, &str)
+pub fn path_and_form(target: &str) -> (&str, &str)
     ensures path { result.0.now ≡ path_of target.now }
     ensures form { result.1.now ≡ form_of target.now }
 {

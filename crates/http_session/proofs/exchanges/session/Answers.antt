@@ -1,0 +1,32 @@
+use Rattle.http_session.specs.Related.{nothing_seen}
+use Rattle.http_session.proofs.Points.{related, begin}
+use Rattle.http_session.proofs.Turns.{begins, fails_judging}
+use Rattle.http_session.proofs.exchanges.session.Goals as goal
+
+pub returns-in_default-clause-fault : goal.returns-in_default-clause-fault
+returns-in_default-clause-fault g c =
+    let fails = fails_judging g.B.Backend.submits g.B.Backend.reads _ _ _ _ _ _ _ _ (g.R.Input.has_failed c.args.input.now) (g.W.Output.has_failed c.args.output.now)
+    (begins g.B.Backend.submits g.B.Backend.reads (g.R.Input.remaining c.args.input.now) (g.W.Output.contents c.args.output.now) c.args.backend.now) in (
+      fails,
+      related g.B.Backend.limits g.B.Backend.knows g.B.Backend.submits g.B.Backend.reads g.met.B.Backend.submit_knows g.met.B.Backend.read_knows
+          (g.B.Backend.limits c.args.backend.now) (g.B.Backend.knows c.args.backend.now) c.args.backend.now _ nothing_seen _
+          (begin g.B.Backend.limits g.B.Backend.knows g.B.Backend.submits g.B.Backend.reads g.met.B.Backend.submit_knows g.met.B.Backend.read_knows c.args.backend.now) fails.run,
+    )
+
+pub returns-in-Ok-run_session-clause-ended : goal.returns-in-Ok-run_session-clause-ended
+returns-in-Ok-run_session-clause-ended g c =
+    let ends = c.in-Ok-run_session.ensures.ended in (
+      ends,
+      related g.B.Backend.limits g.B.Backend.knows g.B.Backend.submits g.B.Backend.reads g.met.B.Backend.submit_knows g.met.B.Backend.read_knows
+          (g.B.Backend.limits c.args.backend.now) (g.B.Backend.knows c.args.backend.now) c.args.backend.now _ nothing_seen _
+          (begin g.B.Backend.limits g.B.Backend.knows g.B.Backend.submits g.B.Backend.reads g.met.B.Backend.submit_knows g.met.B.Backend.read_knows c.args.backend.now) ends.run,
+    )
+
+pub returns-clause-fault : goal.returns-clause-fault
+returns-clause-fault g c =
+    let fails = c.in-Err.ensures.fault in (
+      fails,
+      related g.B.Backend.limits g.B.Backend.knows g.B.Backend.submits g.B.Backend.reads g.met.B.Backend.submit_knows g.met.B.Backend.read_knows
+          (g.B.Backend.limits c.args.backend.now) (g.B.Backend.knows c.args.backend.now) c.args.backend.now _ nothing_seen _
+          (begin g.B.Backend.limits g.B.Backend.knows g.B.Backend.submits g.B.Backend.reads g.met.B.Backend.submit_knows g.met.B.Backend.read_knows c.args.backend.now) fails.run,
+    )

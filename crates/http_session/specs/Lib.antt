@@ -1,0 +1,4 @@
+pub mod Verdicts
+pub mod Replies
+pub mod Sessions
+pub mod Related

@@ -1,0 +1,75 @@
+-- What a request asks: by its path, its method, its content, and its body or its parameters.
+use Rattle.std.specs.Prelude.{◌≡◌, ℕ, ◌+◌, ◌⊎◌, Bool, true, false, List, slice_range, Result, Ok, Err}
+use Rattle.batch_codec.specs.BatchReading.{decoded}
+use Rattle.trace_model.specs.declared.query.Query.{Query}
+use Rattle.http_requests.specs.Asked.{Asked}
+use Rattle.http_requests.specs.declared.asked.Method.{Method}
+use Rattle.http_requests.specs.declared.asked.Method.TheVariants.{Get, Post, Other}
+use Rattle.http_requests.specs.declared.asked.Request.{Request}
+use Rattle.query_http.specs.declared.fault.Parameter.{Parameter}
+use Rattle.query_http.specs.declared.paths.Endpoint.{Endpoint}
+use Rattle.query_http.specs.declared.paths.Endpoint.TheVariants.{Traces, Trace, Services, OperationNames, Operations, Dependencies}
+use Rattle.query_http.specs.Paths.{IsPath, IsNoPath}
+use Rattle.query_http.specs.Forms.{pairs_of}
+use Rattle.query_http.specs.Queries.{query_at, path_of, form_of}
+use Rattle.http_session.specs.declared.verdict.Remark.TheVariants.{NoSuchPath, NotAllowed, UnsupportedType, BatchRefused, BadParameter, NoMemory}
+use Rattle.http_session.specs.declared.verdict.Verdict.{Verdict}
+use Rattle.http_session.specs.declared.verdict.Verdict.TheVariants.{Submit, Ask, Say}
+
+-- the head of a request at the front of the bytes
+abbrev pub asked_of : List ℕ → Request → Asked
+asked_of bytes r = record { method = r.method; target = slice_range bytes r.target.start r.target.end; has_batch_type = r.has_batch_type; closes = r.closes }
+
+abbrev pub body_of : List ℕ → Request → List ℕ
+body_of bytes r = slice_range bytes r.head_length (r.head_length + r.body_length)
+
+-- each endpoint takes GET, and the one of traces takes POST too
+abbrev pub allows : Endpoint → Method → Bool
+allows e Get = true
+allows Traces Post = true
+allows Trace Post = false
+allows Services Post = false
+allows OperationNames Post = false
+allows Operations Post = false
+allows Dependencies Post = false
+allows e Other = false
+
+-- a query, or the first parameter that can't be read
+abbrev pub JudgesQuery : Result Query Parameter → Verdict → Type 0
+JudgesQuery read (Ask q) = read ≡ Ok q
+JudgesQuery read (Say (BadParameter p)) = read ≡ Err p
+JudgesQuery read (Say NoSuchPath) = ⊥
+JudgesQuery read (Say (NotAllowed e)) = ⊥
+JudgesQuery read (Say UnsupportedType) = ⊥
+JudgesQuery read (Say (BatchRefused f)) = ⊥
+JudgesQuery read (Say NoMemory) = ⊥
+JudgesQuery read (Submit b) = ⊥
+
+-- a batch that is handed in: its content first, then its bytes; memory may be wanting for it
+abbrev pub JudgesBatch : Bool → List ℕ → Verdict → Type 0
+JudgesBatch has_type body (Submit b) = (has_type ≡ true) × (decoded body ≡ Ok b)
+JudgesBatch has_type body (Say (BatchRefused f)) = (has_type ≡ true) × (decoded body ≡ Err f)
+JudgesBatch has_type body (Say NoMemory) = has_type ≡ true
+JudgesBatch has_type body (Say UnsupportedType) = has_type ≡ false
+JudgesBatch has_type body (Say NoSuchPath) = ⊥
+JudgesBatch has_type body (Say (NotAllowed e)) = ⊥
+JudgesBatch has_type body (Say (BadParameter p)) = ⊥
+JudgesBatch has_type body (Ask q) = ⊥
+
+-- the endpoint that the request's path has, with its part
+pub record AtEndpoint (a : Asked) (Then : Endpoint → List ℕ → Type 0) : Type 0 where
+  pub endpoint : Endpoint
+  pub part : List ℕ
+  pub path : IsPath endpoint part (path_of a.target)
+  pub next : Then endpoint part
+
+-- by the method: a query, a batch, or none that the endpoint takes
+abbrev pub JudgesMethod : Asked → List ℕ → Verdict → Endpoint → List ℕ → Type 0
+JudgesMethod a body v e part =
+    ((a.method ≡ Get) × JudgesQuery (query_at e part (pairs_of (form_of a.target))) v)
+    ⊎ ((e ≡ Traces) × (a.method ≡ Post) × JudgesBatch a.has_batch_type body v)
+    ⊎ ((allows e a.method ≡ false) × (v ≡ Say (NotAllowed e)))
+
+-- no endpoint has the path, or what its endpoint makes of it
+abbrev pub Judges : Asked → List ℕ → Verdict → Type 0
+Judges a body v = (IsNoPath (path_of a.target) × (v ≡ Say NoSuchPath)) ⊎ AtEndpoint a (JudgesMethod a body v)

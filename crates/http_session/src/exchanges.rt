@@ -1,0 +1,225 @@
+ghost use Rattle.std.specs.Prelude.{◌≡◌, false, IfOk, IfErr, ◌||◌, ◌++◌};
+ghost use Rattle.query_http.specs.Paths.{endpoint_rows};
+ghost use Rattle.http_session.specs.Replies.{response_of, closes};
+ghost use Rattle.http_session.specs.Sessions.{EndsAs, FailsAs, Step, Says, cause_by, last_of, exchange_due};
+ghost use Rattle.http_session.specs.Related.{Related, nothing_seen};
+
+use crate::reply::Reply;
+use crate::send::send;
+use crate::verdict::{Verdict, judge};
+use http_requests::{Interrupted, Next, Received, Request, next_request};
+use matchit::Router;
+use query_http::{Endpoint, endpoints};
+use session_devices::{Input, Output};
+use std::alloc::Global;
+use std::mem::drop;
+use store_backend::Backend;
+
+/// How a session ended.
+#[derive(Clone, Copy, Debug, PartialEq, Eq)]
+pub struct Ended {
+    /// How many responses were written.
+    pub answered: u64,
+    /// The input ended between two requests.
+    pub clean: bool,
+}
+
+/// Why a session could not go on.
+#[derive(Clone, Copy, Debug, PartialEq, Eq)]
+pub enum Cause {
+    /// The input failed, or was to be read more often than a session may.
+    Reading,
+    /// The output failed.
+    Writing,
+    Memory,
+}
+
+/// A session that could not go on.
+#[derive(Clone, Copy, Debug, PartialEq, Eq)]
+pub struct SessionFault {
+    /// How many responses were written whole.
+    pub answered: u64,
+    /// How many bytes of the next one were written.
+    pub written: u64,
+    pub cause: Cause,
+}
+
+/// Why a response wasn't written whole.
+#[derive(Clone, Copy, Debug)]
+pub(crate) struct Silence {
+    pub(crate) written: usize,
+    pub(crate) cause: Cause,
+}
+
+impl Silence {
+    fn after(self, answered: u64) -> SessionFault
+        ensures { result ≡ record { answered = answered; written = self.written; cause = self.cause } }
+    {
+        SessionFault {
+            answered,
+            written: self.written as u64,
+            cause: self.cause,
+        }
+    }
+}
+
+fn cause_of(why: Interrupted) -> Cause
+    ensures { result ≡ cause_by why }
+{
+    match why {
+        Interrupted::Reading => Cause::Reading,
+        Interrupted::Memory => Cause::Memory,
+    }
+}
+
+/// Asks the store where the request needs it.
+fn answer<T, B: Backend<T>>(rt: &T, alloc: Global, backend: &mut B, verdict: Verdict) -> Reply
+    ensures { Step B.submits B.reads backend.old verdict result backend.new }
+{
+    match verdict {
+        Verdict::Submit(batch) => match backend.submit(rt, alloc, batch) {
+            Ok(_) => Reply::Accepted,
+            Err(refusal) => Reply::Refused(refusal),
+        },
+        Verdict::Ask(query) => match backend.read(alloc, &query) {
+            Ok(found) => Reply::Answered(found),
+            Err(refusal) => Reply::Refused(refusal),
+        },
+        Verdict::Say(remark) => Reply::Said(remark),
+    }
+}
+
+/// Whether the session closes behind the reply to a request.
+fn closes_behind(request: &Request, reply: &Reply) -> bool
+    ensures { result ≡ (request.now.closes || closes reply.now) }
+{
+    request.closes || reply.closes()
+}
+
+/// Writes the response of a reply.
+fn say<W: Output>(alloc: Global, output: &mut W, reply: &Reply, close: bool) -> Result<(), Silence>
+    ensures { Says (W.contents output.old) (W.contents output.new) (W.has_failed output.old) (W.has_failed output.new) (response_of reply.now close) result }
+{
+    let Ok(bytes) = reply.response(alloc, close) else {
+        return Err(Silence {
+            written: 0,
+            cause: Cause::Memory,
+        });
+    };
+    match send(output, bytes.as_slice()) {
+        Ok(()) => Ok(()),
+        Err(written) => Err(Silence {
+            written,
+            cause: Cause::Writing,
+        }),
+    }
+}
+
+/// Answers the requests of the input one after the other.
+fn run_session<T, R: Input, W: Output, B: Backend<T>>(
+    rt: &T,
+    alloc: Global,
+    router: &Router<Endpoint>,
+    input: &mut R,
+    output: &mut W,
+    backend: &mut B,
+) -> Result<Ended, SessionFault>
+    requires routes { router.now ≡ endpoint_rows }
+    requires input_works { R.has_failed input.old ≡ false }
+    requires output_works { W.has_failed output.old ≡ false }
+    ensures ended { IfOk result (λ e. EndsAs B.submits B.reads (R.remaining input.old) (R.remaining input.new) (W.contents output.old) (W.contents output.new) backend.old backend.new e.answered e.clean) }
+    ensures fault { IfErr result (λ f. FailsAs B.submits B.reads (R.remaining input.old) (R.remaining input.new) (W.contents output.old) (W.contents output.new) backend.old backend.new (R.has_failed input.new) (W.has_failed output.new) f) }
+{
+    let mut received = Received::new(alloc);
+    let mut answered = 0u64;
+    'requests: loop {
+        let request = match next_request(input, &mut received) {
+            Err(why) => {
+                return Err(SessionFault {
+                    answered,
+                    written: 0,
+                    cause: cause_of(why),
+                });
+            }
+            Ok(Next::Clean) => {
+                return Ok(Ended {
+                    answered,
+                    clean: true,
+                });
+            }
+            Ok(Next::Broken(breach)) => {
+                if let Err(silence) = say(alloc, output, &Reply::Broken(breach), true) {
+                    return Err(silence.after(answered));
+                }
+                return Ok(Ended {
+                    answered: answered + 1,
+                    clean: false,
+                });
+            }
+            Ok(Next::One(request)) => request,
+        };
+        let Ok(verdict) = judge(alloc, router, received.as_slice(), &request) else {
+            return Err(SessionFault {
+                answered,
+                written: 0,
+                cause: Cause::Memory,
+            });
+        };
+        let reply = answer(rt, alloc, backend, verdict);
+        let close = closes_behind(&request, &reply);
+        let said = say(alloc, output, &reply, close);
+        drop(reply);
+        if let Err(silence) = said {
+            return Err(silence.after(answered));
+        }
+        answered += 1;
+        if close {
+            return Ok(Ended {
+                answered,
+                clean: false,
+            });
+        }
+        received.take(request.head_length + request.body_length);
+    }
+}
+
+/// Answers the requests of the input one after the other, until the input ends between two of them or a
+/// response closes the session.
+///
+/// The bytes read are the texts of requests and a rest, the bytes written one response to each, and a
+/// parting one where there is no request. A batch is accepted where the response says so, and each
+/// answer is the plain store's, at a point of one growing history: never before the point of an earlier
+/// answer, nor before a batch that was accepted.
+///
+/// # Errors
+///
+/// A device failed, the input was to be read more than 1,099,511,627,776 times, or memory was wanting
+/// for a head, a body, a query or a response. A batch that was accepted before stays so.
+pub fn session<T, R: Input, W: Output, B: Backend<T>>(
+    rt: &T,
+    alloc: Global,
+    input: &mut R,
+    output: &mut W,
+    backend: &mut B,
+) -> Result<Ended, SessionFault>
+    requires input_works { R.has_failed input.old ≡ false }
+    requires output_works { W.has_failed output.old ≡ false }
+
+    ensures ended { IfOk result (λ e. (ends : EndsAs B.submits B.reads (R.remaining input.old) (R.remaining input.new) (W.contents output.old) (W.contents output.new) backend.old backend.new e.answered e.clean)
+        × Related (B.knows backend.old) (B.limits backend.old) nothing_seen (ends.opens ++ last_of ends.ending)) }
+
+    ensures fault { IfErr result (λ f. (fails : FailsAs B.submits B.reads (R.remaining input.old) (R.remaining input.new) (W.contents output.old) (W.contents output.new) backend.old backend.new (R.has_failed input.new) (W.has_failed output.new) f)
+        × Related (B.knows backend.old) (B.limits backend.old) nothing_seen (fails.opens ++ exchange_due fails.next)) }
+{
+    let Ok(router) = endpoints(alloc) else {
+        return Err(SessionFault {
+            answered: 0,
+            written: 0,
+            cause: Cause::Memory,
+        });
+    };
+    match run_session(rt, alloc, &router, input, output, backend) {
+        Ok(ended) => Ok(ended),
+        Err(fault) => Err(fault),
+    }
+}

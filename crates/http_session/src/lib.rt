@@ -1,0 +1,20 @@
+//! An HTTP session: requests of an input answered one after the other on an output, over a store.
+//!
+//! What is written is proved to be related to what is read: the bytes read are requests and a rest, the
+//! bytes written are one response each, and every answer of the store is that of the plain store at a
+//! point of one growing history ([`session`]).
+//!
+//! * `verdict`: what a request asks of the store, or what is said to it without asking.
+//! * `reply`: what is answered, and its response.
+//! * `send`: writing all of a piece.
+//! * `exchanges`: the session, one exchange after the other.
+#![tactic(auto)]
+
+mod exchanges;
+mod reply;
+mod send;
+mod verdict;
+
+pub use exchanges::{Cause, Ended, SessionFault, session};
+pub use reply::Reply;
+pub use verdict::{Remark, Verdict};

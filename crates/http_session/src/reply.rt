@@ -1,0 +1,157 @@
+ghost use Rattle.std.specs.Prelude.{◌≡◌, IfOk, string_bytes};
+ghost use Rattle.http_session.specs.Replies.{status_of, allow_of, body_of, closes, response_of, remark_message, remark_status, refusal_status, refusal_message, breach_status, breach_message};
+
+use crate::verdict::Remark;
+use http_requests::Breach;
+use query_http::{Endpoint, respond};
+use query_json::{answer_text, error_text};
+use std::alloc::{AllocError, Global};
+use trace_model::{Answer, Refusal};
+
+/// What is answered to a request.
+#[derive(Debug, Drop)]
+pub enum Reply {
+    /// The batch was accepted.
+    Accepted,
+    /// The store's answer to a query.
+    Answered(Answer),
+    /// The store took the batch not, or gave no answer.
+    Refused(Refusal),
+    /// The store wasn't asked.
+    Said(Remark),
+    /// There is no request to answer.
+    Broken(Breach),
+}
+
+fn refusal_status(refusal: Refusal) -> u16
+    ensures { result ≡ refusal_status refusal }
+{
+    match refusal {
+        Refusal::JournalFull { .. } | Refusal::Deferred | Refusal::Busy | Refusal::Closed => 503,
+        _ => 500,
+    }
+}
+
+fn refusal_message(refusal: Refusal) -> &'static str
+    ensures { result.now ≡ refusal_message refusal }
+{
+    match refusal {
+        Refusal::JournalFull { .. } => "journal full",
+        Refusal::Deferred => "deferred",
+        Refusal::Busy => "busy",
+        Refusal::Closed => "closed",
+        Refusal::NoMemory => "out of memory",
+        _ => "internal error",
+    }
+}
+
+fn remark_status(remark: Remark) -> u16
+    ensures { result ≡ remark_status remark }
+{
+    match remark {
+        Remark::NoSuchPath => 404,
+        Remark::NotAllowed(_) => 405,
+        Remark::UnsupportedType => 415,
+        Remark::BatchRefused(_) | Remark::BadParameter(_) => 400,
+        Remark::NoMemory => 500,
+    }
+}
+
+fn remark_message(alloc: Global, remark: Remark) -> Result<String, AllocError>
+    ensures { IfOk result (λ s. string_bytes s ≡ remark_message remark) }
+{
+    match remark {
+        Remark::NoSuchPath => String::from_str(alloc, "no such path"),
+        Remark::NotAllowed(_) => String::from_str(alloc, "method not allowed"),
+        Remark::UnsupportedType => String::from_str(alloc, "unsupported content type"),
+        Remark::BatchRefused(fault) => format!(in alloc; "batch refused: {fault}"),
+        Remark::BadParameter(parameter) => {
+            let name = parameter.name();
+            format!(in alloc; "bad parameter: {name}")
+        }
+        Remark::NoMemory => String::from_str(alloc, "out of memory"),
+    }
+}
+
+fn breach_status(breach: Breach) -> u16
+    ensures { result ≡ breach_status breach }
+{
+    match breach {
+        Breach::Head | Breach::Body => 400,
+        Breach::TooLarge => 413,
+    }
+}
+
+fn breach_message(breach: Breach) -> &'static str
+    ensures { result.now ≡ breach_message breach }
+{
+    match breach {
+        Breach::Head => "bad request head",
+        Breach::Body => "bad request body",
+        Breach::TooLarge => "body too large",
+    }
+}
+
+impl Reply {
+    /// The status of its response.
+    pub fn status(&self) -> u16
+        ensures { result ≡ status_of self.now }
+    {
+        match self {
+            Reply::Accepted => 202,
+            Reply::Answered(Answer::Trace(None)) => 404,
+            Reply::Answered(_) => 200,
+            Reply::Refused(refusal) => refusal_status(*refusal),
+            Reply::Said(remark) => remark_status(*remark),
+            Reply::Broken(breach) => breach_status(*breach),
+        }
+    }
+
+    /// The methods that the endpoint takes, where the request's is none of them; else nothing.
+    fn allow(&self) -> &'static str
+        ensures { result.now ≡ allow_of self.now }
+    {
+        match self {
+            Reply::Said(Remark::NotAllowed(Endpoint::Traces)) => "GET, POST",
+            Reply::Said(Remark::NotAllowed(_)) => "GET",
+            _ => "",
+        }
+    }
+
+    /// Whether the session closes behind it, whatever the request asks.
+    pub fn closes(&self) -> bool
+        ensures { result ≡ closes self.now }
+    {
+        matches!(self, Reply::Said(Remark::NotAllowed(_)) | Reply::Broken(_))
+    }
+
+    /// The body of its response.
+    fn body(&self, alloc: Global) -> Result<String, AllocError>
+        ensures { IfOk result (λ s. string_bytes s ≡ body_of self.now) }
+    {
+        let status = self.status();
+        match self {
+            Reply::Accepted => Ok(String::new(alloc)),
+            Reply::Answered(answer) => answer_text(alloc, answer),
+            Reply::Refused(refusal) => error_text(alloc, status, refusal_message(*refusal)),
+            Reply::Said(remark) => {
+                let message = remark_message(alloc, *remark)?;
+                error_text(alloc, status, message.as_str())
+            }
+            Reply::Broken(breach) => error_text(alloc, status, breach_message(*breach)),
+        }
+    }
+
+    /// The bytes of its response.
+    ///
+    /// # Errors
+    ///
+    /// Want of memory alone.
+    #[tactic(auto, unfolding(crate::specs::Replies::response_of))]
+    pub fn response(&self, alloc: Global, close: bool) -> Result<Vec<u8>, AllocError>
+        ensures { IfOk result (λ v. v.items ≡ response_of self.now close) }
+    {
+        let body = self.body(alloc)?;
+        respond(alloc, self.status(), body.as_bytes(), self.allow(), close)
+    }
+}

@@ -1,0 +1,24 @@
+ghost use Rattle.std.specs.Prelude.{◌≡◌, ◌≤◌, true, OnOk, IfErr, length, take};
+ghost use Rattle.std.specs.Io.KnownBytes.{Appends};
+
+use session_devices::Output;
+
+/// Writes all of the bytes.
+///
+/// # Errors
+///
+/// The writer failed; how many of the bytes it took before.
+pub(crate) fn send<W: Output>(output: &mut W, bytes: &[u8]) -> Result<(), usize>
+    ensures ok { OnOk result (Appends (W.contents output.old) (W.contents output.new) bytes.now) }
+    ensures same { OnOk result (W.has_failed output.new ≡ W.has_failed output.old) }
+    ensures err { IfErr result (λ n. (n ≤ length bytes.now) × Appends (W.contents output.old) (W.contents output.new) (take n bytes.now) × (W.has_failed output.new ≡ true)) }
+{
+    let mut done = 0;
+    while done < bytes.len() {
+        match output.write(&bytes[done..]) {
+            Ok(count) => done += count,
+            Err(_) => return Err(done),
+        }
+    }
+    Ok(())
+}

@@ -1,0 +1,54 @@
+-- What a store knows: lists of entries, and what stands in them.
+use Rattle.std.specs.Prelude.{◌≡◌, ℕ, ◌+◌, List, ◌∷◌, ◌++◌, length, Result, Ok, Err}
+use Rattle.jaeger_model.specs.declared.batch.Batch.{Batch}
+use Rattle.trace_model.specs.declared.entry.Entry.{Entry}
+use Rattle.trace_model.specs.declared.limits.Limits.{Limits}
+use Rattle.trace_model.specs.declared.query.Query.{Query}
+use Rattle.trace_model.specs.declared.answer.Answer.{Answer}
+use Rattle.trace_model.specs.declared.refusal.Refusal.{Refusal}
+use Rattle.trace_model.specs.Histories.{IsLegal}
+use Rattle.trace_model.specs.Answers.{answer}
+
+abbrev pub History : Type 0
+History = List Entry
+
+-- short is the beginning of long, or all of it
+abbrev pub Begins : History → History → Type 0
+Begins short long = (more : History) × (long ≡ short ++ more)
+
+-- an entry with the batch stands at the place, the first one being 1
+pub record HasAt (h : History) (place : ℕ) (batch : Batch) : Type 0 where
+  pub before : History
+  pub entry : Entry
+  pub after : History
+  pub whole : h ≡ before ++ entry ∷ after
+  pub batch_is : entry.batch ≡ batch
+  pub place_is : place ≡ length before + 1
+
+-- what is known stays known, under the same limits
+pub record Keeps {S : Type 0} (limits : S → Limits) (knows : S → History → Type 0) (s t : S) : Type 0 where
+  pub same_limits : limits t ≡ limits s
+  pub knowledge : (h : History) → knows s h → knows t h
+
+-- a legal list that has the batch at its place is known
+pub record Places {S : Type 0} (limits : S → Limits) (knows : S → History → Type 0) (batch : Batch) (place : ℕ) (t : S) : Type 0 where
+  pub history : History
+  pub legal : IsLegal (limits t) history
+  pub has : HasAt history place batch
+  pub known : knows t history
+
+-- the answer is the plain store's of a legal list, which is known then and begins with each list known before
+pub record AnswersAt {S : Type 0} (limits : S → Limits) (knows : S → History → Type 0) (s : S) (q : Query) (a : Answer) (t : S) : Type 0 where
+  pub history : History
+  pub legal : IsLegal (limits t) history
+  pub behind : (h : History) → knows s h → Begins h history
+  pub answer_is : a ≡ answer (limits t) history q
+  pub known : knows t history
+
+abbrev pub SubmitKnows : {S : Type 0} → (S → Limits) → (S → History → Type 0) → S → Batch → Result ℕ Refusal → S → Type 0
+SubmitKnows limits knows s b (Ok place) t = Keeps limits knows s t × Places limits knows b place t
+SubmitKnows limits knows s b (Err _) t = Keeps limits knows s t
+
+abbrev pub ReadKnows : {S : Type 0} → (S → Limits) → (S → History → Type 0) → S → Query → Result Answer Refusal → S → Type 0
+ReadKnows limits knows s q (Ok a) t = Keeps limits knows s t × AnswersAt limits knows s q a t
+ReadKnows limits knows s q (Err _) t = Keeps limits knows s t
