@@ -1,0 +1,54 @@
+-- What a store of one's own does, as functions of its entries.
+use Rattle.std.specs.Prelude.{◌≡◌, ℕ, ◌+◌, ◌⊎◌, [], ◌∷◌, ◌++◌, length, Result, Ok, Err, None, refl}
+use Rattle.std.proofs.Common.{append_assoc, sym, ◌∙◌, ap, subst, append-nil}
+use Rattle.jaeger_model.specs.declared.batch.Batch.{Batch}
+use Rattle.trace_model.specs.declared.entry.Entry.{Entry}
+use Rattle.trace_model.specs.declared.query.Query.{Query}
+use Rattle.trace_model.specs.declared.answer.Answer.{Answer}
+use Rattle.trace_model.specs.declared.refusal.Refusal.{Refusal}
+use Rattle.trace_model.specs.declared.refusal.Refusal.TheVariants.{NoMemory}
+use Rattle.trace_model.specs.Held.{Held}
+use Rattle.trace_model.specs.Histories.{IsLegal}
+use Rattle.trace_model.specs.Refusals.{followed_by}
+use Rattle.trace_model.specs.Answers.{answer}
+use Rattle.arrival_journal.specs.Journals.{refusal_by, turned_away_by}
+use Rattle.store_backend.specs.Knowing.{History, Begins, HasAt, Keeps, SubmitKnows, ReadKnows}
+
+-- the next entry of seat 0
+abbrev pub next_entry : Held → Batch → Entry
+next_entry s b = record { seat = 0; number = length s.entries + 1; batch = b }
+
+abbrev pub DirectKnows : Held → History → Type 0
+DirectKnows s h = Begins h s.entries
+
+abbrev pub DirectSubmits : Held → Batch → Result ℕ Refusal → Held → Type 0
+DirectSubmits s b (Ok place) t =
+    (refusal_by s (next_entry s b) ≡ None) × (t ≡ followed_by s (next_entry s b)) × (place ≡ length s.entries + 1) × IsLegal t.limits t.entries
+DirectSubmits s b (Err why) t = (t ≡ s) × ((why ≡ NoMemory) ⊎ (why ≡ turned_away_by s (next_entry s b)))
+
+abbrev pub DirectReads : Held → Query → Result Answer Refusal → Held → Type 0
+DirectReads s q (Ok a) t = (t ≡ s) × (a ≡ answer s.limits s.entries q) × IsLegal s.limits s.entries
+DirectReads s q (Err why) t = (t ≡ s) × (why ≡ NoMemory)
+
+-- ---- what that means for what is known
+
+keeps : (s t : Held) → t ≡ s → Keeps (λ (x : Held). x.limits) DirectKnows s t
+keeps s t e = record { same_limits = ap (λ (x : Held). x.limits) e; knowledge = λ h k. subst (λ (x : Held). DirectKnows x h) (sym e) k }
+
+pub submit_knows : (s : Held) (b : Batch) (r : Result ℕ Refusal) (t : Held) → DirectSubmits s b r t → SubmitKnows (λ (x : Held). x.limits) DirectKnows s b r t
+submit_knows s b (Ok place) t d =
+    let e = next_entry s b in
+    let entries : t.entries ≡ s.entries ++ e ∷ [] = ap (λ (x : Held). x.entries) d.1 in
+    let goes : (h : History) → DirectKnows s h → DirectKnows t h = λ h k. (k.0 ++ e ∷ [], entries ∙ ap (λ x. x ++ e ∷ []) k.1 ∙ append_assoc h k.0 (e ∷ [])) in
+    let has : HasAt t.entries place b = record { before = s.entries; entry = e; after = []; whole = entries; batch_is = refl; place_is = d.2 } in (
+      record { same_limits = ap (λ (x : Held). x.limits) d.1; knowledge = goes },
+      record { history = t.entries; legal = d.3; has = has; known = ([], sym (append-nil t.entries)) },
+    )
+submit_knows s b (Err why) t d = keeps s t d.0
+
+pub read_knows : (s : Held) (q : Query) (r : Result Answer Refusal) (t : Held) → DirectReads s q r t → ReadKnows (λ (x : Held). x.limits) DirectKnows s q r t
+read_knows s q (Ok a) t d = (
+  keeps s t d.0,
+  rw (d.0) (record { history = s.entries; legal = d.2; behind = λ h k. k; answer_is = d.1; known = ([], sym (append-nil s.entries)) }),
+)
+read_knows s q (Err why) t d = keeps s t d.0

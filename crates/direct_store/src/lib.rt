@@ -1,0 +1,87 @@
+//! A store of one's own behind a session: each batch is handed in by one seat, and each answer is the
+//! store's at once.
+//!
+//! Contracts see a [`Direct`] as its limits and its list of entries. What it does is exact: a batch is
+//! accepted where the store takes it, as the next entry of seat 0, and a read is answered at the entries
+//! held.
+#![tactic(auto)]
+
+ghost use Rattle.std.specs.Prelude.{◌≡◌, ◌≤◌, length};
+ghost use Rattle.trace_model.specs.Histories.{last_number};
+
+use jaeger_model::Batch;
+use span_store::SpanStore;
+use std::alloc::Global;
+use std::marker::Model;
+use std::sync::Arc;
+use store_backend::Backend;
+use trace_model::{Answer, Entry, Query, Refusal};
+
+/// The seat that hands in every batch.
+const SEAT: u16 = 0;
+
+/// A store of one's own.
+#[derive(Drop)]
+pub struct Direct {
+    store: SpanStore,
+}
+
+impl Model for Direct {
+    ghost use Rattle.std.specs.Prelude.{◌≤◌, length};
+    ghost use Rattle.trace_model.specs.Held.{Held};
+    ghost use Rattle.trace_model.specs.Histories.{IsLegal, last_number};
+
+    ghost Value = { Held };
+
+    ghost view = { λ s. s.store };
+
+    ghost invariant = { λ s. IsLegal s.store.limits s.store.entries × (last_number 0 s.store.entries ≤ length s.store.entries) };
+}
+
+impl Direct {
+    /// Serves the store. No number of seat 0 in it is above the number of its entries, so that the next
+    /// number is free.
+    pub fn new(store: SpanStore) -> Self
+        requires { last_number 0 store.entries ≤ length store.entries }
+        ensures { result ≡ store }
+    {
+        let _legal = store.len();
+        Direct { store }
+    }
+
+    /// The store.
+    pub fn into_store(self) -> SpanStore
+        ensures { result ≡ self }
+    {
+        self.store
+    }
+}
+
+impl<T> Backend<T> for Direct {
+    ghost use Rattle.direct_store.specs.Exactly.{DirectKnows, DirectSubmits, DirectReads, submit_knows, read_knows};
+
+    ghost limits = { λ s. s.limits };
+
+    ghost knows = { DirectKnows };
+
+    ghost submits = { DirectSubmits };
+
+    ghost reads = { DirectReads };
+
+    ghost submit_knows = { submit_knows };
+
+    ghost read_knows = { read_knows };
+
+    fn submit(&mut self, _rt: &T, alloc: Global, batch: Batch) -> Result<u64, Refusal> {
+        let entry = Entry {
+            seat: SEAT,
+            number: self.store.len() + 1,
+            batch,
+        };
+        self.store.apply(Arc::new(alloc, entry)?)
+    }
+
+    fn read(&mut self, _alloc: Global, query: &Query) -> Result<Answer, Refusal> {
+        self.store.answer(query)
+    }
+}
