@@ -1,0 +1,48 @@
+-- A run over a store of one's own is exact.
+use Rattle.std.proofs.Common.{◌≡◌, ◌≢◌, ℕ, ◌⊎◌, List, [], ◌∷◌, map, Option, Some, None, Ok, refl, sym, ap, ◌∙◌, inl, inr}
+use Rattle.std.proofs.lemmas.List.Elements.{All-head, All-tail}
+use Rattle.jaeger_model.specs.declared.batch.Batch.{Batch}
+use Rattle.trace_model.specs.declared.refusal.Refusal.{Refusal}
+use Rattle.trace_model.specs.declared.refusal.Refusal.TheVariants.{NoMemory}
+use Rattle.trace_model.specs.Held.{Held}
+use Rattle.arrival_journal.specs.Journals.{refusal_by, turned_away_by}
+use Rattle.direct_store.specs.Exactly.{DirectSubmits, DirectReads, next_entry}
+use Rattle.http_session.specs.Sessions.{Exchange, Step, Run}
+use Rattle.http_session.specs.declared.verdict.Verdict.{Verdict}
+use Rattle.http_session.specs.declared.verdict.Verdict.TheVariants.{Submit, Ask, Say}
+use Rattle.http_session.specs.declared.reply.Reply.{Reply}
+use Rattle.http_session.specs.declared.reply.Reply.TheVariants.{Accepted, Answered, Refused, Said}
+use Rattle.pipe_session.specs.Exact.{reply_by, held_by, reply_at, held_after, replies_at, held_at_last, IsExact}
+
+abbrev Exactly : Held → Verdict → Reply → Held → Type 0
+Exactly s v reply t = (reply ≡ reply_at s v) × (t ≡ held_after s v)
+
+taken : (s t : Held) (b : Batch) (place : ℕ) → DirectSubmits s b (Ok place) t → Exactly s (Submit b) Accepted t
+taken s t b place d = (sym (ap reply_by d.0), d.1 ∙ sym (ap (λ o. held_by o s (next_entry s b)) d.0))
+
+-- a refusal other than want of memory is the entries' own
+refused_by : (o : Option Refusal) (s t : Held) (b : Batch) (why : Refusal) → refusal_by s (next_entry s b) ≡ o → why ≢ NoMemory → t ≡ s
+    → (why ≡ NoMemory) ⊎ (why ≡ turned_away_by s (next_entry s b)) → Exactly s (Submit b) (Refused why) t
+refused_by o s t b why is memory same (inl none) = absurd (memory none)
+refused_by None s t b why is memory same (inr told) = absurd (memory (told ∙ rw is refl))
+refused_by (Some r) s t b why is memory same (inr told) =
+    let reason : why ≡ r = told ∙ rw is refl in
+    (ap Refused reason ∙ sym (ap reply_by is), same ∙ sym (ap (λ o. held_by o s (next_entry s b)) is))
+
+one : (s t : Held) (v : Verdict) (reply : Reply) → reply ≢ Refused NoMemory → Step DirectSubmits DirectReads s v reply t → Exactly s v reply t
+one s t (Submit b) Accepted m step = taken s t b step.0 step.1
+one s t (Submit b) (Refused why) m step = refused_by (refusal_by s (next_entry s b)) s t b why refl (λ e. m (ap Refused e)) step.0 step.1
+one s t (Ask q) (Answered a) m step = (ap Answered step.1, step.0)
+one s t (Ask q) (Refused why) m step = absurd (m (ap Refused step.1))
+one s t (Say remark) (Said said) m step = (ap Said step.0, step.1)
+one s t _ _ m step = absurd step
+
+pub exact : (s t : Held) (xs : List Exchange) → Run DirectSubmits DirectReads s xs t → IsExact s xs t
+exact s t [] run m = (refl, run)
+exact s t (x ∷ xs) run m =
+    let now = one s run.0 x.verdict x.reply (All-head (λ (x : Exchange). x.reply ≢ Refused NoMemory) x xs m) run.1 in
+    let later = exact run.0 t xs run.2 (All-tail (λ (x : Exchange). x.reply ≢ Refused NoMemory) x xs m) in
+    let vs = map (λ (y : Exchange). y.verdict) xs in (
+      ap (λ (l : List Reply). x.reply ∷ l) later.0 ∙ ap (λ (r : Reply). r ∷ replies_at run.0 vs) now.0 ∙ ap (λ (h : Held). reply_at s x.verdict ∷ replies_at h vs) now.1,
+      later.1 ∙ ap (λ (h : Held). held_at_last h vs) now.1,
+    )

@@ -1,0 +1,55 @@
+-- What a store of one's own answers to a session's requests, as a function of them.
+use Rattle.std.specs.Prelude.{◌≡◌, ◌≢◌, List, [], ◌∷◌, map, All, Option, Some, None}
+use Rattle.trace_model.specs.declared.refusal.Refusal.{Refusal}
+use Rattle.trace_model.specs.declared.refusal.Refusal.TheVariants.{NoMemory}
+use Rattle.trace_model.specs.declared.entry.Entry.{Entry}
+use Rattle.trace_model.specs.Held.{Held}
+use Rattle.trace_model.specs.Refusals.{followed_by}
+use Rattle.trace_model.specs.Answers.{answer}
+use Rattle.arrival_journal.specs.Journals.{refusal_by}
+use Rattle.direct_store.specs.Exactly.{next_entry}
+use Rattle.http_session.specs.Sessions.{Exchange}
+use Rattle.http_session.specs.declared.verdict.Verdict.{Verdict}
+use Rattle.http_session.specs.declared.verdict.Verdict.TheVariants.{Submit, Ask, Say}
+use Rattle.http_session.specs.declared.reply.Reply.{Reply}
+use Rattle.http_session.specs.declared.reply.Reply.TheVariants.{Accepted, Answered, Refused, Said}
+
+-- a batch is accepted unless the entries refuse it
+abbrev pub reply_by : Option Refusal → Reply
+reply_by None = Accepted
+reply_by (Some why) = Refused why
+
+abbrev pub held_by : Option Refusal → Held → Entry → Held
+held_by None s e = followed_by s e
+held_by (Some why) s e = s
+
+-- what is answered where these entries are held
+abbrev pub reply_at : Held → Verdict → Reply
+reply_at s (Submit b) = reply_by (refusal_by s (next_entry s b))
+reply_at s (Ask q) = Answered (answer s.limits s.entries q)
+reply_at s (Say remark) = Said remark
+
+-- and what is held then
+abbrev pub held_after : Held → Verdict → Held
+held_after s (Submit b) = held_by (refusal_by s (next_entry s b)) s (next_entry s b)
+held_after s (Ask q) = s
+held_after s (Say remark) = s
+
+abbrev pub replies_at : Held → List Verdict → List Reply
+replies_at s [] = []
+replies_at s (v ∷ vs) = reply_at s v ∷ replies_at (held_after s v) vs
+
+abbrev pub held_at_last : Held → List Verdict → Held
+held_at_last s [] = s
+held_at_last s (v ∷ vs) = held_at_last (held_after s v) vs
+
+-- memory was not wanting for the store's answers
+abbrev pub HasMemory : List Exchange → Type 0
+HasMemory xs = All (λ (x : Exchange). x.reply ≢ Refused NoMemory) xs
+
+abbrev pub verdicts : List Exchange → List Verdict
+verdicts xs = map (λ (x : Exchange). x.verdict) xs
+
+-- the replies are the function's, and the entries held at last are too
+abbrev pub IsExact : Held → List Exchange → Held → Type 0
+IsExact s xs t = HasMemory xs → (map (λ (x : Exchange). x.reply) xs ≡ replies_at s (verdicts xs)) × (t ≡ held_at_last s (verdicts xs))

@@ -1,0 +1,42 @@
+//! A session over a store of one's own: what is answered is a function of what was asked.
+//!
+//! The reads are answered at exactly the entries held at the start followed by one for each batch
+//! accepted so far, in order.
+#![tactic(auto)]
+
+ghost use Rattle.std.specs.Prelude.{◌≡◌, ◌++◌, false, IfOk, IfErr};
+ghost use Rattle.direct_store.specs.Exactly.{DirectSubmits, DirectReads};
+ghost use Rattle.http_session.specs.Sessions.{EndsAs, FailsAs, last_of, exchange_due};
+ghost use Rattle.pipe_session.specs.Exact.{IsExact};
+
+use direct_store::Direct;
+use http_session::{Ended, SessionFault, session};
+use session_devices::{Input, Output};
+use std::alloc::Global;
+
+/// Answers the requests of the input one after the other, from a store of one's own. It waits for nothing
+/// but the devices.
+///
+/// # Errors
+///
+/// A device failed, or memory was wanting. A batch that was accepted before stays so.
+pub fn pipe<R: Input, W: Output>(
+    alloc: Global,
+    input: &mut R,
+    output: &mut W,
+    store: &mut Direct,
+) -> Result<Ended, SessionFault>
+    requires input_works { R.has_failed input.old ≡ false }
+    requires output_works { W.has_failed output.old ≡ false }
+
+    ensures ended { IfOk result (λ e. (ends : EndsAs DirectSubmits DirectReads (R.remaining input.old) (R.remaining input.new) (W.contents output.old) (W.contents output.new) store.old store.new e.answered e.clean)
+        × IsExact store.old (ends.opens ++ last_of ends.ending) store.new) }
+
+    ensures fault { IfErr result (λ f. (fails : FailsAs DirectSubmits DirectReads (R.remaining input.old) (R.remaining input.new) (W.contents output.old) (W.contents output.new) store.old store.new (R.has_failed input.new) (W.has_failed output.new) f)
+        × IsExact store.old (fails.opens ++ exchange_due fails.next) store.new) }
+{
+    match session(&(), alloc, input, output, store) {
+        Ok(ended) => Ok(ended),
+        Err(fault) => Err(fault),
+    }
+}
