@@ -6,3 +6,4 @@ pub mod LineFaults
 pub mod Judging
 pub mod Runs
 pub mod Progress
+pub mod Piping

@@ -39,6 +39,9 @@ with_limits app = with_rule (with_rule (with_rule (with_rule app batches_rule) s
 abbrev pub get_app : App
 get_app = with_limits (with_rule (new_app (codes "get")) (required_rule (codes "TRACE")))
 
+abbrev pub pipe_app : App
+pipe_app = with_limits (new_app (codes "pipe"))
+
 -- the option's text is decimal digits, which may follow a plus, and they are those of the number
 abbrev pub HasNumber : Text → List Row → ℕ → Type 0
 HasNumber name rows n = (text : Text) × (one_of name rows ≡ Some text) × IsNumeral 10 (without_leading_plus text) × (n ≡ digits_value 10 (without_leading_plus text))
@@ -63,6 +66,16 @@ pub record AsksGet (words : List Text) (limits : Limits) (id : TraceId) : Type 0
   pub others : List Text
   pub words_are : words ≡ program ∷ codes "get" ∷ others
   pub reads : ReadsGet (codes "get" ∷ others) limits id
+
+-- what clap reads in the words of the subcommand, which begin with its name
+abbrev pub ReadsPipe : List Text → Limits → Type 0
+ReadsPipe words limits = HasLimits (matches_of pipe_app words) limits
+
+pub record AsksPipe (words : List Text) (limits : Limits) : Type 0 where
+  pub program : Text
+  pub others : List Text
+  pub words_are : words ≡ program ∷ codes "pipe" ∷ others
+  pub reads : ReadsPipe (codes "pipe" ∷ others) limits
 
 -- the statuses of a run that asks for nothing: a fault of the words or a call for help, a writer that failed, want of memory
 abbrev pub IsFault : ℕ → Type 0

@@ -8,6 +8,7 @@
 //! * `words`: the command of the program's words.
 //! * `run`: the command of some words, over a reader and a writer.
 //! * `get`: the subcommand `get`.
+//! * `pipe`: the subcommand `pipe`.
 //! * `lines`: the lines of a reader, one at a time.
 //! * `line_fault`: why a line can't be used.
 //! * `halt`: why a run stops before the end of its input.
@@ -17,21 +18,20 @@ pub mod get;
 pub mod halt;
 pub mod line_fault;
 pub mod lines;
+pub mod pipe;
 pub mod run;
 #[cfg(test)]
 mod tests;
 pub mod words;
 
 use crate::run::run;
-use std::io::BufWriter;
 use std::process::ExitCode;
 use std::{env, io};
 
 fn status_of(rt: &HostRuntime) -> io::Result<u8> {
     let alloc = rt.alloc();
     let words: Vec<String> = env::args(rt)?.collect(alloc)?;
-    let mut writer = BufWriter::new(alloc, rt.stdout())?;
-    Ok(run(alloc, words.as_slice(), &mut rt.stdin(), &mut writer))
+    Ok(run(alloc, words.as_slice(), &mut rt.stdin(), &mut rt.stdout()))
 }
 
 fn main(rt: HostRuntime) -> ExitCode {

@@ -1,8 +1,8 @@
 //! The program's words.
 ghost use Rattle.std.specs.Prelude.{◌≡◌, IfOk, IfErr, IfSome, map, false};
 ghost use Rattle.clap.specs.Words.{HasMatchesOf, app_of, found_of, rows_of, rule_of};
-ghost use Rattle.jaeger_one.specs.Words.{HasLimits, HasTrace, IsFault, get_app, number_rule, with_limits as limits_on};
-ghost use Rattle.jaeger_one.specs.Asked.{Asks, AsksGetBy};
+ghost use Rattle.jaeger_one.specs.Words.{HasLimits, HasTrace, IsFault, get_app, pipe_app, number_rule, with_limits as limits_on};
+ghost use Rattle.jaeger_one.specs.Asked.{Asks, AsksGetBy, AsksPipeBy};
 
 use clap::builder::ValueParser;
 use clap::error::ErrorKind;
@@ -18,6 +18,8 @@ use trace_model::Limits;
 pub enum Command {
     /// The spans of a trace.
     Get { limits: Limits, trace: TraceId },
+    /// The responses to a session's requests.
+    Pipe { limits: Limits },
 }
 
 /// An option that takes a number.
@@ -94,12 +96,23 @@ fn get_command<'a>(alloc: Global) -> Result<clap::Command<'a>, AllocError>
     with_limits(alloc, command)
 }
 
+/// The subcommand `pipe`.
+fn pipe_command<'a>(alloc: Global) -> Result<clap::Command<'a>, AllocError>
+    ensures { IfOk result (λ c. app_of c ≡ pipe_app) }
+{
+    let command = clap::Command::new(alloc, "pipe")
+        .bin_name("jaeger_one pipe")?
+        .about("Answers the HTTP requests of standard input on standard output");
+    with_limits(alloc, command)
+}
+
 /// The program with its subcommands, for the texts of help and faults.
 fn program<'a>(alloc: Global) -> Result<clap::Command<'a>, AllocError> {
     clap::Command::new(alloc, "jaeger_one")
         .about("Collects traces of Jaeger clients and answers queries on them")
         .subcommand_required(true)
-        .subcommand(get_command(alloc)?)
+        .subcommand(get_command(alloc)?)?
+        .subcommand(pipe_command(alloc)?)
 }
 
 /// Writes what is wrong with the words, or the help that they call for, and gives the status.
@@ -173,6 +186,21 @@ fn read_get<S: AsStr, W: Write>(alloc: Global, words: &[S], writer: &mut W) -> R
     Ok(Command::Get { limits, trace })
 }
 
+/// The subcommand `pipe`, whose own name is the first of the words.
+fn read_pipe<S: AsStr, W: Write>(alloc: Global, words: &[S], writer: &mut W) -> Result<Command, u8>
+    ensures asked { IfOk result (AsksPipeBy (map S.text words.now)) }
+    ensures status { IfErr result IsFault }
+{
+    let Ok(command) = pipe_command(alloc) else {
+        return Err(5);
+    };
+    let matches = matches_of(command, words, writer)?;
+    match limits_of(&matches) {
+        Some(limits) => Ok(Command::Pipe { limits }),
+        None => Err(2),
+    }
+}
+
 /// What the words ask for, the first of them being the program's name.
 ///
 /// The word behind it is the subcommand, and clap reads those that follow. A fault of the words, and
@@ -194,6 +222,9 @@ pub fn read_words<S: AsStr, W: Write>(
         if let Some(name) = rest.first() {
             if name.as_str() == "get" {
                 return read_get(alloc, rest, writer);
+            }
+            if name.as_str() == "pipe" {
+                return read_pipe(alloc, rest, writer);
             }
         }
     }

@@ -1,0 +1,35 @@
+-- What `pipe` writes for what it reads.
+use Rattle.std.specs.Prelude.{◌≡◌, ℕ, ◌⊎◌, ◌++◌, Bool, List, [], Option}
+use Rattle.trace_model.specs.declared.limits.Limits.{Limits}
+use Rattle.trace_model.specs.Held.{Held}
+use Rattle.direct_store.specs.Exactly.{DirectSubmits, DirectReads}
+use Rattle.http_session.specs.Sessions.{EndsAs, FailsAs, last_of, exchange_due}
+use Rattle.http_session.specs.declared.exchanges.Cause.{Cause}
+use Rattle.http_session.specs.declared.exchanges.Cause.TheVariants.{Reading, Writing, Memory}
+use Rattle.http_session.specs.declared.exchanges.SessionFault.{SessionFault}
+use Rattle.pipe_session.specs.Exact.{IsExact}
+
+abbrev pub cause_status : Cause → ℕ
+cause_status Reading = 4
+cause_status Writing = 4
+cause_status Memory = 5
+
+-- a session from an empty store that ended
+pub record PipesToTheEnd (in0 in1 out0 out1 : Option (List ℕ)) (limits : Limits) : Type 0 where
+  pub answered : ℕ
+  pub clean : Bool
+  pub last : Held
+  pub ends : EndsAs DirectSubmits DirectReads in0 in1 out0 out1 (record { limits = limits; entries = [] }) last answered clean
+  pub exact : IsExact (record { limits = limits; entries = [] }) (ends.opens ++ last_of ends.ending) last
+
+-- one that failed
+pub record PipesUpTo (in0 in1 out0 out1 : Option (List ℕ)) (in_failed out_failed : Bool) (limits : Limits) (status : ℕ) : Type 0 where
+  pub fault : SessionFault
+  pub status_is : status ≡ cause_status fault.cause
+  pub last : Held
+  pub fails : FailsAs DirectSubmits DirectReads in0 in1 out0 out1 (record { limits = limits; entries = [] }) last in_failed out_failed fault
+  pub exact : IsExact (record { limits = limits; entries = [] }) (fails.opens ++ exchange_due fails.next) last
+
+abbrev pub Pipes : Option (List ℕ) → Option (List ℕ) → Option (List ℕ) → Option (List ℕ) → Bool → Bool → Limits → ℕ → Type 0
+Pipes in0 in1 out0 out1 in_failed out_failed limits status =
+    ((status ≡ 0) × PipesToTheEnd in0 in1 out0 out1 limits) ⊎ PipesUpTo in0 in1 out0 out1 in_failed out_failed limits status
