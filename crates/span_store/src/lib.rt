@@ -7,11 +7,13 @@
 //!
 //! * `arrange`: what one more entry changes in ring and assembly.
 //! * `gather`: the spans that spots name.
+//! * `listing`: the names that one more batch lists.
 //! * `store`: the [`SpanStore`].
 #![tactic(auto)]
 
 mod arrange;
 mod gather;
+mod listing;
 mod store;
 
 pub use store::SpanStore;

@@ -1,21 +1,25 @@
 ghost use Rattle.std.specs.Prelude.{◌≡◌, ◌==◌, [], map, length, None, OnOk, OnErr, IfOk, IfErr};
 ghost use Rattle.std.specs.Arc.{arc_value};
-ghost use Rattle.trace_model.specs.declared.query.Query.TheVariants.{Trace};
+ghost use Rattle.trace_model.specs.declared.query.Query.TheVariants.{Trace, Services, OperationNames, Operations};
 ghost use Rattle.trace_model.specs.declared.refusal.Refusal.TheVariants.{NoMemory};
-ghost use Rattle.trace_model.specs.Answers.{answer};
+ghost use Rattle.trace_model.specs.Answers.{answer, shown_as};
 ghost use Rattle.trace_model.specs.Histories.{IsLegal};
 ghost use Rattle.trace_model.specs.Refusals.{followed_by};
 ghost use Rattle.arrival_journal.specs.Journals.{refusal_by, turned_away_by};
 
-use crate::arrange::arrange;
+use crate::arrange::{arrange, take_room};
 use crate::gather::gather;
+use crate::listing::{exchange, with_listed};
 use arrival_journal::Journal;
-use jaeger_model::TraceId;
+use jaeger_model::{Placed, Seq, Text, TraceId};
+use service_index::ServiceIndex;
+use service_places::ServicePlaces;
 use std::alloc::{AllocError, Global};
 use std::marker::Model;
 use std::sync::Arc;
+use trace_adjust::adjusted;
 use trace_assembly::Assembly;
-use trace_model::{Answer, Entry, Limits, Query, Refusal, plain_answer, trace_shown};
+use trace_model::{Answer, Entry, Limits, Query, Refusal, Shown, plain_answer, trace_shown};
 use trace_ring::Ring;
 
 /// The accepted entries of one store, and quick answers from them.
@@ -27,20 +31,21 @@ pub struct SpanStore {
     journal: Journal,
     ring: Ring,
     assembly: Assembly,
+    names: ServiceIndex,
+    reported: ServicePlaces,
 }
 
 impl Model for SpanStore {
-    ghost use Rattle.std.specs.Prelude.{◌≡◌};
     ghost use Rattle.trace_model.specs.Held.{Held};
     ghost use Rattle.trace_assembly.specs.Rows.{spots_of};
-    ghost use Rattle.trace_assembly.specs.Located.{located};
-    ghost use Rattle.span_store.specs.Kept.{Follows};
+    ghost use Rattle.service_places.specs.Reported.{places_of};
+    ghost use Rattle.span_store.specs.Kept.{IsKept};
 
     ghost Value = { Held };
 
     ghost view = { λ s. s.journal.held };
 
-    ghost invariant = { λ s. (s.ring.limit ≡ s.journal.held.limits.traces) × Follows s.ring.limit (located s.journal.held.entries) s.ring.ids (spots_of s.assembly) };
+    ghost invariant = { λ s. IsKept s.journal.held s.ring.limit s.ring.ids (spots_of s.assembly) s.names (places_of s.reported) };
 }
 
 impl SpanStore {
@@ -53,6 +58,8 @@ impl SpanStore {
             journal: Journal::new(alloc, limits),
             ring: Ring::new(alloc, limits.traces),
             assembly: Assembly::new(alloc),
+            names: ServiceIndex::new(alloc),
+            reported: ServicePlaces::new(alloc),
         }
     }
 
@@ -100,10 +107,19 @@ impl SpanStore {
         ensures legal { IsLegal self.new.limits self.new.entries }
     {
         self.journal.judge(&entry)?;
-        self.journal.reserve(1)?;
-        self.ring.reserve(entry.batch.spans.len())?;
-        self.assembly.reserve(entry.batch.spans.as_slice())?;
+        let names = with_listed(&self.names, &entry.batch)?;
+        take_room(
+            &mut self.journal,
+            &mut self.ring,
+            &mut self.assembly,
+            &entry,
+        )?;
+        self.reported.reserve(&entry.batch.process.service)?;
         arrange(&self.journal, &mut self.ring, &mut self.assembly, &entry);
+        let place = self.journal.len() + 1;
+        self.reported
+            .add_reserved(&entry.batch.process.service, place);
+        exchange(&mut self.names, names);
         self.journal.append(entry);
         Ok(self.journal.len())
     }
@@ -119,8 +135,35 @@ impl SpanStore {
     {
         match query {
             Query::Trace { id, raw } => Ok(self.trace(*id, *raw)?),
+            Query::Services => Ok(self.services()?),
+            Query::OperationNames { service } => Ok(self.operation_names(service)?),
+            Query::Operations { service, kind } => Ok(self.operations(service, kind)?),
             _ => Ok(plain_answer(self.alloc, self.entries(), self.limits(), query)?),
         }
+    }
+
+    /// The services of all arrivals.
+    fn services(&self) -> Result<Answer, AllocError>
+        ensures { IfOk result (λ a. a ≡ answer self.now.limits self.now.entries Services) }
+    {
+        let names = self.names.services()?;
+        Ok(Answer::Names(Seq::from_vec(names)))
+    }
+
+    /// The operations of a service, by name.
+    fn operation_names(&self, service: &Text) -> Result<Answer, AllocError>
+        ensures { IfOk result (λ a. a ≡ answer self.now.limits self.now.entries (OperationNames service.now)) }
+    {
+        let names = self.names.names(service)?;
+        Ok(Answer::Names(Seq::from_vec(names)))
+    }
+
+    /// The operations of a service, by name and kind.
+    fn operations(&self, service: &Text, kind: &Text) -> Result<Answer, AllocError>
+        ensures { IfOk result (λ a. a ≡ answer self.now.limits self.now.entries (Operations service.now kind.now)) }
+    {
+        let found = self.names.operations(service, kind)?;
+        Ok(Answer::Operations(Seq::from_vec(found)))
     }
 
     /// A trace by its id.
@@ -132,7 +175,22 @@ impl SpanStore {
             return Ok(Answer::Trace(None));
         }
         let spans = gather(self.alloc, &self.journal, spots)?;
-        let shown = trace_shown(self.alloc, spans, self.limits(), raw)?;
+        let shown = shown_as(self.alloc, spans, self.limits(), raw)?;
         Ok(Answer::Trace(Some(shown)))
     }
+}
+
+/// The spans of a trace as they are shown: as they arrived where `raw` is asked, else adjusted.
+fn shown_as(
+    alloc: Global,
+    spans: Vec<Placed>,
+    limits: Limits,
+    raw: bool,
+) -> Result<Seq<Shown>, AllocError>
+    ensures { IfOk result (λ s. s ≡ shown_as limits raw spans.items) }
+{
+    if raw {
+        return trace_shown(alloc, spans, limits, true);
+    }
+    Ok(Seq::from_vec(adjusted(alloc, spans, limits.max_skew)?))
 }
