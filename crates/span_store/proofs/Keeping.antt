@@ -1,13 +1,15 @@
 -- What is kept beside the entries is kept.
-use Rattle.std.proofs.Common.{◌≡◌, ℕ, ◌+◌, List, [], ◌∷◌, ◌++◌, length, sym, ap, ◌∙◌}
+use Rattle.std.proofs.Common.{◌≡◌, ℕ, ◌+◌, List, [], ◌∷◌, ◌++◌, length, map, sym, ap, ◌∙◌}
 use Rattle.jaeger_model.specs.declared.ids.TraceId.{TraceId}
 use Rattle.trace_model.specs.declared.entry.Entry.{Entry}
 use Rattle.trace_model.specs.Held.{Held}
 use Rattle.trace_model.specs.Histories.{arrivals}
 use Rattle.trace_model.specs.Refusals.{followed_by}
-use Rattle.trace_model.specs.Showing.{ring}
+use Rattle.trace_model.specs.Searching.{traces}
+use Rattle.trace_model.specs.Showing.{ring, spans_of_trace}
 use Rattle.trace_assembly.specs.declared.spot.Spot.{Spot}
 use Rattle.trace_assembly.specs.Located.{located, spans_in, shown_spots}
+use Rattle.trace_assembly.proofs.Places.{spans-located}
 use Rattle.service_index.specs.Listing.{Listed, listed_in}
 use Rattle.service_places.specs.Reported.{with_place}
 use Rattle.span_store.specs.Kept.{Follows, IsKept, with_listed, places_in}
@@ -46,3 +48,17 @@ kept_more old held e most most' ids ids' spots spots' index index' places middle
           more s ∙ (λ i. with_place e.batch.process.service place (λ t. (same t ∙ k.places t) i) s)
           ∙ places_push s old.entries e place at ∙ ap (λ (v : Held). places_in s v.entries) back;
     }
+
+-- ---- what is kept is what the limits of the entries say
+pub kept_spots : (held : Held) (most : ℕ) (ids : List TraceId) (spots : TraceId → List Spot) (index : List Listed) (places : List ℕ → List ℕ) → IsKept held most ids spots index places
+    → (t : TraceId) → spots t ≡ shown_spots held.limits.traces (located held.entries) t
+kept_spots held most ids spots index places k t = k.follows.spots t ∙ ap (λ n. shown_spots n (located held.entries) t) k.limit
+
+pub kept_ring : (held : Held) (most : ℕ) (ids : List TraceId) (spots : TraceId → List Spot) (index : List Listed) (places : List ℕ → List ℕ) → IsKept held most ids spots index places
+    → ids ≡ ring held.limits.traces (arrivals held.entries)
+kept_ring held most ids spots index places k = k.follows.ring ∙ ap (λ n. ring n (spans_in (located held.entries))) k.limit ∙ ap (ring held.limits.traces) (spans-located held.entries)
+
+-- the traces of the ring are those that are shown
+pub kept_traces : (held : Held) (most : ℕ) (ids : List TraceId) (spots : TraceId → List Spot) (index : List Listed) (places : List ℕ → List ℕ) → IsKept held most ids spots index places
+    → map (spans_of_trace held.limits.traces (arrivals held.entries)) ids ≡ traces held.limits.traces (arrivals held.entries)
+kept_traces held most ids spots index places k = ap (map (spans_of_trace held.limits.traces (arrivals held.entries))) (kept_ring held most ids spots index places k)

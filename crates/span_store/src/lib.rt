@@ -6,14 +6,18 @@
 //! and one invariant of the type ties it to the list. An entry that is refused changes nothing.
 //!
 //! * `arrange`: what one more entry changes in ring and assembly.
-//! * `gather`: the spans that spots name.
+//! * `gather`: the spans that spots name, copied.
+//! * `seeing`: the shown spans of traces, where they stand.
+//! * `finding`: searches and calls over these.
 //! * `listing`: the names that one more batch lists.
 //! * `store`: the [`SpanStore`].
 #![tactic(auto)]
 
 mod arrange;
+mod finding;
 mod gather;
 mod listing;
+mod seeing;
 mod store;
 
 pub use store::SpanStore;

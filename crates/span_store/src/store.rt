@@ -1,17 +1,21 @@
 ghost use Rattle.std.specs.Prelude.{◌≡◌, ◌==◌, [], map, length, None, OnOk, OnErr, IfOk, IfErr};
 ghost use Rattle.std.specs.Arc.{arc_value};
-ghost use Rattle.trace_model.specs.declared.query.Query.TheVariants.{Trace, Services, OperationNames, Operations};
+ghost use Rattle.trace_model.specs.declared.query.Query.TheVariants as ask;
 ghost use Rattle.trace_model.specs.declared.refusal.Refusal.TheVariants.{NoMemory};
 ghost use Rattle.trace_model.specs.Answers.{answer, shown_as};
-ghost use Rattle.trace_model.specs.Histories.{IsLegal};
+ghost use Rattle.trace_model.specs.Histories.{IsLegal, arrivals};
+ghost use Rattle.trace_model.specs.Searching.{traces};
 ghost use Rattle.trace_model.specs.Refusals.{followed_by};
 ghost use Rattle.arrival_journal.specs.Journals.{refusal_by, turned_away_by};
+ghost use Rattle.span_store.specs.Given.{given_traces};
 
 use crate::arrange::{arrange, take_room};
+use crate::finding;
 use crate::gather::gather;
 use crate::listing::{exchange, with_listed};
+use crate::seeing::{ring_ids, see_traces};
 use arrival_journal::Journal;
-use jaeger_model::{Placed, Seq, Text, TraceId};
+use jaeger_model::{Placed, Seen, Seq, Text, TraceId};
 use service_index::ServiceIndex;
 use service_places::ServicePlaces;
 use std::alloc::{AllocError, Global};
@@ -19,12 +23,13 @@ use std::marker::Model;
 use std::sync::Arc;
 use trace_adjust::adjusted;
 use trace_assembly::Assembly;
-use trace_model::{Answer, Entry, Limits, Query, Refusal, Shown, plain_answer, trace_shown};
+use trace_model::{Answer, Entry, Find, Limits, Query, Refusal, Shown, trace_shown};
 use trace_ring::Ring;
 
 /// The accepted entries of one store, and quick answers from them.
 ///
-/// A trace by its id costs its own spans; other answers are made from the whole list.
+/// A trace by its id costs its own spans, names cost what is listed, and searches and calls look at
+/// the shown spans and copy only what they find.
 #[derive(Drop)]
 pub struct SpanStore {
     alloc: Global,
@@ -138,13 +143,18 @@ impl SpanStore {
             Query::Services => Ok(self.services()?),
             Query::OperationNames { service } => Ok(self.operation_names(service)?),
             Query::Operations { service, kind } => Ok(self.operations(service, kind)?),
-            _ => Ok(plain_answer(self.alloc, self.entries(), self.limits(), query)?),
+            Query::Find(find) => Ok(self.find(find)?),
+            Query::FindIds(find) => Ok(self.find_ids(find)?),
+            Query::Links {
+                end_ms,
+                lookback_ms,
+            } => Ok(self.links(*end_ms, *lookback_ms)?),
         }
     }
 
     /// The services of all arrivals.
     fn services(&self) -> Result<Answer, AllocError>
-        ensures { IfOk result (λ a. a ≡ answer self.now.limits self.now.entries Services) }
+        ensures { IfOk result (λ a. a ≡ answer self.now.limits self.now.entries ask.Services) }
     {
         let names = self.names.services()?;
         Ok(Answer::Names(Seq::from_vec(names)))
@@ -152,7 +162,7 @@ impl SpanStore {
 
     /// The operations of a service, by name.
     fn operation_names(&self, service: &Text) -> Result<Answer, AllocError>
-        ensures { IfOk result (λ a. a ≡ answer self.now.limits self.now.entries (OperationNames service.now)) }
+        ensures { IfOk result (λ a. a ≡ answer self.now.limits self.now.entries (ask.OperationNames service.now)) }
     {
         let names = self.names.names(service)?;
         Ok(Answer::Names(Seq::from_vec(names)))
@@ -160,15 +170,50 @@ impl SpanStore {
 
     /// The operations of a service, by name and kind.
     fn operations(&self, service: &Text, kind: &Text) -> Result<Answer, AllocError>
-        ensures { IfOk result (λ a. a ≡ answer self.now.limits self.now.entries (Operations service.now kind.now)) }
+        ensures { IfOk result (λ a. a ≡ answer self.now.limits self.now.entries (ask.Operations service.now kind.now)) }
     {
         let found = self.names.operations(service, kind)?;
         Ok(Answer::Operations(Seq::from_vec(found)))
     }
 
+    /// The shown traces, the one opened longest ago first.
+    fn all_traces(&self) -> Result<Vec<Vec<Seen<'_>>>, AllocError>
+        ensures { IfOk result (λ v. given_traces v.items ≡ traces self.now.limits.traces (arrivals self.now.entries)) }
+    {
+        let ids = ring_ids(self.alloc, &self.ring)?;
+        see_traces(self.alloc, &self.journal, &self.assembly, &ids)
+    }
+
+    /// The traces that a search finds, as they are shown.
+    fn find(&self, query: &Find) -> Result<Answer, AllocError>
+        ensures { IfOk result (λ a. a ≡ answer self.now.limits self.now.entries (ask.Find query.now)) }
+    {
+        let traces = self.all_traces()?;
+        let found = finding::find(self.alloc, &traces, query, self.limits().max_skew)?;
+        Ok(Answer::Traces(Seq::from_vec(found)))
+    }
+
+    /// The ids of the traces that a search finds.
+    fn find_ids(&self, query: &Find) -> Result<Answer, AllocError>
+        ensures { IfOk result (λ a. a ≡ answer self.now.limits self.now.entries (ask.FindIds query.now)) }
+    {
+        let traces = self.all_traces()?;
+        let ids = finding::find_ids(self.alloc, &traces, query)?;
+        Ok(Answer::Ids(Seq::from_vec(ids)))
+    }
+
+    /// How often services call one another in a window of time.
+    fn links(&self, end_ms: i64, lookback_ms: i64) -> Result<Answer, AllocError>
+        ensures { IfOk result (λ a. a ≡ answer self.now.limits self.now.entries (ask.Links end_ms lookback_ms)) }
+    {
+        let traces = self.all_traces()?;
+        let links = finding::links(self.alloc, &traces, end_ms, lookback_ms)?;
+        Ok(Answer::Links(Seq::from_vec(links)))
+    }
+
     /// A trace by its id.
     fn trace(&self, id: TraceId, raw: bool) -> Result<Answer, AllocError>
-        ensures { IfOk result (λ a. a ≡ answer self.now.limits self.now.entries (Trace id raw)) }
+        ensures { IfOk result (λ a. a ≡ answer self.now.limits self.now.entries (ask.Trace id raw)) }
     {
         let spots = self.assembly.spans_of(id);
         if spots.is_empty() {
