@@ -1,25 +1,23 @@
 -- What a search and calls say does not depend on whether a span has its parent among its references.
-use Rattle.std.proofs.Common.{◌≡◌, ℕ, zero, suc, ℤ, Bool, true, false, ◌||◌, cond, List, [], ◌∷◌, ◌++◌, map, get_or, take, refl, sym, ap, ◌∙◌, Option, Some, None}
+use Rattle.std.proofs.Common.{◌≡◌, ℕ, zero, suc, ℤ, Bool, true, false, ◌||◌, cond, List, [], ◌∷◌, ◌++◌, map, take, refl, sym, ap, ◌∙◌, Option, Some, None}
 use Rattle.std.specs.Prelude.{filter, filter_map, flat_map, find, option_map, Vec, if◌then◌else◌, ◌==◌, slice_index_or}
 use Rattle.std.specs.Global.{Global}
 use Rattle.std.specs.List.{list_any}
 use Rattle.std.proofs.lemmas.List.{take-map}
 use Rattle.jaeger_model.specs.declared.ids.SpanId.{SpanId}
-use Rattle.jaeger_model.specs.declared.ids.TraceId.{TraceId}
 use Rattle.jaeger_model.specs.declared.span.Span.{Span}
 use Rattle.jaeger_model.specs.declared.placed.Placed.{Placed}
 use Rattle.jaeger_model.specs.declared.placed.Seen.{Seen}
 use Rattle.jaeger_model.specs.Parents.{with_parent, needs_no_reference, parent_reference, parent, parent_by_references}
 use Rattle.trace_model.specs.declared.query.Find.{Find}
-use Rattle.trace_model.specs.declared.answer.Link.{Link}
 use Rattle.trace_model.specs.Searching.{matches, first_start, first_id, ranked, cut, matching, found_in, ids_of}
-use Rattle.trace_model.specs.Linking.{has_id, parent_in, call_from, calls_of, in_window, calls_within, calls, counted, links}
+use Rattle.trace_model.specs.Linking.{has_id, parent_in, call_from, calls_of, in_window, calls_within, counted, links}
 use Rattle.trace_model.proofs.Ranking.{ranked-map}
 use Rattle.trace_model.proofs.NameLaws.{any_map}
 use Rattle.trace_model.proofs.Parents.{with_parent-twice, with_parent-trace}
-use Rattle.find_traces.specs.Seeing.{seen, seen_all, seen_traces}
+use Rattle.find_traces.specs.Seeing.{seen, seen_traces}
 use Rattle.find_traces.specs.Places.{trace_at}
-use Rattle.span_store.specs.Given.{adopted, given, given_all, given_traces}
+use Rattle.span_store.specs.Given.{adopted, given_traces}
 
 abbrev with_if : Bool → Span → Span
 with_if b s = if b then s else record s { references = parent_reference s ∷ s.references }

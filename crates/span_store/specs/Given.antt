@@ -1,5 +1,5 @@
 -- Spans that are only looked at, as the store gives them.
-use Rattle.std.specs.Prelude.{List, map, Vec, Option, Some}
+use Rattle.std.specs.Prelude.{List, map, Vec}
 use Rattle.std.specs.Global.{Global}
 use Rattle.jaeger_model.specs.declared.placed.Placed.{Placed}
 use Rattle.jaeger_model.specs.declared.placed.Seen.{Seen}

@@ -11,15 +11,18 @@
 //! * `finding`: searches and calls over these.
 //! * `listing`: the names that one more batch lists.
 //! * `store`: the [`SpanStore`].
+//! * `replaying`: a store made of a whole list of entries.
 #![tactic(auto)]
 
 mod arrange;
 mod finding;
 mod gather;
 mod listing;
+mod replaying;
 mod seeing;
 mod store;
 
+pub use replaying::{replay, replayed_answer};
 pub use store::SpanStore;
 
 #[cfg(test)]

@@ -1,5 +1,6 @@
 ghost use Rattle.std.specs.Prelude.{◌≡◌, ◌==◌, [], map, length, None, OnOk, OnErr, IfOk, IfErr};
 ghost use Rattle.std.specs.Arc.{arc_value};
+ghost use Rattle.std.specs.Result.{result_err};
 ghost use Rattle.trace_model.specs.declared.query.Query.TheVariants as ask;
 ghost use Rattle.trace_model.specs.declared.refusal.Refusal.TheVariants.{NoMemory};
 ghost use Rattle.trace_model.specs.Answers.{answer, shown_as};
@@ -93,6 +94,14 @@ impl SpanStore {
         ensures { result ≡ (length self.now.entries == 0) }
     {
         self.journal.is_empty()
+    }
+
+    /// Says whether the entry may follow, as [`apply`](Self::apply) does: its refusals but want of
+    /// memory.
+    pub fn judge(&self, entry: &Entry) -> Result<(), Refusal>
+        ensures { result_err result ≡ refusal_by self.now entry.now }
+    {
+        self.journal.judge(entry)
     }
 
     /// Adds an entry at the end and gives its place, the first one being 1.

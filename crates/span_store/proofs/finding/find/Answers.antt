@@ -1,8 +1,6 @@
-use Rattle.std.proofs.Common.{◌≡◌, ◌∙◌, [], map, sym, ap, List, ℕ}
+use Rattle.std.proofs.Common.{◌∙◌, [], map, sym, ap}
 use Rattle.std.specs.Prelude.{slice_index_or}
 use Rattle.trace_model.specs.Adjusting.{adjusted}
-use Rattle.find_traces.specs.Places.{trace_at}
-use Rattle.find_traces.specs.Seeing.{seen_traces}
 use Rattle.span_store.specs.Given.{given_traces}
 use Rattle.span_store.proofs.Adopting.{map_map, found-given}
 use Rattle.span_store.proofs.finding.find.Goals as goal

@@ -1,4 +1,4 @@
-use Rattle.std.proofs.Common.{◌≡◌, ◌∙◌}
+use Rattle.std.proofs.Common.{◌∙◌}
 use Rattle.span_store.proofs.Adopting.{ids-given}
 use Rattle.span_store.proofs.finding.find_ids.Goals as goal
 

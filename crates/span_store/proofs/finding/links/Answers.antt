@@ -1,4 +1,4 @@
-use Rattle.std.proofs.Common.{◌≡◌, ◌∙◌, ap, w64}
+use Rattle.std.proofs.Common.{◌∙◌, w64}
 use Rattle.std.proofs.lemmas.Int.{to_z-of_z}
 use Rattle.trace_model.specs.Linking.{links}
 use Rattle.find_traces.specs.Seeing.{seen_traces}

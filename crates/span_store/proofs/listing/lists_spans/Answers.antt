@@ -1,4 +1,4 @@
-use Rattle.std.proofs.Common.{rules, ◌≡◌, ◌<◌, ◌∙◌, length, get_or}
+use Rattle.std.proofs.Common.{rules, ◌≡◌, ◌<◌, length, get_or}
 use Rattle.span_store.proofs.Naming.{one_known}
 use Rattle.span_store.proofs.listing.lists_spans.Goals as goal
 

@@ -1,13 +1,12 @@
-use Rattle.std.proofs.Common.{rules, ◌≡◌, ◌∙◌, ap, sym, subst, map, List, IfOk}
+use Rattle.std.proofs.Common.{◌≡◌, ◌∙◌, ap, subst, map, List, IfOk}
 use Rattle.std.specs.Prelude.{Vec}
 use Rattle.std.specs.Global.{Global}
-use Rattle.jaeger_model.specs.declared.ids.TraceId.{TraceId}
 use Rattle.jaeger_model.specs.declared.placed.Placed.{Placed}
 use Rattle.jaeger_model.specs.declared.placed.Seen.{Seen}
 use Rattle.trace_model.specs.Held.{Held}
 use Rattle.trace_model.specs.Histories.{arrivals}
 use Rattle.trace_model.specs.Searching.{traces}
-use Rattle.trace_model.specs.Showing.{ring, spans_of_trace}
+use Rattle.trace_model.specs.Showing.{spans_of_trace}
 use Rattle.trace_assembly.specs.Rows.{spots_of}
 use Rattle.service_places.specs.Reported.{places_of}
 use Rattle.span_store.specs.Given.{given_traces}
