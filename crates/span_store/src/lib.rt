@@ -7,6 +7,7 @@
 //!
 //! * `arrange`: what one more entry changes in ring and assembly.
 //! * `gather`: the spans that spots name, copied.
+//! * `searching`: which traces a search by a service looks at.
 //! * `seeing`: the shown spans of traces, where they stand.
 //! * `finding`: searches and calls over these.
 //! * `listing`: the names that one more batch lists.
@@ -19,6 +20,7 @@ mod finding;
 mod gather;
 mod listing;
 mod replaying;
+mod searching;
 mod seeing;
 mod store;
 

@@ -5,7 +5,8 @@ ghost use Rattle.trace_model.specs.declared.query.Query.TheVariants as ask;
 ghost use Rattle.trace_model.specs.declared.refusal.Refusal.TheVariants.{NoMemory};
 ghost use Rattle.trace_model.specs.Answers.{answer, shown_as};
 ghost use Rattle.trace_model.specs.Histories.{IsLegal, arrivals};
-ghost use Rattle.trace_model.specs.Searching.{traces};
+ghost use Rattle.trace_model.specs.Searching.{traces, found_in};
+ghost use Rattle.trace_model.specs.declared.query.Find.{Find as Search};
 ghost use Rattle.trace_model.specs.Refusals.{followed_by};
 ghost use Rattle.arrival_journal.specs.Journals.{refusal_by, turned_away_by};
 ghost use Rattle.span_store.specs.Given.{given_traces};
@@ -14,6 +15,7 @@ use crate::arrange::{arrange, take_room};
 use crate::finding;
 use crate::gather::gather;
 use crate::listing::{exchange, with_listed};
+use crate::searching::ids_along;
 use crate::seeing::{ring_ids, see_traces};
 use arrival_journal::Journal;
 use jaeger_model::{Placed, Seen, Seq, Text, TraceId};
@@ -29,8 +31,8 @@ use trace_ring::Ring;
 
 /// The accepted entries of one store, and quick answers from them.
 ///
-/// A trace by its id costs its own spans, names cost what is listed, and searches and calls look at
-/// the shown spans and copy only what they find.
+/// A trace by its id costs its own spans, names cost what is listed, and a search looks at the entries
+/// of its service and at their traces, and copies only what it finds.
 #[derive(Drop)]
 pub struct SpanStore {
     alloc: Global,
@@ -193,11 +195,22 @@ impl SpanStore {
         see_traces(self.alloc, &self.journal, &self.assembly, &ids)
     }
 
+    /// The shown traces that entries of the service have spans of, the one opened longest ago first: a
+    /// search by the service finds the same among them as among all.
+    fn service_traces(&self, service: &Text) -> Result<Vec<Vec<Seen<'_>>>, AllocError>
+        ensures { IfOk result (λ v. (q : Search) → q.service ≡ service.now → found_in q (given_traces v.items) ≡ found_in q (traces self.now.limits.traces (arrivals self.now.entries))) }
+    {
+        let places = self.reported.places_of(service);
+        let ids = ids_along(self.alloc, &self.ring, &self.journal, places)?;
+        let traces = see_traces(self.alloc, &self.journal, &self.assembly, &ids)?;
+        Ok(traces)
+    }
+
     /// The traces that a search finds, as they are shown.
     fn find(&self, query: &Find) -> Result<Answer, AllocError>
         ensures { IfOk result (λ a. a ≡ answer self.now.limits self.now.entries (ask.Find query.now)) }
     {
-        let traces = self.all_traces()?;
+        let traces = self.service_traces(&query.service)?;
         let found = finding::find(self.alloc, &traces, query, self.limits().max_skew)?;
         Ok(Answer::Traces(Seq::from_vec(found)))
     }
@@ -206,7 +219,7 @@ impl SpanStore {
     fn find_ids(&self, query: &Find) -> Result<Answer, AllocError>
         ensures { IfOk result (λ a. a ≡ answer self.now.limits self.now.entries (ask.FindIds query.now)) }
     {
-        let traces = self.all_traces()?;
+        let traces = self.service_traces(&query.service)?;
         let ids = finding::find_ids(self.alloc, &traces, query)?;
         Ok(Answer::Ids(Seq::from_vec(ids)))
     }

@@ -1,7 +1,6 @@
-use Rattle.std.proofs.Common.{◌∙◌, ap, map, List}
+use Rattle.std.proofs.Common.{refl, ◌∙◌, ap, map, List}
 use Rattle.std.specs.Prelude.{Vec}
 use Rattle.std.specs.Global.{Global}
-use Rattle.jaeger_model.specs.declared.placed.Placed.{Placed}
 use Rattle.jaeger_model.specs.declared.placed.Seen.{Seen}
 use Rattle.trace_model.specs.declared.limits.Limits.{Limits}
 use Rattle.trace_model.specs.declared.answer.Answer.TheVariants as say
@@ -17,5 +16,5 @@ returns c =
     c.from_vec.ensures ∙ c.in_ok-found.ensures
     ∙ ap (λ (l : Limits). map (adjusted l.max_skew) (found_in q (given_traces c.deref.result.now))) c.limits.ensures
     ∙ ap (λ (ts : List (Vec Seen Global)). map (adjusted c.args.self.now.limits.max_skew) (found_in q (given_traces ts))) c.deref.ensures.value
-    ∙ ap (λ (ts : List (List Placed)). map (adjusted c.args.self.now.limits.max_skew) (found_in q ts)) c.in_ok-traces.ensures
+    ∙ ap (map (adjusted c.args.self.now.limits.max_skew)) (c.in_ok-traces.ensures q refl)
     )

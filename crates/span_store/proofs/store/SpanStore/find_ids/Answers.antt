@@ -1,7 +1,6 @@
-use Rattle.std.proofs.Common.{◌∙◌, ap, List}
+use Rattle.std.proofs.Common.{refl, ◌∙◌, ap, List}
 use Rattle.std.specs.Prelude.{Vec}
 use Rattle.std.specs.Global.{Global}
-use Rattle.jaeger_model.specs.declared.placed.Placed.{Placed}
 use Rattle.jaeger_model.specs.declared.placed.Seen.{Seen}
 use Rattle.trace_model.specs.declared.answer.Answer.TheVariants as say
 use Rattle.trace_model.specs.Searching.{found_in, ids_of}
@@ -14,5 +13,5 @@ returns c =
     ap say.Ids (
     c.from_vec.ensures ∙ c.in_ok-ids.ensures
     ∙ ap (λ (ts : List (Vec Seen Global)). ids_of (found_in q (given_traces ts))) c.deref.ensures.value
-    ∙ ap (λ (ts : List (List Placed)). ids_of (found_in q ts)) c.in_ok-traces.ensures
+    ∙ ap ids_of (c.in_ok-traces.ensures q refl)
     )
