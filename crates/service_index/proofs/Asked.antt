@@ -12,11 +12,12 @@ use Rattle.std.specs.BTreeSet.{BTreeSet}
 use Rattle.std.proofs.lemmas.List.Elements.{All-head, All-tail}
 use Rattle.jaeger_model.specs.Texts.{same_text, text_cmp, sorted_set}
 use Rattle.trace_model.specs.declared.answer.Operation.{Operation}
-use Rattle.trace_model.specs.Names.{operation_cmp}
-use Rattle.trace_model.proofs.Rising.{any_set}
+use Rattle.trace_model.specs.Names.{operation_cmp, same_operation}
+use Rattle.trace_model.proofs.Rising.{any_set, sorted_set-rises}
 use Rattle.trace_model.proofs.NameLaws.{text_total, text_exact, operation_total, operation_exact, any_map, any_filter}
-use Rattle.service_index.specs.Listing.{Listed, listed_at, listed_along, listing, Tree, IsTree, services_in, operations_of, names_of, names_in}
-use Rattle.service_index.proofs.Tree.{is_set, same_set, listed_exact, any_more}
+use Rattle.service_index.specs.Listing.{Listed, listed_cmp, same_listed, listed_at, listed_along, listing, Tree, IsTree, services_in, operations_of, names_of, names_in}
+use Rattle.service_index.proofs.Known.{any_agree, same_operation_by_cmp}
+use Rattle.service_index.proofs.Tree.{is_set, same_set, listed_total, listed_exact, any_more}
 
 none_of : {X : Type 0} (xs : List X) → list_any (λ _. false) xs ≡ false
 none_of [] = refl
@@ -114,3 +115,16 @@ names_none s es h =
     let name : Operation → List ℕ = λ o. o.name in
     same_set text_total text_exact [] (map name (operations_of s (listing es))) (λ p.
     sym (any_map p name (operations_of s (listing es)) ∙ of_listing s (λ o. p (name o)) es ∙ own_none s (λ o. p (name o)) es h))
+
+-- ---- whether an operation is listed
+pub listed_some : (s : List ℕ) (o : Operation) (k : BTreeSet Operation) (es : Tree) → IsTree es → lookup (is_at (text_cmp s)) es ≡ Some k
+    → list_any (is_at (operation_cmp o)) k.keys ≡ list_any (same_listed (record { service = s; operation = o })) (listing es)
+listed_some s o k es t h =
+    sym (any_set listed_exact (own s (same_operation o)) (listed_along es) ∙ own_some s (same_operation o) k es t.services h
+    ∙ any_agree (same_operation o) (is_at (operation_cmp o)) (same_operation_by_cmp o) k.keys)
+
+pub listed_none : (s : List ℕ) (o : Operation) (es : Tree) → lookup (is_at (text_cmp s)) es ≡ None → false ≡ list_any (same_listed (record { service = s; operation = o })) (listing es)
+listed_none s o es h = sym (any_set listed_exact (own s (same_operation o)) (listed_along es) ∙ own_none s (same_operation o) es h)
+
+pub listing-rises : (es : Tree) → IsStrictlySortedBy listed_cmp (listing es)
+listing-rises es = sorted_set-rises listed_total (listed_along es)

@@ -2,3 +2,4 @@ pub mod Tree
 pub mod Asked
 pub mod Runs
 pub mod Arrivals
+pub mod Known

@@ -1,5 +1,5 @@
 -- What was reported, as a set in order, and what it answers.
-use Rattle.std.specs.Prelude.{ℕ, ◌<◌, Bool, false, List, [], ◌∷◌, map, filter, flat_map, length}
+use Rattle.std.specs.Prelude.{ℕ, ◌<◌, Bool, ◌&&◌, false, List, [], ◌∷◌, map, filter, flat_map, length}
 use Rattle.std.specs.declared.cmp.Ordering.{Ordering}
 use Rattle.std.specs.Ordering.{ordering_then}
 use Rattle.std.specs.List.{All}
@@ -9,7 +9,7 @@ use Rattle.std.specs.Map.{keys_of, values_of}
 use Rattle.jaeger_model.specs.declared.placed.Placed.{Placed}
 use Rattle.jaeger_model.specs.Texts.{same_text, text_cmp, sorted_set}
 use Rattle.trace_model.specs.declared.answer.Operation.{Operation}
-use Rattle.trace_model.specs.Names.{operation_of, operation_cmp, is_asked_kind}
+use Rattle.trace_model.specs.Names.{operation_of, operation_cmp, same_operation, is_asked_kind}
 
 -- an operation of a service
 pub record Listed : Type 0 where
@@ -19,6 +19,9 @@ pub record Listed : Type 0 where
 -- by service, then by operation
 abbrev pub listed_cmp : Listed → Listed → Ordering
 listed_cmp a b = ordering_then (text_cmp a.service b.service) (operation_cmp a.operation b.operation)
+
+abbrev pub same_listed : Listed → Listed → Bool
+same_listed a b = same_text a.service b.service && same_operation a.operation b.operation
 
 abbrev pub listed : Placed → Listed
 listed p = record { service = p.process.service; operation = operation_of p }

@@ -2,7 +2,9 @@ ghost use Rattle.std.specs.Prelude.{◌≡◌, IfOk, OnOk, OnErr, List, [], filt
 ghost use Rattle.std.specs.List.Sorted.{IsStrictlySortedBy};
 ghost use Rattle.jaeger_model.specs.Texts.{insert_once};
 ghost use Rattle.trace_model.specs.Names.{is_asked_kind, operation_cmp};
-ghost use Rattle.service_index.specs.Listing.{Listed, listed_cmp, listing, IsTree, services_in, names_in, names_of, ends_in, operations_in};
+ghost use Rattle.std.specs.Prelude.{fold};
+ghost use Rattle.std.specs.List.{list_any};
+ghost use Rattle.service_index.specs.Listing.{Listed, listed_cmp, listed_at, listing, IsTree, same_listed, services_in, names_in, names_of, ends_in, operations_in};
 
 use jaeger_model::Text;
 use std::alloc::{AllocError, Global};
@@ -23,6 +25,18 @@ impl Model for ServiceIndex {
     ghost view = { λ index. listing index.services.entries };
 
     ghost invariant = { λ index. IsTree index.services.entries };
+}
+
+impl Clone for ServiceIndex {
+    ghost is_clone = { λ s t. t ≡ s };
+
+    fn clone(&self) -> Result<Self, AllocError> {
+        let mut copy = ServiceIndex::new(self.alloc);
+        for (service, known) in self.services.iter() {
+            add_known(&mut copy, service, known)?;
+        }
+        Ok(copy)
+    }
 }
 
 impl ServiceIndex {
@@ -57,6 +71,22 @@ impl ServiceIndex {
         known.insert(operation)?;
         self.services.insert(service.clone()?, known)?;
         Ok(())
+    }
+
+    /// Whether it lists this operation of the service with this kind.
+    ///
+    /// # Errors
+    ///
+    /// Want of memory alone.
+    pub fn lists(&self, service: &Text, operation: &Text, kind: &str) -> Result<bool, AllocError>
+        ensures listed { IfOk result (λ known. known ≡ list_any (same_listed (record { service = service.now; operation = record { name = operation.now; kind = kind.now } })) self.now) }
+        ensures ordered { OnOk result (IsStrictlySortedBy listed_cmp self.now) }
+    {
+        let asked = named(self.alloc, operation, kind)?;
+        match self.services.get(service) {
+            Some(known) => Ok(known.contains(&asked)),
+            None => Ok(false),
+        }
     }
 
     /// The services, each once, in the order of their bytes.
@@ -102,6 +132,31 @@ impl ServiceIndex {
             None => Ok(Vec::new(self.alloc)),
         }
     }
+}
+
+/// The operation with this name and kind.
+fn named(alloc: Global, name: &Text, kind: &str) -> Result<Operation, AllocError>
+    ensures { IfOk result (λ o. o ≡ record { name = name.now; kind = kind.now }) }
+{
+    let kind = Text::from_str(alloc, kind)?;
+    Ok(Operation {
+        name: name.clone()?,
+        kind,
+    })
+}
+
+/// Lists the operations of a service.
+fn add_known(
+    index: &mut ServiceIndex,
+    service: &Text,
+    known: &BTreeSet<Operation>,
+) -> Result<(), AllocError>
+    ensures { OnOk result (index.new ≡ fold (insert_once listed_cmp) index.old (listed_at service.now known.now.keys)) }
+{
+    for operation in known.iter() {
+        index.add(service, &operation.name, operation.kind.as_str())?;
+    }
+    Ok(())
 }
 
 fn copy(operation: &Operation) -> Result<Operation, AllocError>

@@ -1,10 +1,12 @@
 //! Facts about what is listed. Each function does nothing, and its contract is the fact.
 
-ghost use Rattle.std.specs.Prelude.{◌≡◌, ℕ, List, [], ◌∷◌, ◌++◌};
+ghost use Rattle.std.specs.List.{list_any};
+ghost use Rattle.std.specs.List.Sorted.{IsStrictlySortedBy};
+ghost use Rattle.std.specs.Prelude.{◌≡◌, true, ℕ, List, [], ◌∷◌, ◌++◌};
 ghost use Rattle.jaeger_model.specs.declared.placed.Placed.{Placed as Span};
 ghost use Rattle.jaeger_model.specs.Texts.{insert_once};
 ghost use Rattle.trace_model.specs.Names.{services, operation_names, operations};
-ghost use Rattle.service_index.specs.Listing.{listed, listed_cmp, listed_in, services_in, names_in, operations_in};
+ghost use Rattle.service_index.specs.Listing.{Listed, same_listed, listed, listed_cmp, listed_in, services_in, names_in, operations_in};
 
 /// What is listed of all arrivals answers as the plain store does.
 pub fn listed_answers()
@@ -17,4 +19,10 @@ pub fn listed_answers()
 pub fn listed_once_more()
     ensures none { listed_in [] ≡ [] }
     ensures more { (ps : List Span) (p : Span) → listed_in (ps ++ p ∷ []) ≡ insert_once listed_cmp (listed_in ps) (listed p) }
+{}
+
+/// What is listed is not listed again.
+#[tactic(auto, using(crate::proofs::Known::known_again))]
+pub fn listed_already()
+    ensures { (ls : List Listed) (l : Listed) → IsStrictlySortedBy listed_cmp ls → list_any (same_listed l) ls ≡ true → insert_once listed_cmp ls l ≡ ls }
 {}

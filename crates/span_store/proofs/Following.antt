@@ -19,9 +19,11 @@ use Rattle.trace_model.proofs.Traces.{same_self}
 use Rattle.trace_ring.specs.Windows.{opened_by}
 use Rattle.trace_assembly.specs.declared.spot.Spot.{Spot}
 use Rattle.trace_assembly.specs.Rows.{with_spot, is_of}
-use Rattle.trace_assembly.specs.Located.{span_at, located, located_in, spans_in, after_leaving}
+use Rattle.trace_assembly.specs.Located.{span_at, located, located_in, spans_in, shown_spots, after_leaving}
 use Rattle.trace_assembly.proofs.Feeding.{after_arrival_law, spans_at_shown_law}
 use Rattle.trace_assembly.proofs.Places.{located_push_law, located_in-push}
+use Rattle.jaeger_model.specs.declared.placed.Seen.{Seen}
+use Rattle.span_store.specs.Given.{given, given_all}
 use Rattle.span_store.specs.Kept.{Follows}
 
 spans-push : (ls : List (Spot × Placed)) (l : Spot × Placed) → spans_in (ls ++ l ∷ []) ≡ spans_in ls ++ l.1 ∷ []
@@ -110,3 +112,15 @@ pub some_found : (f : List Placed → List Shown) (h : List Entry) (found : List
 some_found f h [] spans items shown same got some is = absurd (omega arith)
 some_found f h (s ∷ found) [] items shown same got some is = absurd cc
 some_found f h (s ∷ found) (p ∷ spans) items shown same got some is = ap Some (is ∙ ap f (some_same items (p ∷ spans) (got ∙ same)))
+
+-- ---- the spans of a trace where they stand
+pub trace_named : (n : ℕ) (h : List Entry) (spots : TraceId → List Spot) (t : TraceId) (found : List Spot) → ((t : TraceId) → spots t ≡ shown_spots n (located h) t) → found ≡ spots t
+    → map (span_at h) found ≡ map Some (spans_of_trace n (arrivals h) t)
+trace_named n h spots t found all is = ap (map (span_at h)) (is ∙ all t) ∙ spans_at_shown_law n h t
+
+some_given : (ss : List Seen) → map (λ s. Some (given s)) ss ≡ map Some (given_all ss)
+some_given [] = refl
+some_given (s ∷ ss) = ap (λ l. Some (given s) ∷ l) (some_given ss)
+
+pub trace_seen : (h : List Entry) (found : List Spot) (ss : List Seen) (spans : List Placed) → map (span_at h) found ≡ map Some spans → map (λ s. Some (given s)) ss ≡ map (span_at h) found → given_all ss ≡ spans
+trace_seen h found ss spans named same = some_same (given_all ss) spans (sym (some_given ss) ∙ same ∙ named)

@@ -1,1 +1,6 @@
 pub mod Following
+pub mod Naming
+pub mod Keeping
+pub mod Adopting
+pub mod Picking
+pub mod Entries

@@ -1,12 +1,39 @@
 -- What a store keeps beside its list of entries.
-use Rattle.std.specs.Prelude.{◌≡◌, ℕ, List}
+use Rattle.std.specs.Prelude.{◌≡◌, ℕ, suc, List, [], ◌∷◌, map, fold, if◌then◌else◌}
 use Rattle.jaeger_model.specs.declared.ids.TraceId.{TraceId}
 use Rattle.jaeger_model.specs.declared.placed.Placed.{Placed}
+use Rattle.jaeger_model.specs.declared.batch.Batch.{Batch}
+use Rattle.jaeger_model.specs.Parents.{domain}
+use Rattle.jaeger_model.specs.Texts.{same_text, insert_once}
+use Rattle.trace_model.specs.Histories.{arrivals}
+use Rattle.trace_model.specs.declared.entry.Entry.{Entry}
+use Rattle.trace_model.specs.Held.{Held}
 use Rattle.trace_model.specs.Showing.{ring}
 use Rattle.trace_assembly.specs.declared.spot.Spot.{Spot}
-use Rattle.trace_assembly.specs.Located.{spans_in, shown_spots}
+use Rattle.trace_assembly.specs.Located.{located, spans_in, shown_spots}
+use Rattle.service_index.specs.Listing.{Listed, listed, listed_cmp, listed_in}
 
 -- the ring is that of these arrivals, and each trace has the spots of its shown spans
 pub record Follows (n : ℕ) (ls : List (Spot × Placed)) (ids : List TraceId) (spots_at : TraceId → List Spot) : Type 0 where
   pub ring : ids ≡ ring n (spans_in ls)
   pub spots : (t : TraceId) → spots_at t ≡ shown_spots n ls t
+
+-- what is listed once the spans of the batch are
+abbrev pub with_listed : List Listed → Batch → List Listed
+with_listed ls b = fold (insert_once listed_cmp) ls (map listed (domain b))
+
+-- the places of the service's entries from this place on
+abbrev pub places_from : List ℕ → ℕ → List Entry → List ℕ
+places_from service place [] = []
+places_from service place (e ∷ es) = if same_text e.batch.process.service service then place ∷ places_from service (suc place) es else places_from service (suc place) es
+
+-- the places of the service's entries; the first entry stands at place 1
+abbrev pub places_in : List ℕ → List Entry → List ℕ
+places_in service h = places_from service 1 h
+
+-- ring, spots, names and the places of services are those of the entries
+pub record IsKept (held : Held) (most : ℕ) (ids : List TraceId) (spots_at : TraceId → List Spot) (index : List Listed) (places_at : List ℕ → List ℕ) : Type 0 where
+  pub limit : most ≡ held.limits.traces
+  pub follows : Follows most (located held.entries) ids spots_at
+  pub names : index ≡ listed_in (arrivals held.entries)
+  pub places : (service : List ℕ) → places_at service ≡ places_in service held.entries

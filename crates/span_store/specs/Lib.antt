@@ -1,1 +1,4 @@
 pub mod Kept
+pub mod Given
+pub mod Replaying
+pub mod Picked

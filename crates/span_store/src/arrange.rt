@@ -1,6 +1,6 @@
 //! What one more entry changes in ring and assembly.
 
-ghost use Rattle.std.specs.Prelude.{◌≡◌, ℕ, ◌+◌, ◌<◌, ◌≤◌, List, [], ◌∷◌, ◌++◌, length, count_by, None, if◌then◌else◌};
+ghost use Rattle.std.specs.Prelude.{◌≡◌, ℕ, ◌+◌, ◌<◌, ◌≤◌, List, [], ◌∷◌, ◌++◌, length, count_by, None, OnOk, if◌then◌else◌};
 ghost use Rattle.jaeger_model.specs.Parents.{same_trace};
 ghost use Rattle.jaeger_model.specs.declared.ids.TraceId.{TraceId as Trace};
 ghost use Rattle.jaeger_model.specs.declared.placed.Placed.{Placed as Arrival};
@@ -13,6 +13,7 @@ ghost use Rattle.span_store.specs.Kept.{Follows};
 
 use arrival_journal::Journal;
 use jaeger_model::TraceId;
+use std::alloc::AllocError;
 use trace_assembly::{Assembly, Spot};
 use trace_model::Entry;
 use trace_ring::Ring;
@@ -41,6 +42,27 @@ fn let_in(ring: &mut Ring, assembly: &mut Assembly, trace: TraceId, spot: Spot)
     let arrived = ring.arrive_reserved(trace);
     hide_left(assembly, arrived.left);
     assembly.add_reserved(trace, spot);
+}
+
+/// Takes the room for one more entry and its spans. What they hold stays in either case.
+pub(crate) fn take_room(
+    journal: &mut Journal,
+    ring: &mut Ring,
+    assembly: &mut Assembly,
+    entry: &Entry,
+) -> Result<(), AllocError>
+    ensures held { journal.new.held ≡ journal.old.held }
+    ensures limit { ring.new.limit ≡ ring.old.limit }
+    ensures ids { ring.new.ids ≡ ring.old.ids }
+    ensures spots { (t : Trace) → spots_of assembly.new t ≡ spots_of assembly.old t }
+
+    ensures journal_room { OnOk result (0 < journal.new.room) }
+    ensures ring_room { OnOk result (length entry.now.batch.spans ≤ ring.new.room) }
+    ensures assembly_room { OnOk result ((t : Trace) → count_by (is_of t) entry.now.batch.spans ≤ room_of assembly.new t) }
+{
+    journal.reserve(1)?;
+    ring.reserve(entry.batch.spans.len())?;
+    assembly.reserve(entry.batch.spans.as_slice())
 }
 
 /// Lets the spans of an entry in, which will stand at the end of the journal, in room that was taken

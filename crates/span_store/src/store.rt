@@ -1,46 +1,59 @@
 ghost use Rattle.std.specs.Prelude.{◌≡◌, ◌==◌, [], map, length, None, OnOk, OnErr, IfOk, IfErr};
 ghost use Rattle.std.specs.Arc.{arc_value};
-ghost use Rattle.trace_model.specs.declared.query.Query.TheVariants.{Trace};
+ghost use Rattle.std.specs.Result.{result_err};
+ghost use Rattle.trace_model.specs.declared.query.Query.TheVariants as ask;
 ghost use Rattle.trace_model.specs.declared.refusal.Refusal.TheVariants.{NoMemory};
-ghost use Rattle.trace_model.specs.Answers.{answer};
-ghost use Rattle.trace_model.specs.Histories.{IsLegal};
+ghost use Rattle.trace_model.specs.Answers.{answer, shown_as};
+ghost use Rattle.trace_model.specs.Histories.{IsLegal, arrivals};
+ghost use Rattle.trace_model.specs.Searching.{traces, found_in};
+ghost use Rattle.trace_model.specs.declared.query.Find.{Find as Search};
 ghost use Rattle.trace_model.specs.Refusals.{followed_by};
 ghost use Rattle.arrival_journal.specs.Journals.{refusal_by, turned_away_by};
+ghost use Rattle.span_store.specs.Given.{given_traces};
 
-use crate::arrange::arrange;
+use crate::arrange::{arrange, take_room};
+use crate::finding;
 use crate::gather::gather;
+use crate::listing::{exchange, with_listed};
+use crate::searching::ids_along;
+use crate::seeing::{ring_ids, see_traces};
 use arrival_journal::Journal;
-use jaeger_model::TraceId;
+use jaeger_model::{Placed, Seen, Seq, Text, TraceId};
+use service_index::ServiceIndex;
+use service_places::ServicePlaces;
 use std::alloc::{AllocError, Global};
 use std::marker::Model;
 use std::sync::Arc;
+use trace_adjust::adjusted;
 use trace_assembly::Assembly;
-use trace_model::{Answer, Entry, Limits, Query, Refusal, plain_answer, trace_shown};
+use trace_model::{Answer, Entry, Find, Limits, Query, Refusal, Shown, trace_shown};
 use trace_ring::Ring;
 
 /// The accepted entries of one store, and quick answers from them.
 ///
-/// A trace by its id costs its own spans; other answers are made from the whole list.
+/// A trace by its id costs its own spans, names cost what is listed, and a search looks at the entries
+/// of its service and at their traces, and copies only what it finds.
 #[derive(Drop)]
 pub struct SpanStore {
     alloc: Global,
     journal: Journal,
     ring: Ring,
     assembly: Assembly,
+    names: ServiceIndex,
+    reported: ServicePlaces,
 }
 
 impl Model for SpanStore {
-    ghost use Rattle.std.specs.Prelude.{◌≡◌};
     ghost use Rattle.trace_model.specs.Held.{Held};
     ghost use Rattle.trace_assembly.specs.Rows.{spots_of};
-    ghost use Rattle.trace_assembly.specs.Located.{located};
-    ghost use Rattle.span_store.specs.Kept.{Follows};
+    ghost use Rattle.service_places.specs.Reported.{places_of};
+    ghost use Rattle.span_store.specs.Kept.{IsKept};
 
     ghost Value = { Held };
 
     ghost view = { λ s. s.journal.held };
 
-    ghost invariant = { λ s. (s.ring.limit ≡ s.journal.held.limits.traces) × Follows s.ring.limit (located s.journal.held.entries) s.ring.ids (spots_of s.assembly) };
+    ghost invariant = { λ s. IsKept s.journal.held s.ring.limit s.ring.ids (spots_of s.assembly) s.names (places_of s.reported) };
 }
 
 impl SpanStore {
@@ -53,6 +66,8 @@ impl SpanStore {
             journal: Journal::new(alloc, limits),
             ring: Ring::new(alloc, limits.traces),
             assembly: Assembly::new(alloc),
+            names: ServiceIndex::new(alloc),
+            reported: ServicePlaces::new(alloc),
         }
     }
 
@@ -83,6 +98,14 @@ impl SpanStore {
         self.journal.is_empty()
     }
 
+    /// Says whether the entry may follow, as [`apply`](Self::apply) does: its refusals but want of
+    /// memory.
+    pub fn judge(&self, entry: &Entry) -> Result<(), Refusal>
+        ensures { result_err result ≡ refusal_by self.now entry.now }
+    {
+        self.journal.judge(entry)
+    }
+
     /// Adds an entry at the end and gives its place, the first one being 1.
     ///
     /// An entry is refused where its number is not above the last one of its seat
@@ -100,10 +123,19 @@ impl SpanStore {
         ensures legal { IsLegal self.new.limits self.new.entries }
     {
         self.journal.judge(&entry)?;
-        self.journal.reserve(1)?;
-        self.ring.reserve(entry.batch.spans.len())?;
-        self.assembly.reserve(entry.batch.spans.as_slice())?;
+        let names = with_listed(&self.names, &entry.batch)?;
+        take_room(
+            &mut self.journal,
+            &mut self.ring,
+            &mut self.assembly,
+            &entry,
+        )?;
+        self.reported.reserve(&entry.batch.process.service)?;
         arrange(&self.journal, &mut self.ring, &mut self.assembly, &entry);
+        let place = self.journal.len() + 1;
+        self.reported
+            .add_reserved(&entry.batch.process.service, place);
+        exchange(&mut self.names, names);
         self.journal.append(entry);
         Ok(self.journal.len())
     }
@@ -119,20 +151,113 @@ impl SpanStore {
     {
         match query {
             Query::Trace { id, raw } => Ok(self.trace(*id, *raw)?),
-            _ => Ok(plain_answer(self.alloc, self.entries(), self.limits(), query)?),
+            Query::Services => Ok(self.services()?),
+            Query::OperationNames { service } => Ok(self.operation_names(service)?),
+            Query::Operations { service, kind } => Ok(self.operations(service, kind)?),
+            Query::Find(find) => Ok(self.find(find)?),
+            Query::FindIds(find) => Ok(self.find_ids(find)?),
+            Query::Links {
+                end_ms,
+                lookback_ms,
+            } => Ok(self.links(*end_ms, *lookback_ms)?),
         }
+    }
+
+    /// The services of all arrivals.
+    fn services(&self) -> Result<Answer, AllocError>
+        ensures { IfOk result (λ a. a ≡ answer self.now.limits self.now.entries ask.Services) }
+    {
+        let names = self.names.services()?;
+        Ok(Answer::Names(Seq::from_vec(names)))
+    }
+
+    /// The operations of a service, by name.
+    fn operation_names(&self, service: &Text) -> Result<Answer, AllocError>
+        ensures { IfOk result (λ a. a ≡ answer self.now.limits self.now.entries (ask.OperationNames service.now)) }
+    {
+        let names = self.names.names(service)?;
+        Ok(Answer::Names(Seq::from_vec(names)))
+    }
+
+    /// The operations of a service, by name and kind.
+    fn operations(&self, service: &Text, kind: &Text) -> Result<Answer, AllocError>
+        ensures { IfOk result (λ a. a ≡ answer self.now.limits self.now.entries (ask.Operations service.now kind.now)) }
+    {
+        let found = self.names.operations(service, kind)?;
+        Ok(Answer::Operations(Seq::from_vec(found)))
+    }
+
+    /// The shown traces, the one opened longest ago first.
+    fn all_traces(&self) -> Result<Vec<Vec<Seen<'_>>>, AllocError>
+        ensures { IfOk result (λ v. given_traces v.items ≡ traces self.now.limits.traces (arrivals self.now.entries)) }
+    {
+        let ids = ring_ids(self.alloc, &self.ring)?;
+        see_traces(self.alloc, &self.journal, &self.assembly, &ids)
+    }
+
+    /// The shown traces that entries of the service have spans of, the one opened longest ago first: a
+    /// search by the service finds the same among them as among all.
+    fn service_traces(&self, service: &Text) -> Result<Vec<Vec<Seen<'_>>>, AllocError>
+        ensures { IfOk result (λ v. (q : Search) → q.service ≡ service.now → found_in q (given_traces v.items) ≡ found_in q (traces self.now.limits.traces (arrivals self.now.entries))) }
+    {
+        let places = self.reported.places_of(service);
+        let ids = ids_along(self.alloc, &self.ring, &self.journal, places)?;
+        let traces = see_traces(self.alloc, &self.journal, &self.assembly, &ids)?;
+        Ok(traces)
+    }
+
+    /// The traces that a search finds, as they are shown.
+    fn find(&self, query: &Find) -> Result<Answer, AllocError>
+        ensures { IfOk result (λ a. a ≡ answer self.now.limits self.now.entries (ask.Find query.now)) }
+    {
+        let traces = self.service_traces(&query.service)?;
+        let found = finding::find(self.alloc, &traces, query, self.limits().max_skew)?;
+        Ok(Answer::Traces(Seq::from_vec(found)))
+    }
+
+    /// The ids of the traces that a search finds.
+    fn find_ids(&self, query: &Find) -> Result<Answer, AllocError>
+        ensures { IfOk result (λ a. a ≡ answer self.now.limits self.now.entries (ask.FindIds query.now)) }
+    {
+        let traces = self.service_traces(&query.service)?;
+        let ids = finding::find_ids(self.alloc, &traces, query)?;
+        Ok(Answer::Ids(Seq::from_vec(ids)))
+    }
+
+    /// How often services call one another in a window of time.
+    fn links(&self, end_ms: i64, lookback_ms: i64) -> Result<Answer, AllocError>
+        ensures { IfOk result (λ a. a ≡ answer self.now.limits self.now.entries (ask.Links end_ms lookback_ms)) }
+    {
+        let traces = self.all_traces()?;
+        let links = finding::links(self.alloc, &traces, end_ms, lookback_ms)?;
+        Ok(Answer::Links(Seq::from_vec(links)))
     }
 
     /// A trace by its id.
     fn trace(&self, id: TraceId, raw: bool) -> Result<Answer, AllocError>
-        ensures { IfOk result (λ a. a ≡ answer self.now.limits self.now.entries (Trace id raw)) }
+        ensures { IfOk result (λ a. a ≡ answer self.now.limits self.now.entries (ask.Trace id raw)) }
     {
         let spots = self.assembly.spans_of(id);
         if spots.is_empty() {
             return Ok(Answer::Trace(None));
         }
         let spans = gather(self.alloc, &self.journal, spots)?;
-        let shown = trace_shown(self.alloc, spans, self.limits(), raw)?;
+        let shown = shown_as(self.alloc, spans, self.limits(), raw)?;
         Ok(Answer::Trace(Some(shown)))
     }
+}
+
+/// The spans of a trace as they are shown: as they arrived where `raw` is asked, else adjusted.
+fn shown_as(
+    alloc: Global,
+    spans: Vec<Placed>,
+    limits: Limits,
+    raw: bool,
+) -> Result<Seq<Shown>, AllocError>
+    ensures { IfOk result (λ s. s ≡ shown_as limits raw spans.items) }
+{
+    if raw {
+        return trace_shown(alloc, spans, limits, true);
+    }
+    Ok(Seq::from_vec(adjusted(alloc, spans, limits.max_skew)?))
 }

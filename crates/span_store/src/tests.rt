@@ -1,37 +1,72 @@
 use super::*;
-use jaeger_model::{Batch, Process, Seq, Span, SpanId, Text, TraceId};
+use jaeger_model::{Batch, Process, Seq, Span, SpanId, Tag, Text, TraceId, Value};
 use std::alloc::{AllocError, Global};
 use std::process::Abort;
 use std::sync::Arc;
 use std::test::*;
-use trace_model::{Answer, Entry, Limits, Query, Refusal, plain_answer};
+use trace_model::{Answer, Entry, Find, Limits, Query, Refusal, plain_answer};
 
-fn span(alloc: Global, trace: u64, id: u64) -> Result<Span, Fail> {
+/// A number that looks random and is the same in every run.
+fn after(seed: u64) -> u64 {
+    seed.wrapping_mul(6_364_136_223_846_793_005)
+        .wrapping_add(1_442_695_040_888_963_407)
+}
+
+fn text(alloc: Global, text: &str) -> Result<Text, Fail> {
+    Ok(Text::from_str(alloc, text)?)
+}
+
+fn tag(alloc: Global, key: &str, value: &str) -> Result<Tag, Fail> {
+    Ok(Tag {
+        key: text(alloc, key)?,
+        value: Value::Text(text(alloc, value)?),
+    })
+}
+
+fn service(number: u64) -> &'static str {
+    match number % 3 {
+        0 => "a",
+        1 => "b",
+        _ => "ab",
+    }
+}
+
+fn span(alloc: Global, trace: u64, seed: u64) -> Result<Span, Fail> {
+    let seed = after(seed) >> 20;
+    let mut tags = Vec::new(alloc);
+    if seed % 2 == 0 {
+        tags.push(tag(alloc, "k", "v")?)?;
+    }
+    if seed % 3 == 0 {
+        tags.push(tag(alloc, "span.kind", "client")?)?;
+    }
     Ok(Span {
         trace: TraceId {
             high: 0,
             low: trace,
         },
-        id: SpanId(id),
-        parent: SpanId(id / 2),
-        operation: Text::from_string(String::from_str(alloc, "op")?),
+        id: SpanId(seed % 5),
+        parent: SpanId(seed / 5 % 5),
+        operation: text(alloc, if seed % 7 < 3 { "get" } else { "put" })?,
         references: Seq::new(alloc),
         flags: 1,
-        start: 1000,
+        start: if seed % 11 < 5 { 1000 } else { 1500 },
         duration: 50,
-        tags: Seq::new(alloc),
+        tags: Seq::from_vec(tags),
         logs: Seq::new(alloc),
     })
 }
 
 /// An entry of seat 0 with a span of each of these traces.
 fn entry(alloc: Global, number: u64, traces: &[u64]) -> Result<Arc<Entry>, Fail> {
+    let mut seed = after(number);
     let mut spans = Vec::new(alloc);
     for trace in traces {
-        spans.push(span(alloc, *trace, number)?)?;
+        seed = after(seed);
+        spans.push(span(alloc, *trace, seed)?)?;
     }
     let process = Process {
-        service: Text::from_string(String::from_str(alloc, "a")?),
+        service: text(alloc, service(seed >> 40))?,
         tags: Seq::new(alloc),
     };
     let batch = Batch {
@@ -45,6 +80,24 @@ fn entry(alloc: Global, number: u64, traces: &[u64]) -> Result<Arc<Entry>, Fail>
         batch,
     };
     Ok(Arc::new(alloc, entry)?)
+}
+
+fn find(alloc: Global, seed: u64) -> Result<Find, Fail> {
+    let seed = seed >> 24;
+    let mut tags = Vec::new(alloc);
+    if seed % 5 == 0 {
+        tags.push((text(alloc, "k")?, text(alloc, "v")?))?;
+    }
+    Ok(Find {
+        service: text(alloc, service(seed))?,
+        operation: text(alloc, if seed % 7 < 5 { "" } else { "put" })?,
+        tags: Seq::from_vec(tags),
+        start_min: if seed % 11 < 7 { None } else { Some(1001) },
+        start_max: None,
+        duration_min: 0,
+        duration_max: 60,
+        limit: seed % 4,
+    })
 }
 
 /// The same question to the store and to the plain store of its entries.
@@ -65,7 +118,30 @@ fn same_answer(
     Ok(())
 }
 
-fn same_answers(rt: &impl Abort, alloc: Global, store: &SpanStore) -> Result<(), Fail> {
+fn same_names(rt: &impl Abort, alloc: Global, store: &SpanStore, seed: u64) -> Result<(), Fail> {
+    same_answer(rt, alloc, store, Query::Services)?;
+    let asked = text(alloc, service(seed >> 30))?;
+    same_answer(rt, alloc, store, Query::OperationNames { service: asked })?;
+    let asked = text(alloc, service(seed >> 32))?;
+    let kind = text(alloc, if seed >> 34 & 1 == 0 { "" } else { "client" })?;
+    let operations = Query::Operations {
+        service: asked,
+        kind,
+    };
+    same_answer(rt, alloc, store, operations)
+}
+
+fn same_searches(rt: &impl Abort, alloc: Global, store: &SpanStore, seed: u64) -> Result<(), Fail> {
+    same_answer(rt, alloc, store, Query::Find(find(alloc, seed)?))?;
+    same_answer(rt, alloc, store, Query::FindIds(find(alloc, after(seed))?))?;
+    let links = Query::Links {
+        end_ms: 2,
+        lookback_ms: if seed >> 50 & 1 == 0 { 1 } else { 2 },
+    };
+    same_answer(rt, alloc, store, links)
+}
+
+fn same_answers(rt: &impl Abort, alloc: Global, store: &SpanStore, seed: u64) -> Result<(), Fail> {
     for trace in 0..4 {
         let id = TraceId {
             high: 0,
@@ -74,12 +150,15 @@ fn same_answers(rt: &impl Abort, alloc: Global, store: &SpanStore) -> Result<(),
         same_answer(rt, alloc, store, Query::Trace { id, raw: true })?;
         same_answer(rt, alloc, store, Query::Trace { id, raw: false })?;
     }
-    same_answer(rt, alloc, store, Query::Services)
+    same_names(rt, alloc, store, seed)?;
+    same_searches(rt, alloc, store, seed)?;
+    same_searches(rt, alloc, store, after(after(seed)))
 }
 
 /// Applies the entry. Where memory is wanting the store must be as before, and takes the entry then.
 fn apply(
     rt: &impl Abort,
+    alloc: Global,
     store: &mut SpanStore,
     entry: &Arc<Entry>,
 ) -> Result<Result<u64, Refusal>, Fail> {
@@ -89,6 +168,7 @@ fn apply(
         return Ok(answer);
     }
     assert_eq!(rt; store.len(), before);
+    same_answers(rt, alloc, store, before)?;
     Ok(store.apply(Arc::try_clone(entry)?))
 }
 
@@ -97,18 +177,19 @@ fn as_the_plain_store(rt: HostRuntime) -> Result<(), Fail> {
     let alloc = rt.alloc();
     let mut seed: u64 = 1;
     for limit in [0, 1, 2, 3] {
-        let limits = Limits::new(20, 40, limit, 0).expect(&rt, "limits");
+        let limits = Limits::new(20, 40, limit, 300).expect(&rt, "limits");
         let mut store = SpanStore::open(alloc, limits);
         assert!(rt; store.is_empty());
-        for number in 1..12 {
+        same_answers(&rt, alloc, &store, seed)?;
+        for number in 1..9 {
             let mut traces = Vec::new(alloc);
             for _ in 0..3 {
-                seed = seed.wrapping_mul(6_364_136_223_846_793_005).wrapping_add(1);
+                seed = after(seed);
                 traces.push((seed >> 60) % 4)?;
             }
-            let place = apply(&rt, &mut store, &entry(alloc, number, &traces)?)?;
+            let place = apply(&rt, alloc, &mut store, &entry(alloc, number, &traces)?)?;
             assert_eq!(rt; place, Ok(number));
-            same_answers(&rt, alloc, &store)?;
+            same_answers(&rt, alloc, &store, seed)?;
         }
     }
     Ok(())
@@ -130,9 +211,29 @@ fn refused_entries_change_nothing(rt: HostRuntime) -> Result<(), Fail> {
         (3, second, Ok(2)),
         (4, second, full(2, 5)),
     ] {
-        let got = apply(&rt, &mut store, &entry(alloc, number, traces)?)?;
+        let got = apply(&rt, alloc, &mut store, &entry(alloc, number, traces)?)?;
         assert_eq!(rt; got, want, "number {number}");
-        same_answers(&rt, alloc, &store)?;
+        same_answers(&rt, alloc, &store, number)?;
     }
+    Ok(())
+}
+
+#[test]
+fn replays_what_is_accepted(rt: HostRuntime) -> Result<(), Fail> {
+    let alloc = rt.alloc();
+    let limits = Limits::new(3, 5, 2, 0).expect(&rt, "limits");
+    let mut entries = Vec::new(alloc);
+    for number in [1, 1, 2, 3] {
+        entries.push(entry(alloc, number, &[number, 7])?)?;
+    }
+    let Ok(store) = replay(alloc, limits, &entries) else {
+        return Err(AllocError.into());
+    };
+    assert_eq!(rt; store.len(), 2);
+    same_answers(&rt, alloc, &store, 5)?;
+    let Ok(Answer::Names(names)) = replayed_answer(alloc, limits, &entries, &Query::Services) else {
+        return Err(AllocError.into());
+    };
+    assert!(rt; names.len() > 0);
     Ok(())
 }

@@ -1,0 +1,20 @@
+use Rattle.std.proofs.Common.{◌∙◌, ap, List, w64}
+use Rattle.std.proofs.lemmas.Int.{to_z-of_z}
+use Rattle.std.specs.Prelude.{Vec}
+use Rattle.std.specs.Global.{Global}
+use Rattle.jaeger_model.specs.declared.placed.Seen.{Seen}
+use Rattle.trace_model.specs.declared.answer.Answer.TheVariants as say
+use Rattle.trace_model.specs.Linking.{links}
+use Rattle.span_store.specs.Given.{given_traces}
+use Rattle.span_store.proofs.store.SpanStore.links.Goals as goal
+
+pub returns : goal.returns
+returns c =
+    let e = to_z-of_z w64 c.args.end_ms c.ranges.end_ms in
+    let l = to_z-of_z w64 c.args.lookback_ms c.ranges.lookback_ms in
+    ap say.Links (
+    c.from_vec.ensures ∙ c.in_ok-links.ensures
+    ∙ (λ i. links (e i) (l i) (given_traces c.deref.result.now))
+    ∙ ap (λ (ts : List (Vec Seen Global)). links c.args.end_ms c.args.lookback_ms (given_traces ts)) c.deref.ensures.value
+    ∙ ap (links c.args.end_ms c.args.lookback_ms) c.in_ok-traces.ensures
+    )

@@ -1,0 +1,62 @@
+//! A store made of a whole list of entries, whichever of them it refuses.
+
+ghost use Rattle.std.specs.Prelude.{◌≡◌, map, OnOk, IfOk, IfErr};
+ghost use Rattle.std.specs.Arc.{arc_value};
+ghost use Rattle.trace_model.specs.Answers.{answer};
+ghost use Rattle.trace_model.specs.declared.refusal.Refusal.TheVariants.{NoMemory};
+ghost use Rattle.span_store.specs.Replaying.{taken, accepted};
+
+use crate::store::SpanStore;
+use std::alloc::Global;
+use std::sync::Arc;
+use trace_model::{Answer, Entry, Limits, Query, Refusal};
+
+/// Applies an entry. One that the entries before it refuse is left out.
+fn take(store: &mut SpanStore, entry: &Arc<Entry>) -> Result<(), Refusal>
+    ensures taken { OnOk result (store.new ≡ record { limits = store.old.limits; entries = taken store.old.limits store.old.entries (arc_value entry.now) }) }
+    ensures reason { IfErr result (λ why. why ≡ NoMemory) }
+{
+    match store.judge(entry) {
+        Err(_) => Ok(()),
+        Ok(()) => {
+            store.apply(Arc::try_clone(entry)?)?;
+            Ok(())
+        }
+    }
+}
+
+/// The store after all of these entries in order, accepted or refused: it holds those that are
+/// accepted, each judged after the accepted ones before it.
+///
+/// # Errors
+///
+/// Want of memory alone.
+pub fn replay(alloc: Global, limits: Limits, entries: &[Arc<Entry>]) -> Result<SpanStore, Refusal>
+    ensures held { IfOk result (λ s. s ≡ record { limits = limits; entries = accepted limits (map arc_value entries.now) }) }
+    ensures reason { IfErr result (λ why. why ≡ NoMemory) }
+{
+    let mut store = SpanStore::open(alloc, limits);
+    for entry in entries {
+        take(&mut store, entry)?;
+    }
+    Ok(store)
+}
+
+/// What the store answers after all of these entries in order, accepted or refused: the plain
+/// store's answer of the accepted ones.
+///
+/// # Errors
+///
+/// Want of memory alone.
+pub fn replayed_answer(
+    alloc: Global,
+    limits: Limits,
+    entries: &[Arc<Entry>],
+    query: &Query,
+) -> Result<Answer, Refusal>
+    ensures answer { IfOk result (λ a. a ≡ answer limits (accepted limits (map arc_value entries.now)) query.now) }
+    ensures reason { IfErr result (λ why. why ≡ NoMemory) }
+{
+    let store = replay(alloc, limits, entries)?;
+    store.answer(query)
+}
