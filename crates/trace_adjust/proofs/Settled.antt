@@ -8,7 +8,8 @@ use Rattle.jaeger_model.specs.declared.placed.Placed.{Placed}
 use Rattle.trace_model.specs.declared.clock.Clock.{Clock}
 use Rattle.trace_model.specs.Linking.{parent_in}
 use Rattle.trace_model.specs.Adjusting.{host_of, clock_at, clock_below, clock_within, clock_of}
-use Rattle.trace_model.proofs.Chains.{Each, clocks, clock_by, within_step, within_none}
+use Rattle.trace_model.specs.Steadiness.{clock_by}
+use Rattle.trace_model.proofs.Chains.{Each, clocks, within_step, within_none}
 use Rattle.trace_adjust.specs.Settling.{place_in, near, settle, sets, is_unset, AreRight, IsClosed, AreClosed, AreClocks, unset_count}
 use Rattle.trace_adjust.proofs.Places.{parent_there, place_below}
 

@@ -6,14 +6,14 @@ use Rattle.std.proofs.lemmas.List.Sums.{fold_push}
 use Rattle.jaeger_model.specs.declared.placed.Placed.{Placed}
 use Rattle.jaeger_model.specs.Parents.{parent}
 use Rattle.trace_model.specs.Linking.{has_id, parent_in}
-use Rattle.std.specs.List.{list_any}
+use Rattle.std.specs.List.{list_any, AllByRecursion}
 use Rattle.trace_model.specs.declared.clock.Clock.{Clock}
 use Rattle.trace_model.specs.Adjusting.{chain, chain_through, clock_within, clock_of, clock_along, clock_below, clock_at, host_of, unadjusted, shifted_by, shown_after}
+use Rattle.trace_model.specs.Steadiness.{clock_by}
 
 -- P of each
 abbrev pub Each : {X : Type 0} → (X → Type 0) → List X → Type 0
-Each P [] = Unit {0}
-Each P (x ∷ xs) = P x × Each P xs
+Each P xs = AllByRecursion P xs
 
 -- what is found has what each has
 pub found_has : {X : Type 0} (P : X → Type 0) (t : X → Bool) (xs : List X) (y : X) → find t xs ≡ Some y → Each P xs → P y
@@ -26,7 +26,7 @@ found_has {X} P t (x ∷ xs) y e h = elim (t x) as (λ b. cond b (Some x) (find 
     some_is : (a b : X) → Some a ≡ Some b → a ≡ b
     some_is a b e = cc
 
-parent_has : (P : Placed → Type 0) (trace : List Placed) (p q : Placed) → parent_in trace p ≡ Some q → Each P trace → P q
+pub parent_has : (P : Placed → Type 0) (trace : List Placed) (p q : Placed) → parent_in trace p ≡ Some q → Each P trace → P q
 parent_has P trace p q e h = elim ((parent p.span).0 == 0) as (λ b. (if b then None else find (has_id (parent p.span)) trace) ≡ Some q → P q) [
   | true ↦ λ e. absurd (false≢true (ap is_some e))
   | false ↦ λ e. found_has P (has_id (parent p.span)) trace q e h
@@ -146,10 +146,6 @@ module _ (trace : List Placed) where
   chains = each_map (Same (length trace)) _ (λ p same. sym (same_chain (length trace) p same) ∙ chain_step (length trace) trace p) trace enough
 
 -- ---- the clock of a span, by that of its parent
-abbrev pub clock_by : ℕ → (Placed → Option Clock) → Placed → Option Placed → Option Clock
-clock_by max_skew above p None = Some (clock_at max_skew (host_of p) (pos 0) p.span)
-clock_by max_skew above p (Some q) = option_map (λ c. clock_below max_skew c p) (above q)
-
 -- a chain is never empty
 abbrev NotNil : Option (List Placed) → Type 0
 NotNil None = Unit {0}

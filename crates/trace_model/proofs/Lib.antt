@@ -13,3 +13,6 @@ pub mod Steps
 pub mod Places
 pub mod Prefixes
 pub mod RingFacts
+pub mod Stillness
+pub mod Fronts
+pub mod Orders

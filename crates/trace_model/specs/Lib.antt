@@ -12,3 +12,4 @@ pub mod Subsequences
 pub mod Held
 pub mod Refusals
 pub mod RefusalTexts
+pub mod Steadiness

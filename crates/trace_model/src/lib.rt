@@ -7,7 +7,8 @@
 //!   `skew`: arithmetic on times.
 //! * `plain`: the plain store as a slow program, whose contracts are the definitions of `specs/`;
 //!   it leans on `showing` (ring and shown spans), `names`, `search`, `links` and `adjust`.
-//! * `laws`: facts about the definitions in the subject's own words.
+//! * `laws`, `laws_search`, `laws_links`, `laws_adjust`: facts about the definitions in the subject's
+//!   own words.
 #![tactic(auto)]
 
 mod adjust;
@@ -15,6 +16,8 @@ mod answer;
 mod clock;
 mod entry;
 pub mod laws;
+pub mod laws_adjust;
+pub mod laws_links;
 pub mod laws_search;
 mod limits;
 mod links;

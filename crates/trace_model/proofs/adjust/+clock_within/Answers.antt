@@ -1,4 +1,4 @@
-use Rattle.std.proofs.Common.{◌≡◌, ◌∙◌, sym, ap, rules}
+use Rattle.std.proofs.Common.{◌∙◌, sym, ap, rules}
 use Rattle.trace_model.specs.Adjusting.{clock_within}
 use Rattle.trace_model.proofs.Chains.{within_none, at_root, below_root, without_root}
 use Rattle.trace_model.proofs.adjust.+clock_within.Goals as goal

@@ -1,7 +1,7 @@
-use Rattle.std.proofs.Common.{rules, ◌≡◌, ◌++◌, drop}
+use Rattle.std.proofs.Common.{rules}
 use Rattle.std.specs.Int.{w64}
 use Rattle.std.proofs.lemmas.Int.{to_z-of_z}
-use Rattle.trace_model.specs.Linking.{calls, calls_within}
+use Rattle.trace_model.specs.Linking.{calls_within}
 use Rattle.trace_model.proofs.Steps.{gathered_more, gathered_all}
 use Rattle.trace_model.proofs.links.all_calls.Goals as goal
 

@@ -1,5 +1,5 @@
-use Rattle.std.proofs.Common.{◌≡◌, List, ℕ, take, map, fold, count_by}
-use Rattle.jaeger_model.specs.Texts.{insert_once, sorted_set}
+use Rattle.std.proofs.Common.{◌≡◌, List, ℕ, take, map, count_by}
+use Rattle.jaeger_model.specs.Texts.{sorted_set}
 use Rattle.trace_model.specs.declared.answer.Link.{Link}
 use Rattle.trace_model.specs.Linking.{call_cmp, same_call}
 use Rattle.trace_model.proofs.links.counted.Given as goal
