@@ -2,6 +2,8 @@
 -- texts that doesn't read: a struct is fields and a stop byte, and each field does one thing to what
 -- was gathered so far. A known field of its declared type spells its value strictly and replaces what
 -- an earlier field of its id gave; every other field is a value of its type, and changes nothing.
+--
+-- The types' codes here: 2 bool, 4 double, 8 i32 and enum, 10 i64, 11 string and binary, 12 struct, 15 list.
 use Rattle.std.specs.Prelude.{◌≡◌, ℕ, ℤ, pos, List, [], ◌∷◌, Option, Some, None, Result, Ok, Err, ◌⊎◌, MatchBool}
 use Rattle.std.specs.Str.{IsUtf8}
 use Rattle.std.specs.Int.{w64, cast_unsigned}
@@ -82,7 +84,7 @@ pub record IsStruct {S X : Type 0} (Does : S → Field → S → Type 0) (none :
 abbrev pub IsStructList : {X : Type 0} → (List ℕ → X → Type 0) → List ℕ → List X → Type 0
 IsStructList Spells w xs = IsTypedList 12 Spells w xs
 
--- ---- Tag
+-- ---- Tag: 1 key (string), 2 vType (enum TagType), 3 vStr (string), 4 vDouble (double), 5 vBool (bool), 6 vLong (i64), 7 vBinary (binary)
 
 unfoldable pub TagField : TagSlots → Field → TagSlots → Type 0
 TagField s f t =
@@ -105,7 +107,7 @@ pub record MakesTag (s : TagSlots) (x : Tag) : Type 0 where
 unfoldable pub IsTag : List ℕ → Tag → Type 0
 IsTag w x = IsStruct TagField no_tag MakesTag w x
 
--- ---- Log
+-- ---- Log: 1 timestamp (i64), 2 fields (list of Tag)
 
 unfoldable pub LogField : LogSlots → Field → LogSlots → Type 0
 LogField s f t =
@@ -120,7 +122,7 @@ whole_log x = record { at = Some x.at; fields = Some x.fields }
 unfoldable pub IsLog : List ℕ → Log → Type 0
 IsLog w x = IsStruct LogField no_log (λ s y. s ≡ whole_log y) w x
 
--- ---- SpanRef
+-- ---- SpanRef: 1 refType (enum SpanRefType), 2 traceIdLow, 3 traceIdHigh, 4 spanId (i64)
 
 unfoldable pub ReferenceField : ReferenceSlots → Field → ReferenceSlots → Type 0
 ReferenceField s f t =
@@ -136,7 +138,7 @@ whole_reference x = record { kind = Some x.kind; trace_low = Some x.trace.low; t
 unfoldable pub IsReference : List ℕ → SpanRef → Type 0
 IsReference w x = IsStruct ReferenceField no_reference (λ s y. s ≡ whole_reference y) w x
 
--- ---- Process
+-- ---- Process: 1 serviceName (string), 2 tags (list of Tag)
 
 unfoldable pub ProcessField : ProcessSlots → Field → ProcessSlots → Type 0
 ProcessField s f t =
@@ -150,7 +152,8 @@ whole_process x = record { service = Some x.service; tags = x.tags }
 unfoldable pub IsProcess : List ℕ → Process → Type 0
 IsProcess w x = IsStruct ProcessField no_process (λ s y. s ≡ whole_process y) w x
 
--- ---- Span
+-- ---- Span: 1 traceIdLow, 2 traceIdHigh, 3 spanId, 4 parentSpanId (i64), 5 operationName (string), 6 references (list of SpanRef),
+-- 7 flags (i32), 8 startTime, 9 duration (i64), 10 tags (list of Tag), 11 logs (list of Log)
 
 unfoldable pub SpanField : SpanSlots → Field → SpanSlots → Type 0
 SpanField s f t =
@@ -185,7 +188,7 @@ whole_span x = record {
 unfoldable pub IsSpan : List ℕ → Span → Type 0
 IsSpan w x = IsStruct SpanField no_span (λ s y. s ≡ whole_span y) w x
 
--- ---- Batch
+-- ---- Batch: 1 process (Process), 2 spans (list of Span), 3 seqNo (i64); 4 stats is skipped
 
 unfoldable pub BatchField : BatchSlots → Field → BatchSlots → Type 0
 BatchField s f t =

@@ -21,7 +21,7 @@ pub(crate) struct BatchSlots {
     pub(crate) seq_no: Option<i64>,
 }
 
-impl Slots for BatchSlots {
+impl<'a> Slots<'a> for BatchSlots {
     ghost use Rattle.batch_codec.specs.BatchReading.{take_batch};
 
     ghost puts = { take_batch };
@@ -32,7 +32,7 @@ impl Slots for BatchSlots {
         alloc: Global,
         code: u8,
         id: i16,
-        cursor: &mut Cursor<'_>,
+        cursor: &mut Cursor<'a>,
     ) -> Result<(), DecodeError> {
         match (code, id) {
             (STRUCT, 1) => self.process = Some(read_process(alloc, cursor)?),

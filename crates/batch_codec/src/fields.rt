@@ -8,7 +8,7 @@ use std::alloc::Global;
 use thrift_binary::Cursor;
 
 /// What was gathered of a struct so far.
-pub(crate) trait Slots: Drop {
+pub(crate) trait Slots<'a>: Drop {
     ghost puts: { Self → ℕ → ℤ → List ℕ → Result (Self × List ℕ) DecodeError };
 
     /// Reads the value of a field of this type and id.
@@ -17,17 +17,17 @@ pub(crate) trait Slots: Drop {
         alloc: Global,
         code: u8,
         id: i16,
-        cursor: &mut Cursor<'_>,
+        cursor: &mut Cursor<'a>,
     ) -> Result<(), DecodeError>
         ensures exact { Takes puts self.old code id cursor.old result self.new cursor.new }
         ensures no_longer { OnOk result (length cursor.new ≤ length cursor.old) };
 }
 
 /// All fields up to the stop byte.
-pub(crate) fn read_fields<S: Slots>(
+pub(crate) fn read_fields<'a, S: Slots<'a>>(
     alloc: Global,
     slots: S,
-    cursor: &mut Cursor<'_>,
+    cursor: &mut Cursor<'a>,
 ) -> Result<S, DecodeError>
     ensures exact { Decodes (λ s. s) (fields_at wire S.puts slots) cursor.old result cursor.new }
     ensures shorter { OnOk result (length cursor.new < length cursor.old) }

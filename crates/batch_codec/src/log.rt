@@ -17,7 +17,7 @@ pub(crate) struct LogSlots {
     pub(crate) fields: Option<Seq<Tag>>,
 }
 
-impl Slots for LogSlots {
+impl<'a> Slots<'a> for LogSlots {
     ghost use Rattle.batch_codec.specs.LogReading.{take_log};
 
     ghost puts = { take_log };
@@ -28,7 +28,7 @@ impl Slots for LogSlots {
         alloc: Global,
         code: u8,
         id: i16,
-        cursor: &mut Cursor<'_>,
+        cursor: &mut Cursor<'a>,
     ) -> Result<(), DecodeError> {
         match (code, id) {
             (I64, 1) => self.at = Some(read_i64(cursor)?),

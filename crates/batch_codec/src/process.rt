@@ -1,24 +1,24 @@
 ghost use Rattle.std.specs.Prelude.{◌≡◌, ◌≤◌, ◌<◌, length, OnOk};
-ghost use Rattle.batch_codec.specs.Decoding.{Decodes};
+ghost use Rattle.batch_codec.specs.Decoding.{Decodes, Gives};
 ghost use Rattle.batch_codec.specs.ProcessReading.{process_at, process_from};
 
 use crate::fault::{DecodeError, Part};
 use crate::fields::{Slots, read_fields, required};
 use crate::items::read_list;
-use crate::values::read_text;
-use jaeger_model::{Process, Seq, Tag, Text};
+use crate::values::{TextSlice, read_text};
+use jaeger_model::{Process, Seq, Tag};
 use std::alloc::Global;
 use thrift_binary::Cursor;
 use thrift_binary::types::{LIST, STRING};
 
 /// What was gathered of a process so far.
 #[derive(Drop)]
-pub(crate) struct ProcessSlots {
-    pub(crate) service: Option<Text>,
+pub(crate) struct ProcessSlots<'a> {
+    pub(crate) service: Option<TextSlice<'a>>,
     pub(crate) tags: Seq<Tag>,
 }
 
-impl Slots for ProcessSlots {
+impl<'a> Slots<'a> for ProcessSlots<'a> {
     ghost use Rattle.batch_codec.specs.ProcessReading.{take_process};
 
     ghost puts = { take_process };
@@ -29,10 +29,10 @@ impl Slots for ProcessSlots {
         alloc: Global,
         code: u8,
         id: i16,
-        cursor: &mut Cursor<'_>,
+        cursor: &mut Cursor<'a>,
     ) -> Result<(), DecodeError> {
         match (code, id) {
-            (STRING, 1) => self.service = Some(read_text(alloc, cursor)?),
+            (STRING, 1) => self.service = Some(read_text(cursor)?),
             (LIST, 2) => self.tags = read_list(alloc, cursor)?,
             _ => cursor.skip(code)?,
         }
@@ -41,12 +41,12 @@ impl Slots for ProcessSlots {
 }
 
 #[tactic(auto, unfolding(crate::specs::ProcessReading::process_from))]
-fn process_of(slots: ProcessSlots) -> Result<Process, DecodeError>
-    ensures { result ≡ process_from slots }
+fn process_of(alloc: Global, slots: ProcessSlots<'_>) -> Result<Process, DecodeError>
+    ensures { Gives result (process_from slots.entry) }
 {
     let service = required(slots.service, Part::Process, 1)?;
     Ok(Process {
-        service,
+        service: service.to_text(alloc)?,
         tags: slots.tags,
     })
 }
@@ -61,5 +61,5 @@ pub(crate) fn read_process(alloc: Global, cursor: &mut Cursor<'_>) -> Result<Pro
         tags: Seq::new(alloc),
     };
     let slots = read_fields(alloc, none, cursor)?;
-    process_of(slots)
+    process_of(alloc, slots)
 }

@@ -20,7 +20,7 @@ pub(crate) struct ReferenceSlots {
     pub(crate) id: Option<u64>,
 }
 
-impl Slots for ReferenceSlots {
+impl<'a> Slots<'a> for ReferenceSlots {
     ghost use Rattle.batch_codec.specs.ReferenceReading.{take_reference};
 
     ghost puts = { take_reference };
@@ -31,7 +31,7 @@ impl Slots for ReferenceSlots {
         _alloc: Global,
         code: u8,
         id: i16,
-        cursor: &mut Cursor<'_>,
+        cursor: &mut Cursor<'a>,
     ) -> Result<(), DecodeError> {
         match (code, id) {
             (I32, 1) => self.kind = Some(read_kind(cursor)?),

@@ -1,23 +1,24 @@
 ghost use Rattle.std.specs.Prelude.{◌≡◌};
+ghost use Rattle.batch_codec.specs.Decoding.{Gives};
 ghost use Rattle.batch_codec.specs.SpanReading.{span_at, span_from};
 
 use crate::fault::{DecodeError, Part};
 use crate::fields::{Slots, read_fields, required};
 use crate::items::{Element, read_list};
-use crate::values::{read_i32, read_i64, read_id, read_text};
-use jaeger_model::{Log, Seq, Span, SpanId, SpanRef, Tag, Text, TraceId};
+use crate::values::{TextSlice, read_i32, read_i64, read_id, read_text};
+use jaeger_model::{Log, Seq, Span, SpanId, SpanRef, Tag, TraceId};
 use std::alloc::Global;
 use thrift_binary::Cursor;
 use thrift_binary::types::{I32, I64, LIST, STRING};
 
 /// What was gathered of a span so far.
 #[derive(Drop)]
-pub(crate) struct SpanSlots {
+pub(crate) struct SpanSlots<'a> {
     pub(crate) trace_low: Option<u64>,
     pub(crate) trace_high: Option<u64>,
     pub(crate) id: Option<u64>,
     pub(crate) parent: Option<u64>,
-    pub(crate) operation: Option<Text>,
+    pub(crate) operation: Option<TextSlice<'a>>,
     pub(crate) references: Seq<SpanRef>,
     pub(crate) flags: Option<i32>,
     pub(crate) start: Option<i64>,
@@ -26,7 +27,7 @@ pub(crate) struct SpanSlots {
     pub(crate) logs: Seq<Log>,
 }
 
-impl SpanSlots {
+impl<'a> SpanSlots<'a> {
     ghost use Rattle.batch_codec.specs.Gathered.{no_span};
 
     fn new(alloc: Global) -> Self
@@ -48,7 +49,7 @@ impl SpanSlots {
     }
 }
 
-impl Slots for SpanSlots {
+impl<'a> Slots<'a> for SpanSlots<'a> {
     ghost use Rattle.batch_codec.specs.SpanReading.{take_span};
 
     ghost puts = { take_span };
@@ -59,14 +60,14 @@ impl Slots for SpanSlots {
         alloc: Global,
         code: u8,
         id: i16,
-        cursor: &mut Cursor<'_>,
+        cursor: &mut Cursor<'a>,
     ) -> Result<(), DecodeError> {
         match (code, id) {
             (I64, 1) => self.trace_low = Some(read_id(cursor)?),
             (I64, 2) => self.trace_high = Some(read_id(cursor)?),
             (I64, 3) => self.id = Some(read_id(cursor)?),
             (I64, 4) => self.parent = Some(read_id(cursor)?),
-            (STRING, 5) => self.operation = Some(read_text(alloc, cursor)?),
+            (STRING, 5) => self.operation = Some(read_text(cursor)?),
             (LIST, 6) => self.references = read_list(alloc, cursor)?,
             (I32, 7) => self.flags = Some(read_i32(cursor)?),
             (I64, 8) => self.start = Some(read_i64(cursor)?),
@@ -80,8 +81,8 @@ impl Slots for SpanSlots {
 }
 
 #[tactic(auto, unfolding(crate::specs::SpanReading::span_from))]
-fn span_of(slots: SpanSlots) -> Result<Span, DecodeError>
-    ensures { result ≡ span_from slots }
+fn span_of(alloc: Global, slots: SpanSlots<'_>) -> Result<Span, DecodeError>
+    ensures { Gives result (span_from slots.entry) }
 {
     let low = required(slots.trace_low, Part::Span, 1)?;
     let high = required(slots.trace_high, Part::Span, 2)?;
@@ -95,7 +96,7 @@ fn span_of(slots: SpanSlots) -> Result<Span, DecodeError>
         trace: TraceId { high, low },
         id: SpanId(id),
         parent: SpanId(parent),
-        operation,
+        operation: operation.to_text(alloc)?,
         references: slots.references,
         flags,
         start,
@@ -111,6 +112,6 @@ impl Element for Span {
     #[tactic(auto, unfolding(crate::specs::SpanReading::span_at))]
     fn read(alloc: Global, cursor: &mut Cursor<'_>) -> Result<Self, DecodeError> {
         let slots = read_fields(alloc, SpanSlots::new(alloc), cursor)?;
-        span_of(slots)
+        span_of(alloc, slots)
     }
 }

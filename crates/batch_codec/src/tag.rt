@@ -1,12 +1,14 @@
 ghost use Rattle.std.specs.Prelude.{◌≡◌, ◌≤◌, ◌<◌, length, OnOk};
-ghost use Rattle.batch_codec.specs.Decoding.{Decodes};
+ghost use Rattle.batch_codec.specs.Decoding.{Decodes, Gives};
 ghost use Rattle.batch_codec.specs.TagReading.{tag_at, tag_from, type_at};
 
 use crate::fault::{DecodeError, Part};
 use crate::fields::{Slots, read_fields, required};
 use crate::items::Element;
-use crate::values::{read_binary, read_bool, read_double, read_i32, read_i64, read_text};
-use jaeger_model::{Seq, Tag, Text, Value};
+use crate::values::{
+    ByteSlice, TextSlice, read_binary, read_bool, read_double, read_i32, read_i64, read_text,
+};
+use jaeger_model::{Tag, Value};
 use std::alloc::Global;
 use thrift_binary::Cursor;
 use thrift_binary::types::{BOOL, DOUBLE, I32, I64, STRING};
@@ -21,37 +23,38 @@ pub(crate) enum TagType {
     Binary,
 }
 
-/// What was gathered of a tag so far.
+/// What was gathered of a tag so far. Only the value that its type names is kept, so texts and bytes
+/// stay in the input until the type is known.
 #[derive(Drop)]
-pub(crate) struct TagSlots {
-    pub(crate) key: Option<Text>,
+pub(crate) struct TagSlots<'a> {
+    pub(crate) key: Option<TextSlice<'a>>,
     pub(crate) kind: Option<TagType>,
-    pub(crate) text: Text,
+    pub(crate) text: TextSlice<'a>,
     pub(crate) double: [u8; 8],
     pub(crate) boolean: bool,
     pub(crate) long: i64,
-    pub(crate) binary: Seq<u8>,
+    pub(crate) binary: ByteSlice<'a>,
 }
 
-impl TagSlots {
+impl<'a> TagSlots<'a> {
     ghost use Rattle.batch_codec.specs.Gathered.{no_tag};
 
-    fn new(alloc: Global) -> Self
+    fn new() -> Self
         ensures { result ≡ no_tag }
     {
         TagSlots {
             key: None,
             kind: None,
-            text: Text::new(alloc),
+            text: TextSlice::new(""),
             double: [0; 8],
             boolean: false,
             long: 0,
-            binary: Seq::new(alloc),
+            binary: ByteSlice::new(&[]),
         }
     }
 }
 
-impl Slots for TagSlots {
+impl<'a> Slots<'a> for TagSlots<'a> {
     ghost use Rattle.batch_codec.specs.TagReading.{take_tag};
 
     ghost puts = { take_tag };
@@ -62,16 +65,16 @@ impl Slots for TagSlots {
         alloc: Global,
         code: u8,
         id: i16,
-        cursor: &mut Cursor<'_>,
+        cursor: &mut Cursor<'a>,
     ) -> Result<(), DecodeError> {
         match (code, id) {
-            (STRING, 1) => self.key = Some(read_text(alloc, cursor)?),
+            (STRING, 1) => self.key = Some(read_text(cursor)?),
             (I32, 2) => self.kind = Some(read_type(cursor)?),
-            (STRING, 3) => self.text = read_text(alloc, cursor)?,
+            (STRING, 3) => self.text = read_text(cursor)?,
             (DOUBLE, 4) => self.double = read_double(cursor)?,
             (BOOL, 5) => self.boolean = read_bool(cursor)?,
             (I64, 6) => self.long = read_i64(cursor)?,
-            (STRING, 7) => self.binary = read_binary(alloc, cursor)?,
+            (STRING, 7) => self.binary = read_binary(cursor)?,
             _ => cursor.skip(code)?,
         }
         Ok(())
@@ -94,19 +97,22 @@ fn read_type(cursor: &mut Cursor<'_>) -> Result<TagType, DecodeError>
 }
 
 #[tactic(auto, unfolding(crate::specs::TagReading::tag_from))]
-fn tag_of(slots: TagSlots) -> Result<Tag, DecodeError>
-    ensures { result ≡ tag_from slots }
+fn tag_of(alloc: Global, slots: TagSlots<'_>) -> Result<Tag, DecodeError>
+    ensures { Gives result (tag_from slots.entry) }
 {
     let key = required(slots.key, Part::Tag, 1)?;
     let kind = required(slots.kind, Part::Tag, 2)?;
     let value = match kind {
-        TagType::Text => Value::Text(slots.text),
+        TagType::Text => Value::Text(slots.text.to_text(alloc)?),
         TagType::Double => Value::Double(slots.double),
         TagType::Bool => Value::Bool(slots.boolean),
         TagType::Long => Value::Long(slots.long),
-        TagType::Binary => Value::Bytes(slots.binary),
+        TagType::Binary => Value::Bytes(slots.binary.to_seq(alloc)?),
     };
-    Ok(Tag { key, value })
+    Ok(Tag {
+        key: key.to_text(alloc)?,
+        value,
+    })
 }
 
 impl Element for Tag {
@@ -114,7 +120,7 @@ impl Element for Tag {
 
     #[tactic(auto, unfolding(crate::specs::TagReading::tag_at))]
     fn read(alloc: Global, cursor: &mut Cursor<'_>) -> Result<Self, DecodeError> {
-        let slots = read_fields(alloc, TagSlots::new(alloc), cursor)?;
-        tag_of(slots)
+        let slots = read_fields(alloc, TagSlots::new(), cursor)?;
+        tag_of(alloc, slots)
     }
 }

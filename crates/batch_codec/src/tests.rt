@@ -1,7 +1,9 @@
 use super::*;
-use jaeger_model::{RefKind, Value};
+use jaeger_model::{Batch, Process, RefKind, Seq, Text, Value};
 use std::alloc::{AllocError, Global};
 use std::test::*;
+
+mod apache;
 
 /// The bytes of hexadecimal text; spaces are skipped.
 fn bytes_of(alloc: Global, hex: &str) -> Result<Vec<u8>, AllocError> {
@@ -101,25 +103,47 @@ fn every_field(rt: HostRuntime) -> Result<(), Fail> {
     Ok(())
 }
 
-/// With enough memory the batch, and without it nothing but want of memory.
+/// With enough memory the batch and its spelling, and without it nothing but want of memory
+/// (`rt try --test --fail-alloc 1..`).
 #[test]
 fn want_of_memory(rt: HostRuntime) -> Result<(), Fail> {
     let alloc = rt.alloc();
     let Ok(bytes) = bytes_of(alloc, ALL) else {
         return Ok(());
     };
-    match decode(alloc, &bytes) {
-        Ok(batch) => assert_eq!(rt; batch.spans.len(), 1),
-        Err(fault) => assert_eq!(rt; fault, DecodeError::Memory),
-    }
+    let fault = match decode(alloc, &bytes) {
+        Ok(batch) => match encode(alloc, &batch) {
+            Ok(_) => return Ok(()),
+            Err(fault) => fault,
+        },
+        Err(fault) => fault,
+    };
+    assert_eq!(rt; fault, DecodeError::Memory);
     Ok(())
 }
 
-/// The bytes between `front` and `back`, decoded: the fault's text, or the operation of the last span.
-fn outcome(alloc: Global, parts: (&str, &str, &str)) -> Result<String, Fail> {
+/// Sizes and lengths far beyond the bytes: nothing is asked for by them, so this passes however little
+/// memory there is (`rt try --test --fail-alloc 1..`).
+#[test]
+fn claimed_sizes_take_no_memory(rt: HostRuntime) {
+    let alloc = rt.alloc();
+    let spans = [0x0f, 0, 2, 0x0c, 0x7f, 0xff, 0xff, 0xff];
+    assert!(rt; matches!(decode(alloc, &spans), Err(fault) if fault.number() == 1));
+    let service = [0x0c, 0, 1, 0x0b, 0, 1, 0x7f, 0xff, 0xff, 0xff, 0x61];
+    assert!(rt; matches!(decode(alloc, &service), Err(fault) if fault.number() == 1));
+}
+
+/// The bytes of three texts, one after the other.
+fn joined(alloc: Global, parts: (&str, &str, &str)) -> Result<Vec<u8>, AllocError> {
     let mut bytes = bytes_of(alloc, parts.0)?;
     bytes.extend_from_slice(&bytes_of(alloc, parts.1)?)?;
     bytes.extend_from_slice(&bytes_of(alloc, parts.2)?)?;
+    Ok(bytes)
+}
+
+/// The bytes of the three texts, decoded: the fault's text, or the operation of each span.
+fn outcome(alloc: Global, parts: (&str, &str, &str)) -> Result<String, Fail> {
+    let bytes = joined(alloc, parts)?;
     let batch = match decode(alloc, &bytes) {
         Ok(batch) => batch,
         Err(fault) => return Ok(fault.text(alloc)?),
@@ -230,11 +254,55 @@ const NUMBERED: &str = "0c0001 0b0001 00000001 61 00 0f0002 0c 00000000 0a0003 0
 #[test]
 fn one_spelling(rt: HostRuntime) -> Result<(), Fail> {
     let alloc = rt.alloc();
-    let numbered = bytes_of(alloc, NUMBERED)?;
-    let again = encode(alloc, &decode(alloc, &numbered)?)?;
-    assert_eq!(rt; again.as_slice(), numbered.as_slice());
+    let service = Text::from_str(alloc, "a")?;
+    let numbered = Batch {
+        process: Process {
+            service,
+            tags: Seq::new(alloc),
+        },
+        spans: Seq::new(alloc),
+        seq_no: Some(1),
+    };
+    let bytes = encode(alloc, &numbered)?;
+    assert_eq!(rt; bytes.len(), 32);
+    assert_eq!(rt; bytes.as_slice(), bytes_of(alloc, NUMBERED)?.as_slice());
+    assert!(rt; decode(alloc, &bytes)?.is_same(&numbered));
     let batch = decode(alloc, &bytes_of(alloc, ALL)?)?;
     let encoded = encode(alloc, &batch)?;
     assert!(rt; batch.is_same(&decode(alloc, &encoded)?));
+    Ok(())
+}
+
+/// Tags as they are read, and the one spelling of each.
+#[test]
+fn one_value_of_a_tag(rt: HostRuntime) -> Result<(), Fail> {
+    let alloc = rt.alloc();
+    let key = "0c0001 0b0001 00000001 61 0f0002 0c 00000001 0b0001 00000001 65";
+    let end = "00 00 0f0002 0c 00000000 00";
+    for (read, written) in [
+        ("080002 00000000", "080002 00000000 0b0003 00000000"),
+        ("080002 00000001", "080002 00000001 040004 0000000000000000"),
+        (
+            "080002 00000001 040004 7ff8000000000001",
+            "080002 00000001 040004 7ff8000000000001",
+        ),
+        ("080002 00000002", "080002 00000002 020005 00"),
+        ("020005 01 080002 00000002", "080002 00000002 020005 01"),
+        ("080002 00000003", "080002 00000003 0a0006 0000000000000000"),
+        (
+            "0b0003 00000001 76 0a0006 ffffffffffffffff 080002 00000000 080002 00000003",
+            "080002 00000003 0a0006 ffffffffffffffff",
+        ),
+        ("080002 00000004", "080002 00000004 0b0007 00000000"),
+        (
+            "080002 00000004 0b0003 00000001 76 0b0007 00000001 ff 0b0007 00000002 00fe",
+            "080002 00000004 0b0007 00000002 00fe",
+        ),
+    ] {
+        let batch = decode(alloc, &joined(alloc, (key, read, end))?)?;
+        let bytes = encode(alloc, &batch)?;
+        let want = joined(alloc, (key, written, end))?;
+        assert_eq!(rt; bytes.as_slice(), want.as_slice(), "{read}");
+    }
     Ok(())
 }

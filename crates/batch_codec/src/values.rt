@@ -1,11 +1,64 @@
-ghost use Rattle.std.specs.Prelude.{◌≡◌, ◌≤◌, ◌<◌, length, OnOk};
+ghost use Rattle.std.specs.Prelude.{◌≡◌, ◌≤◌, ◌<◌, List, ℕ, length, OnOk, IfOk};
 ghost use Rattle.std.specs.Int.{w64};
 ghost use Rattle.batch_codec.specs.Decoding.{Decodes, bool_at, double_at, i32_at, i64_at, id_at, text_at, binary_at};
 
 use crate::fault::DecodeError;
 use jaeger_model::{Seq, Text};
-use std::alloc::Global;
+use std::alloc::{AllocError, Global};
+use std::marker::Model;
 use thrift_binary::{Cursor, WireError};
+
+/// A text that stands in the input, which contracts see as its bytes. It is copied only once it is kept.
+#[derive(Drop)]
+pub(crate) struct TextSlice<'a> {
+    text: &'a str,
+}
+
+impl<'a> Model for TextSlice<'a> {
+    ghost Value = { List ℕ };
+
+    ghost view = { λ s. s.text.now };
+}
+
+impl<'a> TextSlice<'a> {
+    pub(crate) fn new(text: &'a str) -> Self
+        ensures { result ≡ text.now }
+    {
+        TextSlice { text }
+    }
+
+    pub(crate) fn to_text(&self, alloc: Global) -> Result<Text, AllocError>
+        ensures { IfOk result (λ t. t ≡ self.now) }
+    {
+        Text::from_str(alloc, self.text)
+    }
+}
+
+/// Bytes that stand in the input, which contracts see as their list. They are copied only once they are kept.
+#[derive(Drop)]
+pub(crate) struct ByteSlice<'a> {
+    bytes: &'a [u8],
+}
+
+impl<'a> Model for ByteSlice<'a> {
+    ghost Value = { List ℕ };
+
+    ghost view = { λ s. s.bytes.now };
+}
+
+impl<'a> ByteSlice<'a> {
+    pub(crate) fn new(bytes: &'a [u8]) -> Self
+        ensures { result ≡ bytes.now }
+    {
+        ByteSlice { bytes }
+    }
+
+    pub(crate) fn to_seq(&self, alloc: Global) -> Result<Seq<u8>, AllocError>
+        ensures { IfOk result (λ b. b ≡ self.now) }
+    {
+        Ok(Seq::from_vec(Vec::from_slice(alloc, self.bytes)?))
+    }
+}
 
 #[tactic(auto, unfolding(crate::specs::Decoding::bool_at))]
 pub(crate) fn read_bool(cursor: &mut Cursor<'_>) -> Result<bool, DecodeError>
@@ -50,7 +103,7 @@ pub(crate) fn read_id(cursor: &mut Cursor<'_>) -> Result<u64, DecodeError>
 
 /// A string, which has to be UTF-8.
 #[tactic(auto, unfolding(crate::specs::Decoding::text_at))]
-pub(crate) fn read_text(alloc: Global, cursor: &mut Cursor<'_>) -> Result<Text, DecodeError>
+pub(crate) fn read_text<'a>(cursor: &mut Cursor<'a>) -> Result<TextSlice<'a>, DecodeError>
     ensures exact { Decodes (λ t. t) text_at cursor.old result cursor.new }
     ensures no_longer { OnOk result (length cursor.new ≤ length cursor.old) }
 {
@@ -58,15 +111,14 @@ pub(crate) fn read_text(alloc: Global, cursor: &mut Cursor<'_>) -> Result<Text, 
     let Ok(text) = str::from_utf8(bytes) else {
         return Err(DecodeError::Wire(WireError::BadText));
     };
-    Ok(Text::from_string(String::from_str(alloc, text)?))
+    Ok(TextSlice::new(text))
 }
 
 /// A binary: any bytes.
 #[tactic(auto, unfolding(crate::specs::Decoding::binary_at))]
-pub(crate) fn read_binary(alloc: Global, cursor: &mut Cursor<'_>) -> Result<Seq<u8>, DecodeError>
+pub(crate) fn read_binary<'a>(cursor: &mut Cursor<'a>) -> Result<ByteSlice<'a>, DecodeError>
     ensures exact { Decodes (λ b. b) binary_at cursor.old result cursor.new }
     ensures no_longer { OnOk result (length cursor.new ≤ length cursor.old) }
 {
-    let bytes = cursor.read_bytes()?;
-    Ok(Seq::from_vec(Vec::from_slice(alloc, bytes)?))
+    Ok(ByteSlice::new(cursor.read_bytes()?))
 }

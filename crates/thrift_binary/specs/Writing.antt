@@ -1,5 +1,5 @@
 -- The one spelling of each value that is written, and what a call on an output does.
-use Rattle.std.specs.Prelude.{◌≡◌, ℕ, ℤ, ◌^◌, List, [], ◌∷◌, ◌++◌, length, Bool, true, false, nat_lt, Result, Ok, Err, MatchBool}
+use Rattle.std.specs.Prelude.{◌≡◌, ℕ, ℤ, ◌^◌, List, [], ◌∷◌, ◌++◌, length, Bool, true, false, nat_lt, Result, Ok, Err, MatchBool, codes}
 use Rattle.std.specs.Int.{w16, w32, w64, cast_unsigned}
 use Rattle.std.specs.List.{flat_map}
 use Rattle.byteorder.specs.Endian.{big_bytes}
@@ -47,6 +47,11 @@ fields_text (f ∷ fs) = field_text f.code f.id ++ (f.text ++ fields_text fs)
 -- a list of values of the type c, each with its own text
 abbrev pub list_text : {A : Type 0} → ℕ → (A → List ℕ) → List A → List ℕ
 list_text c one xs = list_head_text c (length xs) ++ flat_map one xs
+
+-- what a refusal is printed as
+abbrev pub refusal_text : WriteError → List ℕ
+refusal_text BadLength = codes "a length is above 2147483647"
+refusal_text Memory = codes "out of memory"
 
 -- A call on an output that held `old` left `new`: the text stands at the end, or, without memory for it, nothing is written.
 abbrev pub Writes : List ℕ → List ℕ → Result (Unit {0}) WriteError → List ℕ → Type 0

@@ -1,9 +1,12 @@
-//! Facts about the readings. Each function does nothing, and its contract is the fact.
+//! Facts about reading and writing. Each function does nothing, and its contract is the fact.
 //!
-//! A fault other than Truncated has one place: every shorter beginning of the bytes is Truncated, and whatever
-//! follows that place, the fault is the same. A value ends at one place, in the same way. And bytes that are
-//! Truncated have Truncated beginnings only. So bytes that come in pieces are refused as soon as the fault's
-//! place has come, and never before, however they are cut.
+//! - `cuts_of_..`: a fault other than Truncated has one place: every shorter beginning of the bytes is Truncated, and
+//!   whatever follows that place, the fault is the same. A value ends at one place, in the same way. And bytes that
+//!   are Truncated have Truncated beginnings only. So bytes that come in pieces are refused as soon as the fault's
+//!   place has come, and never before, however they are cut. (`proofs/Cuts.antt` and the files beside it have this for
+//!   every reading that is made of these: one after the other, under a test, in lists, and in fields up to a stop byte.)
+//! - `nothing_left_is_truncated`, `spelled_values_are_read`, `written_values_spell`: how reading, writing and the
+//!   protocol's rules for whole texts (`specs/Spelling.antt`) fit together.
 
 ghost use Rattle.std.specs.Prelude.{◌≡◌, ◌<◌, ◌^◌, ℕ, ℤ, List, [], ◌++◌, Bool, true, FitsSigned, length};
 ghost use Rattle.std.specs.Int.{w16, w32, w64};

@@ -1,5 +1,5 @@
-ghost use Rattle.std.specs.Prelude.{◌≡◌, List, ℕ, [], length};
-ghost use Rattle.thrift_binary.specs.Writing.{Writes, WritesSized, bool_text, i32_text, i64_text, string_text, field_text, stop_text, list_head_text};
+ghost use Rattle.std.specs.Prelude.{◌≡◌, Some, List, ℕ, [], length};
+ghost use Rattle.thrift_binary.specs.Writing.{Writes, WritesSized, refusal_text, bool_text, i32_text, i64_text, string_text, field_text, stop_text, list_head_text};
 ghost use Rattle.thrift_binary.specs.declared.out.WriteError.TheVariants.{Memory};
 
 use byteorder::{BigEndian, ByteOrder};
@@ -30,6 +30,8 @@ impl From<AllocError> for WriteError {
 
 /// Writes the variant's meaning.
 impl fmt::Display for WriteError {
+    ghost output = { λ e. Some (refusal_text e) };
+
     fn fmt<W: fmt::Write>(&self, f: &mut fmt::Formatter<W>) -> fmt::Result {
         match self {
             WriteError::BadLength => f.write_str("a length is above 2147483647"),

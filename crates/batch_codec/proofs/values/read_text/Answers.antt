@@ -9,5 +9,5 @@ returns-in_default-clause-exact c = text_at-bad _ _ _ c.in_ok-bytes.ensures.exac
 
 pub returns-clause-exact : goal.returns-clause-exact
 returns-clause-exact c =
-    let same : c.from_string.result ≡ c.in_ok-bytes.bytes.now = c.from_string.ensures ∙ c.in_ok-from_str.ensures.ok ∙ c.in-Ok.ensures.cases.0 in
+    let same : c.new.result ≡ c.in_ok-bytes.bytes.now = c.new.ensures ∙ c.in-Ok.ensures.cases.0 in
     rw same (text_at-text _ _ _ c.in_ok-bytes.ensures.exact c.in-Ok.ensures.cases.1)
