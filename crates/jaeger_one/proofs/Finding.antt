@@ -1,50 +1,30 @@
--- The spans of a trace, without a trace limit.
-use Rattle.std.proofs.Common.{◌≡◌, ℕ, ◌≤◌, ◌==◌, Bool, true, false, ◌||◌, if◌then◌else◌, List, [], ◌∷◌, ◌++◌, length, map, Option, Some, None, arith, refl, sym, ap, ◌∙◌, append-nil}
-use Rattle.std.specs.Prelude.{filter}
-use Rattle.std.specs.List.{list_any}
-use Rattle.jaeger_model.specs.declared.ids.TraceId.{TraceId}
-use Rattle.jaeger_model.specs.declared.span.Span.{Span}
-use Rattle.jaeger_model.specs.declared.batch.Batch.{Batch}
+-- The lines of a trace that was found, or not.
+use Rattle.std.proofs.Common.{◌≡◌, ℕ, List, [], ◌∷◌, ◌++◌, map, Option, Some, None, refl, sym, ap, ◌∙◌, subst, codes}
+use Rattle.std.specs.Prelude.{flat_map, option_map}
+use Rattle.std.specs.Io.KnownBytes.{Appends}
 use Rattle.jaeger_model.specs.declared.placed.Placed.{Placed}
-use Rattle.jaeger_model.specs.Parents.{domain, placed, same_trace, with_parent, needs_no_reference, parent_reference}
-use Rattle.trace_model.specs.Held.{Held}
-use Rattle.trace_model.specs.Histories.{arrivals}
-use Rattle.trace_model.specs.Showing.{of_trace, if_any, shown, trace_found, trace_of}
-use Rattle.trace_model.proofs.Traces.{shown_all}
-use Rattle.jaeger_one.specs.Runs.{found_in}
+use Rattle.trace_model.specs.declared.answer.Shown.{Shown}
+use Rattle.trace_model.specs.Adjusting.{unadjusted}
+use Rattle.jaeger_one.specs.Runs.{shown_line, span_line, trace_lines}
 
-keeps_trace : (s : Span) → (with_parent s).trace ≡ s.trace
-keeps_trace s = elim (needs_no_reference s) as (λ b. (if b then s else record s { references = parent_reference s ∷ s.references }).trace ≡ s.trace) [ true ↦ refl | false ↦ refl ]
+same_lines : (ps : List Placed) → flat_map shown_line (map unadjusted ps) ≡ flat_map span_line ps
+same_lines [] = refl
+same_lines (p ∷ ps) = ap (λ t. span_line p ++ t) (same_lines ps)
 
-neither : (a b : Bool) → (a || b) ≡ false → (a ≡ false) × (b ≡ false)
-neither true b e = absurd cc
-neither false b e = (refl, e)
+lines_of_found : (found : Option (List Placed)) (spans : List Shown) → Some spans ≡ option_map (map unadjusted) found → flat_map shown_line spans ≡ trace_lines found
+lines_of_found None spans is = absurd cc
+lines_of_found (Some ps) spans is =
+    let same : spans ≡ map unadjusted ps = cc in
+    ap (flat_map shown_line) same ∙ same_lines ps
 
-none_placed : (b : Batch) (t : TraceId) (spans : List Span) → list_any (λ (s : Span). same_trace t s.trace) spans ≡ false → of_trace t (map (placed b) spans) ≡ []
-none_placed b t [] e = refl
-none_placed b t (s ∷ spans) e =
-    let parts = neither (same_trace t s.trace) (list_any (λ (s : Span). same_trace t s.trace) spans) e in
-    let other : same_trace t (with_parent s).trace ≡ false = ap (same_trace t) (keeps_trace s) ∙ parts.0 in
-    rw other (none_placed b t spans parts.1)
+lines_of_none : (found : Option (List Placed)) → None ≡ option_map (map unadjusted) found → codes "trace not found\n" ≡ trace_lines found
+lines_of_none None is = refl
+lines_of_none (Some ps) is = absurd cc
 
-pub none_added : (found : List Placed) (b : Batch) (t : TraceId) → list_any (λ (s : Span). same_trace t s.trace) b.spans ≡ false → found ≡ found ++ of_trace t (domain b)
-none_added found b t e = sym (append-nil found) ∙ ap (λ l. found ++ l) (sym (none_placed b t b.spans e))
+pub said_found : (a b : Option (List ℕ)) (found : Option (List Placed)) (spans now : List Shown) → now ≡ spans → Some spans ≡ option_map (map unadjusted) found
+    → Appends a b (flat_map shown_line now) → Appends a b (trace_lines found)
+said_found a b found spans now same is said = subst (Appends a b) (ap (flat_map shown_line) same ∙ lines_of_found found spans is) said
 
-all_found : (held : Held) (t : TraceId) (spans : List Placed) → held.limits.traces ≤ 0 → spans ≡ of_trace t (arrivals held.entries) → if_any spans ≡ found_in held t
-all_found held t spans none is =
-    let zero : 0 ≡ held.limits.traces = omega arith in
-    ap if_any (is ∙ ap (of_trace t) (sym (shown_all (arrivals held.entries)))) ∙ ap (λ n. trace_found n (arrivals held.entries) t) zero
-
-no_spans : (spans : List Placed) → (length spans == 0) ≡ true → None ≡ if_any spans
-no_spans [] e = refl
-no_spans (p ∷ spans) e = let bad : (length (p ∷ spans) == 0) ≡ false = search arith in absurd cc
-
-some_spans : (spans : List Placed) → (length spans == 0) ≡ false → Some spans ≡ if_any spans
-some_spans [] e = absurd cc
-some_spans (p ∷ spans) e = refl
-
-pub not_found : (held : Held) (t : TraceId) (spans : List Placed) → held.limits.traces ≤ 0 → spans ≡ of_trace t (arrivals held.entries) → (length spans == 0) ≡ true → None ≡ found_in held t
-not_found held t spans none is e = no_spans spans e ∙ all_found held t spans none is
-
-pub is_found : (held : Held) (t : TraceId) (spans : List Placed) → held.limits.traces ≤ 0 → spans ≡ of_trace t (arrivals held.entries) → (length spans == 0) ≡ false → Some spans ≡ found_in held t
-is_found held t spans none is e = some_spans spans e ∙ all_found held t spans none is
+pub said_lost : (a b : Option (List ℕ)) (found : Option (List Placed)) → None ≡ option_map (map unadjusted) found
+    → Appends a b (codes "trace not found\n") → Appends a b (trace_lines found)
+said_lost a b found is said = subst (Appends a b) (lines_of_none found is) said

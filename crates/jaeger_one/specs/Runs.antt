@@ -5,6 +5,7 @@ use Rattle.std.specs.Io.KnownBytes.{Appends, Consumes, IsAtEnd}
 use Rattle.jaeger_model.specs.declared.ids.TraceId.{TraceId}
 use Rattle.jaeger_model.specs.declared.placed.Placed.{Placed}
 use Rattle.jaeger_model.specs.Ids.{trace_text, span_text}
+use Rattle.trace_model.specs.declared.answer.Shown.{Shown}
 use Rattle.trace_model.specs.declared.limits.Limits.{Limits}
 use Rattle.trace_model.specs.Held.{Held}
 use Rattle.trace_model.specs.Histories.{arrivals}
@@ -48,6 +49,9 @@ names_text p = p.process.service ++ codes " " ++ p.span.operation ++ codes "\n"
 -- trace, span, start, duration, service and operation
 abbrev pub span_line : Placed → List ℕ
 span_line p = ids_text p ++ times_text p ++ names_text p
+
+abbrev pub shown_line : Shown → List ℕ
+shown_line s = span_line s.placed
 
 abbrev pub trace_lines : Option (List Placed) → List ℕ
 trace_lines None = codes "trace not found\n"

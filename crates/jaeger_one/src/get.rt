@@ -1,29 +1,23 @@
 //! The subcommand `get`: batches on lines of hexadecimal text, and then the spans of one trace.
-ghost use Rattle.std.specs.Prelude.{◌≡◌, ◌≢◌, ℕ, ◌⊎◌, IfOk, IfSome, OnOk, is_some, option_map, string_bytes};
+ghost use Rattle.std.specs.Prelude.{◌≡◌, ◌≢◌, ◌⊎◌, IfOk, None, OnOk, Some, flat_map, is_some, map, option_map};
 ghost use Rattle.std.specs.Io.KnownBytes.{Appends};
-ghost use Rattle.std.specs.Prelude.{flat_map, Some};
-ghost use Rattle.jaeger_one.specs.Judging.{batch_in, next_entry, admitted, judged, is_written, without_blanks};
-ghost use Rattle.std.specs.Prelude.{List, map, ◌++◌};
-ghost use Rattle.std.specs.List.{list_any};
-ghost use Rattle.std.specs.Arc.{arc_value};
-ghost use Rattle.jaeger_model.specs.Parents.{domain, same_trace};
-ghost use Rattle.trace_model.specs.Histories.{arrivals};
-ghost use Rattle.trace_model.specs.Showing.{of_trace};
+ghost use Rattle.trace_model.specs.Adjusting.{unadjusted};
 ghost use Rattle.trace_model.specs.Refusals.{refusal_of};
-ghost use Rattle.jaeger_one.specs.Runs.{Finishes, fault_line, found_in, ids_text, names_text, times_text, span_line, trace_lines, status_by};
+ghost use Rattle.jaeger_one.specs.Judging.{batch_in, next_entry, admitted, judged, is_written, without_blanks};
+ghost use Rattle.jaeger_one.specs.Runs.{Finishes, fault_line, found_in, ids_text, names_text, times_text, shown_line, span_line, trace_lines, status_by};
 ghost use Rattle.jaeger_one.specs.Progress.{TakesAll};
 
 use crate::halt::Halt;
 use crate::line_fault::LineFault;
 use crate::lines::Lines;
-use arrival_journal::Journal;
 use batch_codec::{DecodeError, decode};
 use hex::FromHexError;
-use jaeger_model::{Batch, Placed, TraceId, domain};
-use std::alloc::{AllocError, Global};
+use jaeger_model::{Batch, Placed, Seq, TraceId};
+use span_store::SpanStore;
+use std::alloc::Global;
 use std::io::{Read, Write};
 use std::sync::Arc;
-use trace_model::{Entry, Limits, Refusal, get_trace};
+use trace_model::{Answer, Entry, Limits, Query, Refusal, Shown};
 
 /// The fault of text that isn't hexadecimal.
 fn bad_hex(error: FromHexError) -> Result<LineFault, Halt>
@@ -59,13 +53,13 @@ fn read_batch(alloc: Global, text: &[u8]) -> Result<Result<Batch, LineFault>, Ha
     }
 }
 
-/// Hands the batch to the journal, as seat 0's next entry.
-fn admit(alloc: Global, journal: &mut Journal, batch: Batch) -> Result<Option<LineFault>, Halt>
-    ensures { IfOk result (λ fault. record { fault = fault; held = journal.new.held }
-        ≡ admitted journal.old.held (next_entry journal.old.held batch)
-        (refusal_of journal.old.held.limits journal.old.held.entries (next_entry journal.old.held batch))) }
+/// Hands the batch to the store, as seat 0's next entry.
+fn admit(alloc: Global, store: &mut SpanStore, batch: Batch) -> Result<Option<LineFault>, Halt>
+    ensures { IfOk result (λ fault. record { fault = fault; held = store.new }
+        ≡ admitted store.old (next_entry store.old batch)
+        (refusal_of store.old.limits store.old.entries (next_entry store.old batch))) }
 {
-    let number = journal.len() + 1;
+    let number = store.len() + 1;
     let entry = Arc::new(
         alloc,
         Entry {
@@ -74,7 +68,7 @@ fn admit(alloc: Global, journal: &mut Journal, batch: Batch) -> Result<Option<Li
             batch,
         },
     )?;
-    match journal.admit(entry) {
+    match store.apply(entry) {
         Ok(_) => Ok(None),
         Err(Refusal::NoMemory) => Err(Halt::Memory),
         Err(refusal) => Ok(Some(LineFault::Refused(refusal))),
@@ -94,20 +88,20 @@ fn drop_blanks(line: &mut Vec<u8>)
     line.retain(|c| is_written(*c));
 }
 
-/// Takes the batch of a line into the journal, and tells why where it can't.
+/// Takes the batch of a line into the store, and tells why where it can't.
 fn take_line(
     alloc: Global,
-    journal: &mut Journal,
+    store: &mut SpanStore,
     line: &mut Vec<u8>,
 ) -> Result<Option<LineFault>, Halt>
-    ensures { IfOk result (λ fault. record { fault = fault; held = journal.new.held } ≡ judged journal.old.held line.old.items) }
+    ensures { IfOk result (λ fault. record { fault = fault; held = store.new } ≡ judged store.old line.old.items) }
 {
     drop_blanks(line);
     if line.is_empty() {
         return Ok(None);
     }
     match read_batch(alloc, line.as_slice())? {
-        Ok(batch) => admit(alloc, journal, batch),
+        Ok(batch) => admit(alloc, store, batch),
         Err(fault) => Ok(Some(fault)),
     }
 }
@@ -120,15 +114,15 @@ fn say_fault<W: Write>(writer: &mut W, number: u64, fault: LineFault) -> Result<
     Ok(())
 }
 
-/// Takes the batches of all lines into the journal, answers on the writer each line that can't be
+/// Takes the batches of all lines into the store, answers on the writer each line that can't be
 /// used, and tells whether there was one.
 fn take_lines<R: Read, W: Write>(
     alloc: Global,
     reader: &mut R,
     writer: &mut W,
-    journal: &mut Journal,
+    store: &mut SpanStore,
 ) -> Result<bool, Halt>
-    ensures { IfOk result (TakesAll (R.remaining reader.old) (R.remaining reader.new) (W.contents writer.old) (W.contents writer.new) journal.old.held journal.new.held) }
+    ensures { IfOk result (TakesAll (R.remaining reader.old) (R.remaining reader.new) (W.contents writer.old) (W.contents writer.new) store.old store.new) }
 {
     let mut lines = Lines::new(alloc)?;
     let mut line = Vec::new(alloc);
@@ -136,7 +130,7 @@ fn take_lines<R: Read, W: Write>(
     let mut faulty = false;
     'lines: while lines.next(reader, writer, &mut line)? {
         number += 1;
-        if let Some(fault) = take_line(alloc, journal, &mut line)? {
+        if let Some(fault) = take_line(alloc, store, &mut line)? {
             faulty = true;
             say_fault(writer, number, fault)?;
         }
@@ -181,99 +175,50 @@ fn say_span<W: Write>(writer: &mut W, placed: &Placed) -> Result<(), Halt>
 }
 
 /// Writes the lines of the spans.
-fn say_spans<W: Write>(writer: &mut W, spans: &[Placed]) -> Result<(), Halt>
-    ensures { OnOk result (Appends (W.contents writer.old) (W.contents writer.new) (flat_map span_line spans.now)) }
+fn say_spans<W: Write>(writer: &mut W, spans: &[Shown]) -> Result<(), Halt>
+    ensures { OnOk result (Appends (W.contents writer.old) (W.contents writer.new) (flat_map shown_line spans.now)) }
 {
-    for placed in spans {
-        say_span(writer, placed)?;
+    for shown in spans {
+        say_span(writer, &shown.placed)?;
     }
     Ok(())
 }
 
-fn is_same_trace(a: TraceId, b: TraceId) -> bool
-    ensures { result ≡ same_trace a b }
+/// The shown spans of the trace, or None where there are none.
+fn find_trace(store: &SpanStore, trace: TraceId) -> Result<Option<Seq<Shown>>, Halt>
+    ensures { IfOk result (λ found. found ≡ option_map (map unadjusted) (found_in store.now trace)) }
 {
-    a.high == b.high && a.low == b.low
+    let query = Query::Trace {
+        id: trace,
+        raw: true,
+    };
+    match store.answer(&query) {
+        Ok(Answer::Trace(found)) => Ok(found),
+        Ok(_) => unreachable!(),
+        Err(_) => Err(Halt::Memory),
+    }
 }
 
-/// Adds the spans of the trace that the batch has.
-fn add_spans(
-    alloc: Global,
-    found: &mut Vec<Placed>,
-    batch: &Batch,
-    trace: TraceId,
-) -> Result<(), AllocError>
-    ensures { OnOk result (found.new.items ≡ found.old.items ++ of_trace trace (domain batch.now)) }
+/// Writes that the trace isn't found.
+fn say_none<W: Write>(writer: &mut W) -> Result<(), Halt>
+    ensures { OnOk result (Appends (W.contents writer.old) (W.contents writer.new) (trace_lines None)) }
 {
-    if !has_trace(batch, trace) {
-        return Ok(());
-    }
-    let mut spans = domain(alloc, batch)?;
-    spans.retain(|p| is_same_trace(trace, p.span.trace));
-    found.append(&mut spans)
-}
-
-/// A span of the batch is of the trace.
-fn has_trace(batch: &Batch, trace: TraceId) -> bool
-    ensures { result ≡ list_any (λ s. same_trace trace s.trace) batch.now.spans }
-{
-    batch
-        .spans
-        .as_slice()
-        .iter()
-        .any(|s| is_same_trace(trace, s.trace))
-}
-
-/// The spans of the trace in all entries, in order.
-fn all_spans(
-    alloc: Global,
-    entries: &[Arc<Entry>],
-    trace: TraceId,
-) -> Result<Vec<Placed>, AllocError>
-    ensures { IfOk result (λ v. v.items ≡ of_trace trace (arrivals (map arc_value entries.now))) }
-{
-    let mut found = Vec::new(alloc);
-    for entry in entries {
-        add_spans(alloc, &mut found, &entry.batch, trace)?;
-    }
-    Ok(found)
-}
-
-/// The shown spans of the trace, or None where there are none. Without a trace limit all are shown.
-fn find_trace(
-    alloc: Global,
-    journal: &Journal,
-    trace: TraceId,
-) -> Result<Option<Vec<Placed>>, AllocError>
-    ensures { IfOk result (λ found. option_map (λ v. v.items) found ≡ found_in journal.now.held trace) }
-{
-    if journal.limits().traces > 0 {
-        return get_trace(alloc, journal.entries(), journal.limits(), trace);
-    }
-    let found = all_spans(alloc, journal.entries(), trace)?;
-    if found.is_empty() {
-        return Ok(None);
-    }
-    Ok(Some(found))
+    writeln!(writer, "trace not found")?;
+    Ok(())
 }
 
 /// Writes the spans of the trace, or that it isn't found, and tells whether it is.
-fn say_trace<W: Write>(
-    alloc: Global,
-    writer: &mut W,
-    journal: &Journal,
-    trace: TraceId,
-) -> Result<bool, Halt>
-    ensures found { IfOk result (λ found. found ≡ is_some (found_in journal.now.held trace)) }
-    ensures lines { OnOk result (Appends (W.contents writer.old) (W.contents writer.new) (trace_lines (found_in journal.now.held trace))) }
+fn say_trace<W: Write>(writer: &mut W, store: &SpanStore, trace: TraceId) -> Result<bool, Halt>
+    ensures found { IfOk result (λ found. found ≡ is_some (found_in store.now trace)) }
+    ensures lines { OnOk result (Appends (W.contents writer.old) (W.contents writer.new) (trace_lines (found_in store.now trace))) }
 {
-    match find_trace(alloc, journal, trace)? {
+    match find_trace(store, trace)? {
         Some(spans) => {
             say_spans(writer, spans.as_slice())?;
             Ok(true)
         }
         None => {
-            writeln!(writer, "trace not found")?;
+            say_none(writer)?;
             Ok(false)
         }
     }
@@ -299,9 +244,9 @@ fn finish<R: Read, W: Write>(
 ) -> Result<u8, Halt>
     ensures { IfOk result (Finishes (R.remaining reader.old) (R.remaining reader.new) (W.contents writer.old) (W.contents writer.new) limits trace) }
 {
-    let mut journal = Journal::new(alloc, limits);
-    let faulty = take_lines(alloc, reader, writer, &mut journal)?;
-    let found = say_trace(alloc, writer, &journal, trace)?;
+    let mut store = SpanStore::open(alloc, limits);
+    let faulty = take_lines(alloc, reader, writer, &mut store)?;
+    let found = say_trace(writer, &store, trace)?;
     writer.flush()?;
     Ok(status_of(faulty, found))
 }

@@ -7,16 +7,16 @@ use Rattle.jaeger_one.proofs.get.take_line.Goals as goal
 pub returns-then-is_empty : goal.returns-then-is_empty
 returns-then-is_empty c =
     let none : (length (without_blanks c.args.line.now.items) == 0) ≡ true = search rules in
-    line_skipped c.args.journal.now.held c.args.line.now.items none
+    line_skipped c.args.store.now c.args.line.now.items none
 
 pub returns-in-Err : goal.returns-in-Err
 returns-in-Err c =
     let some : (length (without_blanks c.args.line.now.items) == 0) ≡ false = search rules in
     let is : Err c.in-Err.fault ≡ batch_in (without_blanks c.args.line.now.items) = search rules in
-    line_refused c.args.journal.now.held c.args.line.now.items c.in-Err.fault some is
+    line_refused c.args.store.now c.args.line.now.items c.in-Err.fault some is
 
 pub returns-in-Ok : goal.returns-in-Ok
 returns-in-Ok c =
     let some : (length (without_blanks c.args.line.now.items) == 0) ≡ false = search rules in
     let is : Ok c.in-Ok.batch ≡ batch_in (without_blanks c.args.line.now.items) = search rules in
-    IfOk-weaker c.admit.result _ _ (λ fault e. e ∙ line_judged c.args.journal.now.held c.args.line.now.items c.in-Ok.batch some is) c.admit.ensures
+    IfOk-weaker c.admit.result _ _ (λ fault e. e ∙ line_judged c.args.store.now c.args.line.now.items c.in-Ok.batch some is) c.admit.ensures

@@ -3,7 +3,7 @@ use Rattle.jaeger_one.proofs.Progressing.{begins, goes_on_well, goes_on_faulty, 
 use Rattle.jaeger_one.proofs.get.take_lines.Goals as goal
 
 pub lines-init : goal.lines-init
-lines-init g c = begins _ _ c.args.journal.now.held c.in_ok-lines.lines c.in_ok-lines.ensures
+lines-init g c = begins _ _ c.args.store.now c.in_ok-lines.lines c.in_ok-lines.ensures
 
 pub lines-preserved-in-Continue-branch-5 : goal.lines-preserved-in-Continue-branch-5
 lines-preserved-in-Continue-branch-5 g c =
