@@ -12,3 +12,6 @@ mod index;
 pub mod laws;
 
 pub use index::ServiceIndex;
+
+#[cfg(test)]
+mod tests;
