@@ -22,3 +22,6 @@ mod scan;
 pub use asked::{BodyLength, Breach, Method, Request};
 pub use reading::{Next, next_request};
 pub use received::{Interrupted, Received};
+
+#[cfg(test)]
+mod tests;

@@ -14,6 +14,9 @@ use http_session::{Ended, SessionFault, session};
 use session_devices::{Input, Output};
 use std::alloc::Global;
 
+#[cfg(test)]
+mod tests;
+
 /// Answers the requests of the input one after the other, from a store of one's own. It waits for nothing
 /// but the devices.
 ///

@@ -1,0 +1,78 @@
+use super::*;
+use http_session::Cause;
+use session_devices::{MemoryInput, MemoryOutput};
+use span_store::SpanStore;
+use std::alloc::Global;
+use std::process::Abort;
+use std::test::*;
+use trace_model::Limits;
+
+/// A batch of service `a` with one span, `op`, of trace 1.
+const BATCH: &[u8] = b"\x0c\x00\x01\x0b\x00\x01\x00\x00\x00\x01a\x00\x0f\x00\x02\x0c\x00\x00\x00\x01\x0a\x00\x01\x00\x00\x00\x00\x00\x00\x00\x01\x0a\x00\x02\x00\x00\x00\x00\x00\x00\x00\x00\x0a\x00\x03\x00\x00\x00\x00\x00\x00\x00\x02\x0a\x00\x04\x00\x00\x00\x00\x00\x00\x00\x00\x0b\x00\x05\x00\x00\x00\x02op\x08\x00\x07\x00\x00\x00\x01\x0a\x00\x08\x00\x00\x00\x00\x00\x00\x03\xe8\x0a\x00\x09\x00\x00\x00\x00\x00\x00\x002\x00\x00";
+
+const POST: &[u8] = b"POST /api/traces HTTP/1.1\r\nContent-Type: application/x-thrift\r\nContent-Length: 104\r\n\r\n";
+
+const SERVICES: &[u8] = b"GET /api/services HTTP/1.1\r\n\r\n";
+
+const ANSWERS: &[u8] = b"HTTP/1.1 202 Accepted\r\nContent-Length: 0\r\n\r\nHTTP/1.1 200 OK\r\nContent-Type: application/json\r\nContent-Length: 59\r\n\r\n{\"data\":[\"a\"],\"errors\":null,\"limit\":0,\"offset\":0,\"total\":1}";
+
+/// A batch that is handed in, and then a look at the services.
+fn batch_and_services(alloc: Global) -> Result<Vec<u8>, Fail> {
+    let mut bytes = Vec::new(alloc);
+    for part in [POST, BATCH, SERVICES] {
+        bytes.extend_from_slice(part)?;
+    }
+    Ok(bytes)
+}
+
+fn empty_store(rt: &impl Abort, alloc: Global) -> Direct {
+    let limits = Limits::new(10, 100, 0, 0).expect(rt, "limits");
+    Direct::new(SpanStore::open(alloc, limits))
+}
+
+#[test]
+fn one_byte_a_call(rt: HostRuntime) -> Result<(), Fail> {
+    let alloc = rt.alloc();
+    let bytes = batch_and_services(alloc)?;
+    for step in [1, 7, 10_000] {
+        let mut input = MemoryInput::new(bytes.as_slice(), step, 0);
+        let mut output = MemoryOutput::new(alloc, 10_000, step);
+        let mut store = empty_store(&rt, alloc);
+        let ended = pipe(alloc, &mut input, &mut output, &mut store);
+        assert!(rt; ended == Ok(Ended { answered: 2, clean: true }));
+        assert_eq!(rt; output.as_slice(), ANSWERS);
+    }
+    Ok(())
+}
+
+#[test]
+fn a_reader_that_fails_at_each_call(rt: HostRuntime) -> Result<(), Fail> {
+    let alloc = rt.alloc();
+    let bytes = batch_and_services(alloc)?;
+    for fails_at in 1..16 {
+        let mut input = MemoryInput::new(bytes.as_slice(), 16, fails_at);
+        let mut output = MemoryOutput::new(alloc, 10_000, 10_000);
+        let mut store = empty_store(&rt, alloc);
+        let fault = pipe(alloc, &mut input, &mut output, &mut store).expect_err(&rt, "fault");
+        assert!(rt; fault.cause == Cause::Reading);
+        assert_eq!(rt; fault.written, 0);
+        assert!(rt; ANSWERS.starts_with(output.as_slice()));
+    }
+    Ok(())
+}
+
+#[test]
+fn a_writer_that_fails_after_each_byte(rt: HostRuntime) -> Result<(), Fail> {
+    let alloc = rt.alloc();
+    let bytes = batch_and_services(alloc)?;
+    for room in 0..ANSWERS.len() {
+        let mut input = MemoryInput::new(bytes.as_slice(), 10_000, 0);
+        let mut output = MemoryOutput::new(alloc, room, 5);
+        let mut store = empty_store(&rt, alloc);
+        let fault = pipe(alloc, &mut input, &mut output, &mut store).expect_err(&rt, "fault");
+        assert!(rt; fault.cause == Cause::Writing);
+        assert!(rt; output.as_slice() == &ANSWERS[..room]);
+        assert_eq!(rt; store.into_store().len(), 1);
+    }
+    Ok(())
+}
