@@ -24,50 +24,26 @@ fn span_json(alloc: Global, processes: &[&Process], shown: &Shown) -> Result<Val
     ensures { IfOk result (λ v. view v ≡ span_tree (map (λ p. p.now) processes.now) shown.now) }
 {
     let span = &shown.placed.span;
-    let place = place_of(processes, &shown.placed.process);
-    let mut map = Map::new(alloc);
-    put(&mut map, alloc, "duration", Value::from(span.duration))?;
-    put(
-        &mut map,
-        alloc,
-        "flags",
-        Value::from(flags_number(span.flags)),
-    )?;
-    put(&mut map, alloc, "logs", list(alloc, span.logs.as_slice())?)?;
-    put(
-        &mut map,
-        alloc,
-        "operationName",
-        span.operation.to_json(alloc)?,
-    )?;
-    put(
-        &mut map,
-        alloc,
-        "processID",
-        Value::String(process_name(alloc, place)?),
-    )?;
-    put(
-        &mut map,
-        alloc,
-        "references",
-        list(alloc, span.references.as_slice())?,
-    )?;
-    put(
-        &mut map,
-        alloc,
-        "spanID",
-        Value::String(span_text(alloc, span.id)?),
-    )?;
-    put(&mut map, alloc, "startTime", Value::from(span.start))?;
-    put(&mut map, alloc, "tags", list(alloc, span.tags.as_slice())?)?;
-    put(&mut map, alloc, "traceID", span.trace.to_json(alloc)?)?;
-    put(
-        &mut map,
-        alloc,
-        "warnings",
-        warnings_json(alloc, shown.warnings.as_slice())?,
-    )?;
-    Ok(Value::Object(map))
+    let logs = list(alloc, span.logs.as_slice())?;
+    let process = process_name(alloc, place_of(processes, &shown.placed.process))?;
+    let references = list(alloc, span.references.as_slice())?;
+    let id = span_text(alloc, span.id)?;
+    let tags = list(alloc, span.tags.as_slice())?;
+    let trace = trace_text(alloc, span.trace)?;
+    let warnings = warnings_json(alloc, shown.warnings.as_slice())?;
+    json!(in alloc; {
+        "duration": span.duration,
+        "flags": flags_number(span.flags),
+        "logs": logs,
+        "operationName": span.operation.as_str(),
+        "processID": process,
+        "references": references,
+        "spanID": id,
+        "startTime": span.start,
+        "tags": tags,
+        "traceID": trace,
+        "warnings": warnings
+    })
 }
 
 fn spans_json(alloc: Global, processes: &[&Process], spans: &[Shown]) -> Result<Value, AllocError>
