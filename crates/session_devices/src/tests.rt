@@ -7,10 +7,10 @@ fn memory_in_steps(rt: HostRuntime) -> Result<(), Fail> {
     let mut input = MemoryInput::new(b"abcde", 2, 4);
     let mut buf = [0u8; 4];
     assert_eq!(rt; input.read(&mut buf), Ok(2));
-    assert_eq!(rt; &buf[..2], b"ab");
+    assert!(rt; &buf[..2] == b"ab".as_slice());
     assert_eq!(rt; input.read(&mut buf[..1]), Ok(1));
     assert_eq!(rt; input.read(&mut buf), Ok(2));
-    assert_eq!(rt; &buf[..2], b"de");
+    assert!(rt; &buf[..2] == b"de".as_slice());
     assert!(rt; !input.failed());
     assert_eq!(rt; input.read(&mut buf), Err(Failed));
     assert!(rt; input.failed());
@@ -28,7 +28,7 @@ fn memory_up_to_its_room(rt: HostRuntime) -> Result<(), Fail> {
     assert!(rt; !output.failed());
     assert_eq!(rt; output.write(b"d"), Err(Failed));
     assert!(rt; output.failed());
-    assert_eq!(rt; output.as_slice(), b"abc");
+    assert!(rt; output.as_slice() == b"abc".as_slice());
     Ok(())
 }
 

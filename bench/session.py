@@ -1,0 +1,106 @@
+#!/usr/bin/env python3
+"""What posts and reads cost in a session, by number of spans held.
+
+One run of `jaeger_one pipe` a size: batches of 10 spans are handed in over HTTP until so many spans are
+held, then each kind of question is asked in turn, and again. Every hundredth batch is of the service
+`rare`, the others of `common`; a trace is the spans of one batch, the child spans of each called from
+the next. What is timed is from the first byte of a group of requests to the last byte of its answers.
+
+    bench/session.py [--bin PATH] [--sizes 1000,10000,100000] [--asks 20]
+"""
+import argparse
+import os
+import random
+import subprocess
+import time
+
+from decode import ROOT, field, span, text
+
+IN_BATCH = 10
+EVERY = 100
+
+
+def batch(rng, trace, service):
+    spans = [span(rng, trace, 1, 0)] + [span(rng, trace, n, n - 1) for n in range(2, IN_BATCH + 1)]
+    process = field(12, 1) + field(11, 1) + text(service) + b"\0"
+    return process + field(15, 2) + b"\x0c" + IN_BATCH.to_bytes(4, "big") + b"".join(spans) + b"\0"
+
+
+def post(body):
+    head = "POST /api/traces HTTP/1.1\r\nContent-Type: application/x-thrift\r\nContent-Length: %d\r\n\r\n" % len(body)
+    return head.encode() + body
+
+
+def get(target):
+    return ("GET %s HTTP/1.1\r\n\r\n" % target).encode()
+
+
+class Session:
+    def __init__(self, words):
+        self.run = subprocess.Popen(words, stdin=subprocess.PIPE, stdout=subprocess.PIPE, bufsize=0)
+        self.left = b""
+
+    def line(self):
+        while b"\r\n" not in self.left:
+            self.left += self.run.stdout.read(65536)
+        line, self.left = self.left.split(b"\r\n", 1)
+        return line
+
+    def answer(self):
+        """The status and the length of the next response."""
+        status = int(self.line().split()[1])
+        length = 0
+        while (line := self.line()):
+            if line.startswith(b"Content-Length: "):
+                length = int(line[16:])
+        while len(self.left) < length:
+            self.left += self.run.stdout.read(1 << 20)
+        self.left = self.left[length:]
+        return status, length
+
+    def ask(self, requests):
+        """Seconds for these requests, one after the other, and the bytes of the last answer."""
+        begin = time.perf_counter()
+        for request in requests:
+            self.run.stdin.write(request)
+            status, length = self.answer()
+            assert status < 300, status
+        return time.perf_counter() - begin, length
+
+
+def measure(binary, size, asks):
+    rng = random.Random(7)
+    count = size // IN_BATCH
+    posts = [post(batch(rng, n + 1, "rare" if n % EVERY == 0 else "common")) for n in range(count)]
+    session = Session([binary, "pipe", "--batches", "1000000", "--spans", "10000000"])
+    took, _ = session.ask(posts)
+    print("%8d spans held: %9.0f posts a second, %7.2f us a span" % (size, count / took, took / size * 1e6))
+    first = ((count - 1) // EVERY * EVERY) + 1
+    questions = [
+        ("a trace by its id", "/api/traces/%x" % first),
+        ("the services", "/api/services"),
+        ("search, rare service, 20 traces", "/api/traces?service=rare&limit=20"),
+        ("search, rare service, no match", "/api/traces?service=rare&operation=none"),
+        ("search, common service, 20 traces", "/api/traces?service=common&limit=20"),
+        ("search, common service, no match", "/api/traces?service=common&operation=none"),
+        ("dependencies", "/api/dependencies?endTs=9000000000000&lookback=9000000000000"),
+    ]
+    for name, target in questions:
+        session.ask([get(target)])
+        took, length = session.ask([get(target)] * asks)
+        print("         %-34s %10.3f ms, %8d bytes" % (name, took / asks * 1e3, length))
+    session.run.stdin.close()
+    session.run.wait()
+
+
+def main():
+    asked = argparse.ArgumentParser(description=__doc__, formatter_class=argparse.RawDescriptionHelpFormatter)
+    asked.add_argument("--bin", default=os.path.join(ROOT, "crates", "jaeger_one", "out", "jaeger_one"))
+    asked.add_argument("--sizes", default="1000,10000,100000")
+    asked.add_argument("--asks", type=int, default=20)
+    words = asked.parse_args()
+    for size in words.sizes.split(","):
+        measure(words.bin, int(size), words.asks)
+
+
+main()
