@@ -8,13 +8,16 @@ use std::test::*;
 use trace_model::Limits;
 
 /// A batch of service `a` with one span, `op`, of trace 1.
-const BATCH: &[u8] = b"\x0c\x00\x01\x0b\x00\x01\x00\x00\x00\x01a\x00\x0f\x00\x02\x0c\x00\x00\x00\x01\x0a\x00\x01\x00\x00\x00\x00\x00\x00\x00\x01\x0a\x00\x02\x00\x00\x00\x00\x00\x00\x00\x00\x0a\x00\x03\x00\x00\x00\x00\x00\x00\x00\x02\x0a\x00\x04\x00\x00\x00\x00\x00\x00\x00\x00\x0b\x00\x05\x00\x00\x00\x02op\x08\x00\x07\x00\x00\x00\x01\x0a\x00\x08\x00\x00\x00\x00\x00\x00\x03\xe8\x0a\x00\x09\x00\x00\x00\x00\x00\x00\x002\x00\x00";
+const BATCH: &[u8] =
+    b"\x0c\x00\x01\x0b\x00\x01\x00\x00\x00\x01a\x00\x0f\x00\x02\x0c\x00\x00\x00\x01\x0a\x00\x01\x00\x00\x00\x00\x00\x00\x00\x01\x0a\x00\x02\x00\x00\x00\x00\x00\x00\x00\x00\x0a\x00\x03\x00\x00\x00\x00\x00\x00\x00\x02\x0a\x00\x04\x00\x00\x00\x00\x00\x00\x00\x00\x0b\x00\x05\x00\x00\x00\x02op\x08\x00\x07\x00\x00\x00\x01\x0a\x00\x08\x00\x00\x00\x00\x00\x00\x03\xe8\x0a\x00\x09\x00\x00\x00\x00\x00\x00\x002\x00\x00";
 
-const POST: &[u8] = b"POST /api/traces HTTP/1.1\r\nContent-Type: application/x-thrift\r\nContent-Length: 104\r\n\r\n";
+const POST: &[u8] =
+    b"POST /api/traces HTTP/1.1\r\nContent-Type: application/x-thrift\r\nContent-Length: 104\r\n\r\n";
 
 const SERVICES: &[u8] = b"GET /api/services HTTP/1.1\r\n\r\n";
 
-const ANSWERS: &[u8] = b"HTTP/1.1 202 Accepted\r\nContent-Length: 0\r\n\r\nHTTP/1.1 200 OK\r\nContent-Type: application/json\r\nContent-Length: 59\r\n\r\n{\"data\":[\"a\"],\"errors\":null,\"limit\":0,\"offset\":0,\"total\":1}";
+const ANSWERS: &[u8] =
+    b"HTTP/1.1 202 Accepted\r\nContent-Length: 0\r\n\r\nHTTP/1.1 200 OK\r\nContent-Type: application/json\r\nContent-Length: 59\r\n\r\n{\"data\":[\"a\"],\"errors\":null,\"limit\":0,\"offset\":0,\"total\":1}";
 
 /// A batch that is handed in, and then a look at the services.
 fn batch_and_services(alloc: Global) -> Result<Vec<u8>, Fail> {
@@ -39,7 +42,13 @@ fn one_byte_a_call(rt: HostRuntime) -> Result<(), Fail> {
         let mut output = MemoryOutput::new(alloc, 10_000, step);
         let mut store = empty_store(&rt, alloc);
         let ended = pipe(alloc, &mut input, &mut output, &mut store);
-        assert!(rt; ended == Ok(Ended { answered: 2, clean: true }));
+        assert!(rt;
+            ended
+                == Ok(Ended {
+                    answered: 2,
+                    clean: true
+                })
+        );
         assert_eq!(rt; output.as_slice(), ANSWERS);
     }
     Ok(())
