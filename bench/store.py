@@ -1,11 +1,9 @@
 #!/usr/bin/env python3
-"""What an accepted batch costs, and a trace by its id, by number of spans held.
+"""What an accepted batch costs, by number of spans held.
 
-Each size is a run of the built program, `jaeger_one get`, on that many spans in batches of 10. The spans
-of one trace of 1000 spans stand among them; every other trace has 10. Two questions are asked: a trace
-that is in none of them, so that what is timed is reading, decoding and keeping, and the trace of 1000
-spans. What the second run takes beyond the first is the trace. Times are processor time of the program,
-the least of some runs.
+Each size is a run of the built program, `jaeger_one get`, on that many spans in batches of 10, and asks for a
+trace that is in none of them: what is timed is reading, decoding and keeping. Times are processor time of the
+program, the least of some runs. What a trace by its id costs is shown by session.py.
 
     bench/store.py [--bin PATH] [--sizes 1000,10000,100000] [--runs 5]
 """
@@ -17,8 +15,6 @@ import tempfile
 
 from decode import ROOT, field, span, text
 
-ASKED = 1
-ASKED_SPANS = 1000
 IN_BATCH = 10
 
 
@@ -29,16 +25,9 @@ def batch(rng, trace):
 
 
 def write_lines(rng, file, size):
-    """Batches of `size` spans in all, those of the asked trace spread evenly."""
-    count = size // IN_BATCH
-    every = max(1, size // ASKED_SPANS)
-    pool = [batch(rng, ASKED).hex() for _ in range(50)]
-    for number in range(count):
-        if number % every == 0:
-            line = pool[number // every % len(pool)]
-        else:
-            line = batch(rng, rng.getrandbits(62) | 1 << 62).hex()
-        file.write(line.encode() + b"\n")
+    """Batches of `size` spans in all, each a trace of its own."""
+    for _ in range(size // IN_BATCH):
+        file.write(batch(rng, rng.getrandbits(62) | 1 << 62).hex().encode() + b"\n")
     file.flush()
 
 
@@ -64,14 +53,12 @@ def main():
     options = asked.parse_args()
     rng = random.Random(1)
     limits = ["--batches", "1000000", "--spans", "10000000"]
-    print(f"{'spans':>8} {'batches':>8} {'seconds':>8} {'us a span kept':>15} {'us a span of the trace':>23}")
+    print(f"{'spans':>8} {'batches':>8} {'seconds':>8} {'us a span':>10}")
     for size in [int(s) for s in options.sizes.split(",")]:
         with tempfile.NamedTemporaryFile() as file:
             write_lines(rng, file, size)
             kept = seconds([options.bin, "get", "ffffffffffffffff", *limits], file.name, options.runs, 1)
-            both = seconds([options.bin, "get", f"{ASKED:x}", *limits], file.name, options.runs, 0)
-        trace = (both - kept) / min(ASKED_SPANS, size)
-        print(f"{size:8} {size // IN_BATCH:8} {kept:8.3f} {kept / size * 1e6:15.2f} {trace * 1e6:23.2f}")
+        print(f"{size:8} {size // IN_BATCH:8} {kept:8.3f} {kept / size * 1e6:10.2f}")
 
 
 if __name__ == "__main__":

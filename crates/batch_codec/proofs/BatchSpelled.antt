@@ -1,22 +1,20 @@
 -- A batch that is read is spelled so, and one that is spelled so is read.
-use Rattle.std.proofs.Common.{◌≡◌, ℕ, ℤ, pos, true, cond, eqb, List, [], ◌∷◌, ◌++◌, length, Some, Result, Ok, Err, refl, sym, ap, subst, ◌∙◌, arith, ◌⊎◌, inl, inr}
+use Rattle.std.proofs.Common.{◌≡◌, ℕ, ℤ, pos, true, eqb, List, [], ◌∷◌, ◌++◌, length, Some, Result, Ok, Err, refl, sym, ap, subst, ◌∙◌, arith, ◌⊎◌, inl, inr}
 use Rattle.std.specs.Prelude.{IfOk}
 use Rattle.std.proofs.lemmas.Bool.{eqb-true}
 use Rattle.std.proofs.lemmas.List.{append-nil}
 use Rattle.jaeger_model.specs.declared.batch.Batch.{Batch}
-use Rattle.thrift_binary.specs.Reading.{◌>>=◌, is_code}
+use Rattle.thrift_binary.specs.Reading.{is_code}
 use Rattle.thrift_binary.specs.Spelling.{Front, Field}
-use Rattle.thrift_binary.specs.Fields.{fields_at}
 use Rattle.thrift_binary.proofs.Found.{bind_ok, pass_ok, ok_is}
-use Rattle.thrift_binary.proofs.Again.{fields_again}
 use Rattle.batch_codec.specs.declared.fault.DecodeError.{DecodeError}
 use Rattle.batch_codec.specs.declared.fault.DecodeError.TheVariants.{Memory, Wire, Missing, BadEnum, Trailing}
 use Rattle.batch_codec.specs.declared.fault.Part.TheVariants as parts
 use Rattle.batch_codec.specs.declared.batch.BatchSlots.{BatchSlots}
-use Rattle.batch_codec.specs.Decoding.{Gives, wire, required}
+use Rattle.batch_codec.specs.Decoding.{Gives}
 use Rattle.batch_codec.specs.Gathered.{no_batch}
 use Rattle.batch_codec.specs.BatchReading.{take_batch, batch_from, batch_at, at_end, decoded}
-use Rattle.batch_codec.specs.Batches.{BatchField, IsStruct, whole_batch, IsBatch, Answers}
+use Rattle.batch_codec.specs.Batches.{BatchField, whole_batch, IsBatch, Answers}
 use Rattle.batch_codec.proofs.ValuesSpelled.{Agrees, is_i64}
 use Rattle.batch_codec.proofs.Structs.{known_found, known_again, known_coded, skipped_found, skipped_again, skipped_coded, struct_found, struct_again, required_found, is_list}
 use Rattle.batch_codec.proofs.ProcessSpelled.{is_process}

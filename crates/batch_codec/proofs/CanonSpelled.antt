@@ -1,6 +1,6 @@
 -- The one spelling of a batch spells it.
-use Rattle.std.proofs.Common.{◌≡◌, ℕ, ℤ, pos, ◌<◌, ◌^◌, Bool, true, false, List, [], ◌∷◌, ◌++◌, length, Option, Some, None, refl, sym, ap, subst, ◌∙◌, arith, w16, w32, w64, SFits, Ok}
-use Rattle.std.specs.Int.{cast_signed, cast_unsigned}
+use Rattle.std.proofs.Common.{◌≡◌, ℕ, ℤ, pos, ◌<◌, ◌^◌, List, [], ◌∷◌, ◌++◌, Option, Some, None, refl, sym, ap, subst, w16, w64, SFits, Ok}
+use Rattle.std.specs.Int.{cast_signed}
 use Rattle.std.specs.List.{AllByRecursion}
 use Rattle.jaeger_model.specs.declared.tag.Tag.{Tag}
 use Rattle.jaeger_model.specs.declared.tag.Value.{Value}
@@ -12,19 +12,18 @@ use Rattle.jaeger_model.specs.declared.span.SpanRef.{SpanRef}
 use Rattle.jaeger_model.specs.declared.span.Span.{Span}
 use Rattle.jaeger_model.specs.declared.batch.Process.{Process}
 use Rattle.jaeger_model.specs.declared.batch.Batch.{Batch}
-use Rattle.thrift_binary.specs.Spelling.{Field, IsFields, IsI32, IsTypedList, has}
-use Rattle.thrift_binary.specs.Writing.{fields_text, i32_text, i64_text, list_text}
+use Rattle.thrift_binary.specs.Spelling.{Field}
+use Rattle.thrift_binary.specs.Writing.{i32_text, i64_text, list_text}
 use Rattle.thrift_binary.proofs.Written.{bool_written, i32_written, i64_written, string_written, double_written, fields_written, list_written}
 use Rattle.batch_codec.specs.declared.tag.TagSlots.{TagSlots}
 use Rattle.batch_codec.specs.declared.tag.TagType.{TagType}
 use Rattle.batch_codec.specs.declared.tag.TagType.TheVariants as types
-use Rattle.batch_codec.specs.declared.process.ProcessSlots.{ProcessSlots}
 use Rattle.batch_codec.specs.declared.span.SpanSlots.{SpanSlots}
 use Rattle.batch_codec.specs.declared.batch.BatchSlots.{BatchSlots}
 use Rattle.batch_codec.specs.Gathered.{no_tag, no_log, no_reference, no_process, no_span, no_batch, value_named}
-use Rattle.batch_codec.specs.Batches.{IsId, type_number, kind_number, IsTagType, IsRefKind, Gathers, IsStruct, IsStructList, TagField, IsTag, LogField, IsLog, ReferenceField, IsReference, ProcessField, IsProcess, SpanField, IsSpan, BatchField, IsBatch, whole_log, whole_reference, whole_process, whole_span, whole_batch}
-use Rattle.batch_codec.specs.Canon.{text_field, i32_field, i64_field, id_field, list_field, list_if_any, number_if_any, value_type, value_field, tag_fields, canon_tag, log_fields, canon_log, reference_fields, canon_reference, process_fields, canon_process, span_front, span_middle, span_fields, canon_span, batch_fields, canon}
-use Rattle.batch_codec.specs.Proper.{IsProperText, AreProper, IsProperValue, IsProperTag, IsProperLog, IsProperReference, IsProperProcess, IsProperSpan, IsProperNumber, IsProper}
+use Rattle.batch_codec.specs.Batches.{IsId, type_number, kind_number, IsTagType, IsRefKind, Gathers, IsStructList, TagField, IsTag, LogField, IsLog, ReferenceField, IsReference, ProcessField, IsProcess, SpanField, IsSpan, BatchField, IsBatch, whole_log, whole_reference, whole_process, whole_span, whole_batch}
+use Rattle.batch_codec.specs.Canon.{list_field, list_if_any, number_if_any, value_type, value_field, tag_fields, canon_tag, log_fields, canon_log, reference_fields, canon_reference, process_fields, canon_process, span_front, span_middle, span_fields, canon_span, batch_fields, canon}
+use Rattle.batch_codec.specs.Proper.{AreProper, IsProperValue, IsProperTag, IsProperLog, IsProperReference, IsProperProcess, IsProperSpan, IsProperNumber, IsProper}
 use Rattle.std.proofs.Math.Facts.{sfits_lit, sfits_to_z}
 use Rattle.std.proofs.lemmas.Int.{of_z-to_z}
 use Rattle.std.proofs.Common.{Fits}

@@ -1,7 +1,6 @@
 -- The readings of the structs of `jaeger.thrift`, and of a whole batch, have places for their faults.
-use Rattle.std.proofs.Common.{◌≡◌, ℕ, ℤ, pos, cond, eqb, ◌&&◌, List, Some, Ok, refl}
+use Rattle.std.proofs.Common.{ℕ, ℤ, pos, eqb, ◌&&◌, List, Some}
 use Rattle.std.specs.Ordering.{int_eq}
-use Rattle.thrift_binary.specs.Reading.{◌>>=◌}
 use Rattle.thrift_binary.specs.Lists.{list_of}
 use Rattle.batch_codec.specs.declared.tag.TagSlots.{TagSlots}
 use Rattle.batch_codec.specs.declared.log.LogSlots.{LogSlots}
@@ -9,7 +8,7 @@ use Rattle.batch_codec.specs.declared.reference.ReferenceSlots.{ReferenceSlots}
 use Rattle.batch_codec.specs.declared.process.ProcessSlots.{ProcessSlots}
 use Rattle.batch_codec.specs.declared.span.SpanSlots.{SpanSlots}
 use Rattle.batch_codec.specs.declared.batch.BatchSlots.{BatchSlots}
-use Rattle.batch_codec.specs.Decoding.{wire, skipped, bool_at, double_at, i32_at, i64_at, id_at, text_at, binary_at}
+use Rattle.batch_codec.specs.Decoding.{wire, bool_at, double_at, i32_at, i64_at, id_at, text_at, binary_at}
 use Rattle.batch_codec.specs.Gathered.{no_tag, no_log, no_reference, no_process, no_span, no_batch}
 use Rattle.batch_codec.specs.TagReading.{take_tag, tag_from, tag_at, type_at}
 use Rattle.batch_codec.specs.LogReading.{take_log, log_from, log_at}

@@ -1,5 +1,5 @@
 -- The readings of single values have places for their faults, as those of structs have whose fields' have.
-use Rattle.std.proofs.Common.{◌≡◌, ℕ, ℤ, pos, Bool, true, false, cond, eqb, ◌&&◌, List, Option, Some, None, Result, Ok, Err, refl, w32, w64}
+use Rattle.std.proofs.Common.{ℕ, ℤ, pos, Bool, cond, List, Result, Ok, Err, refl, w32, w64}
 use Rattle.std.specs.Int.{cast_unsigned}
 use Rattle.std.specs.Ordering.{int_eq}
 use Rattle.std.specs.Str.{is_utf8}
@@ -24,7 +24,6 @@ use Rattle.batch_codec.specs.declared.tag.TagType.TheVariants as types
 use Rattle.batch_codec.specs.Decoding.{Reading, wire, skipped, bool_at, double_at, i32_at, i64_at, id_at, text_at, binary_at}
 use Rattle.batch_codec.specs.TagReading.{type_at}
 use Rattle.batch_codec.specs.ReferenceReading.{kind_at}
-use Rattle.batch_codec.proofs.Structs.{struct_at}
 
 -- the faults of the reading have places
 abbrev pub Safe : {A : Type 0} → Reading A → Type 0

@@ -1,16 +1,10 @@
 -- Of several fields with one id and the declared type the last counts.
-use Rattle.std.proofs.Common.{◌≡◌, ℕ, ℤ, pos, Bool, true, false, eqb, ◌&&◌, List, [], ◌∷◌, Option, Some, None, refl, subst}
+use Rattle.std.proofs.Common.{◌≡◌, ℕ, ℤ, pos, Bool, true, false, eqb, ◌&&◌, List, Option, Some, None, refl, subst}
 use Rattle.std.specs.Prelude.{MatchBool}
 use Rattle.std.specs.Ordering.{int_eq}
 use Rattle.std.proofs.lemmas.Bool.{eqb-true}
 use Rattle.std.proofs.lemmas.Bool.Decides.{Decides-int_eq}
-use Rattle.jaeger_model.specs.declared.tag.Tag.{Tag}
-use Rattle.jaeger_model.specs.declared.span.Log.{Log}
-use Rattle.jaeger_model.specs.declared.span.SpanRef.{SpanRef}
-use Rattle.jaeger_model.specs.declared.span.Span.{Span}
-use Rattle.jaeger_model.specs.declared.batch.Process.{Process}
-use Rattle.jaeger_model.specs.declared.batch.Batch.{Batch}
-use Rattle.thrift_binary.specs.Spelling.{Field, IsFields, IsLast, IsString, IsBool, IsDouble, IsI32, IsI64, has}
+use Rattle.thrift_binary.specs.Spelling.{Field, IsLast, IsString, IsBool, IsDouble, IsI32, IsI64, has}
 use Rattle.thrift_binary.proofs.Found.{path_last}
 use Rattle.batch_codec.specs.declared.tag.TagSlots.{TagSlots}
 use Rattle.batch_codec.specs.declared.log.LogSlots.{LogSlots}
@@ -18,7 +12,7 @@ use Rattle.batch_codec.specs.declared.reference.ReferenceSlots.{ReferenceSlots}
 use Rattle.batch_codec.specs.declared.process.ProcessSlots.{ProcessSlots}
 use Rattle.batch_codec.specs.declared.span.SpanSlots.{SpanSlots}
 use Rattle.batch_codec.specs.declared.batch.BatchSlots.{BatchSlots}
-use Rattle.batch_codec.specs.Gathered.{no_tag, no_log, no_reference, no_process, no_span, no_batch, value_named}
+use Rattle.batch_codec.specs.Gathered.{no_tag, no_log, no_reference, no_process, no_span, no_batch}
 use Rattle.batch_codec.specs.Batches.{Gathers, IsText, IsId, IsTagType, IsRefKind, IsStructList, TagField, LogField, ReferenceField, ProcessField, SpanField, BatchField, whole_log, whole_reference, whole_process, whole_span, whole_batch, IsTag, IsLog, IsReference, IsProcess, IsSpan, IsBatch}
 use Rattle.batch_codec.specs.LastCounts.{TagLast, LogLast, ReferenceLast, ProcessLast, SpanLast, BatchLast}
 use Rattle.batch_codec.proofs.Structs.{path_gathers}

@@ -1,13 +1,11 @@
 -- A log that is read is spelled so, and one that is spelled so is read.
-use Rattle.std.proofs.Common.{◌≡◌, ℕ, ℤ, pos, true, List, ◌++◌, Some, Result, Ok, refl, sym, ap, ◌∙◌}
+use Rattle.std.proofs.Common.{◌≡◌, ℕ, ℤ, pos, true, List, ◌++◌, Some, Ok, refl, ap, ◌∙◌}
 use Rattle.jaeger_model.specs.declared.span.Log.{Log}
-use Rattle.thrift_binary.specs.Reading.{◌>>=◌, is_code}
+use Rattle.thrift_binary.specs.Reading.{is_code}
 use Rattle.thrift_binary.specs.Spelling.{Front, Field}
 use Rattle.thrift_binary.proofs.Found.{ok_is}
-use Rattle.batch_codec.specs.declared.fault.DecodeError.{DecodeError}
 use Rattle.batch_codec.specs.declared.fault.Part.TheVariants as parts
 use Rattle.batch_codec.specs.declared.log.LogSlots.{LogSlots}
-use Rattle.batch_codec.specs.Decoding.{required}
 use Rattle.batch_codec.specs.Gathered.{no_log}
 use Rattle.batch_codec.specs.LogReading.{take_log, log_from, log_at}
 use Rattle.batch_codec.specs.Batches.{LogField, whole_log, IsLog}

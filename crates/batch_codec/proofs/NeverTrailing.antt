@@ -1,10 +1,7 @@
 -- No reading but that of all of the bytes gives Trailing.
-use Rattle.std.proofs.Common.{◌≡◌, ℕ, ℤ, zero, suc, pos, Bool, true, false, cond, eqb, ◌&&◌, ◌||◌, List, [], ◌∷◌, length, Option, Some, None, Result, Ok, Err, ap, w32, w64}
-use Rattle.std.specs.Int.{cast_unsigned}
+use Rattle.std.proofs.Common.{◌≡◌, ℕ, ℤ, zero, suc, pos, Bool, true, false, cond, eqb, ◌&&◌, ◌||◌, List, length, Option, Some, None, Result, Ok, Err, ap, w32, w64}
 use Rattle.std.specs.Ordering.{int_eq}
 use Rattle.std.specs.Str.{is_utf8}
-use Rattle.jaeger_model.specs.declared.span.RefKind.{RefKind}
-use Rattle.jaeger_model.specs.declared.span.RefKind.TheVariants.{ChildOf, FollowsFrom}
 use Rattle.thrift_binary.specs.declared.fault.WireError.{WireError}
 use Rattle.thrift_binary.specs.declared.fault.WireError.TheVariants.{Truncated, BadText, BadType}
 use Rattle.thrift_binary.specs.Reading.{◌>>=◌, lift, bytes_at, string_at, signed_at, field_at, list_at}
@@ -16,8 +13,6 @@ use Rattle.batch_codec.specs.declared.fault.DecodeError.{DecodeError}
 use Rattle.batch_codec.specs.declared.fault.DecodeError.TheVariants.{Wire, BadEnum, Missing, Trailing}
 use Rattle.batch_codec.specs.declared.fault.Part.{Part}
 use Rattle.batch_codec.specs.declared.fault.Part.TheVariants as parts
-use Rattle.batch_codec.specs.declared.tag.TagType.{TagType}
-use Rattle.batch_codec.specs.declared.tag.TagType.TheVariants as types
 use Rattle.batch_codec.specs.declared.tag.TagSlots.{TagSlots}
 use Rattle.batch_codec.specs.declared.log.LogSlots.{LogSlots}
 use Rattle.batch_codec.specs.declared.reference.ReferenceSlots.{ReferenceSlots}

@@ -1,5 +1,5 @@
 -- Worked rows: what decoding gives of some short bytes.
-use Rattle.std.proofs.Common.{◌≡◌, ℕ, List, [], ◌∷◌, ◌++◌, None, true, Result, Ok, Err, refl, lit<}
+use Rattle.std.proofs.Common.{◌≡◌, ℕ, List, [], ◌∷◌, ◌++◌, None, true, Ok, Err, refl, lit<}
 use Rattle.std.specs.Str.{is_utf8}
 use Rattle.std.proofs.lemmas.Str.{is_utf8-from_IsUtf8, IsUtf8-from_ascii}
 use Rattle.std.proofs.lemmas.Str.Ascii.{IsAscii-cons, IsAscii-nil}
@@ -8,8 +8,6 @@ use Rattle.thrift_binary.specs.declared.fault.WireError.TheVariants.{Truncated, 
 use Rattle.thrift_binary.specs.Reading.{size_at, string_at, field_at, list_at}
 use Rattle.thrift_binary.specs.Fields.{fields_in, fields_at}
 use Rattle.thrift_binary.specs.Lists.{items_at, list_of}
-use Rattle.thrift_binary.specs.Skipping.{value_at, skip_at, struct, items}
-use Rattle.batch_codec.specs.declared.fault.DecodeError.{DecodeError}
 use Rattle.batch_codec.specs.declared.fault.DecodeError.TheVariants.{Wire, Missing, Trailing}
 use Rattle.batch_codec.specs.declared.fault.Part.TheVariants as parts
 use Rattle.batch_codec.specs.Decoding.{text_at}

@@ -1,5 +1,5 @@
 -- Structs: what is read is spelled so, and what is spelled so is read, of any struct whose fields do.
-use Rattle.std.proofs.Common.{◌≡◌, ℕ, ℤ, Bool, true, false, cond, eqb, ltb, ◌&&◌, ◌||◌, ◌<◌, List, length, arith, [], ◌∷◌, ◌++◌, Option, Some, None, Result, Ok, Err, refl, sym, ap, subst, ◌∙◌}
+use Rattle.std.proofs.Common.{◌≡◌, ℕ, ℤ, Bool, true, false, cond, eqb, ltb, ◌&&◌, ◌||◌, ◌<◌, List, length, arith, [], ◌∷◌, ◌++◌, Option, Some, None, Result, Ok, refl, sym, ap, subst, ◌∙◌}
 use Rattle.std.specs.Prelude.{MatchBool}
 use Rattle.std.specs.Ordering.{int_eq}
 use Rattle.std.proofs.lemmas.Bool.{eqb-true, ltb-true, lt-ltb}
@@ -7,7 +7,7 @@ use Rattle.thrift_binary.specs.Reading.{◌>>=◌, lift, is_code}
 use Rattle.thrift_binary.specs.Skipping.{skip_at, width}
 use Rattle.thrift_binary.specs.Fields.{Take, fields_at}
 use Rattle.thrift_binary.specs.Lists.{list_of}
-use Rattle.thrift_binary.specs.Spelling.{Front, Field, IsFields, IsString, IsLeaf, IsContainer, IsValue, IsTypedList}
+use Rattle.thrift_binary.specs.Spelling.{Front, Field, IsString, IsLeaf, IsContainer, IsValue}
 use Rattle.thrift_binary.proofs.Found.{bind_ok, lift_ok, ok_is, Path, Took, fields_found}
 use Rattle.thrift_binary.proofs.Again.{fields_again}
 use Rattle.thrift_binary.proofs.SkipFound.{skip_found}

@@ -1,15 +1,12 @@
 -- A tag that is read is spelled so, and one that is spelled so is read.
-use Rattle.std.proofs.Common.{◌≡◌, ℕ, ℤ, pos, true, List, ◌++◌, Some, Result, Ok, refl, sym, ap, ◌∙◌}
+use Rattle.std.proofs.Common.{◌≡◌, ℕ, ℤ, pos, true, List, ◌++◌, Some, Ok, refl, sym, ap, ◌∙◌}
 use Rattle.jaeger_model.specs.declared.tag.Tag.{Tag}
 use Rattle.jaeger_model.specs.declared.tag.Value.{Value}
-use Rattle.thrift_binary.specs.Reading.{◌>>=◌, is_code}
+use Rattle.thrift_binary.specs.Reading.{is_code}
 use Rattle.thrift_binary.specs.Spelling.{Front, Field}
 use Rattle.thrift_binary.proofs.Found.{ok_is}
-use Rattle.batch_codec.specs.declared.fault.DecodeError.{DecodeError}
 use Rattle.batch_codec.specs.declared.fault.Part.TheVariants as parts
 use Rattle.batch_codec.specs.declared.tag.TagSlots.{TagSlots}
-use Rattle.batch_codec.specs.declared.tag.TagType.{TagType}
-use Rattle.batch_codec.specs.Decoding.{required}
 use Rattle.batch_codec.specs.Gathered.{no_tag, value_named}
 use Rattle.batch_codec.specs.TagReading.{take_tag, tag_from, tag_at}
 use Rattle.batch_codec.specs.Batches.{TagField, MakesTag, IsTag}

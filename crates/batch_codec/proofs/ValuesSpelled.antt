@@ -2,12 +2,10 @@
 use Rattle.std.proofs.Common.{◌≡◌, ℕ, ℤ, pos, Bool, true, false, cond, List, ◌++◌, Result, Ok, Err, refl, sym, ap, subst, ◌∙◌, w32, w64}
 use Rattle.std.specs.Int.{cast_unsigned}
 use Rattle.std.specs.Ordering.{int_eq}
-use Rattle.std.specs.Str.{IsUtf8, is_utf8}
+use Rattle.std.specs.Str.{is_utf8}
 use Rattle.std.proofs.lemmas.Str.{is_utf8-from_IsUtf8, IsUtf8-from_is_utf8}
 use Rattle.std.proofs.lemmas.Bool.Decides.{Decides-int_eq}
-use Rattle.jaeger_model.specs.declared.span.RefKind.{RefKind}
 use Rattle.jaeger_model.specs.declared.span.RefKind.TheVariants.{ChildOf, FollowsFrom}
-use Rattle.thrift_binary.specs.declared.fault.WireError.{WireError}
 use Rattle.thrift_binary.specs.declared.fault.WireError.TheVariants.{BadText}
 use Rattle.thrift_binary.specs.Reading.{◌>>=◌, lift, bytes_at, string_at, signed_at}
 use Rattle.thrift_binary.specs.Reading as wires
@@ -16,7 +14,6 @@ use Rattle.thrift_binary.proofs.Found.{bind_ok, pass_ok, lift_ok, ok_is, bool_fo
 use Rattle.thrift_binary.proofs.Again.{bool_again, i32_again, i64_again, double_again, string_again}
 use Rattle.batch_codec.specs.declared.fault.DecodeError.{DecodeError}
 use Rattle.batch_codec.specs.declared.fault.DecodeError.TheVariants.{Wire, BadEnum}
-use Rattle.batch_codec.specs.declared.tag.TagType.{TagType}
 use Rattle.batch_codec.specs.declared.tag.TagType.TheVariants as types
 use Rattle.batch_codec.specs.Decoding.{Reading, wire, bool_at, double_at, i32_at, i64_at, id_at, text_at, binary_at}
 use Rattle.batch_codec.specs.TagReading.{type_at}

@@ -4,7 +4,7 @@
 -- an earlier field of its id gave; every other field is a value of its type, and changes nothing.
 --
 -- The types' codes here: 2 bool, 4 double, 8 i32 and enum, 10 i64, 11 string and binary, 12 struct, 15 list.
-use Rattle.std.specs.Prelude.{◌≡◌, ℕ, ℤ, pos, List, [], ◌∷◌, Option, Some, None, Result, Ok, Err, ◌⊎◌, MatchBool}
+use Rattle.std.specs.Prelude.{◌≡◌, ℕ, ℤ, pos, List, [], ◌∷◌, Some, Result, Ok, Err, ◌⊎◌, MatchBool}
 use Rattle.std.specs.Str.{IsUtf8}
 use Rattle.std.specs.Int.{w64, cast_unsigned}
 use Rattle.jaeger_model.specs.declared.tag.Tag.{Tag}

@@ -1,6 +1,6 @@
 -- Where a fault of a batch stands. These are facts about texts: what decoding gives of the beginnings
 -- of some bytes, and of their continuations.
-use Rattle.std.specs.Prelude.{◌≡◌, ℕ, ◌<◌, ◌≤◌, List, [], ◌++◌, length, take, Result, Ok, Err}
+use Rattle.std.specs.Prelude.{◌≡◌, ℕ, ◌<◌, ◌≤◌, List, [], ◌++◌, length, take, Ok, Err}
 use Rattle.jaeger_model.specs.declared.batch.Batch.{Batch}
 use Rattle.thrift_binary.specs.declared.fault.WireError.TheVariants.{Truncated}
 use Rattle.batch_codec.specs.declared.fault.DecodeError.{DecodeError}

@@ -1,7 +1,7 @@
 -- What is gathered of a struct, field by field; here before its first field. So an absent optional list
 -- is empty, and a tag without the value that its type names has the empty text, eight zero bytes, false,
 -- 0 or no bytes.
-use Rattle.std.specs.Prelude.{ℕ, pos, List, [], ◌∷◌, None, false}
+use Rattle.std.specs.Prelude.{pos, [], ◌∷◌, None, false}
 use Rattle.jaeger_model.specs.declared.tag.Value.{Value}
 use Rattle.jaeger_model.specs.declared.tag.Value.TheVariants as values
 use Rattle.batch_codec.specs.declared.tag.TagType.{TagType}

@@ -1,5 +1,5 @@
 use super::*;
-use jaeger_model::{Batch, Process, RefKind, Seq, Text, Value};
+use jaeger_model::{Batch, Process, Seq, Text};
 use std::alloc::{AllocError, Global};
 use std::test::*;
 
@@ -52,56 +52,6 @@ const ALL: &str = "0c0001 0b0001 00000001 61
         0f000b 0c 00000001
             0a0001 fffffffffffffffb 0f0002 0c 00000001 0b0001 00000001 65 080002 00000000 00 00 00
     0a0003 fffffffffffffff7 00";
-
-#[test]
-fn every_field(rt: HostRuntime) -> Result<(), Fail> {
-    let alloc = rt.alloc();
-    let batch = decode(alloc, &bytes_of(alloc, ALL)?)?;
-    assert_eq!(rt; batch.process.service.as_str(), "a");
-    assert_eq!(rt; batch.seq_no, Some(-9));
-    let mut doubles = 0;
-    for tag in batch.process.tags.as_slice() {
-        match &tag.value {
-            Value::Text(text) => assert_eq!(rt; text.as_str(), "v"),
-            Value::Double(bytes) => {
-                assert_eq!(rt; *bytes, [0x7f, 0xf8, 0, 0, 0, 0, 0, 1]);
-                doubles = 1;
-            }
-            _ => assert!(rt; false),
-        }
-    }
-    assert_eq!(rt; doubles, 1);
-    assert_eq!(rt; batch.spans.len(), 1);
-    for span in batch.spans.as_slice() {
-        assert_eq!(rt;
-            (span.trace.high, span.trace.low),
-            (0xffff_ffff_ffff_ffff, 1)
-        );
-        assert_eq!(rt; (span.id.0, span.parent.0), (3, 4));
-        assert_eq!(rt; span.operation.as_str(), "op");
-        assert_eq!(rt; (span.flags, span.start, span.duration), (-1, -1000, 50));
-        assert_eq!(rt; span.references.len(), 1);
-        for reference in span.references.as_slice() {
-            assert_eq!(rt; reference.kind, RefKind::FollowsFrom);
-            assert_eq!(rt; (reference.trace.high, reference.trace.low), (2, 1));
-            assert_eq!(rt; reference.id.0, 9);
-        }
-        assert_eq!(rt; span.tags.len(), 3);
-        for tag in span.tags.as_slice() {
-            match &tag.value {
-                Value::Bool(truth) => assert!(rt; *truth),
-                Value::Long(number) => assert_eq!(rt; *number, -7),
-                Value::Bytes(bytes) => assert_eq!(rt; bytes.as_slice(), [0xff, 0].as_slice()),
-                _ => assert!(rt; false),
-            }
-        }
-        assert_eq!(rt; span.logs.len(), 1);
-        for log in span.logs.as_slice() {
-            assert_eq!(rt; (log.at, log.fields.len()), (-5, 1));
-        }
-    }
-    Ok(())
-}
 
 /// With enough memory the batch and its spelling, and without it nothing but want of memory
 /// (`rt try --test --fail-alloc 1..`).

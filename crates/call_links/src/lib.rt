@@ -42,3 +42,6 @@ pub fn links(
     let calls = all_calls(alloc, traces, end_ms, lookback_ms)?;
     counted(alloc, &calls)
 }
+
+#[cfg(test)]
+mod tests;

@@ -11,3 +11,6 @@ mod text;
 
 pub use finding::{find, find_ids};
 pub use matching::{is_found, is_match};
+
+#[cfg(test)]
+mod tests;

@@ -2,3 +2,4 @@ pub mod Fronts
 pub mod Cuts
 pub mod Readings
 pub mod Wholes
+pub mod Once

@@ -10,11 +10,13 @@
 //! * `received`: the bytes that were read and are not taken yet.
 //! * `scan`: when it is worth looking for a head.
 //! * `reading`: the next request of an input.
+//! * `laws`: facts about what stands at the front of bytes.
 #![tactic(auto)]
 
 mod asked;
 mod fields;
 mod head;
+pub mod laws;
 mod reading;
 mod received;
 mod scan;

@@ -1,14 +1,15 @@
 -- One request at the front of the bytes received, answered.
-use Rattle.std.proofs.Common.{◌≡◌, ℕ, ◌+◌, ◌||◌, Bool, true, false, List, drop, Option, Err, sym, ◌∙◌, subst}
+use Rattle.std.proofs.Common.{◌≡◌, ◌≢◌, ℕ, ◌+◌, ◌||◌, Bool, true, false, List, drop, Option, Err, sym, ◌∙◌, subst}
 use Rattle.std.specs.Io.KnownBytes.{Appends}
 use Rattle.http_requests.specs.Requests.{IsWhole}
 use Rattle.http_requests.specs.Receiving.{Received}
 use Rattle.http_requests.specs.declared.asked.Request.{Request}
 use Rattle.http_session.specs.Verdicts.{Judges, asked_of, body_of}
-use Rattle.http_session.specs.Replies.{closes, response_of}
+use Rattle.http_session.specs.Replies.{closes, takes_no_memory, response_of}
 use Rattle.http_session.specs.Sessions.{Exchange, Submits, Reads, Step, SoFar, EndsAs, FailsAs, Says}
 use Rattle.http_session.specs.declared.verdict.Verdict.{Verdict}
 use Rattle.http_session.specs.declared.reply.Reply.{Reply}
+use Rattle.http_session.specs.declared.exchanges.Cause.TheVariants.{Memory}
 use Rattle.http_session.specs.declared.exchanges.Silence.{Silence}
 use Rattle.http_session.proofs.Texts.{exchange_of, is_exchange, cut_text, text_has_bytes}
 use Rattle.http_session.proofs.Turns.{goes_on, ends_closing, fails_due}
@@ -32,8 +33,9 @@ module _ {S : Type 0} (submits : Submits S) (reads : Reads S) (in0 in1 out0 out1
       (subst (λ (b : Bool). Appends out1 out2 (response_of reply b)) close_is wrote)
 
   pub answered_not : (failed0 in_failed out_failed : Bool) (silence : Silence) → Says out1 out2 failed0 out_failed (response_of reply close) (Err silence)
+      → (takes_no_memory reply ≡ true → silence.cause ≢ Memory)
       → FailsAs submits reads in0 in1 out0 out2 s u in_failed out_failed (record { answered = answered; written = silence.written; cause = silence.cause })
-  answered_not failed0 in_failed out_failed silence said =
+  answered_not failed0 in_failed out_failed silence said spared =
       fails_due submits reads in0 in1 out0 out1 out2 s t u old (drop (r.head_length + r.body_length) old.held) answered failed0 in_failed out_failed here silence so
       (is_exchange old.held r whole verdict reply judged) (cut_text old.held r) step
-      (subst (λ (b : Bool). Says out1 out2 failed0 out_failed (response_of reply b) (Err silence)) close_is said)
+      (subst (λ (b : Bool). Says out1 out2 failed0 out_failed (response_of reply b) (Err silence)) close_is said) spared

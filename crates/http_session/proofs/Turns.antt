@@ -8,7 +8,7 @@ use Rattle.http_requests.specs.Receiving.{Received, ReadsOn, Stops, turns}
 use Rattle.http_requests.specs.declared.asked.Breach.{Breach}
 use Rattle.http_requests.specs.declared.received.Interrupted.{Interrupted}
 use Rattle.http_requests.specs.declared.received.Interrupted.TheVariants as why
-use Rattle.http_session.specs.Replies.{response_of}
+use Rattle.http_session.specs.Replies.{response_of, takes_no_memory}
 use Rattle.http_session.specs.Sessions.{Exchange, IsExchange, IsOpen, texts, response_to, responses, Submits, Reads, Step, Run, clean, closing, broken, EndsAs, none_yet, due, due_parting, IsCause, FailsAs, SoFar, Says, cause_by}
 use Rattle.http_session.specs.declared.reply.Reply.TheVariants.{Broken}
 use Rattle.http_session.specs.declared.exchanges.Cause.{Cause}
@@ -170,6 +170,7 @@ module _ {S : Type 0} (submits : Submits S) (reads : Reads S) where
     written = subst (Appends out0 out1) (sym (append-nil (responses so.opens))) so.written;
     count = so.count;
     cause = cause_of_stop stop in_failed out_failed so.taken stops.more (turns old) stops.least so.least;
+    spared = λ e. absurd (cc e);
   }
 
   -- there was no memory to judge a request
@@ -190,6 +191,7 @@ module _ {S : Type 0} (submits : Submits S) (reads : Reads S) where
     written = subst (Appends out0 out1) (sym (append-nil (responses so.opens))) so.written;
     count = so.count;
     cause = tt;
+    spared = λ e. absurd (cc e);
   }
 
   cause_of_silence : (cause : Cause) (in_failed out_failed : Bool) (taken : List ℕ) → cause ≢ Reading → (cause ≡ Writing → out_failed ≡ true) → IsCause cause in_failed out_failed taken
@@ -200,8 +202,9 @@ module _ {S : Type 0} (submits : Submits S) (reads : Reads S) where
   pub fails_due : (in0 in1 out0 out1 out2 : Option (List ℕ)) (s t u : S) (old : Received) (rest : List ℕ) (answered : ℕ) (failed0 in_failed out_failed : Bool) (x : Exchange) (silence : Silence)
       → SoFar submits reads in0 in1 out0 out1 s t old answered → IsExchange x → old.held ≡ x.text ++ rest
       → Step submits reads t x.verdict x.reply u → Says out1 out2 failed0 out_failed (response_to x) (Err silence)
+      → (takes_no_memory x.reply ≡ true → silence.cause ≢ Memory)
       → FailsAs submits reads in0 in1 out0 out2 s u in_failed out_failed (record { answered = answered; written = silence.written; cause = silence.cause })
-  fails_due in0 in1 out0 out1 out2 s t u old rest answered failed0 in_failed out_failed x silence so is cut step said = record {
+  fails_due in0 in1 out0 out1 out2 s t u old rest answered failed0 in_failed out_failed x silence so is cut step said spared = record {
     taken = so.taken;
     opens = so.opens;
     next = due x;
@@ -215,6 +218,7 @@ module _ {S : Type 0} (submits : Submits S) (reads : Reads S) where
     written = Appends-trans out0 out1 out2 (responses so.opens) (take silence.written (response_to x)) so.written said.1;
     count = so.count;
     cause = cause_of_silence silence.cause in_failed out_failed so.taken said.2 said.3;
+    spared = spared;
   }
 
   pub fails_parting : (in0 in1 out0 out1 out2 : Option (List ℕ)) (s t : S) (old : Received) (answered : ℕ) (failed0 in_failed out_failed : Bool) (b : Breach) (silence : Silence)
@@ -235,4 +239,5 @@ module _ {S : Type 0} (submits : Submits S) (reads : Reads S) where
     written = Appends-trans out0 out1 out2 (responses so.opens) (take silence.written (response_of (Broken b) true)) so.written said.1;
     count = so.count;
     cause = cause_of_silence silence.cause in_failed out_failed so.taken said.2 said.3;
+    spared = λ e. absurd (cc e);
   }

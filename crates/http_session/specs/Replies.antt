@@ -1,5 +1,5 @@
 -- What is answered, and the bytes of its response.
-use Rattle.std.specs.Prelude.{ℕ, List, [], ◌++◌, Bool, true, false, Some, None, codes}
+use Rattle.std.specs.Prelude.{ℕ, ◌==◌, ◌||◌, List, [], ◌++◌, Bool, true, false, Some, None, codes}
 use Rattle.serde_json.specs.Written.{compact_text}
 use Rattle.batch_codec.specs.Faults.{fault_text}
 use Rattle.trace_model.specs.declared.answer.Answer.{Answer}
@@ -133,6 +133,10 @@ closes (Broken b) = true
 closes Accepted = false
 closes (Answered a) = false
 closes (Refused r) = false
+
+-- the responses 202 and 500 take no memory
+abbrev pub takes_no_memory : Reply → Bool
+takes_no_memory r = status_of r == 202 || status_of r == 500
 
 unfoldable pub response_of : Reply → Bool → List ℕ
 response_of r close = response (status_of r) (body_of r) (allow_of r) close

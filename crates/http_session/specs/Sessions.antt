@@ -14,7 +14,7 @@ use Rattle.http_requests.specs.declared.received.Interrupted.{Interrupted}
 use Rattle.http_requests.specs.declared.received.Interrupted.TheVariants as why
 use Rattle.http_requests.specs.declared.asked.Breach.{Breach}
 use Rattle.http_session.specs.Verdicts.{Judges}
-use Rattle.http_session.specs.Replies.{closes, response_of}
+use Rattle.http_session.specs.Replies.{closes, takes_no_memory, response_of}
 use Rattle.http_session.specs.declared.verdict.Verdict.{Verdict}
 use Rattle.http_session.specs.declared.verdict.Verdict.TheVariants.{Submit, Ask, Say}
 use Rattle.http_session.specs.declared.reply.Reply.{Reply}
@@ -147,6 +147,12 @@ bytes_due none_yet = []
 bytes_due (due x) = response_to x
 bytes_due (due_parting b) = response_of (Broken b) true
 
+-- the response that is due takes no memory
+abbrev pub is_spared : Due → Bool
+is_spared none_yet = false
+is_spared (due x) = takes_no_memory x.reply
+is_spared (due_parting b) = false
+
 -- each cause comes only with its device, or with the limit of reads
 abbrev pub IsCause : Cause → Bool → Bool → List ℕ → Type 0
 IsCause Reading in_failed out_failed taken = (in_failed ≡ true) ⊎ (1099511627776 ≤ length taken)
@@ -154,7 +160,8 @@ IsCause Writing in_failed out_failed taken = out_failed ≡ true
 IsCause Memory in_failed out_failed taken = Unit {0}
 
 -- A session that failed: the responses before are written whole, the next one as far as is told. The
--- store has gone on by the exchange that is due, so an accepted batch stays accepted.
+-- store has gone on by the exchange that is due, so an accepted batch stays accepted. Want of memory holds
+-- back no response that takes none.
 pub record FailsAs {S : Type 0} (submits : Submits S) (reads : Reads S) (in0 in1 out0 out1 : Option (List ℕ)) (s t : S) (in_failed out_failed : Bool) (fault : SessionFault) : Type 0 where
   pub taken : List ℕ
   pub opens : List Exchange
@@ -169,6 +176,7 @@ pub record FailsAs {S : Type 0} (submits : Submits S) (reads : Reads S) (in0 in1
   pub written : Appends out0 out1 (responses opens ++ take fault.written (bytes_due next))
   pub count : fault.answered ≡ length opens
   pub cause : IsCause fault.cause in_failed out_failed taken
+  pub spared : is_spared next ≡ true → fault.cause ≢ Memory
 
 -- ---- on the way
 

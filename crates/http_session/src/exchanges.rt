@@ -1,6 +1,7 @@
-ghost use Rattle.std.specs.Prelude.{◌≡◌, false, IfOk, IfErr, ◌||◌, ◌++◌};
+ghost use Rattle.std.specs.Prelude.{◌≡◌, ◌≢◌, true, false, IfOk, IfErr, ◌||◌, ◌++◌};
 ghost use Rattle.query_http.specs.Paths.{endpoint_rows};
-ghost use Rattle.http_session.specs.Replies.{response_of, closes};
+ghost use Rattle.http_session.specs.Replies.{response_of, closes, takes_no_memory};
+ghost use Rattle.http_session.specs.declared.exchanges.Cause.TheVariants.{Writing, Memory};
 ghost use Rattle.http_session.specs.Sessions.{EndsAs, FailsAs, Step, Says, cause_by, last_of, exchange_due};
 ghost use Rattle.http_session.specs.Related.{Related, nothing_seen};
 
@@ -96,23 +97,35 @@ fn closes_behind(request: &Request, reply: &Reply) -> bool
     request.closes || reply.closes()
 }
 
-/// Writes the response of a reply.
-fn say<W: Output>(alloc: Global, output: &mut W, reply: &Reply, close: bool) -> Result<(), Silence>
-    ensures { Says (W.contents output.old) (W.contents output.new) (W.has_failed output.old) (W.has_failed output.new) (response_of reply.now close) result }
+/// Writes a response, and takes no memory.
+fn speak<W: Output>(output: &mut W, response: &[u8]) -> Result<(), Silence>
+    ensures says { Says (W.contents output.old) (W.contents output.new) (W.has_failed output.old) (W.has_failed output.new) response.now result }
+    ensures writing { IfErr result (λ e. e.cause ≡ Writing) }
 {
-    let Ok(bytes) = reply.response(alloc, close) else {
-        return Err(Silence {
-            written: 0,
-            cause: Cause::Memory,
-        });
-    };
-    match send(output, bytes.as_slice()) {
+    match send(output, response) {
         Ok(()) => Ok(()),
         Err(written) => Err(Silence {
             written,
             cause: Cause::Writing,
         }),
     }
+}
+
+/// Writes the response of a reply; it takes no memory where that is 202 or 500.
+fn say<W: Output>(alloc: Global, output: &mut W, reply: &Reply, close: bool) -> Result<(), Silence>
+    ensures says { Says (W.contents output.old) (W.contents output.new) (W.has_failed output.old) (W.has_failed output.new) (response_of reply.now close) result }
+    ensures spared { takes_no_memory reply.now ≡ true → IfErr result (λ e. e.cause ≢ Memory) }
+{
+    if let Some(bytes) = reply.fixed(close) {
+        return speak(output, bytes);
+    }
+    let Ok(bytes) = reply.response(alloc, close) else {
+        return Err(Silence {
+            written: 0,
+            cause: Cause::Memory,
+        });
+    };
+    speak(output, bytes.as_slice())
 }
 
 /// Answers the requests of the input one after the other.
@@ -194,7 +207,8 @@ fn run_session<T, R: Input, W: Output, B: Backend<T>>(
 /// # Errors
 ///
 /// A device failed, the input was to be read more than 1,099,511,627,776 times, or memory was wanting
-/// for a head, a body, a query or a response. A batch that was accepted before stays so.
+/// for a head, a body, a query, or a response other than 202 and 500. A batch that was accepted before
+/// stays so.
 pub fn session<T, R: Input, W: Output, B: Backend<T>>(
     rt: &T,
     alloc: Global,

@@ -6,11 +6,13 @@
 //!
 //! * `verdict`: what a request asks of the store, or what is said to it without asking.
 //! * `reply`: what is answered, and its response.
+//! * `fixed`: the responses 202 and 500, which take no memory.
 //! * `send`: writing all of a piece.
 //! * `exchanges`: the session, one exchange after the other.
 #![tactic(auto)]
 
 mod exchanges;
+mod fixed;
 mod reply;
 mod send;
 mod verdict;

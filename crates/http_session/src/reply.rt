@@ -1,6 +1,8 @@
-ghost use Rattle.std.specs.Prelude.{◌≡◌, IfOk, string_bytes};
-ghost use Rattle.http_session.specs.Replies.{status_of, allow_of, body_of, closes, response_of, remark_message, remark_status, refusal_status, refusal_message, breach_status, breach_message};
+ghost use Rattle.std.specs.Prelude.{◌≡◌, IfOk, IfSome, is_some, string_bytes};
+ghost use Rattle.http_session.specs.Replies.{status_of, allow_of, body_of, closes, takes_no_memory, response_of, remark_message, remark_status, refusal_status, refusal_message, breach_status, breach_message};
+ghost use Rattle.http_session.specs.declared.reply.Reply.TheVariants as reply;
 
+use crate::fixed::{accepted, internal_error, out_of_memory};
 use crate::verdict::Remark;
 use http_requests::Breach;
 use query_http::{Endpoint, respond};
@@ -92,6 +94,31 @@ fn breach_message(breach: Breach) -> &'static str
     }
 }
 
+/// The response of a refusal, where it takes no memory.
+#[tactic(auto, unfolding(crate::specs::Replies::response_of))]
+fn fixed_refusal(refusal: Refusal, close: bool) -> Option<&'static [u8]>
+    ensures told { IfSome result (λ bytes. bytes.now ≡ response_of (reply.Refused refusal) close) }
+    ensures which { is_some result ≡ takes_no_memory (reply.Refused refusal) }
+{
+    match refusal {
+        Refusal::JournalFull { .. } | Refusal::Deferred | Refusal::Busy | Refusal::Closed => None,
+        Refusal::NoMemory => Some(out_of_memory(close)),
+        _ => Some(internal_error(close)),
+    }
+}
+
+/// The response of a remark, where it takes no memory.
+#[tactic(auto, unfolding(crate::specs::Replies::response_of))]
+fn fixed_remark(remark: Remark, close: bool) -> Option<&'static [u8]>
+    ensures told { IfSome result (λ bytes. bytes.now ≡ response_of (reply.Said remark) close) }
+    ensures which { is_some result ≡ takes_no_memory (reply.Said remark) }
+{
+    match remark {
+        Remark::NoMemory => Some(out_of_memory(close)),
+        _ => None,
+    }
+}
+
 impl Reply {
     /// The status of its response.
     pub fn status(&self) -> u16
@@ -139,6 +166,21 @@ impl Reply {
                 error_text(alloc, status, message.as_str())
             }
             Reply::Broken(breach) => error_text(alloc, status, breach_message(*breach)),
+        }
+    }
+
+    /// The bytes of its response, where they take no memory: a batch is accepted, memory is wanting, or
+    /// there is an internal error.
+    #[tactic(auto, unfolding(crate::specs::Replies::response_of))]
+    pub fn fixed(&self, close: bool) -> Option<&'static [u8]>
+        ensures told { IfSome result (λ bytes. bytes.now ≡ response_of self.now close) }
+        ensures which { is_some result ≡ takes_no_memory self.now }
+    {
+        match self {
+            Reply::Accepted => Some(accepted(close)),
+            Reply::Refused(refusal) => fixed_refusal(*refusal, close),
+            Reply::Said(remark) => fixed_remark(*remark, close),
+            Reply::Answered(_) | Reply::Broken(_) => None,
         }
     }
 

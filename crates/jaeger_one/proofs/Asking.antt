@@ -1,9 +1,10 @@
 -- What the words behind the subcommand's name ask for.
-use Rattle.std.proofs.Common.{◌≡◌, ℕ, List, [], ◌∷◌, Some, Result, Ok, Err, IfOk, map, codes, sym, ap, subst, ◌∙◌}
+use Rattle.std.proofs.Common.{◌≡◌, ℕ, List, [], ◌∷◌, Some, Result, Ok, Err, IfOk, IfErr, map, codes, true, sym, ap, subst, ◌∙◌}
 use Rattle.std.specs.Prelude.{slice_get}
-use Rattle.clap.specs.Words.{Text}
-use Rattle.jaeger_one.specs.Words.{ReadsGet, ReadsPipe}
-use Rattle.jaeger_one.specs.Asked.{Asks, AsksGetBy, AsksPipeBy}
+use Rattle.clap.specs.Words.{Text, matches_of}
+use Rattle.trace_model.specs.declared.limits.Limits.{Limits}
+use Rattle.jaeger_one.specs.Words.{ReadsGet, ReadsPipe, HasLimits, TakesGet, get_app, get_takes, pipe_takes}
+use Rattle.jaeger_one.specs.Asked.{Accepts, AcceptsGetBy, AcceptsPipeBy, Asks, AsksGetBy, AsksPipeBy}
 use Rattle.jaeger_one.specs.declared.words.Command.{Command}
 use Rattle.jaeger_one.specs.declared.words.Command.TheVariants.{Get, Pipe}
 
@@ -45,3 +46,42 @@ module _ {S : Type 0} (text : S → Text) where
       → (r : Result Command ℕ) → IfOk r (AsksPipeBy (map text rest)) → IfOk r (Asks (map text words))
   asked_pipe words rest program name all first pipe (Ok command) reads = asks_pipe words rest program name all first pipe command reads
   asked_pipe words rest program name all first pipe (Err status) reads = reads
+
+  -- the words behind the program's name
+  behind : (words rest : List S) (program : S) (p n : Text) (others : List Text) → words ≡ program ∷ rest → map text words ≡ p ∷ n ∷ others → map text rest ≡ n ∷ others
+  behind words rest program p n others all are = let both : text program ∷ map text rest ≡ p ∷ n ∷ others = sym (ap (map text) all) ∙ are in cc
+
+  named : (rest : List S) (name : S) (n : Text) (others : List Text) → Some name ≡ slice_get rest 0 → map text rest ≡ n ∷ others → text name ≡ n
+  named [] name n others first are = absurd cc
+  named (y ∷ ys) name n others first are = let same : name ≡ y = cc in ap text same ∙ cc
+
+  -- what `get` accepts by its own words
+  pub accepted : (words rest : List S) (program name : S) → words ≡ program ∷ rest → Some name ≡ slice_get rest 0 → text name ≡ codes "get"
+      → (r : Result Command ℕ) → ((command : Command) → AcceptsGetBy (map text rest) command → IfErr r (λ s. s ≡ 5))
+      → (command : Command) → Accepts (map text words) command → IfErr r (λ s. s ≡ 5)
+  accepted words rest program name all first get r by (Get limits id) takes =
+      let are = behind words rest program takes.asks.program (codes "get") takes.asks.others all takes.asks.words_are in
+      by (Get limits id) (subst (λ ws. get_takes ws ≡ true) (sym are) takes.taken, subst (λ ws. ReadsGet ws limits id) (sym are) takes.asks.reads)
+  accepted words rest program name all first get r by (Pipe limits) takes =
+      let are = behind words rest program takes.asks.program (codes "pipe") takes.asks.others all takes.asks.words_are in
+      let bad : codes "get" ≡ codes "pipe" = sym get ∙ named rest name (codes "pipe") takes.asks.others first are in
+      absurd cc
+
+  pub accepted_pipe : (words rest : List S) (program name : S) → words ≡ program ∷ rest → Some name ≡ slice_get rest 0 → text name ≡ codes "pipe"
+      → (r : Result Command ℕ) → ((command : Command) → AcceptsPipeBy (map text rest) command → IfErr r (λ s. s ≡ 5))
+      → (command : Command) → Accepts (map text words) command → IfErr r (λ s. s ≡ 5)
+  accepted_pipe words rest program name all first pipe r by (Pipe limits) takes =
+      let are = behind words rest program takes.asks.program (codes "pipe") takes.asks.others all takes.asks.words_are in
+      by (Pipe limits) (subst (λ ws. pipe_takes ws ≡ true) (sym are) takes.taken, subst (λ ws. ReadsPipe ws limits) (sym are) takes.asks.reads)
+  accepted_pipe words rest program name all first pipe r by (Get limits id) takes =
+      let are = behind words rest program takes.asks.program (codes "get") takes.asks.others all takes.asks.words_are in
+      let bad : codes "pipe" ≡ codes "get" = sym pipe ∙ named rest name (codes "get") takes.asks.others first are in
+      absurd cc
+
+  -- what holds where clap takes the words of `get` and its options can be had
+  pub of_get : (words rest : List S) (program : S) → words ≡ program ∷ rest → (X : Type 0)
+      → ((limits : Limits) → get_takes (map text rest) ≡ true → HasLimits (matches_of get_app (map text rest)) limits → X)
+      → (limits : Limits) → TakesGet (map text words) limits → X
+  of_get words rest program all X by limits takes =
+      let are = behind words rest program takes.program (codes "get") takes.others all takes.words_are in
+      by limits (subst (λ ws. get_takes ws ≡ true) (sym are) takes.taken) (subst (λ ws. HasLimits (matches_of get_app ws) limits) (sym are) takes.options)

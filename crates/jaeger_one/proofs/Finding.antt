@@ -1,5 +1,5 @@
 -- The lines of a trace that was found, or not.
-use Rattle.std.proofs.Common.{◌≡◌, ℕ, List, [], ◌∷◌, ◌++◌, map, Option, Some, None, refl, sym, ap, ◌∙◌, subst, codes}
+use Rattle.std.proofs.Common.{◌≡◌, ℕ, List, [], ◌∷◌, ◌++◌, map, Option, Some, None, refl, ap, ◌∙◌, subst, codes}
 use Rattle.std.specs.Prelude.{flat_map, option_map}
 use Rattle.std.specs.Io.KnownBytes.{Appends}
 use Rattle.jaeger_model.specs.declared.placed.Placed.{Placed}

@@ -2,6 +2,7 @@ pub mod Feeds
 pub mod LineEnds
 pub mod Taking
 pub mod Options
+pub mod Accepting
 pub mod Asking
 pub mod Judgings
 pub mod Said

@@ -6,4 +6,5 @@ pub mod LineFaults
 pub mod Judging
 pub mod Runs
 pub mod Progress
+pub mod Running
 pub mod Piping

@@ -1,7 +1,7 @@
 -- What the program's words ask for.
-use Rattle.std.specs.Prelude.{◌≡◌, ℕ, pos, List, [], ◌∷◌, Some, true, codes, ◌⊎◌}
+use Rattle.std.specs.Prelude.{◌≡◌, ℕ, pos, Bool, List, [], ◌∷◌, Option, Some, None, true, codes, ◌⊎◌}
 use Rattle.std.specs.Str.Parse.{IsNumeral, digits_value, without_leading_plus}
-use Rattle.clap.specs.Words.{App, Row, Rule, Text, new_app, new_rule, with_rule, matches_of, one_of, first_of}
+use Rattle.clap.specs.Words.{App, Row, Rule, Text, new_app, new_rule, with_rule, matches_of, one_of, first_of, takes}
 use Rattle.clap.specs.declared.builder.value_parser.ValueParser.{ValueParser}
 use Rattle.clap.specs.declared.builder.value_parser.ValueParser.TheVariants as parser
 use Rattle.jaeger_model.specs.declared.ids.TraceId.{TraceId}
@@ -55,6 +55,11 @@ pub record HasLimits (rows : List Row) (limits : Limits) : Type 0 where
 abbrev pub HasTrace : List Row → TraceId → Type 0
 HasTrace rows id = (text : Text) × (first_of (codes "TRACE") rows ≡ Some text) × (read_trace text ≡ Some id)
 
+-- the id that a text spells, if there is a text
+abbrev pub trace_in : Option Text → Option TraceId
+trace_in None = None
+trace_in (Some text) = read_trace text
+
 -- what clap reads in the words of the subcommand, which begin with its name
 pub record ReadsGet (words : List Text) (limits : Limits) (id : TraceId) : Type 0 where
   pub options : HasLimits (matches_of get_app words) limits
@@ -76,6 +81,32 @@ pub record AsksPipe (words : List Text) (limits : Limits) : Type 0 where
   pub others : List Text
   pub words_are : words ≡ program ∷ codes "pipe" ∷ others
   pub reads : ReadsPipe (codes "pipe" ∷ others) limits
+
+-- ---- words that have to be accepted
+
+-- clap takes the words of the subcommand, which begin with its name
+unfoldable pub get_takes : List Text → Bool
+get_takes words = takes get_app words
+
+unfoldable pub pipe_takes : List Text → Bool
+pipe_takes words = takes pipe_app words
+
+-- The words ask for `get`, and clap takes them.
+pub record AcceptsGet (words : List Text) (limits : Limits) (id : TraceId) : Type 0 where
+  pub asks : AsksGet words limits id
+  pub taken : get_takes (codes "get" ∷ asks.others) ≡ true
+
+pub record AcceptsPipe (words : List Text) (limits : Limits) : Type 0 where
+  pub asks : AsksPipe words limits
+  pub taken : pipe_takes (codes "pipe" ∷ asks.others) ≡ true
+
+-- The words are those of `get`, clap takes them, and the options can be had; nothing is said of the trace's id.
+pub record TakesGet (words : List Text) (limits : Limits) : Type 0 where
+  pub program : Text
+  pub others : List Text
+  pub words_are : words ≡ program ∷ codes "get" ∷ others
+  pub taken : get_takes (codes "get" ∷ others) ≡ true
+  pub options : HasLimits (matches_of get_app (codes "get" ∷ others)) limits
 
 -- the statuses of a run that asks for nothing: a fault of the words or a call for help, a writer that failed, want of memory
 abbrev pub IsFault : ℕ → Type 0

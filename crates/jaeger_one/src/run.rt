@@ -1,4 +1,7 @@
 //! The command that the program's words give, over a reader and a writer.
+ghost use Rattle.std.specs.Prelude.{map};
+ghost use Rattle.jaeger_one.specs.Running.{Runs};
+
 use crate::get::run_get;
 use crate::pipe::run_pipe;
 use crate::words::{Command, read_words};
@@ -27,14 +30,17 @@ fn get_buffered<R: Read, W: Write>(
     }
 }
 
-/// Does what the words ask for, and gives the exit status. Each response of `pipe` is written at once,
-/// so that whoever waits for it can go on.
+/// Does what the words ask for, and gives the exit status. Words that ask for nothing, and a trace's id
+/// that can't be read, are answered on the writer before anything is read. Each response of `pipe` is
+/// written at once, so that whoever waits for it can go on.
 pub fn run<S: AsStr, R: Read, W: Write>(
     alloc: Global,
     words: &[S],
     reader: &mut R,
     writer: &mut W,
-) -> u8 {
+) -> u8
+    ensures { Runs (map S.text words.now) (R.remaining reader.old) (R.remaining reader.new) (W.contents writer.old) (W.contents writer.new) result }
+{
     match read_words(alloc, words, writer) {
         Ok(Command::Get { limits, trace }) => get_buffered(alloc, reader, writer, limits, trace),
         Ok(Command::Pipe { limits }) => {

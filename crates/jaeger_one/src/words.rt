@@ -1,9 +1,14 @@
 //! The program's words.
-ghost use Rattle.std.specs.Prelude.{◌≡◌, IfOk, IfErr, IfSome, map, false};
-ghost use Rattle.clap.specs.Words.{HasMatchesOf, app_of, found_of, rows_of, rule_of};
-ghost use Rattle.jaeger_one.specs.Words.{HasLimits, HasTrace, IsFault, get_app, pipe_app, number_rule, with_limits as limits_on};
-ghost use Rattle.jaeger_one.specs.Asked.{Asks, AsksGetBy, AsksPipeBy};
+ghost use Rattle.std.specs.Prelude.{◌≡◌, ◌⊎◌, IfOk, IfErr, IfSome, IsOk, IsSome, None, OnOk, Some, codes, map, false, true};
+ghost use Rattle.std.specs.Io.KnownBytes.{Appends};
+ghost use Rattle.clap.specs.Words.{HasMatchesOf, app_of, first_value, found_of, kind_of, matches_of, rows_of, rule_of, takes};
+ghost use Rattle.trace_model.specs.declared.limits.Limits.{Limits as Most};
+ghost use Rattle.jaeger_model.specs.declared.ids.TraceId.{TraceId as Id};
+ghost use Rattle.jaeger_one.specs.declared.words.Command.{Command as Wanted};
+ghost use Rattle.jaeger_one.specs.Words.{HasLimits, HasTrace, IsFault, TakesGet, get_app, get_takes, pipe_app, number_rule, trace_in, with_limits as limits_on};
+ghost use Rattle.jaeger_one.specs.Asked.{Accepts, AcceptsGetBy, AcceptsPipeBy, Asks, AsksGetBy, AsksPipeBy, IsGetOf, IsPipeOf};
 
+use crate::halt::Halt;
 use clap::builder::ValueParser;
 use clap::error::ErrorKind;
 use clap::{Arg, ArgMatches, Error, value_parser};
@@ -117,7 +122,8 @@ fn program<'a>(alloc: Global) -> Result<clap::Command<'a>, AllocError> {
 
 /// Writes what is wrong with the words, or the help that they call for, and gives the status.
 fn explain<W: Write>(writer: &mut W, error: &Error) -> u8
-    ensures { IsFault result }
+    ensures status { IsFault result }
+    ensures memory { kind_of error.now ≡ ErrorKind.OutOfMemory → result ≡ 5 }
 {
     if error.kind() == ErrorKind::OutOfMemory {
         return 5;
@@ -135,7 +141,9 @@ fn matches_of<'a, S: AsStr, W: Write>(
     writer: &mut W,
 ) -> Result<ArgMatches<'a>, u8>
     ensures matches { IfOk result (HasMatchesOf (app_of command.entry) (map S.text words.entry.now)) }
+    ensures silent { OnOk result (W.contents writer.new ≡ W.contents writer.old) }
     ensures status { IfErr result IsFault }
+    ensures taken { takes (app_of command.entry) (map S.text words.entry.now) ≡ true → IfErr result (λ s. s ≡ 5) }
 {
     match command.try_get_matches_from(words) {
         Ok(matches) => Ok(matches),
@@ -145,7 +153,8 @@ fn matches_of<'a, S: AsStr, W: Write>(
 
 /// The limits that the options give.
 fn limits_of(matches: &ArgMatches<'_>) -> Option<Limits>
-    ensures { IfSome result (HasLimits (rows_of (found_of matches.now))) }
+    ensures given { IfSome result (HasLimits (rows_of (found_of matches.now))) }
+    ensures found { (limits : Most) → HasLimits (rows_of (found_of matches.now)) limits → IsSome result }
 {
     let batches = matches.get_one::<u32>("batches")?;
     let spans = matches.get_one::<u32>("spans")?;
@@ -154,51 +163,93 @@ fn limits_of(matches: &ArgMatches<'_>) -> Option<Limits>
     Limits::new(batches, spans, traces, max_skew)
 }
 
-/// The trace that is asked for.
-fn trace_of<W: Write>(matches: &ArgMatches<'_>, writer: &mut W) -> Result<TraceId, u8>
-    ensures trace { IfOk result (HasTrace (rows_of (found_of matches.now))) }
-    ensures status { IfErr result IsFault }
+/// The trace that is asked for, where its text is an id.
+fn asked_trace(matches: &ArgMatches<'_>) -> Option<TraceId>
+    ensures { result ≡ trace_in (first_value (found_of matches.now) (codes "TRACE")) }
 {
-    if let Some(text) = matches.get_str("TRACE") {
-        if let Some(trace) = parse_trace(text) {
-            return Ok(trace);
-        }
+    parse_trace(matches.get_str("TRACE")?)
+}
+
+/// Says that the trace's id can't be read.
+fn say_bad_trace<W: Write>(writer: &mut W) -> Result<(), Halt>
+    ensures { OnOk result (Appends (W.contents writer.old) (W.contents writer.new) (codes "bad trace id\n")) }
+{
+    writeln!(writer, "bad trace id")?;
+    Ok(())
+}
+
+/// The trace that is asked for, or the status once its fault is told.
+fn trace_of<W: Write>(matches: &ArgMatches<'_>, writer: &mut W) -> Result<TraceId, u8>
+    ensures trace { IfOk result (λ id. trace_in (first_value (found_of matches.now) (codes "TRACE")) ≡ Some id) }
+    ensures silent { OnOk result (W.contents writer.new ≡ W.contents writer.old) }
+    ensures none { IfErr result (λ s. trace_in (first_value (found_of matches.now) (codes "TRACE")) ≡ None) }
+    ensures said { IfErr result (λ s. (s ≡ 4) ⊎ ((s ≡ 2) × Appends (W.contents writer.old) (W.contents writer.new) (codes "bad trace id\n"))) }
+{
+    match asked_trace(matches) {
+        Some(trace) => Ok(trace),
+        None => match say_bad_trace(writer) {
+            Ok(()) => Err(2),
+            Err(_) => Err(4),
+        },
     }
-    match writeln!(writer, "bad trace id") {
-        Ok(()) => Err(2),
-        Err(_) => Err(4),
-    }
+}
+
+/// `get` with its options and its trace.
+fn get_of<W: Write>(matches: &ArgMatches<'_>, writer: &mut W) -> Result<Command, u8>
+    ensures asked { IfOk result (IsGetOf (rows_of (found_of matches.now))) }
+    ensures silent { OnOk result (W.contents writer.new ≡ W.contents writer.old) }
+    ensures status { IfErr result IsFault }
+    ensures found { (limits : Most) (id : Id) → HasLimits (rows_of (found_of matches.now)) limits → HasTrace (rows_of (found_of matches.now)) id → IsOk result }
+    ensures bad_trace { (limits : Most) → HasLimits (rows_of (found_of matches.now)) limits
+        → IfErr result (λ s. s ≡ 2 → Appends (W.contents writer.old) (W.contents writer.new) (codes "bad trace id\n")) }
+{
+    let Some(limits) = limits_of(matches) else {
+        return Err(2);
+    };
+    let trace = trace_of(matches, writer)?;
+    Ok(Command::Get { limits, trace })
 }
 
 /// The subcommand `get`, whose own name is the first of the words.
 fn read_get<S: AsStr, W: Write>(alloc: Global, words: &[S], writer: &mut W) -> Result<Command, u8>
     ensures asked { IfOk result (AsksGetBy (map S.text words.now)) }
+    ensures silent { OnOk result (W.contents writer.new ≡ W.contents writer.old) }
     ensures status { IfErr result IsFault }
+    ensures accepted { (command : Wanted) → AcceptsGetBy (map S.text words.now) command → IfErr result (λ s. s ≡ 5) }
+    ensures bad_trace { (limits : Most) → get_takes (map S.text words.now) ≡ true → HasLimits (matches_of get_app (map S.text words.now)) limits
+        → IfErr result (λ s. s ≡ 2 → Appends (W.contents writer.old) (W.contents writer.new) (codes "bad trace id\n")) }
 {
     let Ok(command) = get_command(alloc) else {
         return Err(5);
     };
     let matches = matches_of(command, words, writer)?;
-    let Some(limits) = limits_of(&matches) else {
-        return Err(2);
-    };
-    let trace = trace_of(&matches, writer)?;
-    Ok(Command::Get { limits, trace })
+    get_of(&matches, writer)
+}
+
+/// `pipe` with its options.
+fn pipe_of(matches: &ArgMatches<'_>) -> Result<Command, u8>
+    ensures asked { IfOk result (IsPipeOf (rows_of (found_of matches.now))) }
+    ensures status { IfErr result IsFault }
+    ensures found { (limits : Most) → HasLimits (rows_of (found_of matches.now)) limits → IsOk result }
+{
+    match limits_of(matches) {
+        Some(limits) => Ok(Command::Pipe { limits }),
+        None => Err(2),
+    }
 }
 
 /// The subcommand `pipe`, whose own name is the first of the words.
 fn read_pipe<S: AsStr, W: Write>(alloc: Global, words: &[S], writer: &mut W) -> Result<Command, u8>
     ensures asked { IfOk result (AsksPipeBy (map S.text words.now)) }
+    ensures silent { OnOk result (W.contents writer.new ≡ W.contents writer.old) }
     ensures status { IfErr result IsFault }
+    ensures accepted { (command : Wanted) → AcceptsPipeBy (map S.text words.now) command → IfErr result (λ s. s ≡ 5) }
 {
     let Ok(command) = pipe_command(alloc) else {
         return Err(5);
     };
     let matches = matches_of(command, words, writer)?;
-    match limits_of(&matches) {
-        Some(limits) => Ok(Command::Pipe { limits }),
-        None => Err(2),
-    }
+    pipe_of(&matches)
 }
 
 /// What the words ask for, the first of them being the program's name.
@@ -216,7 +267,11 @@ pub fn read_words<S: AsStr, W: Write>(
     writer: &mut W,
 ) -> Result<Command, u8>
     ensures asked { IfOk result (Asks (map S.text words.now)) }
+    ensures silent { OnOk result (W.contents writer.new ≡ W.contents writer.old) }
     ensures status { IfErr result IsFault }
+    ensures accepted { (command : Wanted) → Accepts (map S.text words.now) command → IfErr result (λ s. s ≡ 5) }
+    ensures bad_trace { (limits : Most) → TakesGet (map S.text words.now) limits
+        → IfErr result (λ s. s ≡ 2 → Appends (W.contents writer.old) (W.contents writer.new) (codes "bad trace id\n")) }
 {
     if let Some((_, rest)) = words.split_first() {
         if let Some(name) = rest.first() {

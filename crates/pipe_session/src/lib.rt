@@ -1,7 +1,8 @@
 //! A session over a store of one's own: what is answered is a function of what was asked.
 //!
 //! The reads are answered at exactly the entries held at the start followed by one for each batch
-//! accepted so far, in order.
+//! accepted so far, in order. So the bytes written are one function of the bytes read, those entries and the
+//! limits: `laws`.
 #![tactic(auto)]
 
 ghost use Rattle.std.specs.Prelude.{◌≡◌, ◌++◌, false, IfOk, IfErr};
@@ -14,6 +15,7 @@ use http_session::{Ended, SessionFault, session};
 use session_devices::{Input, Output};
 use std::alloc::Global;
 
+pub mod laws;
 #[cfg(test)]
 mod tests;
 

@@ -1,7 +1,7 @@
 -- Digits in front of a text, and the size of a duration.
-use Rattle.std.proofs.Common.{◌≡◌, ℕ, ◌+◌, ◌*◌, ◌<◌, ◌≤◌, ◌^◌, Bool, true, false, not, cond, ltb, List, length, Option, Some, None, unwrap_or, refl, sym, ap, ◌∙◌, arith, zero}
+use Rattle.std.proofs.Common.{◌≡◌, ℕ, ◌+◌, ◌*◌, ◌<◌, ◌≤◌, ◌^◌, Bool, true, false, not, cond, ltb, List, length, Some, None, unwrap_or, refl, arith, zero}
 use Rattle.std.specs.Prelude.{position}
-use Rattle.std.specs.List.{position_from, position_or_len}
+use Rattle.std.specs.List.{position_or_len}
 use Rattle.std.proofs.lemmas.Bool.{ltb-false}
 use Rattle.std.proofs.lemmas.List.Sums.{prefix_len-le-length}
 use Rattle.std.proofs.Math.Nat.{pow-le-pow_right, mul-le-mul}

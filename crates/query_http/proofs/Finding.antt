@@ -1,12 +1,12 @@
 -- The rows of the endpoints find an endpoint's path, and no other path.
-use Rattle.std.proofs.Common.{◌≡◌, ◌≢◌, ℕ, ◌+◌, ◌<◌, List, [], ◌∷◌, ◌++◌, length, Option, Some, None, Bool, true, false, refl, sym, ap, ◌∙◌, subst, inl, inr, ◌⊎◌, arith}
+use Rattle.std.proofs.Common.{◌≡◌, ℕ, List, [], ◌∷◌, ◌++◌, Some, None, refl, sym, ap, ◌∙◌, subst, inl, inr, ◌⊎◌, arith}
 use Rattle.std.specs.Prelude.{codes}
 use Rattle.matchit.specs.Rows.{RowsOf}
 use Rattle.matchit.specs.Router.{RouteOf}
 use Rattle.matchit.specs.Seek.{seek, param_step}
 use Rattle.query_http.specs.declared.paths.Endpoint.{Endpoint}
 use Rattle.query_http.specs.declared.paths.Endpoint.TheVariants.{Traces, Trace, Services, OperationNames, Operations, Dependencies}
-use Rattle.query_http.specs.Paths.{IsPart, IsPath, endpoint_rows, literal_row, trace_pattern, names_pattern}
+use Rattle.query_http.specs.Paths.{IsPath, endpoint_rows, trace_pattern, names_pattern}
 use Rattle.query_http.proofs.Seeking.{behind, AreLiteral, Apart, found_behind, found_end, found_in_either, seek_behind, seek_first, seek_second}
 use Rattle.query_http.proofs.Parting.{found_last, part_last, found_between, part_between}
 

@@ -4,3 +4,4 @@ pub mod Finding
 pub mod Digits
 pub mod TagLoops
 pub mod PartTexts
+pub mod PathLaws

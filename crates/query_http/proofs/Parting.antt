@@ -1,11 +1,11 @@
 -- What a part of a path takes, with literal bytes or nothing behind it.
-use Rattle.std.proofs.Common.{◌≡◌, ◌≢◌, ℕ, ◌+◌, ◌-◌, ◌<◌, ◌≤◌, suc, zero, List, [], ◌∷◌, ◌++◌, length, drop, take, Option, Some, None, Bool, true, false, cond, refl, sym, ap, ◌∙◌, subst, rules, eqb, ltb, arith, inl, inr, ◌⊎◌, append_assoc, length-append, ◌&&◌}
+use Rattle.std.proofs.Common.{◌≡◌, ◌≢◌, ℕ, ◌+◌, ◌-◌, ◌<◌, ◌≤◌, List, [], ◌∷◌, ◌++◌, length, drop, Option, Some, None, Bool, true, false, cond, refl, sym, ap, ◌∙◌, subst, rules, eqb, ltb, arith, inl, inr, ◌⊎◌, length-append}
 use Rattle.std.proofs.lemmas.Bool.Decides.{nat_tests}
-use Rattle.std.proofs.lemmas.Bool.{ltb-true, lt-ltb}
+use Rattle.std.proofs.lemmas.Bool.{lt-ltb}
 use Rattle.std.proofs.lemmas.List.{append-nil, drop_at, length-drop}
 use Rattle.std.specs.List.{AllByRecursion}
 use Rattle.matchit.specs.Rows.{RowsOf}
-use Rattle.matchit.specs.Seek.{seek, own, or_else, step, param_step, has_slash, segment, longest_suffix, with_suffix, cuts, better, same_text}
+use Rattle.matchit.specs.Seek.{seek, or_else, step, param_step, has_slash, segment, cuts}
 use Rattle.query_http.specs.Paths.{IsPart}
 use Rattle.query_http.proofs.Seeking.{seek_none, seek_skips, found_end, found_behind, seek_behind, AreLiteral, behind}
 

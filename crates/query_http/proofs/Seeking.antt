@@ -1,11 +1,9 @@
 -- How a router's rows are walked.
-use Rattle.std.proofs.Common.{◌≡◌, ◌≢◌, ℕ, ◌+◌, ◌-◌, ◌<◌, ◌≤◌, suc, zero, List, [], ◌∷◌, ◌++◌, length, drop, take, Option, Some, None, Bool, true, false, cond, refl, sym, ap, ◌∙◌, subst, rules, eqb, ltb, arith, inl, inr, ◌⊎◌, append_assoc, length-append}
+use Rattle.std.proofs.Common.{◌≡◌, ℕ, ◌-◌, suc, zero, List, [], ◌∷◌, ◌++◌, length, drop, Option, Some, None, Bool, true, false, cond, refl, sym, ap, ◌∙◌, subst, rules, eqb, arith, inl, inr, ◌⊎◌}
 use Rattle.std.proofs.lemmas.Bool.Decides.{nat_tests}
-use Rattle.std.proofs.lemmas.List.{append-nil, drop_at}
-use Rattle.std.specs.List.{AllByRecursion, ends_with}
+use Rattle.std.proofs.lemmas.List.{append-nil}
 use Rattle.matchit.specs.Rows.{RowsOf}
-use Rattle.matchit.specs.Seek.{seek, first, own, or_else, step, param_step, has_slash, segment, longest_suffix, with_suffix, cuts, better}
-use Rattle.query_http.specs.Paths.{IsPart}
+use Rattle.matchit.specs.Seek.{seek, own, or_else, step, param_step, has_slash}
 
 no_rows : {K : Type 0} (path : List ℕ) → (param_step {K = K} [] path).1 ≡ []
 unfolding param_step

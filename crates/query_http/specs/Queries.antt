@@ -1,10 +1,9 @@
 -- What a request asks: the query of an endpoint, or the first parameter that can't be read.
-use Rattle.std.specs.Prelude.{ℕ, ℤ, pos, List, [], ◌∷◌, ◌++◌, Bool, ◌||◌, Option, Some, None, Result, Ok, Err, unwrap_or, codes, if◌then◌else◌, nat_lt, nat_le, ◌&&◌, length, ◌==◌}
+use Rattle.std.specs.Prelude.{ℕ, ℤ, pos, List, [], ◌∷◌, ◌++◌, Bool, ◌||◌, Option, Some, None, Result, Ok, Err, unwrap_or, codes, if◌then◌else◌}
 use Rattle.std.specs.Str.{is_utf8}
 use Rattle.percent_encoding.specs.Percent.{percent_decode}
 use Rattle.serde_json.specs.Data.{Data, null, boolean, number, string, array, object, Members, no_members, member}
 use Rattle.serde_json.specs.Read.{read}
-use Rattle.jaeger_model.specs.declared.ids.TraceId.{TraceId}
 use Rattle.jaeger_model.specs.Ids.{read_trace}
 use Rattle.jaeger_model.specs.Texts.{same_text}
 use Rattle.trace_model.specs.declared.query.Find.{Find}

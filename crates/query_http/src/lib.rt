@@ -7,10 +7,12 @@
 //! * `query`: what a target asks, as a whole.
 //! * `response`: the bytes of a response.
 //! * `fault`: why a target asks no query.
+//! * `laws`: facts about the definitions.
 #![tactic(auto)]
 
 mod fault;
 mod form;
+pub mod laws;
 mod number;
 mod paths;
 mod query;
@@ -22,3 +24,6 @@ pub use form::{Pair, form_pairs};
 pub use paths::{Endpoint, endpoints, find_endpoint};
 pub use query::{parse_query, path_and_form, read_query};
 pub use response::respond;
+
+#[cfg(test)]
+mod tests;

@@ -1,4 +1,5 @@
-ghost use Rattle.std.specs.Prelude.{◌≡◌, ◌++◌, ℕ, List, IfOk, MatchOption};
+ghost use Rattle.std.specs.Prelude.{◌≡◌, ◌++◌, ℕ, List, IfOk, IfErr, MatchOption};
+ghost use Rattle.matchit.specs.declared.error.InsertError.TheVariants.{OutOfMemory};
 ghost use Rattle.query_http.specs.Paths.{endpoint_rows, IsPath, IsNoPath};
 
 use matchit::{InsertError, Router};
@@ -27,7 +28,8 @@ pub enum Endpoint {
 ///
 /// Want of memory alone.
 pub fn endpoints(alloc: Global) -> Result<Router<Endpoint>, InsertError>
-    ensures { IfOk result (λ r. r ≡ endpoint_rows) }
+    ensures found { IfOk result (λ r. r ≡ endpoint_rows) }
+    ensures memory { IfErr result (λ e. e ≡ OutOfMemory) }
 {
     let mut router = Router::new(alloc);
     router.insert("/api/traces", Endpoint::Traces)?;

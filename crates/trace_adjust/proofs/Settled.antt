@@ -1,13 +1,13 @@
 -- Clocks that are set from above are the spans' clocks, and where none can be set any more all are known.
-use Rattle.std.proofs.Common.{◌≡◌, ℕ, zero, suc, ◌+◌, ◌<◌, ◌≤◌, ◌⊎◌, inl, inr, ⊎_elim, Bool, true, false, ◌&&◌, cond, List, [], ◌∷◌, ◌++◌, map, take, length, get_or, set, refl, sym, ap, ◌∙◌, arith, subst, length-set, get_or-set_same, get_or-set_other, pos}
+use Rattle.std.proofs.Common.{◌≡◌, ℕ, zero, suc, ◌+◌, ◌<◌, ◌⊎◌, inl, inr, ⊎_elim, Bool, true, false, ◌&&◌, cond, List, [], ◌∷◌, ◌++◌, map, length, get_or, set, refl, sym, ap, ◌∙◌, arith, subst, length-set, get_or-set_same, get_or-set_other}
 use Rattle.std.proofs.lemmas.List.{get_or_default, set-get_or, get_or-map}
-use Rattle.std.specs.Prelude.{Option, Some, None, option_map, option_and_then, is_some, not, count_by, ◌==◌, if◌then◌else◌}
+use Rattle.std.specs.Prelude.{Option, Some, None, option_map, is_some, if◌then◌else◌}
 use Rattle.std.proofs.lemmas.Bool.{false≢true, cases_eq}
 use Rattle.std.proofs.lemmas.List.Sums.{sum_by-set}
 use Rattle.jaeger_model.specs.declared.placed.Placed.{Placed}
 use Rattle.trace_model.specs.declared.clock.Clock.{Clock}
 use Rattle.trace_model.specs.Linking.{parent_in}
-use Rattle.trace_model.specs.Adjusting.{host_of, clock_at, clock_below, clock_within, clock_of}
+use Rattle.trace_model.specs.Adjusting.{clock_below, clock_within, clock_of}
 use Rattle.trace_model.specs.Steadiness.{clock_by}
 use Rattle.trace_model.proofs.Chains.{Each, clocks, within_step, within_none}
 use Rattle.trace_adjust.specs.Settling.{place_in, near, settle, sets, is_unset, AreRight, IsClosed, AreClosed, AreClocks, unset_count}

@@ -1,5 +1,5 @@
 -- One more span of the trace as it is shown.
-use Rattle.std.proofs.Common.{◌≡◌, ℕ, ℤ, pos, ◌<◌, Bool, true, false, List, [], ◌∷◌, ◌++◌, map, take, length, get_or, refl, sym, ap, ◌∙◌, append_assoc}
+use Rattle.std.proofs.Common.{◌≡◌, ℕ, pos, ◌<◌, Bool, true, false, List, [], ◌∷◌, ◌++◌, map, take, length, get_or, refl, sym, ap, ◌∙◌, append_assoc}
 use Rattle.std.proofs.lemmas.List.{append-nil, map-id}
 use Rattle.std.specs.Prelude.{Option, Some, None, unwrap_or, not, ◌==◌, if◌then◌else◌}
 use Rattle.std.specs.List.{list_any}

@@ -1,5 +1,5 @@
 -- Clocks of the spans of a trace by their places, as far as they are known.
-use Rattle.std.specs.Prelude.{◌≡◌, ℕ, suc, pos, ◌<◌, ◌+◌, ◌⊎◌, Bool, not, ◌&&◌, List, [], ◌∷◌, map, length, get_or, set, count_by, Option, Some, None, option_map, is_some, unwrap_or, ℤ, ◌==◌, cond, if◌then◌else◌}
+use Rattle.std.specs.Prelude.{◌≡◌, ℕ, suc, pos, ◌<◌, ◌⊎◌, Bool, not, ◌&&◌, List, [], ◌∷◌, length, get_or, set, count_by, Option, Some, None, option_map, is_some, unwrap_or, ℤ, ◌==◌, cond, if◌then◌else◌}
 use Rattle.jaeger_model.specs.declared.placed.Placed.{Placed}
 use Rattle.jaeger_model.specs.Parents.{parent}
 use Rattle.trace_model.specs.declared.clock.Clock.{Clock}

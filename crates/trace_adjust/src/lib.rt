@@ -14,3 +14,6 @@ mod skew;
 
 pub use parents::parent_first;
 pub use skew::{adjust_skew, adjusted};
+
+#[cfg(test)]
+mod tests;

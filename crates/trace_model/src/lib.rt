@@ -44,4 +44,10 @@ pub use refusal::Refusal;
 pub use search::{find_traces, trace_ids};
 
 #[cfg(test)]
+mod fixture;
+#[cfg(test)]
 mod tests;
+#[cfg(test)]
+mod tests_adjust;
+#[cfg(test)]
+mod tests_search;

@@ -1,6 +1,4 @@
-use Rattle.std.proofs.Common.{rules, ◌≡◌, ◌∙◌}
-use Rattle.std.specs.Prelude.{string_bytes}
-use Rattle.batch_codec.specs.Decoding.{text_at}
+use Rattle.std.proofs.Common.{◌≡◌, ◌∙◌}
 use Rattle.batch_codec.proofs.Texts.{text_at-text, text_at-bad}
 use Rattle.batch_codec.proofs.values.read_text.Goals as goal
 

@@ -1,10 +1,10 @@
-use Rattle.std.proofs.Common.{rules, ◌≡◌, ◌++◌, ◌∙◌, sym, drop, List}
+use Rattle.std.proofs.Common.{rules, ◌∙◌, sym}
 use Rattle.std.specs.Global.{Vec}
 use Rattle.std.specs.Int.{w64}
 use Rattle.std.proofs.lemmas.Int.{to_z-of_z}
 use Rattle.std.proofs.lemmas.List.Folds.{flat_map-map}
 use Rattle.jaeger_model.specs.declared.placed.Seen.{Seen}
-use Rattle.trace_model.specs.Linking.{calls, calls_within}
+use Rattle.trace_model.specs.Linking.{calls_within}
 use Rattle.trace_model.proofs.Steps.{gathered_more, gathered_all}
 use Rattle.call_links.specs.Seen.{seen_all, calls_seen}
 use Rattle.call_links.proofs.calls.all_calls.Goals as goal

@@ -18,12 +18,12 @@ returns-in-Ok-Clean-clause-ended g c =
 pub returns-in-Err-say-clause-fault : goal.returns-in-Err-say-clause-fault
 returns-in-Err-say-clause-fault g c =
     let so = reads_on _ _ _ _ _ _ _ _ _ _ _ _ c.requests.invariant.0 c.in-Ok-Broken.ensures.reads in
-    rw c.after.ensures (fails_parting _ _ _ _ _ _ _ _ _ _ _ (g.W.Output.has_failed c.requests.output) _ _ _ _ so (rw c.in-Ok-Broken.field-0-is at c.in-Ok-Broken.ensures.found) c.in-Err-say.ensures)
+    rw c.after.ensures (fails_parting _ _ _ _ _ _ _ _ _ _ _ (g.W.Output.has_failed c.requests.output) _ _ _ _ so (rw c.in-Ok-Broken.field-0-is at c.in-Ok-Broken.ensures.found) c.in-Err-say.ensures.says)
 
 pub returns-in-Ok-Broken-clause-ended : goal.returns-in-Ok-Broken-clause-ended
 returns-in-Ok-Broken-clause-ended g c =
     let so = reads_on _ _ _ _ _ _ _ _ _ _ _ _ c.requests.invariant.0 c.in-Ok-Broken.ensures.reads in
-    ends_broken _ _ _ _ _ _ _ _ _ _ _ _ so (rw c.in-Ok-Broken.field-0-is at c.in-Ok-Broken.ensures.found) c.in_default.ensures.0
+    ends_broken _ _ _ _ _ _ _ _ _ _ _ _ so (rw c.in-Ok-Broken.field-0-is at c.in-Ok-Broken.ensures.found) c.in_default.ensures.says.0
 
 pub returns-in_default-judge-clause-fault : goal.returns-in_default-judge-clause-fault
 returns-in_default-judge-clause-fault g c =
@@ -36,21 +36,21 @@ returns-in-Err-said-clause-fault g c =
     let whole = rw c.in-Ok-One.field-0-is at c.in-Ok-One.ensures.found in
     let judged = rw c.as_slice.ensures at c.in-Ok.ensures in
     rw c.after-in-Err-said.ensures (answered_not _ _ _ _ _ _ _ _ _ _ _ _ _ _ _ _ so whole judged c.answer-reply.ensures c.closes_behind-close.ensures
-    (g.W.Output.has_failed c.requests.output) _ _ _ c.in-Err-said.ensures)
+    (g.W.Output.has_failed c.requests.output) _ _ _ c.in-Err-said.ensures.says c.in-Err-said.ensures.spared)
 
 pub returns-then-close-clause-ended : goal.returns-then-close-clause-ended
 returns-then-close-clause-ended g c =
     let so = reads_on _ _ _ _ _ _ _ _ _ _ _ _ c.requests.invariant.0 c.in-Ok-One.ensures.reads in
     let whole = rw c.in-Ok-One.field-0-is at c.in-Ok-One.ensures.found in
     let judged = rw c.as_slice.ensures at c.in-Ok.ensures in
-    answered_last _ _ _ _ _ _ _ _ _ _ _ _ _ _ _ _ so whole judged c.answer-reply.ensures c.closes_behind-close.ensures c.in_default-said.ensures.0 c.if-close.true
+    answered_last _ _ _ _ _ _ _ _ _ _ _ _ _ _ _ _ so whole judged c.answer-reply.ensures c.closes_behind-close.ensures c.in_default-said.ensures.says.0 c.if-close.true
 
 pub requests-preserved : goal.requests-preserved
 requests-preserved g c =
     let so = reads_on _ _ _ _ _ _ _ _ _ _ _ _ c.requests.invariant.0 c.in-Ok-One.ensures.reads in
     let whole = rw c.in-Ok-One.field-0-is at c.in-Ok-One.ensures.found in
     let judged = rw c.as_slice.ensures at c.in-Ok.ensures in (
-      rw c.take.ensures (answered_open _ _ _ _ _ _ _ _ _ _ _ _ _ _ _ _ so whole judged c.answer-reply.ensures c.closes_behind-close.ensures c.in_default-said.ensures.0 c.if-close.false),
+      rw c.take.ensures (answered_open _ _ _ _ _ _ _ _ _ _ _ _ _ _ _ _ so whole judged c.answer-reply.ensures c.closes_behind-close.ensures c.in_default-said.ensures.says.0 c.if-close.false),
       c.in-Ok-One.ensures.same ∙ c.requests.invariant.1,
-      c.in_default-said.ensures.1 ∙ c.requests.invariant.2,
+      c.in_default-said.ensures.says.1 ∙ c.requests.invariant.2,
     )

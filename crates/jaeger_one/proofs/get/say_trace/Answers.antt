@@ -1,6 +1,5 @@
-use Rattle.std.proofs.Common.{rules, ◌≡◌, List, map, Some, None}
+use Rattle.std.proofs.Common.{rules, ◌≡◌, map, Some, None}
 use Rattle.std.specs.Prelude.{option_map}
-use Rattle.jaeger_model.specs.declared.placed.Placed.{Placed}
 use Rattle.trace_model.specs.Adjusting.{unadjusted}
 use Rattle.jaeger_one.specs.Runs.{found_in}
 use Rattle.jaeger_one.proofs.Finding.{said_found, said_lost}

@@ -1,4 +1,4 @@
-use Rattle.std.proofs.Common.{◌≡◌, inl, inr, refl}
+use Rattle.std.proofs.Common.{inl, inr, refl}
 use Rattle.jaeger_one.proofs.pipe.run_pipe.Goals as goal
 
 pub returns-in-Ok : goal.returns-in-Ok

@@ -1,17 +1,23 @@
-use Rattle.std.proofs.Common.{ap, refl, map, true, ◌≡◌, ◌∙◌, List, subst}
-use Rattle.clap.specs.Words.{Row, app_of, found_of, rows_of, is_simple, matches_of}
-use Rattle.clap.proofs.OnLiterals.{clap_on_literals}
-use Rattle.jaeger_one.specs.Words.{pipe_app, HasLimits}
+use Rattle.std.proofs.Common.{rules, ◌≡◌, map}
+use Rattle.clap.specs.Words.{app_of, found_of, rows_of}
+use Rattle.jaeger_one.proofs.Accepting.{accepts_pipe, asks_pipe, failed_pipe, pipe_rows, pipe_taken}
 use Rattle.jaeger_one.proofs.words.read_pipe.Goals as goal
 
-simple : is_simple pipe_app ≡ true
-unfolding clap_on_literals
-simple = refl
-
-pub returns-in-Some-clause-asked : goal.returns-in-Some-clause-asked
-returns-in-Some-clause-asked g c =
+pub returns-clause-asked : goal.returns-clause-asked
+returns-clause-asked g c =
     let words = map g.S.AsStr.text c.args.words.now in
-    let app : app_of c.in-Ok.command ≡ pipe_app = c.in-Ok.ensures in
-    let rows : rows_of (found_of c.in_ok-matches.matches) ≡ matches_of pipe_app words =
-    (c.in_ok-matches.ensures.matches (ap is_simple app ∙ simple)).0 ∙ ap (λ a. matches_of a words) app in
-    subst (λ (r : List Row). HasLimits r c.in-Some.limits) rows c.in-Some.ensures
+    let rows = pipe_rows (app_of c.in-Ok.command) words c.in_ok-matches.matches c.in-Ok.ensures c.in_ok-matches.ensures.matches in
+    asks_pipe (rows_of (found_of c.in_ok-matches.matches)) words rows c.pipe_of.result c.pipe_of.ensures.asked
+
+pub returns-clause-accepted : goal.returns-clause-accepted
+returns-clause-accepted g c =
+    let words = map g.S.AsStr.text c.args.words.now in
+    let rows = pipe_rows (app_of c.in-Ok.command) words c.in_ok-matches.matches c.in-Ok.ensures c.in_ok-matches.ensures.matches in
+    accepts_pipe (rows_of (found_of c.in_ok-matches.matches)) words rows c.pipe_of.result c.pipe_of.ensures.found
+
+pub returns-in_err-matches-clause-accepted : goal.returns-in_err-matches-clause-accepted
+returns-in_err-matches-clause-accepted g c =
+    let words = map g.S.AsStr.text c.args.words.now in
+    failed_pipe words c.from_residual.result (λ taken.
+    let five : c.in_err-matches.field-0.0 ≡ 5 = c.in_err-matches.ensures.taken (pipe_taken (app_of c.in-Ok.command) words c.in-Ok.ensures taken) in
+    search rules)

@@ -1,4 +1,4 @@
-use Rattle.std.proofs.Common.{rules, ◌≡◌, ◌≤◌, ◌^◌, sym, subst, arith}
+use Rattle.std.proofs.Common.{◌≤◌, ◌^◌, sym, subst, arith}
 use Rattle.query_http.proofs.Digits.{ten_small, fits_scaled}
 use Rattle.query_http.proofs.number.scaled.Goals as goal
 

@@ -1,4 +1,4 @@
-use Rattle.std.proofs.Common.{ℕ, ◌<◌, ◌≤◌, ◌+◌, ◌*◌, ◌^◌, ◌≡◌, arith, zero}
+use Rattle.std.proofs.Common.{ℕ, ◌<◌, ◌≤◌, ◌+◌, ◌*◌, ◌^◌, arith, zero}
 use Rattle.std.proofs.Math.Nat.{pow-le-pow_right}
 use Rattle.query_http.proofs.number.value_of.Goals as goal
 

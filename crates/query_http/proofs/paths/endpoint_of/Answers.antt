@@ -1,4 +1,4 @@
-use Rattle.std.proofs.Common.{◌≡◌, sym, ap, ◌∙◌}
+use Rattle.std.proofs.Common.{sym, ap, ◌∙◌}
 use Rattle.matchit.specs.Seek.{first}
 use Rattle.query_http.proofs.Finding.{endpoint_found, endpoint_there}
 use Rattle.query_http.proofs.paths.endpoint_of.Goals as goal

@@ -1,7 +1,6 @@
-use Rattle.std.proofs.Common.{◌≡◌, ◌++◌, ◌∷◌, List, ℕ, drop, sym, ap, ◌∙◌, subst}
+use Rattle.std.proofs.Common.{◌≡◌, ◌++◌, List, ℕ, drop, sym, ap, ◌∙◌, subst}
 use Rattle.std.specs.Prelude.{codes}
-use Rattle.query_http.specs.declared.paths.Endpoint.TheVariants.{OperationNames}
-use Rattle.query_http.specs.Paths.{IsPart, IsPath}
+use Rattle.query_http.specs.Paths.{IsPart}
 use Rattle.std.proofs.lemmas.List.{append_cancel_right}
 use Rattle.query_http.proofs.paths.part_of.Goals as goal
 

@@ -1,9 +1,8 @@
-use Rattle.std.proofs.Common.{rules, ◌≡◌, ◌∷◌, ◌++◌, [], Some, subst}
+use Rattle.std.proofs.Common.{rules, ◌≡◌, ◌∷◌, ◌++◌, [], Some}
 use Rattle.std.specs.Prelude.{string_bytes}
 use Rattle.serde_json.specs.Find.{as_str}
-use Rattle.serde_json.specs.View.{view, members_view}
-use Rattle.query_http.specs.Queries.{texts_in}
-use Rattle.query_http.proofs.TagLoops.{in_front, texts_more}
+use Rattle.serde_json.specs.View.{view}
+use Rattle.query_http.proofs.TagLoops.{texts_more}
 use Rattle.query_http.proofs.tags.object_texts.Goals as goal
 
 pub loop-key-preserved : goal.loop-key-preserved

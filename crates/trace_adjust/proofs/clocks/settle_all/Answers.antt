@@ -1,6 +1,6 @@
-use Rattle.std.proofs.Common.{◌≡◌, ◌+◌, ◌≤◌, ◌∙◌, true, false, cond, sym, ap, arith}
+use Rattle.std.proofs.Common.{◌≡◌, ◌+◌, ◌≤◌, ◌∙◌, cond, sym, ap, arith}
 use Rattle.std.proofs.lemmas.Bool.{false≢true}
-use Rattle.trace_adjust.specs.Settling.{AreClosed, unset_count}
+use Rattle.trace_adjust.specs.Settling.{unset_count}
 use Rattle.trace_adjust.proofs.Settled.{closed_more}
 use Rattle.trace_adjust.proofs.clocks.settle_all.Goals as goal
 use Rattle.trace_adjust.proofs.clocks.settle_all.Goals.{then-branch, else-branch}

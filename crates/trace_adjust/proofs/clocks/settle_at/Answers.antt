@@ -1,4 +1,4 @@
-use Rattle.std.proofs.Common.{◌∙◌, sym, rules}
+use Rattle.std.proofs.Common.{◌∙◌, sym}
 use Rattle.trace_adjust.proofs.Settled.{step_right, step_closed, step_fewer, parent_read}
 use Rattle.trace_adjust.proofs.clocks.settle_at.Goals as goal
 

@@ -1,4 +1,4 @@
-use Rattle.std.proofs.Common.{◌≡◌, ◌∙◌, sym, ap, rules}
+use Rattle.std.proofs.Common.{◌∙◌, sym, ap, rules}
 use Rattle.std.specs.Ordering.{nat_cmp}
 use Rattle.std.specs.BTreeMap.{get}
 use Rattle.trace_adjust.proofs.Places.{entered, kept}

@@ -1,4 +1,4 @@
-use Rattle.std.proofs.Common.{◌≡◌, ◌++◌, [], length}
+use Rattle.std.proofs.Common.{◌≡◌, [], length}
 use Rattle.trace_model.specs.Adjusting.{skew_adjusted_after}
 use Rattle.trace_adjust.proofs.skew.all_shifted.Given as goal
 

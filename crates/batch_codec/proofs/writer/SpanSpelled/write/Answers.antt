@@ -1,5 +1,3 @@
-use Rattle.std.proofs.Common.{◌≡◌, ◌++◌}
-use Rattle.thrift_binary.specs.Writing.{stop_text}
 use Rattle.batch_codec.specs.Canon.{front_text, span_fields, span_fits, canon_span}
 use Rattle.batch_codec.proofs.CanonTexts.{span_stop, ends}
 use Rattle.batch_codec.proofs.writer.SpanSpelled.write.Goals as goal

@@ -1,0 +1,172 @@
+#!/usr/bin/env python3
+"""How fast batches are decoded, and by whom, in one run on one machine.
+
+    bench/compare.py [--rounds 20] [--only WORD] [--count]
+
+The same realistic batches (those of bench/decode.py) are decoded and let go by three programs, which are built in a
+temporary folder; what is not installed is left out.
+
+  rattle   batch_codec::decode, proved and built by `rt run` in a copy of its crates (the first time takes minutes)
+  rust     bench/compare/plain.rs, a decoder of the same rules in plain Rust, by `rustc`
+  apache   bench/compare/apache.cpp, Apache Thrift's, by `thrift` and `g++` (Debian: thrift-compiler libthrift-dev
+           libboost-dev); it looks at no UTF-8
+
+Each decodes all batches once, and once more as often as asked; the difference of the processor time of the two runs,
+the best of three, is the time of the decoding alone. With --count the instructions of two rounds are counted by callgrind
+(Debian: valgrind), which tells the same on a busy machine.
+"""
+import argparse
+import os
+import random
+import re
+import resource
+import shutil
+import struct
+import subprocess
+import sys
+import tempfile
+
+import decode as batches
+
+HERE = os.path.dirname(os.path.abspath(__file__))
+ROOT = os.path.dirname(HERE)
+COMPARE = os.path.join(HERE, "compare")
+CRATES = {"jaeger_model": "hex", "thrift_binary": "byteorder", "batch_codec": "thrift_binary jaeger_model"}
+
+# The program over `decode`: the same as main of plain.rs.
+MAIN = """//! Decodes the bodies of standard input so many times as its word says, and prints the number of their spans.
+#![tactic(auto)]
+
+use anyhow::Result;
+use batch_codec::decode;
+use std::alloc::Global;
+use std::env;
+use std::io::Read;
+
+/// The bodies: a length of four bytes, then that many bytes, each.
+fn bodies(alloc: Global, input: &[u8]) -> Result<Vec<&[u8]>> {
+    let mut bodies = Vec::new(alloc);
+    let mut rest = input;
+    for _ in 0..input.len() {
+        let [a, b, c, d, tail @ ..] = rest else {
+            break;
+        };
+        let length = u32::from_be_bytes([*a, *b, *c, *d]) as usize;
+        if tail.len() < length {
+            break;
+        }
+        let (body, after) = tail.split_at(length);
+        bodies.push(body)?;
+        rest = after;
+    }
+    Ok(bodies)
+}
+
+fn main(rt: HostRuntime) -> Result<()> {
+    let alloc = rt.alloc();
+    let words: Vec<String> = env::args(&rt)?.collect(alloc)?;
+    let rounds: u32 = words.get(1).and_then(|word| word.parse().ok()).unwrap_or(1);
+    let mut input = Vec::new(alloc);
+    rt.stdin().read_to_end(&mut input)?;
+    let bodies = bodies(alloc, &input)?;
+    let mut spans = 0_u64;
+    for _ in 0..rounds {
+        for body in bodies.iter() {
+            spans = spans.wrapping_add(decode(alloc, body)?.spans.len() as u64);
+        }
+    }
+    println!(&rt; "{spans}")?;
+    Ok(())
+}
+"""
+
+
+def build_rattle(folder):
+    top = os.path.join(folder, "repository")
+    for name in CRATES:
+        shutil.copytree(os.path.join(ROOT, "crates", name), os.path.join(top, "crates", name), symlinks=True)
+    source = os.path.join(top, "crates", "decode_rounds", "src")
+    os.makedirs(source)
+    with open(os.path.join(source, "main.rt"), "w") as file:
+        file.write(MAIN)
+    lines = [f"{name}: {deps}\n" for name, deps in CRATES.items()] + ["decode_rounds: batch_codec jaeger_model anyhow\n"]
+    with open(os.path.join(top, "crates.txt"), "w") as file:
+        file.writelines(lines)
+    crate = os.path.dirname(source)
+    subprocess.run(["rt", "run"], cwd=crate, check=True, stdin=subprocess.DEVNULL, stdout=sys.stderr)
+    return os.path.join(crate, "out", "decode_rounds")
+
+
+def build_rust(folder):
+    program = os.path.join(folder, "plain")
+    subprocess.run(["rustc", "--edition", "2021", "-C", "opt-level=3", "-o", program,
+                    os.path.join(COMPARE, "plain.rs")], check=True)
+    return program
+
+
+def build_apache(folder):
+    made = os.path.join(folder, "made")
+    os.makedirs(made)
+    subprocess.run(["thrift", "--gen", "cpp:moveable_types,no_skeleton,templates", "-out", made,
+                    os.path.join(ROOT, "samples", "jaeger.thrift")], check=True)
+    program = os.path.join(folder, "apache")
+    subprocess.run(["g++", "-O2", "-std=c++17", "-I", made, "-o", program, os.path.join(COMPARE, "apache.cpp"),
+                    os.path.join(made, "jaeger_types.cpp"), "-lthrift"], check=True)
+    return program
+
+
+def seconds(program, rounds, path):
+    """Processor time of one run in user mode, and what it printed."""
+    before = resource.getrusage(resource.RUSAGE_CHILDREN).ru_utime
+    with open(path, "rb") as stdin:
+        run = subprocess.run([program, str(rounds)], stdin=stdin, capture_output=True, check=True)
+    return resource.getrusage(resource.RUSAGE_CHILDREN).ru_utime - before, int(run.stdout)
+
+
+def instructions(program, rounds, path):
+    """The instructions of one run."""
+    with open(path, "rb") as stdin, tempfile.NamedTemporaryFile() as out:
+        words = ["valgrind", "--tool=callgrind", f"--callgrind-out-file={out.name}", program, str(rounds)]
+        run = subprocess.run(words, stdin=stdin, capture_output=True, check=True)
+    return int(re.search(rb"Collected : (\d+)", run.stderr).group(1))
+
+
+def main():
+    asked = argparse.ArgumentParser(description=__doc__, formatter_class=argparse.RawDescriptionHelpFormatter)
+    asked.add_argument("--rounds", type=int, default=20)
+    asked.add_argument("--count", action="store_true", help="count instructions")
+    asked.add_argument("--only", default="", help="the programs whose name has this word")
+    options = asked.parse_args()
+    rng = random.Random(1)
+    pool = [batches.batch(rng) for _ in range(400)]
+    spans = None
+    print(f"{'':8} {'instructions a byte':>20}" if options.count else f"{'':8} {'seconds':>8} {'MB/s':>8}")
+    with tempfile.TemporaryDirectory() as folder:
+        path = os.path.join(folder, "bodies")
+        with open(path, "wb") as file:
+            file.writelines(struct.pack(">I", len(body)) + body for body in pool)
+        size = options.rounds * sum(map(len, pool)) / 1_000_000
+        for name, build in (("rattle", build_rattle), ("rust", build_rust), ("apache", build_apache)):
+            if options.only not in name:
+                continue
+            try:
+                program = build(folder)
+            except (FileNotFoundError, subprocess.CalledProcessError) as fault:
+                print(f"{name:8} left out: {fault}")
+                continue
+            if options.count:
+                more = instructions(program, 3, path) - instructions(program, 1, path)
+                print(f"{name:8} {more / 2 / sum(map(len, pool)):20.1f}")
+                continue
+            times = []
+            for _ in range(3):
+                once, count = seconds(program, 1, path)
+                often, _ = seconds(program, 1 + options.rounds, path)
+                times.append(often - once)
+                assert spans in (None, count), (name, spans, count)
+                spans = count
+            print(f"{name:8} {min(times):8.3f} {size / min(times):8.1f}")
+
+
+if __name__ == "__main__":
+    main()

@@ -1,0 +1,144 @@
+#!/usr/bin/env python3
+"""Each allocation of the built program refused in turn.
+
+For `get` over the sample batches: the run ends with status 5, and what it wrote is a beginning of what
+it writes with ample memory; or nothing has changed.
+
+For `pipe` over a session of batches and queries: the run ends with status 5, and what it wrote are the
+first responses; or one request is answered 500, and everything else as in a session in which it was not
+made, so a batch that was refused is nowhere and a batch that was accepted is found.
+
+    checks/allocations.py [--bin PATH] [--every N]
+
+It needs Python 3 and a C compiler. The last line is `N passed, M failed`.
+"""
+import argparse
+import collections
+import os
+import subprocess
+import sys
+import tempfile
+
+ROOT = os.path.dirname(os.path.dirname(os.path.abspath(__file__)))
+WANT = b'{"data":null,"errors":[{"code":500,"msg":"out of memory"}],"limit":0,"offset":0,"total":0}'
+QUERIES = [
+    "/api/services",
+    "/api/services/shop/operations",
+    "/api/operations?service=shop",
+    "/api/traces/1",
+    "/api/traces/1?raw=true",
+    "/api/traces?service=shop&start=0&end=9000000000000000",
+    "/api/traces?service=shop&tags=%7B%22a%22%3A%22b%22%7D",
+    "/api/dependencies?endTs=9000000000000&lookback=9000000000000",
+    "/api/traces?service=shop&limit=x",
+    "/api/nothing",
+]
+
+
+class Program:
+    """The built program with the shim that refuses allocations."""
+
+    def __init__(self, path, folder):
+        self.path = path
+        self.shim = os.path.join(folder, "refuse.so")
+        self.count = os.path.join(folder, "count")
+        source = os.path.join(ROOT, "checks", "refuse.c")
+        subprocess.run(["cc", "-O2", "-shared", "-fPIC", "-o", self.shim, source, "-ldl"], check=True)
+
+    def run(self, words, stdin, refuse=0):
+        """Its status, its output, and how many allocations it made."""
+        env = dict(os.environ, LD_PRELOAD=self.shim, REFUSE_AT=str(refuse), REFUSE_COUNT=self.count)
+        done = subprocess.run([self.path, *words], input=stdin, stdout=subprocess.PIPE, env=env)
+        with open(self.count) as file:
+            return done.returncode, done.stdout, int(file.read())
+
+
+def sample(name):
+    with open(os.path.join(ROOT, "samples", name), "rb") as file:
+        return file.read()
+
+
+def post(body):
+    head = f"POST /api/traces HTTP/1.1\r\nContent-Type: application/x-thrift\r\nContent-Length: {len(body)}\r\n\r\n"
+    return head.encode() + body
+
+
+def get(target):
+    return f"GET {target} HTTP/1.1\r\n\r\n".encode()
+
+
+def responses(output):
+    """The output as whole responses, each by its Content-Length; None where one is cut."""
+    parts = []
+    while output:
+        head, found, rest = output.partition(b"\r\n\r\n")
+        lengths = [line.split(b":")[1] for line in head.split(b"\r\n") if line.lower().startswith(b"content-length")]
+        size = int(lengths[0]) if lengths else 0
+        if not found or len(rest) < size:
+            return None
+        parts.append(head + found + rest[:size])
+        output = rest[size:]
+    return parts
+
+
+def is_want(response):
+    return response.startswith(b"HTTP/1.1 500 ") and response.endswith(WANT)
+
+
+def get_ends(program, words, stdin, whole, number):
+    """How a run of `get` ends: "status 5", "same" or "wrong"."""
+    status, output, _ = program.run(words, stdin, number)
+    if status == 5:
+        return "status 5" if whole[1].startswith(output) else "wrong"
+    return "same" if (status, output) == whole[:2] else "wrong"
+
+
+def pipe_ends(program, requests, whole, number):
+    """How a session ends: "status 5", "a response 500", "same" or "wrong"."""
+    status, output, _ = program.run(["pipe"], b"".join(requests), number)
+    got = responses(output)
+    if got is None or status not in (0, 5):
+        return "wrong"
+    refused = [place for place, response in enumerate(got) if is_want(response)]
+    wanted = responses(whole[1])
+    if refused:
+        left = [request for place, request in enumerate(requests) if place != refused[0]]
+        wanted = responses(program.run(["pipe"], b"".join(left))[1])
+        wanted.insert(refused[0], got[refused[0]])
+    if len(refused) > 1 or got != (wanted if status == 0 else wanted[: len(got)]):
+        return "wrong"
+    return "status 5" if status == 5 else "a response 500" if refused else "same"
+
+
+def cases(program):
+    for name in ["first.hex", "shop.hex", "apache.hex", "faults.hex"]:
+        stdin = sample(name)
+        words = ["get", "--traces", "2", "1"]
+        whole = program.run(words, stdin)
+        yield f"get {name}", whole[2], lambda n, w=words, s=stdin, o=whole: get_ends(program, w, s, o, n)
+    bodies = [bytes.fromhex(line.decode()) for name in ["first.hex", "shop.hex", "apache.hex"] for line in sample(name).split()]
+    requests = [part for body in bodies for part in (post(body), get("/api/traces/1"))] + [get(target) for target in QUERIES]
+    whole = program.run(["pipe"], b"".join(requests))
+    assert whole[0] == 0 and len(responses(whole[1])) == len(requests), whole
+    yield "pipe", whole[2], lambda n: pipe_ends(program, requests, whole, n)
+
+
+def main():
+    asked = argparse.ArgumentParser(description=__doc__, formatter_class=argparse.RawDescriptionHelpFormatter)
+    asked.add_argument("--bin", default=os.path.join(ROOT, "crates/jaeger_one/out/jaeger_one"))
+    asked.add_argument("--every", type=int, default=1, help="only each N-th allocation")
+    options = asked.parse_args()
+    passed = failed = 0
+    with tempfile.TemporaryDirectory() as folder:
+        program = Program(options.bin, folder)
+        for name, count, ends in cases(program):
+            seen = collections.Counter(ends(number) for number in range(1, count + 1, options.every))
+            print(f"{name}: {count} allocations;", ", ".join(f"{kind} {seen[kind]}" for kind in sorted(seen)))
+            failed += seen["wrong"]
+            passed += seen.total() - seen["wrong"]
+    print(f"{passed} passed, {failed} failed")
+    sys.exit(1 if failed else 0)
+
+
+if __name__ == "__main__":
+    main()

@@ -1,0 +1,69 @@
+-- What is known of a session behind its call is what the laws on sessions speak of.
+use Rattle.std.proofs.Common.{◌≡◌, ℕ, Bool, List, ◌++◌, take, Option, Some, None, refl, ap}
+use Rattle.trace_model.specs.Held.{Held}
+use Rattle.direct_store.specs.Exactly.{DirectSubmits, DirectReads}
+use Rattle.http_session.specs.Sessions.{EndsAs, FailsAs, last_of, responses, exchange_due, bytes_due}
+use Rattle.http_session.specs.declared.exchanges.SessionFault.{SessionFault}
+use Rattle.pipe_session.specs.OneFunction.{NeverWants, Finished, Failed}
+use Rattle.pipe_session.proofs.Beginnings.{spoken}
+
+pub finished : (bytes before : List ℕ) (left out : Option (List ℕ)) (s t : Held) (n : ℕ) (c : Bool) (ends : EndsAs DirectSubmits DirectReads (Some bytes) left (Some before) out s t n c)
+    → NeverWants (ends.opens ++ last_of ends.ending) → (written : List ℕ) × (out ≡ Some (before ++ written)) × Finished bytes s written t n c
+finished bytes before left None s t n c ends memory = absurd ends.written
+finished bytes before left (Some after) s t n c ends memory = (
+  spoken ends.opens ends.ending,
+  ap Some ends.written,
+  record {
+    before = before;
+    left = left;
+    ends = record {
+      taken = ends.taken;
+      opens = ends.opens;
+      ending = ends.ending;
+      rest = ends.rest;
+      read = ends.read;
+      split = ends.split;
+      each = ends.each;
+      ends = ends.ends;
+      run = ends.run;
+      written = refl;
+      count = ends.count;
+      clean_is = ends.clean_is;
+    };
+    memory = memory;
+  },
+)
+
+pub failed : (bytes before : List ℕ) (left out : Option (List ℕ)) (s t : Held) (i o : Bool) (fault : SessionFault)
+    (fails : FailsAs DirectSubmits DirectReads (Some bytes) left (Some before) out s t i o fault)
+    → NeverWants (fails.opens ++ exchange_due fails.next) → (written : List ℕ) × (out ≡ Some (before ++ written)) × Failed bytes s written
+failed bytes before left None s t i o fault fails memory = absurd fails.written
+failed bytes before left (Some after) s t i o fault fails memory = (
+  responses fails.opens ++ take fault.written (bytes_due fails.next),
+  ap Some fails.written,
+  record {
+    before = before;
+    left = left;
+    held = t;
+    in_failed = i;
+    out_failed = o;
+    fault = fault;
+    fails = record {
+      taken = fails.taken;
+      opens = fails.opens;
+      next = fails.next;
+      rest = fails.rest;
+      read = fails.read;
+      split = fails.split;
+      each = fails.each;
+      next_is = fails.next_is;
+      run = fails.run;
+      within = fails.within;
+      written = refl;
+      count = fails.count;
+      cause = fails.cause;
+      spared = fails.spared;
+    };
+    memory = memory;
+  },
+)

@@ -1,0 +1,5 @@
+use Rattle.pipe_session.proofs.Contracts.{finished}
+use Rattle.pipe_session.proofs.laws.a_session_that_ended_is_finished.Goals as goal
+
+pub returns : goal.returns
+returns c = finished

@@ -1,0 +1,33 @@
+-- Sessions over a store of one's own in which memory was never wanting.
+use Rattle.std.specs.Prelude.{◌≢◌, ℕ, Bool, List, ◌++◌, All, Option, Some}
+use Rattle.trace_model.specs.Held.{Held}
+use Rattle.direct_store.specs.Exactly.{DirectSubmits, DirectReads}
+use Rattle.http_session.specs.Sessions.{Exchange, EndsAs, FailsAs, last_of, exchange_due}
+use Rattle.http_session.specs.declared.exchanges.SessionFault.{SessionFault}
+use Rattle.http_session.specs.declared.verdict.Remark.TheVariants.{NoMemory}
+use Rattle.http_session.specs.declared.verdict.Verdict.TheVariants.{Say}
+use Rattle.pipe_session.specs.Exact.{HasMemory}
+
+-- memory was wanting neither for what was asked nor for what the store answers
+pub record NeverWants (xs : List Exchange) : Type 0 where
+  pub asked : All (λ (x : Exchange). x.verdict ≢ Say NoMemory) xs
+  pub answered : HasMemory xs
+
+-- The input had these bytes and s was held, and the session ended: what it wrote, what is held then, how
+-- many requests it answered, and whether the input ended between two of them.
+pub record Finished (bytes : List ℕ) (s : Held) (written : List ℕ) (t : Held) (answered : ℕ) (clean : Bool) : Type 0 where
+  pub before : List ℕ
+  pub left : Option (List ℕ)
+  pub ends : EndsAs DirectSubmits DirectReads (Some bytes) left (Some before) (Some (before ++ written)) s t answered clean
+  pub memory : NeverWants (ends.opens ++ last_of ends.ending)
+
+-- The input had these bytes and s was held, and the session failed: what it wrote.
+pub record Failed (bytes : List ℕ) (s : Held) (written : List ℕ) : Type 0 where
+  pub before : List ℕ
+  pub left : Option (List ℕ)
+  pub held : Held
+  pub in_failed : Bool
+  pub out_failed : Bool
+  pub fault : SessionFault
+  pub fails : FailsAs DirectSubmits DirectReads (Some bytes) left (Some before) (Some (before ++ written)) s held in_failed out_failed fault
+  pub memory : NeverWants (fails.opens ++ exchange_due fails.next)

@@ -1,0 +1,49 @@
+//! Facts about sessions over a store of one's own. Each function does nothing, and its contract is the
+//! fact.
+
+ghost use Rattle.std.specs.Prelude.{◌≡◌, ◌≢◌, ℕ, Bool, List, ◌++◌, Option, Some};
+ghost use mathlib.Core.List.{IsPrefix};
+ghost use Rattle.trace_model.specs.Held.{Held};
+ghost use Rattle.direct_store.specs.Exactly.{DirectSubmits, DirectReads};
+ghost use Rattle.http_requests.specs.Asked.{Asked};
+ghost use Rattle.http_session.specs.Sessions.{EndsAs, FailsAs, last_of, exchange_due};
+ghost use Rattle.http_session.specs.declared.exchanges.SessionFault.{SessionFault as Fault};
+ghost use Rattle.http_session.specs.Verdicts.{Judges};
+ghost use Rattle.http_session.specs.declared.verdict.Remark.TheVariants.{NoMemory};
+ghost use Rattle.http_session.specs.declared.verdict.Verdict.{Verdict as Judgement};
+ghost use Rattle.http_session.specs.declared.verdict.Verdict.TheVariants.{Say};
+ghost use Rattle.pipe_session.specs.OneFunction.{NeverWants, Finished, Failed};
+
+/// What a request asks is told by the request, unless memory was wanting.
+pub fn a_request_has_one_verdict()
+    ensures { (a : Asked) (body : List ℕ) (v w : Judgement) →
+        v ≢ Say NoMemory → w ≢ Say NoMemory → Judges a body v → Judges a body w → v ≡ w }
+{}
+
+/// What `pipe` promises of a session that ended is what the law below speaks of, where the bytes of the
+/// devices are known and memory was not wanting.
+pub fn a_session_that_ended_is_finished()
+    ensures { (bytes before : List ℕ) (left out : Option (List ℕ)) (s t : Held) (n : ℕ) (c : Bool) (ends : EndsAs DirectSubmits DirectReads (Some bytes) left (Some before) out s t n c) →
+        NeverWants (ends.opens ++ last_of ends.ending) → (written : List ℕ) × (out ≡ Some (before ++ written)) × Finished bytes s written t n c }
+{}
+
+/// The same of a session that failed.
+pub fn a_session_that_failed_is_failed()
+    ensures { (bytes before : List ℕ) (left out : Option (List ℕ)) (s t : Held) (i o : Bool) (fault : Fault) (fails : FailsAs DirectSubmits DirectReads (Some bytes) left (Some before) out s t i o fault) →
+        NeverWants (fails.opens ++ exchange_due fails.next) → (written : List ℕ) × (out ≡ Some (before ++ written)) × Failed bytes s written }
+{}
+
+/// The bytes that a session writes are one function of the bytes of the input and the entries held at the
+/// start with their limits, however the bytes were read and written. So are the entries held at last, the
+/// count of responses, and whether the input ended between two requests.
+pub fn bytes_written_are_one_function()
+    ensures { (bytes : List ℕ) (s : Held) (w v : List ℕ) (t u : Held) (n m : ℕ) (c d : Bool) →
+        Finished bytes s w t n c → Finished bytes s v u m d → (w ≡ v) × (t ≡ u) × (n ≡ m) × (c ≡ d) }
+{}
+
+/// A session that fails, by a device or for want of memory elsewhere, has written a beginning of what one
+/// that ends writes.
+pub fn a_failed_session_wrote_a_beginning()
+    ensures { (bytes : List ℕ) (s : Held) (w v : List ℕ) (t : Held) (n : ℕ) (c : Bool) →
+        Failed bytes s w → Finished bytes s v t n c → IsPrefix w v }
+{}
