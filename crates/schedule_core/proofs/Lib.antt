@@ -1,0 +1,11 @@
+pub mod Beginnings
+pub mod Numbering
+pub mod StepCases
+pub mod Fitting
+pub mod Growth
+pub mod Looks
+pub mod Jobs
+pub mod Fronts
+pub mod Staging
+pub mod Stepping
+pub mod Playing

@@ -1,0 +1,5 @@
+use Rattle.schedule_core.proofs.Growth.{each_answer_is_of}
+use Rattle.schedule_core.proofs.laws.each_answer_is_of_the_last_history.Goals as goal
+
+pub returns : goal.returns
+returns c = each_answer_is_of

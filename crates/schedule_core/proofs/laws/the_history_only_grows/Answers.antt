@@ -1,0 +1,5 @@
+use Rattle.schedule_core.proofs.Growth.{history_grows}
+use Rattle.schedule_core.proofs.laws.the_history_only_grows.Goals as goal
+
+pub returns : goal.returns
+returns c = history_grows

@@ -1,0 +1,15 @@
+use Rattle.std.proofs.Common.{sym, subst, [], replicate}
+use Rattle.schedule_core.specs.Copied.{Copied}
+use Rattle.schedule_core.specs.Queued.{Queued}
+use Rattle.schedule_core.specs.Staged.{IsStaged}
+use Rattle.schedule_core.proofs.Staging.{staged_first}
+use Rattle.schedule_core.proofs.stage.Stage.new.Goals as goal
+
+pub invariant_of-result : goal.invariant_of-result
+invariant_of-result c =
+    let copies : Copied = record { limits = c.args.limits; before = []; history = []; pending = [] } in
+    let seats : Queued = record { waiting = []; numbers = replicate 64 0 } in
+    subst (λ k. IsStaged k c.in_ok-new.field-0 c.new-3.result.items c.in_ok-new-2.field-0) (sym c.new.ensures)
+    (subst (λ q. IsStaged copies q c.new-3.result.items c.in_ok-new-2.field-0) (sym c.in_ok-new.ensures)
+    (subst (λ fronts. IsStaged copies seats fronts c.in_ok-new-2.field-0) (sym c.new-3.ensures.items)
+    (subst (λ places. IsStaged copies seats [] places) (sym c.in_ok-new-2.ensures) (staged_first c.args.limits 64))))

@@ -1,0 +1,32 @@
+-- What is accepted, and how much of it two copies of a store hold.
+use Rattle.std.specs.Prelude.{◌≡◌, [], ◌∷◌, ◌++◌, List}
+use mathlib.Core.List.{IsPrefix}
+use Rattle.trace_model.specs.declared.entry.Entry.{Entry}
+use Rattle.trace_model.specs.declared.limits.Limits.{Limits}
+use Rattle.trace_model.specs.Held.{Held}
+use Rattle.trace_model.specs.Histories.{IsLegal}
+
+-- One copy holds the history, the other one what it held before; pending is what else is accepted.
+pub record Copied : Type 0 where
+  pub limits : Limits
+  pub before : List Entry
+  pub history : List Entry
+  pub pending : List Entry
+
+-- both copies hold beginnings of what is accepted
+pub record IsCopied (accepted shown spare : Held) : Type 0 where
+  pub limits_shown : shown.limits ≡ accepted.limits
+  pub limits_spare : spare.limits ≡ accepted.limits
+  pub begins_shown : IsPrefix shown.entries accepted.entries
+  pub begins_spare : IsPrefix spare.entries accepted.entries
+  pub legal : IsLegal accepted.limits accepted.entries
+
+abbrev pub all_of : Copied → Held
+all_of c = record { limits = c.limits; entries = c.history ++ c.pending }
+
+abbrev pub with_pending : Copied → Entry → Copied
+with_pending c e = record c { pending = c.pending ++ e ∷ [] }
+
+-- the copies have changed their parts, and the new one holds all
+abbrev pub turned : Copied → Copied
+turned c = record { limits = c.limits; before = c.history; history = c.history ++ c.pending; pending = [] }

@@ -1,0 +1,160 @@
+-- The stepped machine. No copies, indexes or threads stand in it.
+use Rattle.std.specs.Prelude.{ℕ, ◌+◌, ◌-◌, Bool, true, false, List, [], ◌∷◌, ◌++◌, length, take, Option, Some, None, slice_set, replicate, if◌then◌else◌, nat_lt, nat_le, slice_get}
+use Rattle.std.specs.List.{position}
+use Rattle.std.specs.Option.{option_map_or}
+use Rattle.jaeger_model.specs.declared.batch.Batch.{Batch}
+use Rattle.trace_model.specs.declared.entry.Entry.{Entry}
+use Rattle.trace_model.specs.declared.limits.Limits.{Limits}
+use Rattle.trace_model.specs.declared.query.Query.{Query}
+use Rattle.trace_model.specs.declared.refusal.Refusal.{Refusal}
+use Rattle.trace_model.specs.declared.refusal.Refusal.TheVariants.{JournalFull}
+use Rattle.trace_model.specs.Histories.{span_count}
+use Rattle.trace_model.specs.Refusals.{has_room}
+use Rattle.trace_model.specs.Answers.{answer}
+use Rattle.schedule_core.specs.declared.step.Step.{Step}
+use Rattle.schedule_core.specs.declared.step.Step.TheVariants as ask
+use Rattle.schedule_core.specs.declared.outcome.Outcome.{Outcome}
+use Rattle.schedule_core.specs.declared.outcome.Outcome.TheVariants.{Put, Taken, Refused, Idle, Published, Held, Entered, Answered, Learnt, Left, Inside, Outside, Unknown}
+
+-- the list that a reader entered, and how many publishes had been done then
+pub record Visit : Type 0 where
+  pub list : List Entry
+  pub publishes : ℕ
+
+-- the longest list that a reader has seen, and its visit while it is inside
+pub record Reader : Type 0 where
+  pub seen : List Entry
+  pub inside : Option Visit
+
+-- Jobs wait and are taken into pending; a publish makes the history of history and pending. The front of a
+-- publish is how many entries the history had then. A seat's last number is 0 at first.
+pub record Machine : Type 0 where
+  pub limits : Limits
+  pub waiting : List Entry
+  pub pending : List Entry
+  pub history : List Entry
+  pub fronts : List ℕ
+  pub numbers : List ℕ
+  pub readers : List Reader
+
+abbrev pub new_machine : Limits → Machine
+new_machine limits = record {
+  limits = limits;
+  waiting = [];
+  pending = [];
+  history = [];
+  fronts = [];
+  numbers = replicate 64 0;
+  readers = replicate 64 (record { seen = []; inside = None });
+}
+
+pub record Stepped : Type 0 where
+  pub outcome : Outcome
+  pub machine : Machine
+
+-- nothing has changed
+abbrev pub stays : Machine → Outcome → Stepped
+stays m o = record { outcome = o; machine = m }
+
+-- what is accepted: history and pending
+abbrev pub accepted : Machine → List Entry
+accepted m = m.history ++ m.pending
+
+-- ---- jobs
+
+abbrev pub handed_in : Machine → ℕ → Batch → ℕ → Stepped
+handed_in m seat batch number = record {
+  outcome = Put number;
+  machine = record m { waiting = m.waiting ++ record { seat = seat; number = number; batch = batch } ∷ []; numbers = slice_set m.numbers seat number };
+}
+
+-- by the seat's last number, if there is such a seat
+abbrev pub puts : Machine → ℕ → Batch → Option ℕ → Stepped
+puts m seat batch None = stays m Unknown
+puts m seat batch (Some last) = if nat_lt last 18446744073709551615 then handed_in m seat batch (last + 1) else stays m Unknown
+
+abbrev pub full : Machine → Refusal
+full m = JournalFull (length (accepted m)) (span_count (accepted m))
+
+-- the job at the front goes to pending if no limit is passed by history and pending with it, and is dropped otherwise
+abbrev pub judged : Machine → Entry → List Entry → Bool → Stepped
+judged m job rest true = record { outcome = Taken job.seat job.number; machine = record m { waiting = rest; pending = m.pending ++ job ∷ [] } }
+judged m job rest false = record { outcome = Refused (full m); machine = record m { waiting = rest } }
+
+-- by the jobs that wait
+abbrev pub takes : Machine → List Entry → Stepped
+takes m [] = stays m Idle
+takes m (job ∷ rest) = judged m job rest (has_room m.limits (accepted m) job)
+
+-- ---- publishes
+
+-- the reader is inside since before the last of so many publishes
+abbrev pub holds : ℕ → Reader → Bool
+holds publishes reader = option_map_or (λ (v : Visit). nat_lt v.publishes publishes) reader.inside false
+
+abbrev pub published : Machine → Machine
+published m = record m { history = accepted m; pending = []; fronts = m.fronts ++ length (accepted m) ∷ [] }
+
+-- by the first reader that holds it, if one does
+abbrev pub publishes_by : Machine → Option ℕ → Stepped
+publishes_by m (Some first) = stays m (Held first)
+publishes_by m None = record { outcome = Published (length (accepted m)); machine = published m }
+
+abbrev pub publishes : Machine → Stepped
+publishes m = publishes_by m (position (holds (length m.fronts)) m.readers)
+
+-- ---- readers
+
+abbrev pub with_reader : Machine → ℕ → Reader → Machine
+with_reader m r reader = record m { readers = slice_set m.readers r reader }
+
+abbrev pub enters : Machine → ℕ → Option Visit → Stepped
+enters m r (Some v) = stays m Inside
+enters m r None = record {
+  outcome = Entered (length m.history);
+  machine = with_reader m r (record { seen = m.history; inside = Some (record { list = m.history; publishes = length m.fronts }) });
+}
+
+abbrev pub reads : Machine → Query → Option Visit → Stepped
+reads m query None = stays m Outside
+reads m query (Some v) = stays m (Answered (length v.list) (answer m.limits v.list query))
+
+abbrev pub longer : List Entry → List Entry → List Entry
+longer a b = if nat_le (length a) (length b) then b else a
+
+abbrev pub learns_list : Machine → ℕ → List Entry → Stepped
+learns_list m r list = record { outcome = Learnt (length list); machine = with_reader m r (record { seen = list; inside = None }) }
+
+abbrev pub learns : Machine → ℕ → Reader → ℕ → Stepped
+learns m r reader front = option_map_or (λ v. stays m Inside) reader.inside (learns_list m r (longer reader.seen (take front m.history)))
+
+abbrev pub leaves : Machine → ℕ → Reader → Stepped
+leaves m r reader = option_map_or (λ v. record { outcome = Left; machine = with_reader m r (record reader { inside = None }) }) reader.inside (stays m Outside)
+
+-- a reader's step, if there is such a reader
+abbrev pub by_reader : Machine → ℕ → (Reader → Stepped) → Stepped
+by_reader m r then_do = option_map_or then_do (slice_get m.readers r) (stays m Unknown)
+
+-- the front of a publish, counted from 1
+abbrev pub front_of : Machine → ℕ → Option ℕ
+front_of m k = if nat_lt 0 k then slice_get m.fronts (k - 1) else None
+
+-- ---- steps
+
+abbrev pub step : Machine → Step → Stepped
+step m (ask.Put seat batch) = puts m seat batch (slice_get m.numbers seat)
+step m ask.Take = takes m m.waiting
+step m ask.Publish = publishes m
+step m (ask.Enter r) = by_reader m r (λ reader. enters m r reader.inside)
+step m (ask.Read r query) = by_reader m r (λ reader. reads m query reader.inside)
+step m (ask.Learn r k) = by_reader m r (λ reader. option_map_or (learns m r reader) (front_of m k) (stays m Unknown))
+step m (ask.Leave r) = by_reader m r (leaves m r)
+
+-- the outcomes of a list of steps
+abbrev pub outcomes : Machine → List Step → List Outcome
+outcomes m [] = []
+outcomes m (s ∷ ss) = (step m s).outcome ∷ outcomes (step m s).machine ss
+
+abbrev pub at_last : Machine → List Step → Machine
+at_last m [] = m
+at_last m (s ∷ ss) = at_last (step m s).machine ss

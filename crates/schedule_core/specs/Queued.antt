@@ -1,0 +1,24 @@
+-- Jobs that wait, and the last number of each seat.
+use Rattle.std.specs.Prelude.{ℕ, ◌+◌, List, [], ◌∷◌, ◌++◌, Option, Some, None, if◌then◌else◌, nat_lt, slice_get, slice_set}
+use Rattle.jaeger_model.specs.declared.batch.Batch.{Batch}
+use Rattle.trace_model.specs.declared.entry.Entry.{Entry}
+
+pub record Queued : Type 0 where
+  pub waiting : List Entry
+  pub numbers : List ℕ
+
+-- the number after the seat's last one; none where there is no such seat, or its numbers are used up
+abbrev pub number_after : Option ℕ → Option ℕ
+number_after None = None
+number_after (Some last) = if nat_lt last 18446744073709551615 then Some (last + 1) else None
+
+abbrev pub next_number : List ℕ → ℕ → Option ℕ
+next_number numbers seat = number_after (slice_get numbers seat)
+
+-- the job waits behind the others, where it has a number
+abbrev pub queued : Queued → ℕ → Batch → Option ℕ → Queued
+queued q seat batch None = q
+queued q seat batch (Some number) = record {
+  waiting = q.waiting ++ record { seat = seat; number = number; batch = batch } ∷ [];
+  numbers = slice_set q.numbers seat number;
+}

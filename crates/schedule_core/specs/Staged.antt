@@ -1,0 +1,41 @@
+-- The machine over two copies.
+use Rattle.std.specs.Prelude.{ℕ, ◌≤◌, Bool, true, false, List, ◌++◌, length, map}
+use Rattle.std.specs.List.{All}
+use Rattle.trace_model.specs.declared.entry.Entry.{Entry}
+use Rattle.trace_model.specs.declared.refusal.Refusal.TheVariants.{JournalFull}
+use Rattle.trace_model.specs.Histories.{span_count}
+use Rattle.schedule_core.specs.declared.outcome.Outcome.{Outcome}
+use Rattle.schedule_core.specs.declared.outcome.Outcome.TheVariants.{Taken, Refused}
+use Rattle.schedule_core.specs.declared.readers.Place.{Place}
+use Rattle.schedule_core.specs.Machine.{Machine}
+use Rattle.schedule_core.specs.Numbering.{IsNumbered}
+use Rattle.schedule_core.specs.Copied.{Copied, with_pending}
+use Rattle.schedule_core.specs.Queued.{Queued}
+use Rattle.schedule_core.specs.Standing.{Stands, reader_at}
+
+-- the machine that is kept so
+abbrev pub machine_of : Copied → Queued → List ℕ → List Place → Machine
+machine_of c q fronts places = record {
+  limits = c.limits;
+  waiting = q.waiting;
+  pending = c.pending;
+  history = c.history;
+  fronts = fronts;
+  numbers = q.numbers;
+  readers = map (reader_at c.history) places;
+}
+
+pub record IsStaged (c : Copied) (q : Queued) (fronts : List ℕ) (places : List Place) : Type 0 where
+  pub numbered : IsNumbered (c.history ++ c.pending) q.waiting q.numbers
+  pub within : All (λ f. f ≤ length c.history) fronts
+  pub standing : All (Stands c.before c.history (length fronts)) places
+
+-- what came of a job, and the copies after it
+pub record Verdict : Type 0 where
+  pub outcome : Outcome
+  pub copies : Copied
+
+-- by whether there is room
+abbrev pub verdict : Copied → Entry → Bool → Verdict
+verdict c e true = record { outcome = Taken e.seat e.number; copies = with_pending c e }
+verdict c e false = record { outcome = Refused (JournalFull (length (c.history ++ c.pending)) (span_count (c.history ++ c.pending))); copies = c }

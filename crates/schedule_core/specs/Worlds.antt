@@ -1,0 +1,19 @@
+-- The machine, as far as memory was found.
+use Rattle.std.specs.Prelude.{◌≡◌, ◌⊎◌, List, ◌++◌, length, replicate, Option, Some, None}
+use Rattle.trace_model.specs.declared.refusal.Refusal.TheVariants.{NoMemory}
+use Rattle.schedule_core.specs.declared.step.Step.{Step}
+use Rattle.schedule_core.specs.declared.outcome.Outcome.{Outcome}
+use Rattle.schedule_core.specs.declared.outcome.Outcome.TheVariants.{Refused}
+use Rattle.schedule_core.specs.Machine.{Machine, step, outcomes}
+
+-- None from where no memory was found: then every step is refused for that
+abbrev pub Steps : Option Machine → Step → Outcome → Option Machine → Type 0
+Steps None s o n = (o ≡ Refused NoMemory) × (n ≡ None)
+Steps (Some m) s o n = ((o ≡ (step m s).outcome) × (n ≡ Some (step m s).machine)) ⊎ ((o ≡ Refused NoMemory) × (n ≡ None))
+
+-- the outcomes are the machine's; where memory was wanting, those of the steps before, and all others are refused for that
+pub record PlaysAs (m : Machine) (steps : List Step) (os : List Outcome) : Type 0 where
+  pub played : List Step
+  pub rest : List Step
+  pub whole : steps ≡ played ++ rest
+  pub told : os ≡ outcomes m played ++ replicate (length rest) (Refused NoMemory)

@@ -1,0 +1,126 @@
+//! What is accepted, and two copies of a store that hold beginnings of it. One copy is shown; the other
+//! is brought up to date, and they change their parts.
+
+ghost use Rattle.std.specs.Prelude.{◌≡◌, ◌++◌, [], length, map, None, OnOk, OnErr, IfOk, IfErr};
+ghost use Rattle.std.specs.Arc.{arc_value};
+ghost use mathlib.Core.List.{IsPrefix};
+ghost use Rattle.trace_model.specs.Answers.{answer};
+ghost use Rattle.trace_model.specs.Histories.{IsLegal};
+ghost use Rattle.trace_model.specs.Refusals.{followed_by};
+ghost use Rattle.trace_model.specs.declared.refusal.Refusal.TheVariants.{NoMemory};
+ghost use Rattle.arrival_journal.specs.Journals.{refusal_by, turned_away_by};
+ghost use Rattle.schedule_core.specs.Copied.{all_of, turned, with_pending};
+
+use arrival_journal::Journal;
+use span_store::SpanStore;
+use std::alloc::{AllocError, Global};
+use std::marker::Model;
+use std::sync::Arc;
+use trace_model::{Answer, Entry, Limits, Query, Refusal};
+
+/// Two copies of a store, and what is accepted and not in them yet.
+#[derive(Drop)]
+pub(crate) struct Copies {
+    /// The history, and what is pending behind it.
+    accepted: Journal,
+    /// The store of the history.
+    shown: SpanStore,
+    /// The store of the history before the last publish.
+    spare: SpanStore,
+}
+
+impl Model for Copies {
+    ghost use Rattle.std.specs.Prelude.{length, drop};
+    ghost use Rattle.schedule_core.specs.Copied.{Copied, IsCopied};
+
+    ghost Value = { Copied };
+
+    ghost view = { λ s. record { limits = s.accepted.held.limits; before = s.spare.entries; history = s.shown.entries; pending = drop (length s.shown.entries) s.accepted.held.entries } };
+
+    ghost invariant = { λ s. IsCopied s.accepted.held s.shown s.spare };
+}
+
+impl Copies {
+    /// Two empty copies.
+    pub fn new(alloc: Global, limits: Limits) -> Self
+        ensures { result ≡ record { limits = limits; before = []; history = []; pending = [] } }
+    {
+        let accepted = Journal::new(alloc, limits);
+        let _legal = accepted.len();
+        Copies {
+            accepted,
+            shown: SpanStore::open(alloc, limits),
+            spare: SpanStore::open(alloc, limits),
+        }
+    }
+
+    /// How many entries the history has.
+    pub fn front(&self) -> u64
+        ensures { result ≡ length self.now.history }
+    {
+        self.shown.len()
+    }
+
+    /// Accepts an entry, which is pending then, or refuses it and changes nothing.
+    pub fn admit(&mut self, entry: Arc<Entry>) -> Result<(), Refusal>
+        ensures admissible { OnOk result (refusal_by (all_of self.old) (arc_value entry) ≡ None) }
+        ensures admitted { OnOk result (self.new ≡ with_pending self.old (arc_value entry)) }
+        ensures unchanged { OnErr result (self.new ≡ self.old) }
+        ensures reason { IfErr result (λ why. why ≡ turned_away_by (all_of self.old) (arc_value entry)) }
+    {
+        self.accepted.admit(entry)?;
+        Ok(())
+    }
+
+    /// Makes all that is accepted the history. Where no memory was found the history stays.
+    pub fn publish(&mut self) -> Result<(), AllocError>
+        ensures turned { OnOk result (self.new ≡ turned self.old) }
+        ensures stays { OnErr result (self.new ≡ record self.old { before = self.new.before }) }
+    {
+        catch_up(&mut self.spare, self.accepted.entries())?;
+        std::mem::swap(&mut self.shown, &mut self.spare);
+        Ok(())
+    }
+
+    /// The answer at the history.
+    pub fn answer(&self, query: &Query) -> Result<Answer, Refusal>
+        ensures answer { IfOk result (λ a. a ≡ answer self.now.limits self.now.history query.now) }
+        ensures reason { IfErr result (λ why. why ≡ NoMemory) }
+    {
+        self.shown.answer(query)
+    }
+
+    /// The answer at the history before the last publish.
+    pub fn answer_before(&self, query: &Query) -> Result<Answer, Refusal>
+        ensures answer { IfOk result (λ a. a ≡ answer self.now.limits self.now.before query.now) }
+        ensures reason { IfErr result (λ why. why ≡ NoMemory) }
+    {
+        self.spare.answer(query)
+    }
+}
+
+/// Applies the entry to the store, which is unchanged where that fails.
+fn add(store: &mut SpanStore, entry: &Arc<Entry>) -> Result<(), AllocError>
+    ensures added { OnOk result (store.new ≡ followed_by store.old (arc_value entry.now)) }
+    ensures unchanged { OnErr result (store.new ≡ store.old) }
+{
+    match store.apply(Arc::try_clone(entry)?) {
+        Ok(_) => Ok(()),
+        Err(_) => Err(AllocError),
+    }
+}
+
+/// Brings the store, which holds the first of the entries, up to all of them, as far as memory is found.
+#[tactic(auto, using(crate::proofs::Beginnings::joined))]
+fn catch_up(store: &mut SpanStore, entries: &[Arc<Entry>]) -> Result<(), AllocError>
+    requires begins { IsPrefix store.old.entries (map arc_value entries.now) }
+    ensures limits { store.new.limits ≡ store.old.limits }
+    ensures all { OnOk result (store.new.entries ≡ map arc_value entries.now) }
+    ensures begins { IsPrefix store.new.entries (map arc_value entries.now) }
+{
+    let held = store.len() as usize;
+    for entry in &entries[held..] {
+        add(store, entry)?;
+    }
+    Ok(())
+}

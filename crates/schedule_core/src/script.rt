@@ -1,0 +1,26 @@
+ghost use Rattle.std.specs.Prelude.{IfOk};
+ghost use Rattle.schedule_core.specs.Machine.{new_machine};
+ghost use Rattle.schedule_core.specs.Worlds.{PlaysAs};
+
+use crate::outcome::Outcome;
+use crate::step::Step;
+use crate::world::World;
+use std::alloc::{AllocError, Global};
+use trace_model::Limits;
+
+/// The outcomes of the steps, in order, from a machine in which nothing has happened.
+///
+/// # Errors
+///
+/// No memory was found for the list of outcomes. A step that finds none, and each later one, is refused by
+/// its outcome.
+pub fn play(alloc: Global, steps: Vec<Step>, limits: Limits) -> Result<Vec<Outcome>, AllocError>
+    ensures { IfOk result (λ outcomes. PlaysAs (new_machine limits) steps.items outcomes.items) }
+{
+    let mut world = World::new(alloc, limits);
+    let mut outcomes = Vec::new(alloc);
+    for step in steps {
+        outcomes.push(world.step(step))?;
+    }
+    Ok(outcomes)
+}

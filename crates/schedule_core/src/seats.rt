@@ -1,0 +1,83 @@
+//! Seats and the jobs that they have handed in.
+
+ghost use Rattle.std.specs.Prelude.{◌≡◌, [], ◌∷◌, ◌++◌, IfOk, MatchOption, OnErr, replicate};
+ghost use Rattle.std.specs.Arc.{arc_value};
+ghost use Rattle.schedule_core.specs.Queued.{next_number, queued};
+
+use jaeger_model::Batch;
+use std::alloc::{AllocError, Global};
+use std::collections::VecDeque;
+use std::marker::Model;
+use std::sync::Arc;
+use trace_model::Entry;
+
+/// How many seats there are.
+const SEATS: usize = 64;
+
+/// The jobs that wait, and the last number of each seat.
+#[derive(Drop)]
+pub(crate) struct Seats {
+    alloc: Global,
+    waiting: VecDeque<Arc<Entry>>,
+    numbers: Vec<u64>,
+}
+
+impl Model for Seats {
+    ghost use Rattle.std.specs.Prelude.{◌≡◌, map, length};
+    ghost use Rattle.std.specs.Arc.{arc_value};
+    ghost use Rattle.schedule_core.specs.Queued.{Queued};
+
+    ghost Value = { Queued };
+
+    ghost view = { λ s. record { waiting = map arc_value s.waiting.items; numbers = s.numbers.items } };
+
+    ghost invariant = { λ s. length s.numbers.items ≡ 64 };
+}
+
+impl Seats {
+    /// Seats that have handed in nothing.
+    pub fn new(alloc: Global) -> Result<Seats, AllocError>
+        ensures { IfOk result (λ s. s ≡ record { waiting = []; numbers = replicate 64 0 }) }
+    {
+        Ok(Seats {
+            alloc,
+            waiting: VecDeque::new(alloc),
+            numbers: vec![in alloc; 0u64; SEATS]?,
+        })
+    }
+
+    /// The number after the seat's last one. There is none where there is no such seat, or its numbers
+    /// are used up.
+    fn next_number(&self, seat: u32) -> Option<u64>
+        ensures { result ≡ next_number self.now.numbers seat }
+    {
+        let last = *self.numbers.get(seat as usize)?;
+        last.checked_add(1)
+    }
+
+    /// Puts the batch, as the seat's next job, behind those that wait, and gives its number.
+    pub fn hand_in(&mut self, seat: u32, batch: Batch) -> Result<Option<u64>, AllocError>
+        ensures number { IfOk result (λ number. number ≡ next_number self.old.numbers seat) }
+        ensures queued { IfOk result (λ number. self.new ≡ queued self.old seat batch number) }
+        ensures unchanged { OnErr result (self.new ≡ self.old) }
+    {
+        let Some(number) = self.next_number(seat) else {
+            return Ok(None);
+        };
+        let job = Entry {
+            seat: seat as u16,
+            number,
+            batch,
+        };
+        self.waiting.push_back(Arc::new(self.alloc, job)?)?;
+        self.numbers[seat as usize] = number;
+        Ok(Some(number))
+    }
+
+    /// Takes the job that waits longest.
+    pub fn take(&mut self) -> Option<Arc<Entry>>
+        ensures { MatchOption result ((self.old.waiting ≡ []) × (self.new ≡ self.old)) (λ job. self.old ≡ record self.new { waiting = arc_value job ∷ self.new.waiting }) }
+    {
+        self.waiting.pop_front()
+    }
+}

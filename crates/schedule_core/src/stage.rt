@@ -1,0 +1,228 @@
+//! The machine over two copies. Readers enter the one that is shown; the other one is turned to the
+//! readers by a publish, which no reader may hold up.
+
+ghost use Rattle.std.specs.Prelude.{◌≡◌, ◌<◌, IfOk, OnErr, length, slice_get, take};
+ghost use Rattle.std.specs.Arc.{arc_value};
+ghost use Rattle.trace_model.specs.Answers.{answer};
+ghost use Rattle.trace_model.specs.Histories.{last_number};
+ghost use Rattle.trace_model.specs.Refusals.{has_room};
+ghost use Rattle.schedule_core.specs.Copied.{all_of};
+ghost use Rattle.schedule_core.specs.Staged.{verdict};
+ghost use Rattle.schedule_core.specs.Standing.{Visits};
+ghost use Rattle.schedule_core.specs.declared.step.Step.TheVariants.{Enter, Leave, Learn, Read};
+ghost use Rattle.schedule_core.specs.Machine.{by_reader, enters, front_of, leaves, learns, new_machine, publishes, puts, reads, stays, step as stepped, takes};
+
+use crate::copies::Copies;
+use crate::outcome::Outcome;
+use crate::readers::{Inside, Place, Readers};
+use crate::seats::Seats;
+use crate::step::Step;
+use jaeger_model::Batch;
+use std::alloc::{AllocError, Global};
+use std::marker::Model;
+use std::sync::Arc;
+use trace_model::{Answer, Entry, Limits, Query, Refusal};
+
+/// The machine with the two copies that it keeps.
+#[derive(Drop)]
+pub(crate) struct Stage {
+    copies: Copies,
+    seats: Seats,
+    /// The front of each publish.
+    fronts: Vec<u64>,
+    readers: Readers,
+}
+
+impl Model for Stage {
+    ghost use Rattle.schedule_core.specs.Machine.{Machine};
+    ghost use Rattle.schedule_core.specs.Staged.{IsStaged, machine_of};
+
+    ghost Value = { Machine };
+
+    ghost view = { λ s. machine_of s.copies s.seats s.fronts.items s.readers };
+
+    ghost invariant = { λ s. IsStaged s.copies s.seats s.fronts.items s.readers };
+}
+
+impl Stage {
+    /// A machine in which nothing has happened.
+    pub fn new(alloc: Global, limits: Limits) -> Result<Stage, AllocError>
+        ensures { IfOk result (λ s. s ≡ new_machine limits) }
+    {
+        Ok(Stage {
+            copies: Copies::new(alloc, limits),
+            seats: Seats::new(alloc)?,
+            fronts: Vec::new(alloc),
+            readers: Readers::new(alloc)?,
+        })
+    }
+
+    fn put(&mut self, seat: u32, batch: Batch) -> Result<Outcome, AllocError>
+        ensures { IfOk result (λ o. record { outcome = o; machine = self.new } ≡ puts self.old seat batch (slice_get self.old.numbers seat)) }
+    {
+        match self.seats.hand_in(seat, batch)? {
+            Some(number) => Ok(Outcome::Put { number }),
+            None => Ok(Outcome::Unknown),
+        }
+    }
+
+    fn take(&mut self) -> Result<Outcome, AllocError>
+        ensures { IfOk result (λ o. record { outcome = o; machine = self.new } ≡ takes self.old self.old.waiting) }
+    {
+        let Some(job) = self.seats.take() else {
+            return Ok(Outcome::Idle);
+        };
+        judge(&mut self.copies, job)
+    }
+
+    fn publish(&mut self) -> Result<Outcome, AllocError>
+        ensures { IfOk result (λ o. record { outcome = o; machine = self.new } ≡ publishes self.old) }
+    {
+        if let Some(reader) = self.readers.first_held(self.publishes()) {
+            return Ok(Outcome::Held { reader });
+        }
+        self.fronts.reserve(1)?;
+        self.copies.publish()?;
+        let front = self.copies.front();
+        self.fronts.push_reserved(front);
+        Ok(Outcome::Published { front })
+    }
+
+    /// How many publishes have been done.
+    fn publishes(&self) -> u64
+        ensures { result ≡ length self.now.fronts }
+    {
+        self.fronts.len() as u64
+    }
+
+    fn enter(&mut self, reader: u32) -> Outcome
+        ensures { record { outcome = result; machine = self.new } ≡ by_reader self.old reader (λ r. enters self.old reader r.inside) }
+    {
+        let Some(place) = self.readers.get(reader) else {
+            return Outcome::Unknown;
+        };
+        if place.inside.is_some() {
+            return Outcome::Inside;
+        }
+        let front = self.copies.front();
+        let inside = Inside {
+            front,
+            publishes: self.publishes(),
+        };
+        self.readers.set(
+            reader,
+            Place {
+                seen: front,
+                inside: Some(inside),
+            },
+        );
+        Outcome::Entered { front }
+    }
+
+    fn read(&self, reader: u32, query: &Query) -> Result<Outcome, AllocError>
+        ensures { IfOk result (λ o. stays self.now o ≡ by_reader self.now reader (λ r. reads self.now query.now r.inside)) }
+    {
+        let Some(place) = self.readers.get(reader) else {
+            return Ok(Outcome::Unknown);
+        };
+        let Some(inside) = place.inside else {
+            return Ok(Outcome::Outside);
+        };
+        let answer = look(&self.copies, self.publishes(), inside, query)?;
+        Ok(Outcome::Answered {
+            front: inside.front,
+            answer,
+        })
+    }
+
+    /// The front of a publish, the first one being 1.
+    fn front_of(&self, publish: u32) -> Option<u64>
+        ensures { result ≡ front_of self.now publish }
+    {
+        let before = (publish as usize).checked_sub(1)?;
+        self.fronts.get(before).copied()
+    }
+
+    fn learn(&mut self, reader: u32, publish: u32) -> Outcome
+        ensures { record { outcome = result; machine = self.new } ≡ stepped self.old (Learn reader publish) }
+    {
+        let Some(place) = self.readers.get(reader) else {
+            return Outcome::Unknown;
+        };
+        let Some(front) = self.front_of(publish) else {
+            return Outcome::Unknown;
+        };
+        if place.inside.is_some() {
+            return Outcome::Inside;
+        }
+        let seen = place.seen.max(front);
+        self.readers.set(reader, Place { seen, inside: None });
+        Outcome::Learnt { front: seen }
+    }
+
+    fn leave(&mut self, reader: u32) -> Outcome
+        ensures { record { outcome = result; machine = self.new } ≡ stepped self.old (Leave reader) }
+    {
+        let Some(place) = self.readers.get(reader) else {
+            return Outcome::Unknown;
+        };
+        if place.inside.is_none() {
+            return Outcome::Outside;
+        }
+        self.readers.set(
+            reader,
+            Place {
+                seen: place.seen,
+                inside: None,
+            },
+        );
+        Outcome::Left
+    }
+
+    /// Makes a step.
+    pub fn step(&mut self, step: Step) -> Result<Outcome, AllocError>
+        ensures { IfOk result (λ o. record { outcome = o; machine = self.new } ≡ stepped self.old step) }
+    {
+        match step {
+            Step::Put { seat, batch } => self.put(seat, batch),
+            Step::Take => self.take(),
+            Step::Publish => self.publish(),
+            Step::Enter { reader } => Ok(self.enter(reader)),
+            Step::Read { reader, query } => self.read(reader, &query),
+            Step::Learn { reader, publish } => Ok(self.learn(reader, publish)),
+            Step::Leave { reader } => Ok(self.leave(reader)),
+        }
+    }
+}
+
+/// Accepts a job whose number is above those of its seat, or refuses it where a limit would be passed.
+fn judge(copies: &mut Copies, job: Arc<Entry>) -> Result<Outcome, AllocError>
+    requires above { last_number (arc_value job).seat (all_of copies.old).entries < (arc_value job).number }
+    ensures verdict { IfOk result (λ o. record { outcome = o; copies = copies.new } ≡ verdict copies.old (arc_value job) (has_room copies.old.limits (all_of copies.old).entries (arc_value job))) }
+    ensures unchanged { OnErr result (copies.new ≡ copies.old) }
+{
+    let (seat, number) = (job.seat, job.number);
+    match copies.admit(job) {
+        Ok(()) => Ok(Outcome::Taken { seat, number }),
+        Err(Refusal::NoMemory) => Err(AllocError),
+        Err(why) => Ok(Outcome::Refused(why)),
+    }
+}
+
+/// The answer at the list that a reader entered, which one of the copies holds.
+fn look(
+    copies: &Copies,
+    publishes: u64,
+    inside: Inside,
+    query: &Query,
+) -> Result<Answer, AllocError>
+    requires visits { Visits copies.now.before copies.now.history publishes inside }
+    ensures { IfOk result (λ a. a ≡ answer copies.now.limits (take inside.front copies.now.history) query.now) }
+{
+    let answered = if inside.publishes == publishes {
+        copies.answer(query)
+    } else {
+        copies.answer_before(query)
+    };
+    answered.map_err(|_| AllocError)
+}

@@ -1,0 +1,21 @@
+use jaeger_model::Batch;
+use trace_model::Query;
+
+/// What the machine is told to do. Seats and readers have the numbers 0 to 63.
+#[derive(Debug, Drop)]
+pub enum Step {
+    /// A seat hands in a batch.
+    Put { seat: u32, batch: Batch },
+    /// The clerk takes the job that waits longest.
+    Take,
+    /// What was accepted is shown to those who enter from here on.
+    Publish,
+    /// A reader enters what is shown.
+    Enter { reader: u32 },
+    /// A reader inside asks.
+    Read { reader: u32, query: Query },
+    /// A reader outside learns of a publish, counted from 1.
+    Learn { reader: u32, publish: u32 },
+    /// A reader leaves.
+    Leave { reader: u32 },
+}

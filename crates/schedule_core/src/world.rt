@@ -1,0 +1,49 @@
+ghost use Rattle.std.specs.Prelude.{◌≡◌, ◌⊎◌, Option, Some, None};
+ghost use Rattle.schedule_core.specs.Machine.{Machine, new_machine};
+ghost use Rattle.schedule_core.specs.Worlds.{Steps};
+
+use crate::outcome::Outcome;
+use crate::stage::Stage;
+use crate::step::Step;
+use std::alloc::Global;
+use std::marker::Model;
+use trace_model::{Limits, Refusal};
+
+/// The stepped machine. Where it has found no memory, every later step is refused for that.
+#[derive(Drop)]
+pub struct World {
+    stage: Option<Stage>,
+}
+
+impl Model for World {
+    ghost Value = { Option Machine };
+
+    ghost view = { λ s. s.stage };
+}
+
+impl World {
+    /// A machine in which nothing has happened, or one that has found no memory.
+    pub fn new(alloc: Global, limits: Limits) -> Self
+        ensures { (result ≡ Some (new_machine limits)) ⊎ (result ≡ None) }
+    {
+        World {
+            stage: Stage::new(alloc, limits).ok(),
+        }
+    }
+
+    /// Makes a step and tells what came of it.
+    pub fn step(&mut self, step: Step) -> Outcome
+        ensures { Steps self.old step result self.new }
+    {
+        let Some(stage) = &mut self.stage else {
+            return Outcome::Refused(Refusal::NoMemory);
+        };
+        match stage.step(step) {
+            Ok(outcome) => outcome,
+            Err(_) => {
+                self.stage = None;
+                Outcome::Refused(Refusal::NoMemory)
+            }
+        }
+    }
+}

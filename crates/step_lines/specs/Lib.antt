@@ -1,0 +1,7 @@
+pub mod Words
+pub mod Batches
+pub mod Targets
+pub mod Steps
+pub mod Reading
+pub mod FaultTexts
+pub mod OutcomeLines

@@ -1,0 +1,11 @@
+-- How an answer of the program stands to what was to be read.
+use Rattle.std.specs.Prelude.{◌≡◌, Result, Ok, Err}
+use Rattle.step_lines.specs.declared.fault.StepFault.{StepFault}
+use Rattle.step_lines.specs.declared.stop.Stop.{Stop}
+use Rattle.step_lines.specs.declared.stop.Stop.TheVariants.{Fault, Memory}
+
+-- the reading's value, or the fault that it tells, unless memory ran out
+abbrev pub Reads : {X Y : Type 0} → (X → Y) → Result X Stop → Result Y StepFault → Type 0
+Reads view (Ok x) read = read ≡ Ok (view x)
+Reads view (Err (Fault f)) read = read ≡ Err f
+Reads view (Err Memory) read = Unit {0}

@@ -1,0 +1,40 @@
+//! Why a line is no step.
+ghost use Rattle.std.specs.Prelude.{Some};
+
+use batch_codec::DecodeError;
+use query_http::Parameter;
+use std::fmt;
+
+/// Why a line is no step. A bad step is told before every other fault, and want of memory is none.
+#[derive(Clone, Copy, Debug, PartialEq, Eq)]
+pub enum StepFault {
+    /// Its words are none of a step's.
+    BadStep,
+    /// The batch isn't hexadecimal text, or has an odd number of digits.
+    BadHex,
+    /// The bytes are no batch: their first fault.
+    Undecodable(DecodeError),
+    /// No endpoint has the target's path.
+    NoSuchPath,
+    /// The target's first parameter that can't be read.
+    BadParameter(Parameter),
+}
+
+impl fmt::Display for StepFault {
+    ghost use Rattle.step_lines.specs.FaultTexts.{fault_text};
+
+    ghost output = { λ f. Some (fault_text f) };
+
+    fn fmt<W: fmt::Write>(&self, f: &mut fmt::Formatter<W>) -> fmt::Result {
+        match self {
+            StepFault::BadStep => f.write_str("bad step"),
+            StepFault::BadHex => f.write_str("bad hex"),
+            StepFault::Undecodable(fault) => write!(f, "refused {fault}"),
+            StepFault::NoSuchPath => f.write_str("no such path"),
+            StepFault::BadParameter(parameter) => {
+                let name = parameter.name();
+                write!(f, "bad parameter {name}")
+            }
+        }
+    }
+}

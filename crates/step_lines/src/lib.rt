@@ -1,0 +1,34 @@
+//! Lines of a script for the stepped machine: what step a line tells, and the line of an outcome.
+//!
+//! [`read_step`] gives a line's step or its fault, and [`outcome_text`] the text of an outcome. Unless
+//! memory is wanting, both are proved to be functions that `specs/` defines: `step_in` and
+//! `outcome_line`. A line stands without its end. A script's empty lines, and the numbers of its lines,
+//! are its reader's matter.
+//!
+//! * `step`: the step of a line, by its first word.
+//! * `verb`: the first word.
+//! * `words`: the words of a line, and numbers.
+//! * `batch`: the batch that hexadecimal text spells.
+//! * `target`: the query that a target asks.
+//! * `fault`: why a line is no step.
+//! * `stop`: why a reading stops, for a fault or for want of memory.
+//! * `outcome`: the text of an outcome.
+//! * `laws`: facts about the definitions.
+#![tactic(auto)]
+
+mod batch;
+mod fault;
+pub mod laws;
+mod outcome;
+mod step;
+mod stop;
+mod target;
+mod verb;
+mod words;
+
+pub use fault::StepFault;
+pub use outcome::outcome_text;
+pub use step::read_step;
+
+#[cfg(test)]
+mod tests;

@@ -1,0 +1,45 @@
+//! The text of an outcome.
+ghost use Rattle.std.specs.Prelude.{◌≡◌, IfOk, string_bytes};
+ghost use Rattle.step_lines.specs.OutcomeLines.{outcome_line};
+
+use query_json::answer_text;
+use schedule_core::Outcome;
+use std::alloc::{AllocError, Global};
+use trace_model::Answer;
+
+/// The text of an answer.
+fn answered_text(alloc: Global, front: u64, answer: &Answer) -> Result<String, AllocError>
+    ensures { IfOk result (λ s. string_bytes s ≡ outcome_line (Outcome.Answered front answer.now)) }
+{
+    let json = answer_text(alloc, answer)?;
+    let json = json.as_str();
+    format!(in alloc; "read {front} {json}")
+}
+
+/// The text of an outcome, as a line without its end.
+///
+/// An answer is told as the body of the HTTP response that gives it, so a trace that isn't found as the
+/// error 404.
+///
+/// # Errors
+///
+/// Want of memory alone.
+pub fn outcome_text(alloc: Global, outcome: &Outcome) -> Result<String, AllocError>
+    ensures { IfOk result (λ s. string_bytes s ≡ outcome_line outcome.now) }
+{
+    match outcome {
+        Outcome::Put { number } => format!(in alloc; "put {number}"),
+        Outcome::Taken { seat, number } => format!(in alloc; "taken {seat} {number}"),
+        Outcome::Refused(refusal) => format!(in alloc; "refused {refusal}"),
+        Outcome::Idle => String::from_str(alloc, "idle"),
+        Outcome::Published { front } => format!(in alloc; "published {front}"),
+        Outcome::Held { reader } => format!(in alloc; "held {reader}"),
+        Outcome::Entered { front } => format!(in alloc; "entered {front}"),
+        Outcome::Answered { front, answer } => answered_text(alloc, *front, answer),
+        Outcome::Learnt { front } => format!(in alloc; "learnt {front}"),
+        Outcome::Left => String::from_str(alloc, "left"),
+        Outcome::Inside => String::from_str(alloc, "inside"),
+        Outcome::Outside => String::from_str(alloc, "outside"),
+        Outcome::Unknown => String::from_str(alloc, "unknown"),
+    }
+}

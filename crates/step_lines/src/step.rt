@@ -1,0 +1,161 @@
+//! The step of a line.
+ghost use Rattle.std.specs.Prelude.{◌≡◌, IfOk, map};
+ghost use Rattle.std.specs.List.{concat};
+ghost use Rattle.query_http.specs.Paths.{endpoint_rows};
+ghost use Rattle.step_lines.specs.Steps.{alone, if_any, put_of, one_number, read_of, learn_of, step_by, step_of, step_in, two_words};
+ghost use Rattle.step_lines.specs.Reading.{Reads};
+
+use crate::batch::read_batch;
+use crate::fault::StepFault;
+use crate::stop::Stop;
+use crate::target::{read_query, read_target};
+use crate::verb::{Verb, read_verb};
+use crate::words::{read_number, words_of};
+use matchit::Router;
+use query_http::Endpoint;
+use schedule_core::Step;
+use std::alloc::{AllocError, Global};
+
+/// The pieces of a text, joined; a bad step where that is empty.
+fn joined(alloc: Global, pieces: &[&[u8]]) -> Result<Vec<u8>, Stop>
+    ensures { Reads (λ v. v.items) result (if_any (concat (map (λ w. w.now) pieces.now))) }
+{
+    let text = pieces.concat(alloc)?;
+    if text.is_empty() {
+        return Err(Stop::Fault(StepFault::BadStep));
+    }
+    Ok(text)
+}
+
+/// A batch that a seat hands in.
+#[tactic(auto, unfolding(crate::specs::Steps::put_by))]
+fn read_put(alloc: Global, words: &[&[u8]]) -> Result<Step, Stop>
+    ensures { Reads (λ s. s) result (put_of (map (λ w. w.now) words.now)) }
+{
+    let [seat, hex @ ..] = words else {
+        return Err(Stop::Fault(StepFault::BadStep));
+    };
+    let seat = read_number(seat)?;
+    let text = joined(alloc, hex)?;
+    let batch = read_batch(alloc, text.as_slice())?;
+    Ok(Step::Put { seat, batch })
+}
+
+/// A step of one word, with no word behind it.
+fn read_alone(step: Step, words: &[&[u8]]) -> Result<Step, StepFault>
+    ensures { result ≡ alone step (map (λ w. w.now) words.now) }
+{
+    if words.is_empty() {
+        Ok(step)
+    } else {
+        Err(StepFault::BadStep)
+    }
+}
+
+/// The number that is the only word.
+fn read_reader(words: &[&[u8]]) -> Result<u32, StepFault>
+    ensures { result ≡ one_number (map (λ w. w.now) words.now) }
+{
+    match words {
+        [reader] => read_number(reader),
+        _ => Err(StepFault::BadStep),
+    }
+}
+
+/// Two words, and no more.
+fn two_words<'l>(words: &[&'l [u8]]) -> Result<(&'l [u8], &'l [u8]), Stop>
+    ensures { Reads (λ p. (p.0.now, p.1.now)) result (two_words (map (λ w. w.now) words.now)) }
+{
+    match words {
+        [first, second] => Ok((first, second)),
+        _ => Err(Stop::Fault(StepFault::BadStep)),
+    }
+}
+
+/// The query that a reader asks.
+#[tactic(auto, unfolding(crate::specs::Steps::read_of))]
+fn read_read(alloc: Global, router: &Router<Endpoint>, words: &[&[u8]]) -> Result<Step, Stop>
+    requires { router.now ≡ endpoint_rows }
+    ensures { Reads (λ s. s) result (read_of (map (λ w. w.now) words.now)) }
+{
+    let (reader, target) = two_words(words)?;
+    let reader = read_number(reader)?;
+    let target = read_target(target)?;
+    let query = read_query(alloc, router, target)?;
+    Ok(Step::Read { reader, query })
+}
+
+/// The publish that a reader learns of.
+#[tactic(auto, unfolding(crate::specs::Steps::learn_of))]
+fn read_learn(words: &[&[u8]]) -> Result<Step, Stop>
+    ensures { Reads (λ s. s) result (learn_of (map (λ w. w.now) words.now)) }
+{
+    let (reader, publish) = two_words(words)?;
+    let reader = read_number(reader)?;
+    let publish = read_number(publish)?;
+    Ok(Step::Learn { reader, publish })
+}
+
+/// The step that a first word tells with the words behind it.
+fn read_by(
+    alloc: Global,
+    router: &Router<Endpoint>,
+    verb: Verb,
+    words: &[&[u8]],
+) -> Result<Step, Stop>
+    requires { router.now ≡ endpoint_rows }
+    ensures { Reads (λ s. s) result (step_by verb (map (λ w. w.now) words.now)) }
+{
+    match verb {
+        Verb::Put => read_put(alloc, words),
+        Verb::Take => Ok(read_alone(Step::Take, words)?),
+        Verb::Publish => Ok(read_alone(Step::Publish, words)?),
+        Verb::Enter => {
+            let reader = read_reader(words)?;
+            Ok(Step::Enter { reader })
+        }
+        Verb::Read => read_read(alloc, router, words),
+        Verb::Learn => read_learn(words),
+        Verb::Leave => {
+            let reader = read_reader(words)?;
+            Ok(Step::Leave { reader })
+        }
+    }
+}
+
+/// The step that a line's words tell.
+fn read_words(alloc: Global, router: &Router<Endpoint>, words: &[&[u8]]) -> Result<Step, Stop>
+    requires { router.now ≡ endpoint_rows }
+    ensures { Reads (λ s. s) result (step_of (map (λ w. w.now) words.now)) }
+{
+    let [first, words @ ..] = words else {
+        return Err(Stop::Fault(StepFault::BadStep));
+    };
+    let verb = read_verb(first)?;
+    read_by(alloc, router, verb, words)
+}
+
+/// The step that a line tells, or why it tells none. The line is without its end, and can be any bytes.
+///
+/// [`StepFault::BadStep`] is told before the other faults, as of a target that isn't UTF-8; then of a
+/// batch [`StepFault::BadHex`] before [`StepFault::Undecodable`], and of a target
+/// [`StepFault::NoSuchPath`] before [`StepFault::BadParameter`].
+///
+/// # Errors
+///
+/// Want of memory alone.
+pub fn read_step(
+    alloc: Global,
+    router: &Router<Endpoint>,
+    line: &[u8],
+) -> Result<Result<Step, StepFault>, AllocError>
+    requires { router.now ≡ endpoint_rows }
+    ensures { IfOk result (λ step. step ≡ step_in line.now) }
+{
+    let words = words_of(alloc, line)?;
+    match read_words(alloc, router, words.as_slice()) {
+        Ok(step) => Ok(Ok(step)),
+        Err(Stop::Fault(fault)) => Ok(Err(fault)),
+        Err(Stop::Memory) => Err(AllocError),
+    }
+}
