@@ -1,5 +1,5 @@
 -- What a journal keeps, and how it answers.
-use Rattle.std.specs.Prelude.{ℕ, zero, suc, List, Option, None, slice_get}
+use Rattle.std.specs.Prelude.{ℕ, Option}
 use Rattle.trace_model.specs.declared.entry.Entry.{Entry}
 use Rattle.trace_model.specs.declared.refusal.Refusal.{Refusal}
 use Rattle.trace_model.specs.declared.refusal.Refusal.TheVariants.{NoMemory}
@@ -19,8 +19,3 @@ refusal_by held e = refusal_of held.limits held.entries e
 -- why the entry was turned away: by the history, and only where the history takes it for want of memory
 abbrev pub turned_away_by : Held → Entry → Refusal
 turned_away_by held e = unwrap_or (refusal_by held e) NoMemory
-
--- the entry at the place, the first one at place 1
-abbrev pub entry_at : List Entry → ℕ → Option Entry
-entry_at entries zero = None
-entry_at entries (suc before) = slice_get entries before

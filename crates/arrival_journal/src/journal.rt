@@ -4,7 +4,8 @@ ghost use Rattle.std.specs.Option.{option_copied};
 ghost use Rattle.std.specs.Result.{result_err};
 ghost use Rattle.trace_model.specs.Histories.{span_count, last_number, IsLegal};
 ghost use Rattle.trace_model.specs.Refusals.{followed_by};
-ghost use Rattle.arrival_journal.specs.Journals.{Journaled, refusal_by, turned_away_by, entry_at};
+ghost use Rattle.trace_model.specs.Places.{entry_at};
+ghost use Rattle.arrival_journal.specs.Journals.{Journaled, refusal_by, turned_away_by};
 
 use std::alloc::{AllocError, Global};
 use std::collections::HashMap;

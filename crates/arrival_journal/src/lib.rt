@@ -11,6 +11,3 @@
 mod journal;
 
 pub use journal::Journal;
-
-#[cfg(test)]
-mod tests;

@@ -16,7 +16,8 @@ use Rattle.jaeger_model.specs.declared.placed.Placed.{Placed}
 use Rattle.jaeger_model.specs.declared.placed.Seen.{Seen}
 use Rattle.jaeger_model.specs.Parents.{parent}
 use Rattle.trace_model.specs.Linking.{has_id, parent_in, call_from, calls_of, calls_within, in_window}
-use Rattle.call_links.specs.Seen.{seen, seen_all, SeenCall, call_seen, calls_seen, service_of, call_between, call_by}
+use Rattle.trace_model.specs.Seeing.{seen, seen_all}
+use Rattle.call_links.specs.Seen.{SeenCall, call_seen, calls_seen, service_of, call_between, call_by}
 
 abbrev id_of : ℕ → SpanId
 id_of q = record { 0 = q }

@@ -1,22 +1,11 @@
--- What is looked at, as values.
+-- Services and calls that are looked at, as values.
 use Rattle.std.specs.Prelude.{ℕ, List, map, find, Option, Some, None, option_map, if◌then◌else◌, ◌==◌}
 use denote.Ref.{Bor}
-use Rattle.std.specs.Global.{Vec}
 use Rattle.jaeger_model.specs.declared.placed.Placed.{Placed}
-use Rattle.jaeger_model.specs.declared.placed.Seen.{Seen}
 use Rattle.jaeger_model.specs.Parents.{parent}
 use Rattle.jaeger_model.specs.Texts.{same_text}
 use Rattle.jaeger_model.specs.declared.text.Text.{Text}
 use Rattle.trace_model.specs.Linking.{has_id}
-
-abbrev pub seen : Seen → Placed
-seen s = record { process = s.process.now; span = s.span.now }
-
-abbrev pub seen_all : List Seen → List Placed
-seen_all ss = map seen ss
-
-abbrev pub traces_seen : List (Vec Seen) → List (List Placed)
-traces_seen ts = map (λ (t : Vec Seen). seen_all t.items) ts
 
 -- the service of the first span with the id
 abbrev pub service_of : ℕ → List Placed → Option (List ℕ)

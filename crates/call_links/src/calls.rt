@@ -6,12 +6,13 @@ ghost use Rattle.std.specs.Ordering.{nat_cmp};
 ghost use Rattle.std.specs.BTreeMap.{get};
 ghost use Rattle.jaeger_model.specs.declared.ids.SpanId.{SpanId as Id};
 ghost use Rattle.trace_model.specs.Linking.{in_window, calls_of, calls_within, calls, has_id};
-ghost use Rattle.call_links.specs.Seen.{seen, seen_all, traces_seen, call_seen, calls_seen, service_of, call_by};
+ghost use Rattle.trace_model.specs.Seeing.{seen, seen_all, seen_traces};
+ghost use Rattle.call_links.specs.Seen.{call_seen, calls_seen, service_of, call_by};
 
 use jaeger_model::{Seen, Text, parent_of};
+use span_steps::is_in_window;
 use std::alloc::{AllocError, Global};
 use std::collections::BTreeMap;
-use trace_model::is_in_window;
 
 /// A service and another one that it calls.
 pub(crate) type Call<'a> = (&'a Text, &'a Text);
@@ -102,7 +103,7 @@ pub(crate) fn all_calls<'a>(
     end_ms: i64,
     lookback_ms: i64,
 ) -> Result<Vec<Call<'a>>, AllocError>
-    ensures { IfOk result (λ v. calls_seen v.items ≡ calls end_ms lookback_ms (traces_seen traces.now)) }
+    ensures { IfOk result (λ v. calls_seen v.items ≡ calls end_ms lookback_ms (seen_traces traces.now)) }
 {
     let mut calls = Vec::new(alloc);
     for trace in traces {

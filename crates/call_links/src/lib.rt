@@ -1,14 +1,14 @@
 //! How often services call one another: the dependencies of a window of time, in time linear in
 //! the spans of the traces up to a logarithm.
 //!
-//! [`links`] answers what the plain store answers, `trace_model::service_links`.
+//! [`links`] answers what the plain store answers, `plain_store::service_links`.
 //!
 //! * `calls`: the calls of one trace, over a table from each id to the first span that has it.
 //! * `counts`: each pair of services with its number of calls.
 #![tactic(auto)]
 
 ghost use Rattle.std.specs.Prelude.{◌≡◌, IfOk, map};
-ghost use Rattle.call_links.specs.Seen.{traces_seen};
+ghost use Rattle.trace_model.specs.Seeing.{seen_traces};
 ghost use Rattle.trace_model.specs.Linking.{links};
 
 mod calls;
@@ -37,11 +37,8 @@ pub fn links(
     end_ms: i64,
     lookback_ms: i64,
 ) -> Result<Vec<Link>, AllocError>
-    ensures { IfOk result (λ v. v.items ≡ links end_ms lookback_ms (traces_seen traces.now)) }
+    ensures { IfOk result (λ v. v.items ≡ links end_ms lookback_ms (seen_traces traces.now)) }
 {
     let calls = all_calls(alloc, traces, end_ms, lookback_ms)?;
     counted(alloc, &calls)
 }
-
-#[cfg(test)]
-mod tests;

@@ -11,7 +11,7 @@ use Rattle.jaeger_model.specs.declared.placed.Placed.{Placed}
 use Rattle.trace_model.specs.declared.query.Find.{Find}
 use Rattle.trace_model.specs.Searching.{matches, matching, first_start, first_id, ids_of, ranked, cut, found_in}
 use Rattle.trace_model.proofs.Ranking.{ranked-permutation, ranked-map}
-use Rattle.find_traces.specs.Seeing.{seen_all, seen_traces}
+use Rattle.trace_model.specs.Seeing.{seen_all, seen_traces}
 use Rattle.find_traces.specs.Places.{numbered, is_hit, start_of, hits, hit_of, place_of, places_found, trace_at, id_at}
 
 abbrev place : ℕ × List Placed → ℕ

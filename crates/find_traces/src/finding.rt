@@ -1,7 +1,7 @@
 ghost use Rattle.std.specs.Prelude.{◌≡◌, IfOk, map};
 ghost use Rattle.find_traces.specs.Places.{hits, hit_of, place_of, places_found, trace_at, id_at};
 ghost use Rattle.trace_model.specs.Searching.{first_start, first_id, cut, found_in, ids_of};
-ghost use Rattle.find_traces.specs.Seeing.{seen_all, seen_traces};
+ghost use Rattle.trace_model.specs.Seeing.{seen_all, seen_traces};
 
 use crate::matching::is_found;
 use jaeger_model::{Seen, TraceId};

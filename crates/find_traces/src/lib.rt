@@ -11,6 +11,3 @@ mod text;
 
 pub use finding::{find, find_ids};
 pub use matching::{is_found, is_match};
-
-#[cfg(test)]
-mod tests;

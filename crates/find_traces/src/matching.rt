@@ -3,7 +3,7 @@ ghost use Rattle.std.specs.List.{list_any, list_all};
 ghost use Rattle.jaeger_model.specs.declared.span.Log.{Log as Logged};
 ghost use Rattle.jaeger_model.specs.Texts.{same_text};
 ghost use Rattle.trace_model.specs.Searching.{at_least, at_most, bound, is_named, is_timed, matches, tells, has_tag};
-ghost use Rattle.find_traces.specs.Seeing.{seen, seen_all};
+ghost use Rattle.trace_model.specs.Seeing.{seen, seen_all};
 
 use crate::text::is_text_of;
 use jaeger_model::{Log, Seen, Tag, Text};

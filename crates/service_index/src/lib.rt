@@ -12,6 +12,3 @@ mod index;
 pub mod laws;
 
 pub use index::ServiceIndex;
-
-#[cfg(test)]
-mod tests;

@@ -12,6 +12,3 @@ mod places;
 mod row;
 
 pub use places::ServicePlaces;
-
-#[cfg(test)]
-mod tests;

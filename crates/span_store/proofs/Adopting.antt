@@ -15,7 +15,7 @@ use Rattle.trace_model.specs.Linking.{has_id, parent_in, call_from, calls_of, in
 use Rattle.trace_model.proofs.Ranking.{ranked-map}
 use Rattle.trace_model.proofs.NameLaws.{any_map}
 use Rattle.trace_model.proofs.Parents.{with_parent-twice, with_parent-trace}
-use Rattle.find_traces.specs.Seeing.{seen, seen_traces}
+use Rattle.trace_model.specs.Seeing.{seen, seen_traces}
 use Rattle.find_traces.specs.Places.{trace_at}
 use Rattle.span_store.specs.Given.{adopted, given_traces}
 

@@ -4,7 +4,7 @@ use Rattle.std.specs.Global.{Global}
 use Rattle.jaeger_model.specs.declared.placed.Placed.{Placed}
 use Rattle.jaeger_model.specs.declared.placed.Seen.{Seen}
 use Rattle.jaeger_model.specs.Parents.{with_parent}
-use Rattle.find_traces.specs.Seeing.{seen}
+use Rattle.trace_model.specs.Seeing.{seen}
 
 -- with its parent among its references
 abbrev pub adopted : Placed → Placed

@@ -5,7 +5,7 @@ use Rattle.std.specs.List.{list_any}
 use Rattle.jaeger_model.specs.declared.ids.TraceId.{TraceId}
 use Rattle.jaeger_model.specs.declared.span.Span.{Span}
 use Rattle.trace_model.specs.declared.entry.Entry.{Entry}
-use Rattle.arrival_journal.specs.Journals.{entry_at}
+use Rattle.trace_model.specs.Places.{entry_at}
 use Rattle.trace_assembly.specs.Rows.{is_of}
 
 -- the trace at this place of the ring, where it passes the test

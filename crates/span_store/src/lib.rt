@@ -26,6 +26,3 @@ mod store;
 
 pub use replaying::{replay, replayed_answer};
 pub use store::SpanStore;
-
-#[cfg(test)]
-mod tests;

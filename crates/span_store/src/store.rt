@@ -21,12 +21,13 @@ use arrival_journal::Journal;
 use jaeger_model::{Placed, Seen, Seq, Text, TraceId};
 use service_index::ServiceIndex;
 use service_places::ServicePlaces;
+use span_steps::all_unadjusted;
 use std::alloc::{AllocError, Global};
 use std::marker::Model;
 use std::sync::Arc;
 use trace_adjust::adjusted;
 use trace_assembly::Assembly;
-use trace_model::{Answer, Entry, Find, Limits, Query, Refusal, Shown, trace_shown};
+use trace_model::{Answer, Entry, Find, Limits, Query, Refusal, Shown};
 use trace_ring::Ring;
 
 /// The accepted entries of one store, and quick answers from them.
@@ -257,7 +258,7 @@ fn shown_as(
     ensures { IfOk result (λ s. s ≡ shown_as limits raw spans.items) }
 {
     if raw {
-        return trace_shown(alloc, spans, limits, true);
+        return all_unadjusted(alloc, spans);
     }
     Ok(Seq::from_vec(adjusted(alloc, spans, limits.max_skew)?))
 }

@@ -4,8 +4,9 @@ ghost use Rattle.std.specs.Prelude.{◌≡◌, ◌<◌, ◌+◌, ℕ, false, tru
 ghost use Rattle.trace_adjust.specs.Settling.{near, settle, sets, place_in, AreRight, IsClosed, AreClosed, AreClocks, unset_count};
 
 use jaeger_model::Placed;
+use span_steps::{clock_below, root_clock};
 use std::alloc::{AllocError, Global};
-use trace_model::{Clock, clock_below, root_clock};
+use trace_model::Clock;
 
 /// The places of the spans in an order in which parents stand in front of their children wherever
 /// no cycle forbids it: from each span on up to one that was reached before, and back. The order

@@ -1,6 +1,6 @@
 //! A trace as it is shown, made from the one that is kept: in each span the reference to its parent
 //! in front, and its times moved into those of its root's host. The answers are those of
-//! `trace_model::adjusted_trace`, in time linear in the spans up to a logarithm and without
+//! `plain_store::adjusted_trace`, in time linear in the spans up to a logarithm and without
 //! recursion, however deep the trace is.
 //!
 //! * `parents`: references to parents, and the places of parents in a trace.
@@ -14,6 +14,3 @@ mod skew;
 
 pub use parents::parent_first;
 pub use skew::{adjust_skew, adjusted};
-
-#[cfg(test)]
-mod tests;

@@ -7,9 +7,9 @@ ghost use Rattle.trace_model.specs.Adjusting.{parent_first};
 ghost use Rattle.trace_adjust.specs.Settling.{first_at, parent_at, place_in};
 
 use jaeger_model::{Placed, Span, parent_of};
+use span_steps::parent_place;
 use std::alloc::{AllocError, Global};
 use std::collections::BTreeMap;
-use trace_model::parent_place;
 
 /// Puts the reference to the span's parent in front: the first child-of reference to its own trace,
 /// else the first other one, changes places with the first of all. Takes no memory.

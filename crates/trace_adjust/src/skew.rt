@@ -9,9 +9,10 @@ ghost use Rattle.trace_adjust.specs.Settling.{first_at, delta_at, AreClocks};
 use crate::clocks::all_clocks;
 use crate::parents::{first_places, parent_first, parent_places};
 use jaeger_model::Placed;
+use span_steps::shifted;
 use std::alloc::{AllocError, Global};
 use std::collections::BTreeMap;
-use trace_model::{Clock, Shown, shifted};
+use trace_model::{Clock, Shown};
 
 /// The delta of the span at the place: 0 where it has no clock, or where a span in front of it has
 /// its id.

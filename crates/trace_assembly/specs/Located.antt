@@ -1,11 +1,12 @@
 -- Where the spans of a history lie, and which spots are shown.
-use Rattle.std.specs.Prelude.{ℕ, zero, suc, Bool, List, [], ◌∷◌, ◌++◌, map, filter, Option, Some, None, slice_get, ◌+◌, length, take}
+use Rattle.std.specs.Prelude.{ℕ, suc, Bool, List, [], ◌∷◌, ◌++◌, map, filter, Option, Some, None, slice_get, ◌+◌, length, take}
 use Rattle.std.specs.Option.{option_and_then}
 use Rattle.jaeger_model.specs.declared.ids.TraceId.{TraceId}
 use Rattle.jaeger_model.specs.declared.batch.Batch.{Batch}
 use Rattle.jaeger_model.specs.declared.placed.Placed.{Placed}
 use Rattle.jaeger_model.specs.Parents.{domain, placed, same_trace}
 use Rattle.trace_model.specs.declared.entry.Entry.{Entry}
+use Rattle.trace_model.specs.Places.{entry_at}
 use Rattle.trace_model.specs.Rings.{holds}
 use Rattle.trace_model.specs.Showing.{trace_of, ring, lasting_after}
 use Rattle.trace_assembly.specs.declared.spot.Spot.{Spot}
@@ -24,10 +25,6 @@ located_from place (e ∷ es) = located_in place 0 (domain e.batch) ++ located_f
 -- the arrivals of a history, each with its spot; the first entry stands at place 1
 abbrev pub located : List Entry → List (Spot × Placed)
 located h = located_from 1 h
-
-abbrev pub entry_at : List Entry → ℕ → Option Entry
-entry_at h zero = None
-entry_at h (suc before) = slice_get h before
 
 -- those of a history and of the spans below this index of one more batch
 abbrev pub located_upto : List Entry → Batch → ℕ → List (Spot × Placed)

@@ -17,6 +17,3 @@ mod spot;
 
 pub use assembly::Assembly;
 pub use spot::Spot;
-
-#[cfg(test)]
-mod tests;

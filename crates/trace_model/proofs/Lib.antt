@@ -1,4 +1,3 @@
-pub mod Rows
 pub mod Shows
 pub mod Traces
 pub mod Rising
@@ -8,11 +7,5 @@ pub mod Legality
 pub mod Parents
 pub mod Finding
 pub mod NameLaws
-pub mod SearchLaws
 pub mod Steps
-pub mod Places
 pub mod Prefixes
-pub mod RingFacts
-pub mod Stillness
-pub mod Fronts
-pub mod Orders

@@ -1,6 +1,6 @@
 -- The shown spans of one trace, as they change with one more arrival.
 use Rattle.std.proofs.Common.{◌≡◌, ℕ, suc, zero, ◌+◌, ◌-◌, ◌<◌, ◌≤◌, Bool, true, false, ◌&&◌, ◌||◌, cond, List, [], ◌∷◌, ◌++◌, length, drop, refl, sym, ap, ◌∙◌, arith, eqb-true, eq-eqb, length-append}
-use Rattle.std.specs.Prelude.{filter, if◌then◌else◌, ◌==◌, Some, None}
+use Rattle.std.specs.Prelude.{filter, if◌then◌else◌, ◌==◌}
 use Rattle.std.specs.List.{list_any}
 use Rattle.std.proofs.lemmas.Bool.{false≢true}
 use Rattle.std.proofs.lemmas.List.{drop-append-le}
@@ -10,7 +10,7 @@ use Rattle.jaeger_model.specs.declared.ids.TraceId.{TraceId}
 use Rattle.jaeger_model.specs.declared.placed.Placed.{Placed}
 use Rattle.jaeger_model.specs.Parents.{same_trace}
 use Rattle.trace_model.specs.Rings.{holds, newest, arrive}
-use Rattle.trace_model.specs.Showing.{trace_of, ring, shown, of_trace, spans_of_trace, if_any}
+use Rattle.trace_model.specs.Showing.{trace_of, ring, shown, of_trace, spans_of_trace}
 use Rattle.trace_model.proofs.Shows.{by_pushes, in_ring, ring_push, shown_push, shown_in_ring}
 
 -- the test decides equality
@@ -156,12 +156,3 @@ has_spans n t = by_pushes (λ ps. holds (ring n ps) t ≡ true → 0 < length (s
     old_or_own n (ring n ps) (trace_of p) t (ap (λ r. holds r t) (sym (ring_push n ps p)) ∙ e)
     (λ old. let some : 0 < length (spans_of_trace n ps t) = more old in omega arith)
     (λ own. let one : length (of_trace t (p ∷ [])) ≡ 1 = ap (λ b. length (cond b (p ∷ []) [])) own in omega arith))
-
--- what a list found is answered as
-pub none_if_empty : {X : Type 0} {xs ys : List X} → xs ≡ ys → length ys ≡ 0 → None ≡ if_any xs
-none_if_empty {X} {xs = []} e z = refl
-none_if_empty {X} {xs = x ∷ xs} {ys = ys} e z = absurd (omega (arith, ap length e))
-
-pub some_if_not_empty : {X : Type 0} {xs ys : List X} → xs ≡ ys → 0 < length ys → Some ys ≡ if_any xs
-some_if_not_empty {X} {xs = []} e z = absurd (omega (arith, ap length e))
-some_if_not_empty {X} {xs = x ∷ xs} e z = ap (λ l. Some l) (sym e)

@@ -7,9 +7,9 @@ pub mod Searching
 pub mod Linking
 pub mod Adjusting
 pub mod Answers
-pub mod Splits
-pub mod Subsequences
 pub mod Held
 pub mod Refusals
 pub mod RefusalTexts
 pub mod Steadiness
+pub mod Places
+pub mod Seeing

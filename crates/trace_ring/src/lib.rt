@@ -10,6 +10,3 @@
 mod ring;
 
 pub use ring::{Arrived, Ring};
-
-#[cfg(test)]
-mod tests;

@@ -3,7 +3,8 @@ use Rattle.std.specs.Prelude.{option_map}
 use Rattle.std.specs.Ordering.{nat_cmp}
 use Rattle.std.specs.List.{filter_map}
 use Rattle.std.specs.BTreeMap.{get}
-use Rattle.call_links.specs.Seen.{seen_all, calls_seen, call_by}
+use Rattle.trace_model.specs.Seeing.{seen_all}
+use Rattle.call_links.specs.Seen.{calls_seen, call_by}
 use Rattle.call_links.proofs.calls.add_calls.Given as goal
 
 abbrev pub invariant-loop-span : goal.invariant-loop-span

@@ -2,7 +2,8 @@ use Rattle.std.proofs.Common.{◌++◌, ◌∙◌, [], sym, ap}
 use Rattle.std.specs.Int.{w64}
 use Rattle.std.proofs.lemmas.Int.{to_z-of_z}
 use Rattle.std.proofs.lemmas.List.{append-nil}
-use Rattle.call_links.specs.Seen.{calls_seen, seen_all}
+use Rattle.trace_model.specs.Seeing.{seen_all}
+use Rattle.call_links.specs.Seen.{calls_seen}
 use Rattle.trace_model.specs.Linking.{calls_of}
 use Rattle.call_links.proofs.Gathering.{within}
 use Rattle.call_links.proofs.calls.add_calls_within.Goals as goal

@@ -6,7 +6,8 @@ use Rattle.std.proofs.lemmas.List.Folds.{flat_map-map}
 use Rattle.jaeger_model.specs.declared.placed.Seen.{Seen}
 use Rattle.trace_model.specs.Linking.{calls_within}
 use Rattle.trace_model.proofs.Steps.{gathered_more, gathered_all}
-use Rattle.call_links.specs.Seen.{seen_all, calls_seen}
+use Rattle.trace_model.specs.Seeing.{seen_all}
+use Rattle.call_links.specs.Seen.{calls_seen}
 use Rattle.call_links.proofs.calls.all_calls.Goals as goal
 
 pub loop-trace-preserved : goal.loop-trace-preserved

@@ -1,7 +1,8 @@
 use Rattle.std.proofs.Common.{◌≡◌, ◌++◌, drop}
 use Rattle.std.specs.List.{flat_map}
 use Rattle.trace_model.specs.Linking.{calls_within}
-use Rattle.call_links.specs.Seen.{seen_all, calls_seen}
+use Rattle.trace_model.specs.Seeing.{seen_all}
+use Rattle.call_links.specs.Seen.{calls_seen}
 use Rattle.call_links.proofs.calls.all_calls.Given as goal
 
 -- the calls so far and those of the traces left are those of all

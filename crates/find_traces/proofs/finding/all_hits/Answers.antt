@@ -2,7 +2,7 @@ use Rattle.std.proofs.Common.{◌≡◌, sym, ◌∙◌, ap, map, ◌++◌, ◌�
 use Rattle.std.specs.List.{list_any}
 use Rattle.trace_model.specs.Searching.{matches}
 use Rattle.find_traces.specs.Places.{hits, hit_of}
-use Rattle.find_traces.specs.Seeing.{seen_all, seen_traces}
+use Rattle.trace_model.specs.Seeing.{seen_all, seen_traces}
 use Rattle.find_traces.proofs.Found.{hits_hit, hits_miss}
 use Rattle.find_traces.proofs.finding.all_hits.Goals as goal
 use Rattle.find_traces.proofs.finding.all_hits.Goals.{then-is_found+in_ok-push, else-is_found}

@@ -1,6 +1,6 @@
 use Rattle.std.proofs.Common.{◌≡◌, map, take}
 use Rattle.find_traces.specs.Places.{hits, hit_of}
-use Rattle.find_traces.specs.Seeing.{seen_traces}
+use Rattle.trace_model.specs.Seeing.{seen_traces}
 use Rattle.find_traces.proofs.finding.all_hits.Given as goal
 
 abbrev pub invariant-loop-place : goal.invariant-loop-place

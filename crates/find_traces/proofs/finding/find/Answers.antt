@@ -6,7 +6,7 @@ use Rattle.trace_model.specs.declared.query.Find.{Find}
 use Rattle.trace_model.specs.Searching.{cut, ranked, found_in}
 use Rattle.find_traces.specs.declared.finding.Hit.{Hit}
 use Rattle.find_traces.specs.Places.{hits, hit_of, start_of, place_of, trace_at}
-use Rattle.find_traces.specs.Seeing.{seen_traces}
+use Rattle.trace_model.specs.Seeing.{seen_traces}
 use Rattle.find_traces.proofs.Sorting.{sorted_hits}
 use Rattle.find_traces.proofs.Found.{places_of_hits, traces_found}
 use Rattle.find_traces.proofs.finding.find.Goals as goal

@@ -3,7 +3,7 @@ use Rattle.std.specs.List.{filter_map}
 use Rattle.std.proofs.lemmas.List.{take_all}
 use Rattle.jaeger_model.specs.declared.ids.TraceId.{TraceId}
 use Rattle.find_traces.specs.Places.{id_at, trace_at}
-use Rattle.find_traces.specs.Seeing.{seen_traces}
+use Rattle.trace_model.specs.Seeing.{seen_traces}
 use Rattle.find_traces.proofs.Found.{ids_found, read_some, read_none}
 use Rattle.find_traces.proofs.finding.find_ids.Goals as goal
 use Rattle.find_traces.proofs.finding.find_ids.Goals.{in-Some+in_ok-push, in_default}

@@ -1,7 +1,7 @@
 use Rattle.std.proofs.Common.{◌≡◌, take}
 use Rattle.std.specs.List.{filter_map}
 use Rattle.find_traces.specs.Places.{id_at}
-use Rattle.find_traces.specs.Seeing.{seen_traces}
+use Rattle.trace_model.specs.Seeing.{seen_traces}
 use Rattle.find_traces.proofs.finding.find_ids.Given as goal
 
 abbrev pub invariant-loop-place : goal.invariant-loop-place

@@ -1,7 +1,7 @@
 use Rattle.std.proofs.Common.{◌≡◌, drop}
 use Rattle.std.specs.List.{list_all}
 use Rattle.trace_model.specs.Searching.{has_tag}
-use Rattle.find_traces.specs.Seeing.{seen}
+use Rattle.trace_model.specs.Seeing.{seen}
 use Rattle.find_traces.proofs.matching.has_all_tags.Given as goal
 
 abbrev pub invariant-loop-asked : goal.invariant-loop-asked

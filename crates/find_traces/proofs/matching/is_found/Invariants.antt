@@ -1,7 +1,7 @@
 use Rattle.std.proofs.Common.{◌≡◌, drop}
 use Rattle.std.specs.List.{list_any}
 use Rattle.trace_model.specs.Searching.{matches}
-use Rattle.find_traces.specs.Seeing.{seen_all}
+use Rattle.trace_model.specs.Seeing.{seen_all}
 use Rattle.find_traces.proofs.matching.is_found.Given as goal
 
 abbrev pub invariant-loop-at : goal.invariant-loop-at

@@ -3,7 +3,8 @@ use Rattle.std.specs.Prelude.{slice_get, option_map}
 use Rattle.std.specs.Arc.{arc_value}
 use Rattle.std.specs.Option.{option_copied}
 use Rattle.std.proofs.lemmas.Option.{slice_get-map}
-use Rattle.arrival_journal.specs.Journals.{Journaled, entry_at}
+use Rattle.trace_model.specs.Places.{entry_at}
+use Rattle.arrival_journal.specs.Journals.{Journaled}
 use Rattle.arrival_journal.proofs.Places.{lent_item}
 use Rattle.arrival_journal.proofs.journal.Journal.entry.Goals as goal
 

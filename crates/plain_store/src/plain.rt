@@ -1,0 +1,151 @@
+//! The plain store: each answer is made from the whole list of entries.
+
+ghost use Rattle.std.specs.Prelude.{◌≡◌, List, map, IfOk, option_map};
+ghost use Rattle.std.specs.Arc.{arc_value};
+ghost use Rattle.trace_model.specs.Adjusting.{adjusted};
+ghost use Rattle.trace_model.specs.Answers.{answer, shown_as};
+ghost use Rattle.trace_model.specs.Histories.{arrivals};
+ghost use Rattle.trace_model.specs.Searching.{traces};
+ghost use Rattle.trace_model.specs.Showing.{trace_found};
+
+use crate::adjust::adjusted_trace;
+use crate::links::service_links;
+use crate::names::{operation_names, operations, services};
+use crate::search::{find_traces, trace_ids};
+use crate::showing::{all_shown, keep_trace, shown_traces};
+use jaeger_model::{Placed, Seq, TraceId, domain};
+use span_steps::all_unadjusted;
+use std::alloc::{AllocError, Global};
+use std::sync::Arc;
+use trace_model::{Answer, Entry, Limits, Query, Shown};
+
+/// The spans of all entries, in order.
+fn all_arrivals(alloc: Global, entries: &[Arc<Entry>]) -> Result<Vec<Placed>, AllocError>
+    ensures { IfOk result (λ v. v.items ≡ arrivals (map arc_value entries.now)) }
+{
+    let mut all = Vec::new(alloc);
+    for entry in entries {
+        let mut spans = domain(alloc, &entry.batch)?;
+        all.append(&mut spans)?;
+    }
+    Ok(all)
+}
+
+/// The traces that are shown, the one opened longest ago first.
+fn all_traces(
+    alloc: Global,
+    entries: &[Arc<Entry>],
+    limits: Limits,
+) -> Result<Vec<Seq<Placed>>, AllocError>
+    ensures { IfOk result (λ v. v.items ≡ traces limits.traces (arrivals (map arc_value entries.now))) }
+{
+    let arrived = all_arrivals(alloc, entries)?;
+    shown_traces(alloc, arrived, limits.traces)
+}
+
+/// The shown spans of a trace in the order in which they arrived, or None where there are none.
+pub fn get_trace(
+    alloc: Global,
+    entries: &[Arc<Entry>],
+    limits: Limits,
+    id: TraceId,
+) -> Result<Option<Vec<Placed>>, AllocError>
+    ensures { IfOk result (λ found. option_map (λ v. v.items) found ≡ trace_found limits.traces (arrivals (map arc_value entries.now)) id) }
+{
+    let arrived = all_arrivals(alloc, entries)?;
+    let spans = keep_trace(all_shown(alloc, arrived, limits.traces)?.spans, id);
+    if spans.is_empty() {
+        return Ok(None);
+    }
+    Ok(Some(spans))
+}
+
+/// The spans of a trace as they are shown: as they arrived where `raw` is asked, else adjusted.
+///
+/// # Errors
+///
+/// Want of memory alone.
+pub fn trace_shown(
+    alloc: Global,
+    spans: Vec<Placed>,
+    limits: Limits,
+    raw: bool,
+) -> Result<Seq<Shown>, AllocError>
+    ensures { IfOk result (λ s. s ≡ shown_as limits raw spans.items) }
+{
+    if raw {
+        all_unadjusted(alloc, spans)
+    } else {
+        adjusted_trace(alloc, Seq::from_vec(spans), limits.max_skew)
+    }
+}
+
+/// The traces, each adjusted.
+#[tactic(auto, using(std::proofs::lemmas::List::map_push))]
+fn all_adjusted(
+    alloc: Global,
+    traces: Vec<Seq<Placed>>,
+    limits: Limits,
+) -> Result<Vec<Seq<Shown>>, AllocError>
+    ensures { IfOk result (λ v. v.items ≡ map (adjusted limits.max_skew) traces.items) }
+{
+    let mut shown = Vec::new(alloc);
+    for trace in traces {
+        shown.push(adjusted_trace(alloc, trace, limits.max_skew)?)?;
+    }
+    Ok(shown)
+}
+
+/// What the plain store answers.
+///
+/// # Errors
+///
+/// Want of memory alone.
+pub fn plain_answer(
+    alloc: Global,
+    entries: &[Arc<Entry>],
+    limits: Limits,
+    query: &Query,
+) -> Result<Answer, AllocError>
+    ensures { IfOk result (λ a. a ≡ answer limits (map arc_value entries.now) query.now) }
+{
+    match query {
+        Query::Trace { id, raw } => match get_trace(alloc, entries, limits, *id)? {
+            None => Ok(Answer::Trace(None)),
+            Some(spans) => Ok(Answer::Trace(Some(trace_shown(alloc, spans, limits, *raw)?))),
+        },
+        Query::Services => {
+            let arrived = all_arrivals(alloc, entries)?;
+            Ok(Answer::Names(Seq::from_vec(services(alloc, &arrived)?)))
+        }
+        Query::OperationNames { service } => {
+            let arrived = all_arrivals(alloc, entries)?;
+            let names = operation_names(alloc, &arrived, service)?;
+            Ok(Answer::Names(Seq::from_vec(names)))
+        }
+        Query::Operations { service, kind } => {
+            let arrived = all_arrivals(alloc, entries)?;
+            let found = operations(alloc, &arrived, service, kind)?;
+            Ok(Answer::Operations(Seq::from_vec(found)))
+        }
+        Query::Find(find) => {
+            let traces = all_traces(alloc, entries, limits)?;
+            let found = find_traces(alloc, traces, find)?;
+            let shown = all_adjusted(alloc, found, limits)?;
+            Ok(Answer::Traces(Seq::from_vec(shown)))
+        }
+        Query::FindIds(find) => {
+            let traces = all_traces(alloc, entries, limits)?;
+            let found = find_traces(alloc, traces, find)?;
+            Ok(Answer::Ids(Seq::from_vec(trace_ids(alloc, &found)?)))
+        }
+        Query::Links {
+            end_ms,
+            lookback_ms,
+        } => {
+            let traces = all_traces(alloc, entries, limits)?;
+            let links = service_links(alloc, &traces, *end_ms, *lookback_ms)?;
+            Ok(Answer::Links(Seq::from_vec(links)))
+        }
+    }
+}

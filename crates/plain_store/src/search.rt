@@ -1,0 +1,212 @@
+//! Searches over the traces that are shown.
+
+ghost use Rattle.std.specs.Prelude.{◌≡◌, IfOk, List, [], filter, flat_map, ◌||◌};
+ghost use Rattle.std.specs.List.{list_any, list_all};
+ghost use Rattle.jaeger_model.specs.declared.span.Log.{Log as Logged};
+ghost use Rattle.jaeger_model.specs.Tags.{tag_text};
+ghost use Rattle.jaeger_model.specs.Texts.{same_text};
+ghost use Rattle.trace_model.specs.Searching.{at_least, at_most, bound, is_named, is_timed, matches, tells, has_tag, found_in, first_id, ids_of, cut};
+
+use crate::ranks::rank;
+use jaeger_model::{Log, Placed, Seq, Tag, Text, TraceId, Value, tag_text};
+use std::alloc::{AllocError, Global};
+use trace_model::Find;
+
+/// Whether the text is the asked one; an empty one asks for any.
+fn is_asked(asked: &Text, text: &Text) -> bool
+    ensures { result ≡ (same_text asked.now [] || same_text asked.now text.now) }
+{
+    asked.as_str() == "" || asked == text
+}
+
+fn is_at_least(low: Option<i64>, value: i64) -> bool
+    ensures { result ≡ at_least low value }
+{
+    match low {
+        None => true,
+        Some(low) => low <= value,
+    }
+}
+
+fn is_at_most(high: Option<i64>, value: i64) -> bool
+    ensures { result ≡ at_most high value }
+{
+    match high {
+        None => true,
+        Some(high) => value <= high,
+    }
+}
+
+/// A duration's bound; 0 is none.
+fn bound(duration: i64) -> Option<i64>
+    ensures { result ≡ bound duration }
+{
+    if duration == 0 { None } else { Some(duration) }
+}
+
+/// Whether the tag's value reads as the asked text.
+fn is_text_of(alloc: Global, value: &Value, asked: &Text) -> Result<bool, AllocError>
+    ensures { IfOk result (λ b. b ≡ same_text asked.now (tag_text value.now)) }
+{
+    let text = tag_text(alloc, value)?;
+    Ok(*asked == text)
+}
+
+/// Whether one of the tags has the asked key and text.
+fn is_among(alloc: Global, tags: &[Tag], asked: &(Text, Text)) -> Result<bool, AllocError>
+    ensures { IfOk result (λ b. b ≡ list_any (tells asked.now) tags.now) }
+{
+    for tag in tags {
+        if asked.0 == tag.key && is_text_of(alloc, &tag.value, &asked.1)? {
+            return Ok(true);
+        }
+    }
+    Ok(false)
+}
+
+/// Whether one of the logs has a field with the asked key and text.
+fn is_logged(alloc: Global, logs: &[Log], asked: &(Text, Text)) -> Result<bool, AllocError>
+    ensures { IfOk result (λ b. b ≡ list_any (tells asked.now) (flat_map (λ (l : Logged). l.fields) logs.now)) }
+{
+    for log in logs {
+        if is_among(alloc, log.fields.as_slice(), asked)? {
+            return Ok(true);
+        }
+    }
+    Ok(false)
+}
+
+/// Whether a tag of the span, of its process or of one of its logs has the asked key and text.
+#[tactic(auto, using(trace_model::proofs::Finding::any_append))]
+fn has_tag(alloc: Global, placed: &Placed, asked: &(Text, Text)) -> Result<bool, AllocError>
+    ensures { IfOk result (λ b. b ≡ has_tag placed.now asked.now) }
+{
+    Ok(
+        is_among(alloc, placed.span.tags.as_slice(), asked)?
+            || is_among(alloc, placed.process.tags.as_slice(), asked)?
+            || is_logged(alloc, placed.span.logs.as_slice(), asked)?,
+    )
+}
+
+fn has_all_tags(alloc: Global, placed: &Placed, tags: &[(Text, Text)]) -> Result<bool, AllocError>
+    ensures { IfOk result (λ b. b ≡ list_all (has_tag placed.now) tags.now) }
+{
+    for asked in tags {
+        if !has_tag(alloc, placed, asked)? {
+            return Ok(false);
+        }
+    }
+    Ok(true)
+}
+
+/// Whether service and operation are those that the search asks for.
+fn is_named(query: &Find, placed: &Placed) -> bool
+    ensures { result ≡ is_named query.now placed.now }
+{
+    query.service == placed.process.service && is_asked(&query.operation, &placed.span.operation)
+}
+
+/// Whether duration and start lie within the bounds of the search.
+fn is_timed(query: &Find, placed: &Placed) -> bool
+    ensures { result ≡ is_timed query.now placed.now }
+{
+    let span = &placed.span;
+    is_at_least(bound(query.duration_min), span.duration)
+        && is_at_most(bound(query.duration_max), span.duration)
+        && is_at_least(query.start_min, span.start)
+        && is_at_most(query.start_max, span.start)
+}
+
+/// Whether the span meets every condition of the search.
+fn is_match(alloc: Global, query: &Find, placed: &Placed) -> Result<bool, AllocError>
+    ensures { IfOk result (λ b. b ≡ matches query.now placed.now) }
+{
+    Ok(
+        is_named(query, placed)
+            && is_timed(query, placed)
+            && has_all_tags(alloc, placed, query.tags.as_slice())?,
+    )
+}
+
+/// Whether one span of the trace meets every condition of the search.
+fn is_found(alloc: Global, query: &Find, trace: &[Placed]) -> Result<bool, AllocError>
+    ensures { IfOk result (λ b. b ≡ list_any (matches query.now) trace.now) }
+{
+    for placed in trace {
+        if is_match(alloc, query, placed)? {
+            return Ok(true);
+        }
+    }
+    Ok(false)
+}
+
+/// The traces in which one span meets every condition of the search.
+fn all_found(
+    alloc: Global,
+    query: &Find,
+    traces: Vec<Seq<Placed>>,
+) -> Result<Vec<Seq<Placed>>, AllocError>
+    ensures { IfOk result (λ v. v.items ≡ filter (list_any (matches query.now)) traces.items) }
+{
+    let mut found = Vec::new(alloc);
+    for trace in traces {
+        if is_found(alloc, query, trace.as_slice())? {
+            found.push(trace)?;
+        }
+    }
+    Ok(found)
+}
+
+/// The first of them, where the limit is not 0.
+fn cut(limit: u64, traces: &mut Vec<Seq<Placed>>)
+    ensures { traces.new.items ≡ cut limit traces.old.items }
+{
+    if limit != 0 {
+        traces.truncate(limit as usize);
+    }
+}
+
+/// The traces that a search finds, of traces that come oldest first: latest first start first, of
+/// equal starts the one opened later, and no more than the limit.
+///
+/// # Errors
+///
+/// Want of memory alone.
+pub fn find_traces(
+    alloc: Global,
+    traces: Vec<Seq<Placed>>,
+    query: &Find,
+) -> Result<Vec<Seq<Placed>>, AllocError>
+    ensures { IfOk result (λ v. v.items ≡ found_in query.now traces.items) }
+{
+    let found = all_found(alloc, query, traces)?;
+    let mut ranked = rank(alloc, found)?;
+    cut(query.limit, &mut ranked);
+    Ok(ranked)
+}
+
+fn first_id(trace: &Seq<Placed>) -> Option<TraceId>
+    ensures { result ≡ first_id trace.now }
+{
+    match trace.as_slice().first() {
+        Some(placed) => Some(placed.span.trace),
+        None => None,
+    }
+}
+
+/// The ids of the traces.
+///
+/// # Errors
+///
+/// Want of memory alone.
+pub fn trace_ids(alloc: Global, traces: &[Seq<Placed>]) -> Result<Vec<TraceId>, AllocError>
+    ensures { IfOk result (λ v. v.items ≡ ids_of traces.now) }
+{
+    let mut ids = Vec::new(alloc);
+    for trace in traces {
+        if let Some(id) = first_id(trace) {
+            ids.push(id)?;
+        }
+    }
+    Ok(ids)
+}

@@ -1,0 +1,241 @@
+//! How one host's clock runs against another's, and a span moved by the difference.
+
+ghost use Rattle.std.specs.Prelude.{◌≡◌, IfOk, IsTrue, map, pos, ◌+ℤ◌, [], not, ◌||◌};
+ghost use Rattle.std.specs.List.{list_all};
+ghost use Rattle.jaeger_model.specs.declared.span.Log.{Log as Event};
+ghost use Rattle.jaeger_model.specs.Texts.{same_text};
+ghost use Rattle.trace_model.specs.Adjusting.{host_of, fits, all_fit, is_applied, start_at, new_delta, clock_at, is_elsewhere, clock_below, moved, move_log, moved_placed, warned, past_limit, past_times, adjusted_by, shifted, unadjusted};
+
+use crate::skew::{can_move, delta, is_within, moved_by};
+use jaeger_model::{Log, Placed, Seq, Span, Text, first_text};
+use std::alloc::{AllocError, Global};
+use trace_model::{Clock, Shown};
+
+/// The text of the process's first tag `ip`, or an empty one.
+fn host_of(alloc: Global, placed: &Placed) -> Result<Text, AllocError>
+    ensures { IfOk result (λ t. t ≡ host_of placed.now) }
+{
+    first_text(alloc, placed.process.tags.as_slice(), "ip")
+}
+
+/// Each log time so much later is a time.
+fn all_logs_fit(delta: i128, logs: &[Log]) -> bool
+    ensures { result ≡ list_all (λ (l : Event). fits (l.at +ℤ delta)) logs.now }
+{
+    logs.iter().all(|l| can_move(l.at, delta))
+}
+
+/// Start and log times so much later are all times.
+fn all_fit(delta: i128, span: &Span) -> bool
+    ensures { result ≡ all_fit delta span.now }
+{
+    can_move(span.start, delta) && all_logs_fit(delta, span.logs.as_slice())
+}
+
+/// The delta moves the span: it is within the limit, and each time that it gives is one.
+fn is_applied(max_skew: u64, delta: i128, span: &Span) -> bool
+    ensures { result ≡ is_applied max_skew delta span.now }
+{
+    is_within(delta, max_skew) && all_fit(delta, span)
+}
+
+/// The start of a span as it is shown.
+fn start_at(max_skew: u64, delta: i128, span: &Span) -> i64
+    ensures { result ≡ start_at max_skew delta span.now }
+{
+    if is_applied(max_skew, delta, span) {
+        moved_by(span.start, delta)
+    } else {
+        span.start
+    }
+}
+
+fn clock_at(max_skew: u64, host: Text, delta: i128, span: &Span) -> Clock
+    ensures { result ≡ clock_at max_skew host delta span.now }
+{
+    Clock {
+        host,
+        delta,
+        start: start_at(max_skew, delta, span),
+        duration: span.duration,
+    }
+}
+
+/// The clock of a span whose parent is not in its trace: its own host's, with no delta.
+pub fn root_clock(alloc: Global, placed: &Placed, max_skew: u64) -> Result<Clock, AllocError>
+    ensures { IfOk result (λ c. c ≡ clock_at max_skew (host_of placed.now) (pos 0) placed.now.span) }
+{
+    let host = host_of(alloc, placed)?;
+    Ok(clock_at(max_skew, host, 0, &placed.span))
+}
+
+/// The host is none, or another than the one whose clock runs there.
+fn is_elsewhere(above: &Clock, host: &Text) -> bool
+    ensures { result ≡ (same_text host.now [] || not (same_text host.now above.now.host)) }
+{
+    host.as_str().is_empty() || *host != above.host
+}
+
+/// What brings the span into the time of its parent, which has this clock.
+fn new_delta(above: &Clock, span: &Span) -> i128
+    ensures { result ≡ new_delta above.now span.now }
+{
+    delta(above.start, above.duration, span.start, span.duration)
+}
+
+/// The clock of a span whose parent has this one: the parent's where the span is of the same host,
+/// else its own host's, with a delta that puts the span inside its parent where there is room.
+pub fn clock_below(
+    alloc: Global,
+    above: &Clock,
+    placed: &Placed,
+    max_skew: u64,
+) -> Result<Clock, AllocError>
+    ensures { IfOk result (λ c. c ≡ clock_below max_skew above.now placed.now) }
+{
+    let host = host_of(alloc, placed)?;
+    if is_elsewhere(above, &host) {
+        let delta = new_delta(above, &placed.span);
+        return Ok(clock_at(max_skew, host, delta, &placed.span));
+    }
+    let host = above.host.clone()?;
+    Ok(clock_at(max_skew, host, above.delta, &placed.span))
+}
+
+/// The log so much later.
+fn move_log(delta: i128, log: &mut Log)
+    requires { IsTrue (fits (log.old.at +ℤ delta)) }
+    ensures { log.new ≡ move_log delta log.old }
+{
+    log.at = moved_by(log.at, delta);
+}
+
+/// The logs so much later.
+fn move_logs(delta: i128, logs: &mut [Log])
+    requires { IsTrue (list_all (λ (l : Event). fits (l.at +ℤ delta)) logs.old) }
+    ensures { logs.new ≡ map (move_log delta) logs.old }
+{
+    for log in logs.iter_mut() {
+        move_log(delta, log);
+    }
+}
+
+fn moved_logs(delta: i128, logs: Seq<Log>) -> Seq<Log>
+    requires { IsTrue (list_all (λ (l : Event). fits (l.at +ℤ delta)) logs) }
+    ensures { result ≡ map (move_log delta) logs }
+{
+    let mut logs = logs.into_vec();
+    move_logs(delta, &mut logs);
+    Seq::from_vec(logs)
+}
+
+/// The span so much later.
+fn moved(delta: i128, span: Span) -> Span
+    requires { IsTrue (all_fit delta span) }
+    ensures { result ≡ moved delta span }
+{
+    let mut span = span;
+    span.start = moved_by(span.start, delta);
+    span.logs = moved_logs(delta, span.logs);
+    span
+}
+
+fn moved_placed(delta: i128, placed: Placed) -> Placed
+    requires { IsTrue (all_fit delta placed.span) }
+    ensures { result ≡ moved_placed delta placed }
+{
+    Placed {
+        process: placed.process,
+        span: moved(delta, placed.span),
+    }
+}
+
+/// The span as it came.
+pub fn unadjusted(alloc: Global, placed: Placed) -> Shown
+    ensures { result ≡ unadjusted placed }
+{
+    Shown {
+        placed,
+        warnings: Seq::new(alloc),
+    }
+}
+
+/// The spans as they came.
+///
+/// # Errors
+///
+/// Want of memory alone.
+#[tactic(auto, using(std::proofs::lemmas::List::map_push))]
+pub fn all_unadjusted(alloc: Global, spans: Vec<Placed>) -> Result<Seq<Shown>, AllocError>
+    ensures { IfOk result (λ s. s ≡ map unadjusted spans.items) }
+{
+    let mut shown = Vec::new(alloc);
+    for placed in spans {
+        shown.push(unadjusted(alloc, placed))?;
+    }
+    Ok(Seq::from_vec(shown))
+}
+
+fn with_warning(alloc: Global, placed: Placed, warning: Text) -> Result<Shown, AllocError>
+    ensures { IfOk result (λ s. s ≡ warned placed warning) }
+{
+    let mut warnings = Vec::new(alloc);
+    warnings.push(warning)?;
+    Ok(Shown {
+        placed,
+        warnings: Seq::from_vec(warnings),
+    })
+}
+
+fn past_limit(alloc: Global, delta: i128, max_skew: u64) -> Result<Text, AllocError>
+    ensures { IfOk result (λ t. t ≡ past_limit delta max_skew) }
+{
+    let text = format!(in alloc;
+        "clock skew of {delta} us not applied: the limit is {max_skew} us"
+    )?;
+    Ok(Text::from_string(text))
+}
+
+fn past_times(alloc: Global, delta: i128) -> Result<Text, AllocError>
+    ensures { IfOk result (λ t. t ≡ past_times delta) }
+{
+    let text = format!(in alloc; "clock skew of {delta} us not applied: a time would not fit")?;
+    Ok(Text::from_string(text))
+}
+
+fn adjusted_by(alloc: Global, delta: i128) -> Result<Text, AllocError>
+    ensures { IfOk result (λ t. t ≡ adjusted_by delta) }
+{
+    let text = format!(in alloc; "clock skew adjusted by {delta} us")?;
+    Ok(Text::from_string(text))
+}
+
+/// The span moved by the delta of its host, and a warning that says so, or that says why it is not
+/// moved: the delta is above the limit, or a time would leave the range of times. A delta of 0
+/// changes nothing and says nothing.
+///
+/// # Errors
+///
+/// Want of memory alone.
+pub fn shifted(
+    alloc: Global,
+    placed: Placed,
+    delta: i128,
+    max_skew: u64,
+) -> Result<Shown, AllocError>
+    ensures { IfOk result (λ s. s ≡ shifted max_skew delta placed) }
+{
+    if delta == 0 {
+        return Ok(unadjusted(alloc, placed));
+    }
+    if !is_within(delta, max_skew) {
+        let warning = past_limit(alloc, delta, max_skew)?;
+        return with_warning(alloc, placed, warning);
+    }
+    if !all_fit(delta, &placed.span) {
+        let warning = past_times(alloc, delta)?;
+        return with_warning(alloc, placed, warning);
+    }
+    let warning = adjusted_by(alloc, delta)?;
+    with_warning(alloc, moved_placed(delta, placed), warning)
+}

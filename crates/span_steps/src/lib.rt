@@ -1,0 +1,16 @@
+//! Single steps over one span, which the plain store and the store with indexes both take.
+//!
+//! * `references`: which reference of a span names its parent.
+//! * `window`: whether a span starts in a window of time.
+//! * `clock`: the clock of a span, by that of its parent, and the span moved by it.
+//! * `skew`: arithmetic on times.
+#![tactic(auto)]
+
+mod clock;
+mod references;
+mod skew;
+mod window;
+
+pub use clock::{all_unadjusted, clock_below, root_clock, shifted, unadjusted};
+pub use references::parent_place;
+pub use window::is_in_window;

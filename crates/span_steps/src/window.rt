@@ -1,0 +1,36 @@
+//! Whether a time lies in a window of time.
+
+ghost use Rattle.std.specs.Prelude.{◌≡◌, pos, ◌-ℤ◌, ◌*ℤ◌, ◌≤ℤ◌, ◌^◌, int_lt};
+ghost use Rattle.trace_model.specs.Linking.{is_between};
+
+use crate::skew::{difference, wide};
+
+/// Milliseconds as microseconds.
+fn micros(ms: i128) -> i128
+    requires low { (pos 0 -ℤ pos (2 ^ 64)) ≤ℤ ms }
+    requires high { ms ≤ℤ pos (2 ^ 64) }
+    ensures { result ≡ pos 1000 *ℤ ms }
+{
+    1000 * ms
+}
+
+fn is_after(time: i64, bound: i128) -> bool
+    ensures { result ≡ int_lt bound time }
+{
+    bound < wide(time)
+}
+
+fn is_before(time: i64, bound: i128) -> bool
+    ensures { result ≡ int_lt time bound }
+{
+    wide(time) < bound
+}
+
+/// The start of a span, in microseconds, lies strictly between `end_ms - lookback_ms` and `end_ms`,
+/// both in milliseconds. No bound overflows.
+pub fn is_in_window(start: i64, end_ms: i64, lookback_ms: i64) -> bool
+    ensures { result ≡ is_between end_ms lookback_ms start }
+{
+    is_after(start, micros(difference(end_ms, lookback_ms)))
+        && is_before(start, micros(wide(end_ms)))
+}

@@ -1,0 +1,9 @@
+pub mod Rows
+pub mod RingFacts
+pub mod LegalLists
+pub mod NameSets
+pub mod Falling
+pub mod SearchLaws
+pub mod Stillness
+pub mod Fronts
+pub mod Orders

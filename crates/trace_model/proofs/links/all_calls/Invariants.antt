@@ -1,7 +1,0 @@
-use Rattle.std.proofs.Common.{◌≡◌, ◌++◌, drop}
-use Rattle.trace_model.specs.Linking.{calls}
-use Rattle.trace_model.proofs.links.all_calls.Given as goal
-
--- the calls so far and those of the traces left are those of all
-abbrev pub invariant-loop-trace : goal.invariant-loop-trace
-invariant-loop-trace l = l.calls.items ++ calls l.end_ms l.lookback_ms (drop l.trace-index l.traces) ≡ calls l.end_ms l.lookback_ms l.traces
