@@ -1,0 +1,359 @@
+use crate::histories::{Row as Reported, answer_of};
+use jaeger_model::{Log, Placed, Process, RefKind, Seq, Span, SpanId, SpanRef, TraceId};
+use std::alloc::{AllocError, Global};
+use std::process::Abort;
+use std::test::*;
+use trace_adjust::{adjust_skew, adjusted, parent_first};
+use trace_model::{Answer, Query, Shown};
+use trace_samples::{host_process, process, span};
+
+const OWN: TraceId = TraceId { high: 0, low: 1 };
+
+const OTHER: TraceId = TraceId { high: 1, low: 1 };
+
+const WIDEST: u64 = 18_446_744_073_709_551_615;
+
+/// Host, id, parent, start and duration of a span.
+type Row = (&'static str, u64, u64, i64, i64);
+
+/// A process on the host; without tags where the host is empty.
+fn process_on(alloc: Global, host: &str) -> Result<Process, AllocError> {
+    if host == "" {
+        process(alloc, "")
+    } else {
+        host_process(alloc, "", host)
+    }
+}
+
+fn logs_at(alloc: Global, times: &[i64]) -> Result<Seq<Log>, AllocError> {
+    let mut logs = Vec::new(alloc);
+    for time in times {
+        let fields = Seq::new(alloc);
+        logs.push(Log { at: *time, fields })?;
+    }
+    Ok(Seq::from_vec(logs))
+}
+
+/// A span with one log, at its start.
+fn placed(alloc: Global, row: Row) -> Result<Placed, AllocError> {
+    let (host, id, parent, start, duration) = row;
+    let mut span = span(alloc, 1, id)?;
+    span.parent = SpanId(parent);
+    span.start = start;
+    span.duration = duration;
+    span.logs = logs_at(alloc, &[start])?;
+    let process = process_on(alloc, host)?;
+    Ok(Placed { process, span })
+}
+
+fn trace_of(alloc: Global, rows: &[Row]) -> Result<Vec<Placed>, AllocError> {
+    let mut trace = Vec::new(alloc);
+    for row in rows {
+        trace.push(placed(alloc, *row)?)?;
+    }
+    Ok(trace)
+}
+
+/// The first warning, or an empty text.
+fn warning_of(shown: &Shown) -> &str {
+    match shown.warnings.as_slice().first() {
+        Some(warning) => warning.as_str(),
+        None => "",
+    }
+}
+
+/// The span and its logs start so, and it has this warning.
+fn expect_one(rt: &impl Abort, shown: &Shown, start: i64, warning: &str) {
+    assert_eq!(rt; shown.placed.span.start, start);
+    for log in shown.placed.span.logs.as_slice() {
+        assert_eq!(rt; log.at, start);
+    }
+    assert!(rt; warning_of(shown) == warning, "{start} {warning}");
+}
+
+fn expect_all(rt: &impl Abort, shown: &[Shown], wanted: &[(i64, &str)]) {
+    assert_eq!(rt; shown.len(), wanted.len());
+    for (shown, (start, warning)) in shown.iter().zip(wanted) {
+        expect_one(rt, shown, *start, warning);
+    }
+}
+
+fn shown_of(alloc: Global, rows: &[Row], limit: u64) -> Result<Vec<Shown>, AllocError> {
+    let trace = trace_of(alloc, rows)?;
+    adjusted(alloc, trace, limit)
+}
+
+/// Start and duration of the parent and of the child, the limit, and the child's start and warning.
+const PAIRS: [([i64; 4], u64, i64, &str); 18] = [
+    (
+        [1000, 100, 900, 150],
+        200,
+        1000,
+        "clock skew adjusted by 100 us",
+    ),
+    ([1000, 100, 1010, 150], 200, 1010, ""),
+    (
+        [1000, 101, 900, 50],
+        200,
+        1025,
+        "clock skew adjusted by 125 us",
+    ),
+    (
+        [1000, 101, 900, 50],
+        125,
+        1025,
+        "clock skew adjusted by 125 us",
+    ),
+    (
+        [1000, 101, 900, 50],
+        124,
+        900,
+        "clock skew of 125 us not applied: the limit is 124 us",
+    ),
+    (
+        [1000, 100, 1060, 50],
+        200,
+        1025,
+        "clock skew adjusted by -35 us",
+    ),
+    (
+        [1000, 100, 1060, 50],
+        34,
+        1060,
+        "clock skew of -35 us not applied: the limit is 34 us",
+    ),
+    ([1000, 100, 1050, 50], 200, 1050, ""),
+    (
+        [1000, 100, 1051, 50],
+        200,
+        1025,
+        "clock skew adjusted by -26 us",
+    ),
+    (
+        [1000, 100, 1060, 50],
+        0,
+        1060,
+        "clock skew of -35 us not applied: the limit is 0 us",
+    ),
+    ([0, -20, -5, -10], 200, 0, "clock skew adjusted by 5 us"),
+    ([0, -10, 0, -20], 200, 0, ""),
+    ([0, i64::MIN, 0, i64::MAX], 200, 0, ""),
+    ([0, i64::MAX, 0, i64::MIN], 200, 0, ""),
+    (
+        [10, i64::MAX, 0, i64::MIN],
+        WIDEST,
+        0,
+        "clock skew of 9223372036854775817 us not applied: a time would not fit",
+    ),
+    (
+        [10, i64::MAX, 0, i64::MIN],
+        200,
+        0,
+        "clock skew of 9223372036854775817 us not applied: the limit is 200 us",
+    ),
+    (
+        [i64::MIN, 0, i64::MAX, 0],
+        WIDEST,
+        i64::MIN,
+        "clock skew adjusted by -18446744073709551615 us",
+    ),
+    (
+        [i64::MAX, i64::MAX, 0, 0],
+        WIDEST,
+        0,
+        "clock skew of 13835058055282163710 us not applied: a time would not fit",
+    ),
+];
+
+#[test]
+fn child_on_another_host(rt: HostRuntime) -> Result<(), Fail> {
+    let alloc = rt.alloc();
+    for ([start, long, child, short], limit, moved, warning) in PAIRS {
+        let rows = [("h1", 1, 0, start, long), ("h2", 2, 1, child, short)];
+        let shown = shown_of(alloc, &rows, limit)?;
+        expect_all(&rt, &shown, &[(start, ""), (moved, warning)]);
+    }
+    Ok(())
+}
+
+const BY_125: &str = "clock skew adjusted by 125 us";
+
+const OF_125: &str = "clock skew of 125 us not applied: the limit is 100 us";
+
+const ROOT: Row = ("h1", 1, 0, 1000, 101);
+
+const CHILD: Row = ("h2", 2, 1, 900, 50);
+
+const GRANDCHILD: Row = ("h2", 3, 2, 905, 10);
+
+/// The spans of a trace, the limit, and the start and the warning of each span as shown.
+const FAMILIES: [(&[Row], u64, &[(i64, &str)]); 5] = [
+    (
+        &[GRANDCHILD, CHILD, ROOT],
+        200,
+        &[(1030, BY_125), (1025, BY_125), (1000, "")],
+    ),
+    (
+        &[GRANDCHILD, CHILD, ROOT],
+        100,
+        &[(905, OF_125), (900, OF_125), (1000, "")],
+    ),
+    // A host that is not known is nobody's host, not even its own.
+    (
+        &[ROOT, ("", 2, 1, 900, 50), ("", 3, 2, 1020, 10)],
+        200,
+        &[
+            (1000, ""),
+            (1025, BY_125),
+            (1045, "clock skew adjusted by 25 us"),
+        ],
+    ),
+    // The second span of an id is left alone, and is nobody's parent.
+    (
+        &[ROOT, CHILD, ("h3", 2, 1, 0, 50), GRANDCHILD],
+        200,
+        &[(1000, ""), (1025, BY_125), (0, ""), (1030, BY_125)],
+    ),
+    // Spans on a cycle and below one are left alone, and so is one that is its own parent.
+    (
+        &[
+            ("h1", 2, 3, 1000, 9),
+            ("h2", 3, 2, 10, 5),
+            ("h3", 4, 3, 0, 1),
+            ("h1", 5, 5, 7, 1),
+        ],
+        WIDEST,
+        &[(1000, ""), (10, ""), (0, ""), (7, "")],
+    ),
+];
+
+#[test]
+fn whole_families(rt: HostRuntime) -> Result<(), Fail> {
+    for (rows, limit, wanted) in FAMILIES {
+        let shown = shown_of(rt.alloc(), rows, limit)?;
+        expect_all(&rt, &shown, wanted);
+    }
+    Ok(())
+}
+
+/// The child, with a log so late that no time is 125 microseconds later.
+fn late_child(alloc: Global) -> Result<Placed, AllocError> {
+    let mut child = placed(alloc, CHILD)?;
+    child.span.logs = logs_at(alloc, &[i64::MAX - 124])?;
+    Ok(child)
+}
+
+/// A log time that would not fit keeps the span where it is.
+#[test]
+fn late_log(rt: HostRuntime) -> Result<(), Fail> {
+    let alloc = rt.alloc();
+    let mut trace = trace_of(alloc, &[ROOT])?;
+    trace.push(late_child(alloc)?)?;
+    let shown = adjust_skew(alloc, trace, 200)?;
+    assert_eq!(rt; shown.len(), 2);
+    assert_eq!(rt; shown[1].placed.span.start, 900);
+    let warning = "clock skew of 125 us not applied: a time would not fit";
+    assert!(rt; warning_of(&shown[1]) == warning);
+    Ok(())
+}
+
+fn reference(kind: RefKind, trace: TraceId, id: u64) -> SpanRef {
+    SpanRef {
+        kind,
+        trace,
+        id: SpanId(id),
+    }
+}
+
+/// The ids of the span's references in their order.
+fn expect_references(rt: &impl Abort, span: &Span, wanted: [u64; 4]) {
+    let references = span.references.as_slice();
+    assert_eq!(rt; references.len(), 4);
+    for (reference, id) in references.iter().zip(wanted) {
+        assert_eq!(rt; reference.id.0, id);
+    }
+}
+
+/// A span with four references.
+fn referring(alloc: Global) -> Result<Span, AllocError> {
+    let references = [
+        reference(RefKind::FollowsFrom, OWN, 5),
+        reference(RefKind::ChildOf, OTHER, 6),
+        reference(RefKind::ChildOf, OWN, 7),
+        reference(RefKind::ChildOf, OWN, 8),
+    ];
+    let mut span = span(alloc, 1, 1)?;
+    span.references = Seq::from_vec(references.to_vec(alloc)?);
+    Ok(span)
+}
+
+#[test]
+fn parent_in_front(rt: HostRuntime) -> Result<(), Fail> {
+    let mut span = referring(rt.alloc())?;
+    parent_first(&mut span);
+    expect_references(&rt, &span, [7, 6, 5, 8]);
+    Ok(())
+}
+
+/// A chain of ten thousand spans, each in front of its parent.
+#[test]
+fn deep_chain(rt: HostRuntime) -> Result<(), Fail> {
+    let alloc = rt.alloc();
+    let mut trace = Vec::new(alloc);
+    for steps in 0..9_999u64 {
+        let id = 10_000 - steps;
+        trace.push(placed(alloc, ("h2", id, id - 1, 900, 50))?)?;
+    }
+    trace.push(placed(alloc, ROOT)?)?;
+    let shown = adjust_skew(alloc, trace, 200)?;
+    let moved = shown.iter().filter(|s| s.placed.span.start == 1025).count();
+    assert_eq!(rt; (shown.len(), moved), (10_000, 9_999));
+    Ok(())
+}
+
+const FAMILY: [Reported; 3] = [
+    (["a", "h1"], [1, 1, 0], [1000, 101]),
+    (["a", "h2"], [1, 2, 1], [900, 50]),
+    (["a", "h2"], [1, 3, 2], [905, 10]),
+];
+
+const CYCLE: [Reported; 2] = [
+    (["a", "h1"], [1, 2, 3], [1000, 50]),
+    (["b", "h2"], [1, 3, 2], [1010, 50]),
+];
+
+/// Spans, the limit of the skew, whether they are asked for as they came, and what is shown.
+const SHOWN: [(&[Reported], u64, bool, &[(i64, &str)]); 4] = [
+    (
+        &FAMILY,
+        200,
+        false,
+        &[(1000, ""), (1025, BY_125), (1030, BY_125)],
+    ),
+    (
+        &FAMILY,
+        100,
+        false,
+        &[(1000, ""), (900, OF_125), (905, OF_125)],
+    ),
+    (&FAMILY, 200, true, &[(1000, ""), (900, ""), (905, "")]),
+    (&CYCLE, 200, false, &[(1000, ""), (1010, "")]),
+];
+
+/// The spans of a trace that is found.
+fn shown_in(answer: &Answer) -> &[Shown] {
+    match answer {
+        Answer::Trace(Some(shown)) => shown.as_slice(),
+        _ => &[],
+    }
+}
+
+#[test]
+fn shown_plainly(rt: HostRuntime) -> Result<(), Fail> {
+    let alloc = rt.alloc();
+    for (rows, max_skew, raw, wanted) in SHOWN {
+        let answer = answer_of(alloc, rows, max_skew, &Query::Trace { id: OWN, raw })?;
+        expect_all(&rt, shown_in(&answer), wanted);
+    }
+    Ok(())
+}

@@ -1,0 +1,154 @@
+use crate::histories::{Row as Reported, answer_of};
+use call_links::links;
+use jaeger_model::{Placed, SpanId};
+use std::alloc::{AllocError, Global};
+use std::process::Abort;
+use std::test::*;
+use trace_model::{Answer, Link, Query};
+use trace_samples::{placed, seen_traces, span};
+
+/// Service, id, parent and start of a span.
+type Row = (&'static str, u64, u64, i64);
+
+fn placed_at(alloc: Global, row: Row) -> Result<Placed, AllocError> {
+    let (service, id, parent, start) = row;
+    let mut span = span(alloc, 1, id)?;
+    span.parent = SpanId(parent);
+    span.start = start;
+    placed(alloc, service, span)
+}
+
+fn trace_of(alloc: Global, rows: &[Row]) -> Result<Vec<Placed>, AllocError> {
+    let mut trace = Vec::new(alloc);
+    for row in rows {
+        trace.push(placed_at(alloc, *row)?)?;
+    }
+    Ok(trace)
+}
+
+fn traces_of(alloc: Global, traces: &[&[Row]]) -> Result<Vec<Vec<Placed>>, AllocError> {
+    let mut all = Vec::new(alloc);
+    for rows in traces {
+        all.push(trace_of(alloc, *rows)?)?;
+    }
+    Ok(all)
+}
+
+/// The calls between services within the end and the lookback.
+fn links_of(alloc: Global, traces: &[&[Row]], window: (i64, i64)) -> Result<Vec<Link>, AllocError> {
+    let traces = traces_of(alloc, traces)?;
+    let seen = seen_traces(alloc, &traces)?;
+    links(alloc, &seen, window.0, window.1)
+}
+
+fn expect_links(rt: &impl Abort, found: &[Link], wanted: &[(&str, &str, u64)]) {
+    assert_eq!(rt; found.len(), wanted.len());
+    for (link, (parent, child, calls)) in found.iter().zip(wanted) {
+        assert!(rt; link.parent.as_str() == *parent);
+        assert!(rt; link.child.as_str() == *child);
+        assert_eq!(rt; link.calls, *calls);
+    }
+}
+
+/// A start in microseconds, the end and the lookback in milliseconds, and whether a call counts.
+const WINDOWS: [(i64, i64, i64, bool); 15] = [
+    (1000, 2, 1, false),
+    (1001, 2, 1, true),
+    (1000, 2, 2, true),
+    (1999, 2, 1, true),
+    (2000, 2, 1, false),
+    (1000, 1, 2, false),
+    (999, 1, 2, true),
+    (0, 1, 1, false),
+    (-1, 0, 1, true),
+    (i64::MAX, i64::MAX, i64::MAX, true),
+    (i64::MIN, i64::MAX, i64::MAX, false),
+    (i64::MIN, 0, i64::MAX, true),
+    (i64::MAX, i64::MAX, i64::MIN, false),
+    (i64::MIN, i64::MIN, i64::MAX, false),
+    (0, i64::MIN, i64::MIN, false),
+];
+
+#[test]
+fn calls_in_a_window(rt: HostRuntime) -> Result<(), Fail> {
+    let alloc = rt.alloc();
+    for (start, end_ms, lookback_ms, is_counted) in WINDOWS {
+        let rows = [("a", 1, 0, start), ("b", 2, 1, start)];
+        let found = links_of(alloc, &[&rows], (end_ms, lookback_ms))?;
+        assert_eq!(rt;
+            found.len() == 1,
+            is_counted,
+            "{start} {end_ms} {lookback_ms}"
+        );
+    }
+    Ok(())
+}
+
+#[test]
+fn each_the_parent_of_the_other(rt: HostRuntime) -> Result<(), Fail> {
+    let rows = [("a", 2, 3, 1000), ("b", 3, 2, 1010)];
+    let found = links_of(rt.alloc(), &[&rows], (10, 86_400_000))?;
+    expect_links(&rt, &found, &[("a", "b", 1), ("b", "a", 1)]);
+    Ok(())
+}
+
+/// Two calls of one trace; the second span of id 1 is nobody's parent, and itself a call of a; one
+/// within a service; one whose parent is of no trace; and a root that starts outside the window.
+const BUSY: [Row; 6] = [
+    ("a", 1, 0, 9_000_000),
+    ("c", 1, 1, 1000),
+    ("b", 2, 1, 1000),
+    ("b", 3, 1, 1000),
+    ("b", 4, 3, 1000),
+    ("b", 5, 9, 1000),
+];
+
+const QUIET: [Row; 2] = [("a", 1, 0, 1000), ("b", 2, 1, 1000)];
+
+const LATE: [Row; 2] = [("a", 1, 0, 3000), ("b", 2, 1, 3000)];
+
+#[test]
+fn calls_are_counted_by_span(rt: HostRuntime) -> Result<(), Fail> {
+    let found = links_of(rt.alloc(), &[&BUSY, &QUIET, &LATE], (3, 3))?;
+    expect_links(&rt, &found, &[("a", "b", 3), ("a", "c", 1)]);
+    Ok(())
+}
+
+const CALL: [Reported; 2] = [
+    (["a", "h1"], [1, 1, 0], [1000, 50]),
+    (["b", "h1"], [1, 2, 1], [1000, 50]),
+];
+
+const CYCLE: [Reported; 2] = [
+    (["a", "h1"], [1, 2, 3], [1000, 50]),
+    (["b", "h2"], [1, 3, 2], [1010, 50]),
+];
+
+/// Spans, the end and the lookback, and the services that call one another, once each.
+const PLAIN_LINKS: [(&[Reported], i64, i64, &[(&str, &str, u64)]); 4] = [
+    (&CALL, 2, 1, &[]),
+    (&CALL, 2, 2, &[("a", "b", 1)]),
+    (&CALL, 1, 2, &[]),
+    (&CYCLE, 10, 86_400_000, &[("a", "b", 1), ("b", "a", 1)]),
+];
+
+fn links_in(answer: &Answer) -> &[Link] {
+    match answer {
+        Answer::Links(links) => links.as_slice(),
+        _ => &[],
+    }
+}
+
+#[test]
+fn calls_plainly(rt: HostRuntime) -> Result<(), Fail> {
+    let alloc = rt.alloc();
+    for (rows, end_ms, lookback_ms, wanted) in PLAIN_LINKS {
+        let query = Query::Links {
+            end_ms,
+            lookback_ms,
+        };
+        let answer = answer_of(alloc, rows, 0, &query)?;
+        expect_links(&rt, links_in(&answer), wanted);
+    }
+    Ok(())
+}

@@ -1,0 +1,63 @@
+//! What the plain store answers of a history of entries of one span each.
+
+use jaeger_model::{Batch, Span, SpanId};
+use plain_store::plain_answer;
+use std::alloc::{AllocError, Global};
+use std::sync::Arc;
+use std::test::Fail;
+use trace_model::{Answer, Entry, Limits, Query};
+use trace_samples::{host_process, list_of, span};
+
+/// A span: its service and its host; its trace, its id and its parent's; its start and its duration.
+pub(crate) type Row = ([&'static str; 2], [u64; 3], [i64; 2]);
+
+fn span_of(alloc: Global, ids: [u64; 3], times: [i64; 2]) -> Result<Span, AllocError> {
+    let [trace, id, parent] = ids;
+    let [start, duration] = times;
+    let mut span = span(alloc, trace, id)?;
+    span.parent = SpanId(parent);
+    span.start = start;
+    span.duration = duration;
+    Ok(span)
+}
+
+fn batch_of(alloc: Global, row: Row) -> Result<Batch, AllocError> {
+    let ([service, host], ids, times) = row;
+    Ok(Batch {
+        process: host_process(alloc, service, host)?,
+        spans: list_of(alloc, span_of(alloc, ids, times)?)?,
+        seq_no: None,
+    })
+}
+
+fn entry(alloc: Global, number: u64, row: Row) -> Result<Arc<Entry>, AllocError> {
+    let batch = batch_of(alloc, row)?;
+    let seat = 0;
+    let entry = Entry {
+        seat,
+        number,
+        batch,
+    };
+    Ok(Arc::new(alloc, entry)?)
+}
+
+/// An entry for each of the spans.
+fn history(alloc: Global, rows: &[Row]) -> Result<Vec<Arc<Entry>>, AllocError> {
+    let mut entries = Vec::new(alloc);
+    for (place, row) in rows.iter().enumerate() {
+        entries.push(entry(alloc, place as u64 + 1, *row)?)?;
+    }
+    Ok(entries)
+}
+
+/// What the plain store answers of a history of these spans, with no limit of traces.
+pub(crate) fn answer_of(
+    alloc: Global,
+    rows: &[Row],
+    max_skew: u64,
+    query: &Query,
+) -> Result<Answer, Fail> {
+    let limits = Limits::new(10, 10, 0, max_skew).ok_or("limits")?;
+    let entries = history(alloc, rows)?;
+    Ok(plain_answer(alloc, &entries, limits, query)?)
+}
