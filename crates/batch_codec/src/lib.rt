@@ -29,6 +29,3 @@ mod writer;
 pub use batch::decode;
 pub use fault::{DecodeError, Part};
 pub use writer::encode;
-
-#[cfg(test)]
-mod tests;

@@ -1,6 +1,7 @@
 ghost use Rattle.std.specs.Prelude.{◌≡◌};
 ghost use Rattle.batch_codec.specs.Decoding.{Gives};
 ghost use Rattle.batch_codec.specs.SpanReading.{span_at, span_from};
+ghost use Rattle.batch_codec.specs.SpanNumbers.{numbers_from};
 
 use crate::fault::{DecodeError, Part};
 use crate::fields::{Slots, read_fields, required};
@@ -80,27 +81,57 @@ impl<'a> Slots<'a> for SpanSlots<'a> {
     }
 }
 
-#[tactic(auto, unfolding(crate::specs::SpanReading::span_from))]
-fn span_of(alloc: Global, slots: SpanSlots<'_>) -> Result<Span, DecodeError>
-    ensures { Gives result (span_from slots.entry) }
+/// The required fields of a span that are numbers.
+#[derive(Clone, Copy)]
+pub(crate) struct SpanNumbers {
+    pub(crate) trace: TraceId,
+    pub(crate) id: SpanId,
+    pub(crate) parent: SpanId,
+    pub(crate) flags: i32,
+    pub(crate) start: i64,
+    pub(crate) duration: i64,
+}
+
+/// The numbers of a span, or the first of its required fields that is missing, the operation too.
+#[tactic(auto, unfolding(crate::specs::SpanNumbers::numbers_from))]
+fn numbers_of(slots: &SpanSlots<'_>) -> Result<SpanNumbers, DecodeError>
+    ensures { result ≡ numbers_from slots.now }
 {
     let low = required(slots.trace_low, Part::Span, 1)?;
     let high = required(slots.trace_high, Part::Span, 2)?;
     let id = required(slots.id, Part::Span, 3)?;
     let parent = required(slots.parent, Part::Span, 4)?;
-    let operation = required(slots.operation, Part::Span, 5)?;
+    if slots.operation.is_none() {
+        return Err(DecodeError::Missing(Part::Span, 5));
+    }
     let flags = required(slots.flags, Part::Span, 7)?;
     let start = required(slots.start, Part::Span, 8)?;
     let duration = required(slots.duration, Part::Span, 9)?;
-    Ok(Span {
+    Ok(SpanNumbers {
         trace: TraceId { high, low },
         id: SpanId(id),
         parent: SpanId(parent),
-        operation: operation.to_text(alloc)?,
-        references: slots.references,
         flags,
         start,
         duration,
+    })
+}
+
+#[tactic(auto, using(crate::proofs::SpanNumbers::span_by_numbers))]
+fn span_of(alloc: Global, slots: SpanSlots<'_>) -> Result<Span, DecodeError>
+    ensures { Gives result (span_from slots.entry) }
+{
+    let numbers = numbers_of(&slots)?;
+    let operation = required(slots.operation, Part::Span, 5)?;
+    Ok(Span {
+        trace: numbers.trace,
+        id: numbers.id,
+        parent: numbers.parent,
+        operation: operation.to_text(alloc)?,
+        references: slots.references,
+        flags: numbers.flags,
+        start: numbers.start,
+        duration: numbers.duration,
         tags: slots.tags,
         logs: slots.logs,
     })

@@ -34,6 +34,3 @@ pub use seq::Seq;
 pub use span::{Log, RefKind, Span, SpanRef};
 pub use tag::{Tag, Value, first_tag, first_text, tag_text};
 pub use text::Text;
-
-#[cfg(test)]
-mod tests;

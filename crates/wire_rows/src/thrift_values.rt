@@ -1,6 +1,6 @@
-use super::*;
 use std::alloc::Global;
 use std::test::*;
+use thrift_binary::{Cursor, Out, WireError, WriteError, types};
 
 /// Lists inside lists, so many levels, the innermost empty; without the type code of the outermost.
 fn nested_lists(alloc: Global, levels: u8) -> Result<Vec<u8>, Fail> {

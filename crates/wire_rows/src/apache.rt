@@ -1,12 +1,15 @@
 //! Batches as Apache Thrift spells them: the lines of `samples/apache.hex`, which `samples/apache.py` made.
 
-use super::bytes_of;
-use crate::decode;
+use crate::batch_bytes::bytes_of;
+use crate::trace_values::{tag, with_tag};
+use batch_codec::decode;
 use jaeger_model::{
     Batch, Log, Process, RefKind, Seq, Span, SpanId, SpanRef, Tag, Text, TraceId, Value,
 };
 use std::alloc::Global;
+use std::process::Abort;
 use std::test::*;
+use trace_samples::{list_of, process, span, text_tag};
 
 const NO_SPANS: &str = "0c00010b00010000000161000f00020c000000000a0003000000000000000100";
 
@@ -37,64 +40,41 @@ const STATISTICS: &str = "
     0c00010b00010000000161000f00020c000000000a000300000000000000020c00040a000100000000000000030d0002
     0b0f000000020000000466756c6c060000000200010002000000046c61746506000000000e00030300000001040000";
 
-fn tag(alloc: Global, key: &str, value: Value) -> Result<Tag, Fail> {
-    let key = Text::from_str(alloc, key)?;
-    Ok(Tag { key, value })
-}
-
-fn text_tag(alloc: Global, key: &str, value: &str) -> Result<Tag, Fail> {
-    tag(alloc, key, Value::Text(Text::from_str(alloc, value)?))
-}
-
-fn process(alloc: Global, service: &str, tags: Vec<Tag>) -> Result<Process, Fail> {
+fn tagged(alloc: Global, service: &str, tags: Seq<Tag>) -> Result<Process, Fail> {
     let service = Text::from_str(alloc, service)?;
-    Ok(Process {
-        service,
-        tags: Seq::from_vec(tags),
-    })
+    Ok(Process { service, tags })
 }
 
 fn no_spans(alloc: Global, seq_no: i64) -> Result<Batch, Fail> {
     Ok(Batch {
-        process: process(alloc, "a", Vec::new(alloc))?,
+        process: process(alloc, "a")?,
         spans: Seq::new(alloc),
         seq_no: Some(seq_no),
     })
 }
 
 fn required_fields(alloc: Global) -> Result<Batch, Fail> {
-    let span = Span {
-        trace: TraceId { high: 0, low: 1 },
-        id: SpanId(2),
-        parent: SpanId(0),
-        operation: Text::from_str(alloc, "GET /")?,
-        references: Seq::new(alloc),
-        flags: 1,
-        start: 1000,
-        duration: 50,
-        tags: Seq::new(alloc),
-        logs: Seq::new(alloc),
-    };
+    let mut span = span(alloc, 1, 2)?;
+    span.operation = Text::from_str(alloc, "GET /")?;
     Ok(Batch {
-        process: process(alloc, "frontend", Vec::new(alloc))?,
-        spans: Seq::from_vec(vec![in alloc; span]?),
+        process: process(alloc, "frontend")?,
+        spans: list_of(alloc, span)?,
         seq_no: None,
     })
 }
 
 fn tags(alloc: Global) -> Result<Batch, Fail> {
-    let mut tags = Vec::new(alloc);
-    tags.push(text_tag(alloc, "text", "grün")?)?;
-    let bytes = [0xc0, 0x04, 0, 0, 0, 0, 0, 0];
-    tags.push(tag(alloc, "double", Value::Double(bytes))?)?;
-    tags.push(tag(alloc, "bool", Value::Bool(true))?)?;
-    tags.push(tag(alloc, "long", Value::Long(-7))?)?;
-    let bytes = Seq::from_vec(vec![in alloc; 0xff, 0]?);
-    tags.push(tag(alloc, "binary", Value::Bytes(bytes))?)?;
-    tags.push(text_tag(alloc, "absent", "")?)?;
-    tags.push(tag(alloc, "other", Value::Long(8))?)?;
+    let bytes = Value::Bytes(Seq::from_vec(vec![in alloc; 0xff, 0]?));
+    let double = Value::Double([0xc0, 0x04, 0, 0, 0, 0, 0, 0]);
+    let tags = vec![in alloc; text_tag(alloc, "text", "grün")?]?;
+    let tags = with_tag(alloc, tags, "double", double)?;
+    let tags = with_tag(alloc, tags, "bool", Value::Bool(true))?;
+    let tags = with_tag(alloc, tags, "long", Value::Long(-7))?;
+    let tags = with_tag(alloc, tags, "binary", bytes)?;
+    let tags = with_tag(alloc, tags, "absent", Value::Text(Text::new(alloc)))?;
+    let tags = with_tag(alloc, tags, "other", Value::Long(8))?;
     Ok(Batch {
-        process: process(alloc, "orders", tags)?,
+        process: tagged(alloc, "orders", Seq::from_vec(tags))?,
         spans: Seq::new(alloc),
         seq_no: None,
     })
@@ -118,7 +98,7 @@ fn logs(alloc: Global) -> Result<Seq<Log>, Fail> {
     let flag = tag(alloc, "bool", Value::Bool(true))?;
     let first = Log {
         at: -5,
-        fields: Seq::from_vec(vec![in alloc; flag]?),
+        fields: list_of(alloc, flag)?,
     };
     let second = Log {
         at: 6,
@@ -127,43 +107,42 @@ fn logs(alloc: Global) -> Result<Seq<Log>, Fail> {
     Ok(Seq::from_vec(vec![in alloc; first, second]?))
 }
 
+fn full_span(alloc: Global) -> Result<Span, Fail> {
+    let mut span = span(alloc, 0xffff_ffff_ffff_ffff, 0xffff_ffff_ffff_fffe)?;
+    span.trace.high = 258;
+    span.parent = SpanId(3);
+    span.flags = -3;
+    span.start = -1000;
+    span.duration = 0;
+    span.operation = Text::from_str(alloc, "charge")?;
+    span.references = references(alloc)?;
+    span.tags = list_of(alloc, tag(alloc, "long", Value::Long(-7))?)?;
+    span.logs = logs(alloc)?;
+    Ok(span)
+}
+
 fn every_field(alloc: Global) -> Result<Batch, Fail> {
-    let number = tag(alloc, "long", Value::Long(-7))?;
-    let span = Span {
-        trace: TraceId {
-            high: 258,
-            low: 0xffff_ffff_ffff_ffff,
-        },
-        id: SpanId(0xffff_ffff_ffff_fffe),
-        parent: SpanId(3),
-        operation: Text::from_str(alloc, "charge")?,
-        references: references(alloc)?,
-        flags: -3,
-        start: -1000,
-        duration: 0,
-        tags: Seq::from_vec(vec![in alloc; number]?),
-        logs: logs(alloc)?,
-    };
-    let colour = text_tag(alloc, "text", "grün")?;
+    let tags = list_of(alloc, text_tag(alloc, "text", "grün")?)?;
     Ok(Batch {
-        process: process(alloc, "orders", vec![in alloc; colour]?)?,
-        spans: Seq::from_vec(vec![in alloc; span]?),
+        process: tagged(alloc, "orders", tags)?,
+        spans: list_of(alloc, full_span(alloc)?)?,
         seq_no: Some(-9),
     })
+}
+
+/// The bytes spell this batch.
+fn expect_batch(rt: &impl Abort, alloc: Global, hex: &str, want: Batch) -> Result<(), Fail> {
+    let batch = decode(alloc, &bytes_of(alloc, hex)?)?;
+    assert!(rt; batch.is_same(&want), "{hex}");
+    Ok(())
 }
 
 #[test]
 fn batches_of_apache_thrift(rt: HostRuntime) -> Result<(), Fail> {
     let alloc = rt.alloc();
-    for (hex, want) in [
-        (NO_SPANS, no_spans(alloc, 1)?),
-        (REQUIRED_FIELDS, required_fields(alloc)?),
-        (TAGS, tags(alloc)?),
-        (EVERY_FIELD, every_field(alloc)?),
-        (STATISTICS, no_spans(alloc, 2)?),
-    ] {
-        let batch = decode(alloc, &bytes_of(alloc, hex)?)?;
-        assert!(rt; batch.is_same(&want), "{batch:?}");
-    }
-    Ok(())
+    expect_batch(&rt, alloc, NO_SPANS, no_spans(alloc, 1)?)?;
+    expect_batch(&rt, alloc, REQUIRED_FIELDS, required_fields(alloc)?)?;
+    expect_batch(&rt, alloc, TAGS, tags(alloc)?)?;
+    expect_batch(&rt, alloc, EVERY_FIELD, every_field(alloc)?)?;
+    expect_batch(&rt, alloc, STATISTICS, no_spans(alloc, 2)?)
 }

@@ -1,0 +1,235 @@
+use batch_codec::{DecodeError, decode, encode};
+use jaeger_model::{Batch, Seq};
+use std::alloc::{AllocError, Global};
+use std::test::*;
+use trace_samples::process;
+
+/// The bytes of hexadecimal text; spaces are skipped.
+pub(crate) fn bytes_of(alloc: Global, hex: &str) -> Result<Vec<u8>, AllocError> {
+    let mut bytes = Vec::new(alloc);
+    let mut high = None;
+    for c in hex.as_bytes() {
+        let digit = match *c {
+            48..=57 => *c - 48,
+            97..=102 => *c - 87,
+            _ => continue,
+        };
+        high = match high {
+            None => Some(digit),
+            Some(high) => {
+                bytes.push(high << 4 | digit)?;
+                None
+            }
+        };
+    }
+    Ok(bytes)
+}
+
+/// Every field, and a tag of each type.
+const ALL: &str = "0c0001 0b0001 00000001 61
+        0f0002 0c 00000002
+            0b0001 00000001 6b 080002 00000000 0b0003 00000001 76 00
+            0b0001 00000001 64 080002 00000001 040004 7ff8000000000001 00 00
+    0f0002 0c 00000001
+        0a0001 0000000000000001 0a0002 ffffffffffffffff 0a0003 0000000000000003 0a0004 0000000000000004
+        0b0005 00000002 6f70
+        0f0006 0c 00000001 080001 00000001 0a0002 0000000000000001 0a0003 0000000000000002 0a0004 0000000000000009 00
+        080007 ffffffff 0a0008 fffffffffffffc18 0a0009 0000000000000032
+        0f000a 0c 00000003
+            0b0001 00000001 62 080002 00000002 020005 01 00
+            0b0001 00000001 6e 080002 00000003 0a0006 fffffffffffffff9 00
+            0b0001 00000001 78 080002 00000004 0b0007 00000002 ff00 00
+        0f000b 0c 00000001
+            0a0001 fffffffffffffffb 0f0002 0c 00000001 0b0001 00000001 65 080002 00000000 00 00 00
+    0a0003 fffffffffffffff7 00";
+
+/// With enough memory the batch and its spelling, and without it nothing but want of memory
+/// (`rt try --test --fail-alloc 1..`).
+#[test]
+fn want_of_memory(rt: HostRuntime) -> Result<(), Fail> {
+    let alloc = rt.alloc();
+    let Ok(bytes) = bytes_of(alloc, ALL) else {
+        return Ok(());
+    };
+    let fault = match decode(alloc, &bytes) {
+        Ok(batch) => match encode(alloc, &batch) {
+            Ok(_) => return Ok(()),
+            Err(fault) => fault,
+        },
+        Err(fault) => fault,
+    };
+    assert_eq!(rt; fault, DecodeError::Memory);
+    Ok(())
+}
+
+/// Sizes and lengths far beyond the bytes: nothing is asked for by them, so this passes however little
+/// memory there is (`rt try --test --fail-alloc 1..`).
+#[test]
+fn claimed_sizes_take_no_memory(rt: HostRuntime) {
+    let alloc = rt.alloc();
+    let spans = [0x0f, 0, 2, 0x0c, 0x7f, 0xff, 0xff, 0xff];
+    assert!(rt; matches!(decode(alloc, &spans), Err(fault) if fault.number() == 1));
+    let service = [0x0c, 0, 1, 0x0b, 0, 1, 0x7f, 0xff, 0xff, 0xff, 0x61];
+    assert!(rt; matches!(decode(alloc, &service), Err(fault) if fault.number() == 1));
+}
+
+/// The bytes of three texts, one after the other.
+fn joined(alloc: Global, parts: (&str, &str, &str)) -> Result<Vec<u8>, AllocError> {
+    let mut bytes = bytes_of(alloc, parts.0)?;
+    bytes.extend_from_slice(&bytes_of(alloc, parts.1)?)?;
+    bytes.extend_from_slice(&bytes_of(alloc, parts.2)?)?;
+    Ok(bytes)
+}
+
+/// The bytes, decoded: the fault's text, or the operation of each span.
+fn outcome(alloc: Global, hex: &str) -> Result<String, Fail> {
+    let bytes = bytes_of(alloc, hex)?;
+    let batch = match decode(alloc, &bytes) {
+        Ok(batch) => batch,
+        Err(fault) => return Ok(fault.text(alloc)?),
+    };
+    let mut text = String::from_str(alloc, "ok")?;
+    for span in batch.spans.as_slice() {
+        text.push_str(" ")?;
+        text.push_str(span.operation.as_str())?;
+    }
+    Ok(text)
+}
+
+/// A batch up to its process's one tag, and what follows that.
+const TAG: &str = "0c0001 0b0001 00000001 61 0f0002 0c 00000001 0b0001 00000001 65";
+
+const TAG_END: &str = "00 00 0f0002 0c 00000000 00";
+
+/// Bytes, and what comes of decoding them.
+const OUTCOMES: &str = "
+    0c0001 0b0001 00000001 61 00 0f0002 0c 00000000 00 -> ok
+    0c0001 0b0001 00000001 61 00 0f0002 0c 00000000 -> 1 Truncated
+    -> 1 Truncated
+    00 -> 7 Missing Batch 1
+    00 00 -> 7 Missing Batch 1
+    0c0001 0b0001 00000001 61 00 0f0002 0c 00000000 00 00 -> 9 Trailing
+    0c0001 0b0001 00000001 61 00 0f0002 0c 7fffffff -> 1 Truncated
+    0c0001 0b0001 00000001 61 00 0f0002 0c ffffffff -> 2 BadLength
+    0c0001 0b0001 00000001 61 00 0f0002 03 00000000 00 -> ok
+    0c0001 0b0001 00000001 61 00 0f0002 03 00000001 00 -> 3 BadType
+    0c0001 0b0001 00000001 61 00 0f0002 10 ffffffff -> 2 BadLength
+    ff00 -> 1 Truncated
+    ff00 01 -> 3 BadType
+    0c0001 0b0001 00000001 61 00 0f0002 0c 00000000 0c0004 0a0001 0000000000000001 00 00 -> ok
+    0c0001 0b0001 00000001 61 0f0002 0c 00000001 0b0001 00000001 65 080002 00000002 00 00 0f0002 0c 00000000 00 -> ok
+    0c0001 0b0001 00000001 61 0f0002 0c 00000001 0b0001 00000001 65 080002 00000002 020005 02 00 00 0f0002 0c 00000000 00 -> 5 BadBool
+    0c0001 0b0001 00000001 61 0f0002 0c 00000001 0b0001 00000001 65 080002 00000003 020005 02 00 00 0f0002 0c 00000000 00 -> 5 BadBool
+    0c0001 0b0001 00000001 61 0f0002 0c 00000001 0b0001 00000001 65 080002 00000003 0b0003 00000001 ff 00 00 0f0002 0c 00000000 00 -> 6 BadText
+    0c0001 0b0001 00000001 61 0f0002 0c 00000001 0b0001 00000001 65 080002 00000003 0b0007 00000001 ff 00 00 0f0002 0c 00000000 00 -> ok
+    0c0001 0b0001 00000001 61 0f0002 0c 00000001 0b0001 00000001 65 080002 00000005 00 00 0f0002 0c 00000000 00 -> 8 BadEnum
+    0c0001 0b0001 00000001 61 0f0002 0c 00000001 0b0001 00000001 65 00 00 0f0002 0c 00000000 00 -> 7 Missing Tag 2
+    0c0001 00 -> 7 Missing Process 1
+    0c0001 0b0001 00000001 61 00 0f0002 0c 00000001 0a0001 0000000000000001 0a0002 0000000000000000 0a0003 0000000000000002 0a0004 0000000000000000 0b0005 00000002 6f70 080007 00000001 0a0008 00000000000003e8 0a0009 0000000000000032 00 00 -> ok op
+    0c0001 0b0001 00000001 61 00 0f0002 0c 00000001 0a0001 0000000000000001 0a0002 0000000000000000 0a0003 0000000000000002 0a0004 0000000000000000 0b0005 00000002 6f70 0a0007 0000000000000001 0a0008 00000000000003e8 0a0009 0000000000000032 00 00 -> 7 Missing Span 7
+    0c0001 0b0001 00000001 61 00 0f0002 0c 00000001 0a0001 0000000000000001 0a0002 0000000000000000 0a0003 0000000000000002 0a0004 0000000000000000 0b0005 00000002 6f70 0b0005 00000001 78 080007 00000001 0a0008 00000000000003e8 0a0009 0000000000000032 00 00 -> ok x
+    0c0001 0b0001 00000001 61 00 0f0002 0c 00000001 0a0001 0000000000000001 0a0002 0000000000000000 0a0003 0000000000000002 0a0004 0000000000000000 0b0005 00000002 6f70 0f0006 0c 00000001 080001 00000002 0a0008 00000000000003e8 0a0009 0000000000000032 00 00 -> 8 BadEnum
+    0c0001 0b0001 00000001 61 00 0f0002 0c 00000001 0a0001 0000000000000001 0a0002 0000000000000000 0a0003 0000000000000002 0a0004 0000000000000000 0b0005 00000002 6f70 0f0006 0c 00000001 00 0a0008 00000000000003e8 0a0009 0000000000000032 00 00 -> 7 Missing SpanRef 1
+    0c0001 0b0001 00000001 61 00 0f0002 0c 00000001 0a0001 0000000000000001 0a0002 0000000000000000 0a0003 0000000000000002 0a0004 0000000000000000 0b0005 00000002 6f70 0f000b 0c 00000001 00 0a0008 00000000000003e8 0a0009 0000000000000032 00 00 -> 7 Missing Log 1";
+
+#[test]
+fn faults_and_what_is_no_fault(rt: HostRuntime) -> Result<(), Fail> {
+    let mut rows = 0u32;
+    for line in OUTCOMES.lines() {
+        let Some((hex, want)) = line.split_once("-> ") else {
+            continue;
+        };
+        let text = outcome(rt.alloc(), hex)?;
+        assert!(rt; text.as_str() == want, "{line}: {text}");
+        rows = rows.wrapping_add(1);
+    }
+    assert_eq!(rt; rows, 28);
+    Ok(())
+}
+
+/// Lists inside lists, the innermost empty, in a field that nobody knows.
+fn nested(alloc: Global, levels: u32) -> Result<Vec<u8>, Fail> {
+    let mut bytes = bytes_of(
+        alloc,
+        "0c0001 0b0001 00000001 61 00 0f0002 0c 00000000 0f0009",
+    )?;
+    for level in 0..levels {
+        let last = level + 1 == levels;
+        bytes.extend_from_slice(if last {
+            &[15, 0, 0, 0, 0]
+        } else {
+            &[15, 0, 0, 0, 1]
+        })?;
+    }
+    bytes.push(0)?;
+    Ok(bytes)
+}
+
+#[test]
+fn levels_of_skipped_lists(rt: HostRuntime) -> Result<(), Fail> {
+    let alloc = rt.alloc();
+    assert!(rt; decode(alloc, &nested(alloc, 64)?).is_ok());
+    assert!(rt; matches!(decode(alloc, &nested(alloc, 65)?), Err(fault) if fault.number() == 4));
+    Ok(())
+}
+
+/// A batch of no spans with a number, as it is encoded.
+const NUMBERED: &str = "0c0001 0b0001 00000001 61 00 0f0002 0c 00000000 0a0003 0000000000000001 00";
+
+#[test]
+fn one_spelling(rt: HostRuntime) -> Result<(), Fail> {
+    let alloc = rt.alloc();
+    let numbered = Batch {
+        process: process(alloc, "a")?,
+        spans: Seq::new(alloc),
+        seq_no: Some(1),
+    };
+    let bytes = encode(alloc, &numbered)?;
+    assert_eq!(rt; bytes.len(), 32);
+    assert_eq!(rt; bytes.as_slice(), bytes_of(alloc, NUMBERED)?.as_slice());
+    assert!(rt; decode(alloc, &bytes)?.is_same(&numbered));
+    let batch = decode(alloc, &bytes_of(alloc, ALL)?)?;
+    let encoded = encode(alloc, &batch)?;
+    assert!(rt; batch.is_same(&decode(alloc, &encoded)?));
+    Ok(())
+}
+
+/// The fields of a tag as they are read, and the one spelling of it.
+const SPELLINGS: [(&str, &str); 9] = [
+    ("080002 00000000", "080002 00000000 0b0003 00000000"),
+    ("080002 00000001", "080002 00000001 040004 0000000000000000"),
+    (
+        "080002 00000001 040004 7ff8000000000001",
+        "080002 00000001 040004 7ff8000000000001",
+    ),
+    ("080002 00000002", "080002 00000002 020005 00"),
+    ("020005 01 080002 00000002", "080002 00000002 020005 01"),
+    ("080002 00000003", "080002 00000003 0a0006 0000000000000000"),
+    (
+        "0b0003 00000001 76 0a0006 ffffffffffffffff 080002 00000000 080002 00000003",
+        "080002 00000003 0a0006 ffffffffffffffff",
+    ),
+    ("080002 00000004", "080002 00000004 0b0007 00000000"),
+    (
+        "080002 00000004 0b0003 00000001 76 0b0007 00000001 ff 0b0007 00000002 00fe",
+        "080002 00000004 0b0007 00000002 00fe",
+    ),
+];
+
+/// The one spelling of the batch that these bytes spell.
+fn respelled(alloc: Global, parts: (&str, &str, &str)) -> Result<Vec<u8>, Fail> {
+    let bytes = joined(alloc, parts)?;
+    let batch = decode(alloc, &bytes)?;
+    Ok(encode(alloc, &batch)?)
+}
+
+#[test]
+fn one_value_of_a_tag(rt: HostRuntime) -> Result<(), Fail> {
+    let alloc = rt.alloc();
+    for (read, written) in &SPELLINGS {
+        let bytes = respelled(alloc, (TAG, *read, TAG_END))?;
+        let want = joined(alloc, (TAG, *written, TAG_END))?;
+        assert_eq!(rt; bytes.as_slice(), want.as_slice(), "{read}");
+    }
+    Ok(())
+}

@@ -1,0 +1,17 @@
+//! Tests of the wire and of the values of a trace: worked rows of `thrift_binary`, `jaeger_model` and
+//! `batch_codec`, whose expected values come from the protocol's description and from Apache Thrift.
+//!
+//! * `thrift_values`: single values of the protocol, read, written and skipped.
+//! * `trace_values`: ids, tags, texts and lists, and what a batch is in the store.
+//! * `batch_bytes`: batches from and to bytes, and each fault.
+//! * `apache`: batches as Apache Thrift spells them.
+#![tactic(auto)]
+
+#[cfg(test)]
+mod apache;
+#[cfg(test)]
+mod batch_bytes;
+#[cfg(test)]
+mod thrift_values;
+#[cfg(test)]
+mod trace_values;
