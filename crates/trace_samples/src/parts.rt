@@ -1,0 +1,115 @@
+ghost use Rattle.std.specs.Prelude.{◌≡◌, ◌∷◌, [], IfOk, None};
+ghost use Rattle.trace_samples.specs.Samples.{text_tag, plain_process, host_process, root_span};
+
+use jaeger_model::{Batch, Placed, Process, Seq, Span, SpanId, Tag, Text, TraceId, Value};
+use std::alloc::{AllocError, Global};
+
+/// A list of one item.
+///
+/// # Errors
+///
+/// Want of memory alone.
+pub fn list_of<T: Drop>(alloc: Global, item: T) -> Result<Seq<T>, AllocError>
+    ensures { IfOk result (λ items. items ≡ item ∷ []) }
+{
+    let mut items = Vec::new(alloc);
+    items.push(item)?;
+    Ok(Seq::from_vec(items))
+}
+
+/// A tag whose value is a text.
+///
+/// # Errors
+///
+/// Want of memory alone.
+pub fn text_tag(alloc: Global, key: &str, text: &str) -> Result<Tag, AllocError>
+    ensures { IfOk result (λ tag. tag ≡ text_tag key.now text.now) }
+{
+    Ok(Tag {
+        key: Text::from_str(alloc, key)?,
+        value: Value::Text(Text::from_str(alloc, text)?),
+    })
+}
+
+/// A service without tags.
+///
+/// # Errors
+///
+/// Want of memory alone.
+pub fn process(alloc: Global, service: &str) -> Result<Process, AllocError>
+    ensures { IfOk result (λ process. process ≡ plain_process service.now) }
+{
+    let service = Text::from_str(alloc, service)?;
+    let tags = Seq::new(alloc);
+    Ok(Process { service, tags })
+}
+
+/// A service with the one tag `ip`, the host that it runs on.
+///
+/// # Errors
+///
+/// Want of memory alone.
+pub fn host_process(alloc: Global, service: &str, host: &str) -> Result<Process, AllocError>
+    ensures { IfOk result (λ process. process ≡ host_process service.now host.now) }
+{
+    Ok(Process {
+        service: Text::from_str(alloc, service)?,
+        tags: list_of(alloc, text_tag(alloc, "ip", host)?)?,
+    })
+}
+
+/// A span without parent: operation `op`, from 1000 for 50 microseconds, with flags 1 and no
+/// reference, tag or log. `trace` is the low half of its trace's id, whose high half is 0.
+///
+/// # Errors
+///
+/// Want of memory alone.
+pub fn span(alloc: Global, trace: u64, id: u64) -> Result<Span, AllocError>
+    ensures { IfOk result (λ span. span ≡ root_span trace id) }
+{
+    Ok(Span {
+        trace: TraceId {
+            high: 0,
+            low: trace,
+        },
+        id: SpanId(id),
+        parent: SpanId(0),
+        operation: Text::from_str(alloc, "op")?,
+        references: Seq::new(alloc),
+        flags: 1,
+        start: 1000,
+        duration: 50,
+        tags: Seq::new(alloc),
+        logs: Seq::new(alloc),
+    })
+}
+
+/// The span as a service without tags reported it.
+///
+/// # Errors
+///
+/// Want of memory alone.
+pub fn placed(alloc: Global, service: &str, span: Span) -> Result<Placed, AllocError>
+    ensures { IfOk result (λ placed.
+        placed ≡ record { process = plain_process service.now; span = span }) }
+{
+    let process = process(alloc, service)?;
+    Ok(Placed { process, span })
+}
+
+/// The spans as a service without tags hands them in, with no number of the sender's own.
+///
+/// # Errors
+///
+/// Want of memory alone.
+pub fn batch(alloc: Global, service: &str, spans: Vec<Span>) -> Result<Batch, AllocError>
+    ensures process { IfOk result (λ batch. batch.process ≡ plain_process service.now) }
+    ensures spans { IfOk result (λ batch. batch.spans ≡ spans.items) }
+    ensures unnumbered { IfOk result (λ batch. batch.seq_no ≡ None) }
+{
+    Ok(Batch {
+        process: process(alloc, service)?,
+        spans: Seq::from_vec(spans),
+        seq_no: None,
+    })
+}

@@ -1,0 +1,37 @@
+ghost use Rattle.std.specs.Prelude.{◌≡◌, IfOk, map};
+ghost use Rattle.trace_samples.specs.Samples.{seen, traces_seen};
+
+use jaeger_model::{Placed, Seen};
+use std::alloc::{AllocError, Global};
+
+/// The spans of a trace, looked at in their order.
+///
+/// # Errors
+///
+/// Want of memory alone.
+#[tactic(auto, using(std::proofs::lemmas::List::take_more))]
+pub fn seen_trace(alloc: Global, trace: &[Placed]) -> Result<Vec<Seen<'_>>, AllocError>
+    ensures { IfOk result (λ all. map seen all.items ≡ trace.now) }
+{
+    let mut all = Vec::new(alloc);
+    for Placed { process, span } in trace {
+        all.push(Seen { process, span })?;
+    }
+    Ok(all)
+}
+
+/// The spans of each trace, looked at in their order.
+///
+/// # Errors
+///
+/// Want of memory alone.
+#[tactic(auto, using(std::proofs::lemmas::List::map_more))]
+pub fn seen_traces(alloc: Global, traces: &[Vec<Placed>]) -> Result<Vec<Vec<Seen<'_>>>, AllocError>
+    ensures { IfOk result (λ all. traces_seen all.items ≡ map (λ t. t.items) traces.now) }
+{
+    let mut all = Vec::new(alloc);
+    for trace in traces {
+        all.push(seen_trace(alloc, trace)?)?;
+    }
+    Ok(all)
+}
