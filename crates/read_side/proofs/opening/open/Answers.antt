@@ -1,0 +1,20 @@
+use Rattle.std.proofs.Common.{rules, ◌≡◌, ◌∙◌, ◌+◌, ap, sym, subst, [], List}
+use Rattle.std.specs.List.{All}
+use Rattle.trace_model.specs.declared.entry.Entry.{Entry}
+use Rattle.read_side.proofs.Steps.{admits, all_snoc, starts}
+use Rattle.read_side.proofs.opening.open.Goals as goal
+
+pub new-requires-clause-rule : goal.new-requires-clause-rule
+new-requires-clause-rule g c =
+    starts g.N.StoreName.book g.N.StoreName.limits c.new-first.result (search rules) (search rules) (search rules) (search rules)
+
+pub reader-requires : goal.reader-requires
+reader-requires g c = admits _ _
+
+pub loop-made-preserved : goal.loop-made-preserved
+loop-made-preserved g c =
+    let empty : c.new-pass.result ≡ [] = search rules in (
+      (let P : List (List Entry) → Type 0 = λ z. All (λ p. p ≡ []) z in subst P (sym c.push_reserved.ensures.items) (all_snoc (λ p. p ≡ []) _ _ c.loop-made.invariant.0 empty)),
+      c.push_reserved.ensures.len ∙ ap (λ n. n + 1) c.loop-made.invariant.1,
+      rw c.push_reserved.ensures.capacity c.loop-made.invariant.2,
+    )

@@ -1,0 +1,5 @@
+pub mod Copies
+pub mod Rules
+pub mod Keepers
+pub mod Receipts
+pub mod Naming

@@ -1,0 +1,46 @@
+//! Opening a store.
+ghost use Rattle.std.specs.Prelude.{◌≡◌, ◌≤◌, [], IfOk, All, length};
+ghost use Rattle.read_side.specs.Keepers.{no_entries};
+
+use crate::history::{Log, Opened, StoreName};
+use crate::keeper::{Copies, Keeper};
+use crate::pass::Pass;
+use crate::side::Side;
+use crate::visitor::Visitor;
+use arrival_journal::Journal;
+use left_right::writer::Writer;
+use span_store::SpanStore;
+use std::alloc::Global;
+use trace_model::{Limits, Refusal};
+
+/// Opens an empty store under a name, which is spent, for 1 to 64 readers.
+///
+/// # Errors
+///
+/// [`Refusal::NoMemory`]: nothing is left behind.
+pub fn open<N: StoreName>(
+    alloc: Global,
+    name: Opened,
+    limits: Limits,
+    readers: usize,
+) -> Result<(Keeper<N>, Vec<Pass<N>>), Refusal>
+    requires readers { (1 ≤ readers) × (readers ≤ 64) }
+    requires book { name.seen.book ≡ N.book }
+    requires limits { limits ≡ N.limits }
+    ensures keeper { IfOk result (λ r. r.0 ≡ no_entries) }
+    ensures passes { IfOk result (λ r. All (λ p. p ≡ []) r.1.items) }
+    ensures count { IfOk result (λ r. length r.1.items ≡ readers) }
+{
+    let history: Log<N> = Log::new(name);
+    let first = Side::new(SpanStore::open(alloc, limits), history.seen());
+    let second = Side::new(SpanStore::open(alloc, limits), history.seen());
+    let mut passes = Vec::with_capacity(alloc, readers)?;
+    let writer: Copies<N> = Writer::new(alloc, first, second, readers)?;
+    for _made in 0..readers {
+        let entrance = writer.factory().reader().ok();
+        let pass = Pass::new(Visitor::new(entrance, history.seen()));
+        passes.push_reserved(pass);
+    }
+    let journal = Journal::new(alloc, limits);
+    Ok((Keeper::new(alloc, writer, journal, history), passes))
+}
