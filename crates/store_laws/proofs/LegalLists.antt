@@ -3,29 +3,15 @@ use Rattle.std.proofs.Common.{◌≡◌, ℕ, ◌+◌, ◌<◌, ◌≤◌, Bool,
 use Rattle.std.specs.Prelude.{nat_le, ◌==◌, ◌↔◌, if◌then◌else◌}
 use Rattle.std.proofs.lemmas.List.{append-nil}
 use Rattle.std.proofs.lemmas.Bool.{false≢true, le-leb, lt-leb, leb-true, leb-false}
-use Rattle.std.proofs.lemmas.List.Sums.{sum_by-append}
 use Rattle.trace_model.specs.declared.entry.Entry.{Entry}
 use Rattle.trace_model.specs.declared.limits.Limits.{Limits}
 use Rattle.trace_model.specs.declared.refusal.Refusal.{Refusal}
 use Rattle.trace_model.specs.declared.refusal.Refusal.TheVariants.{JournalFull, Stale}
 use Rattle.trace_model.specs.Refusals.{refusal_of, has_room}
 use Rattle.trace_model.specs.Histories.{last_number, span_count, IsLegal, AboveEach, RisesAfter}
-use Rattle.trace_model.proofs.Legality.{rises_pushed, above_last, above_each, span_count_push, legal_push}
+use Rattle.trace_model.proofs.Legality.{rises_pushed, above_last, above_each, span_count_push, legal_push, legal_front}
 use Rattle.store_laws.specs.Splits.{RisesBySplits}
 use mathlib.Core.List.{IsPrefix}
-
--- ---- beginnings
-rises_front : (before h rest : List Entry) → RisesAfter before (h ++ rest) → RisesAfter before h
-rises_front before [] rest r = tt
-rises_front before (e ∷ h) rest r = (r.0, r.1, rises_front (before ++ e ∷ []) h rest r.2)
-
--- a beginning of a legal list is legal
-pub legal_front : (limits : Limits) (h rest : List Entry) → IsLegal limits (h ++ rest) → IsLegal limits h
-legal_front limits h rest l = record {
-  rising = rises_front [] h rest l.rising;
-  batches = omega (arith, length-append h rest, l.batches);
-  spans = omega (arith, sum_by-append (λ (x : Entry). length x.batch.spans) h rest, l.spans);
-}
 
 pub legal_prefix : (limits : Limits) (h k : List Entry) → IsPrefix h k → IsLegal limits k → IsLegal limits h
 legal_prefix limits h k p l = legal_front limits h p.0 (subst (IsLegal limits) (sym p.1) l)
