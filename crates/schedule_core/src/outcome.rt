@@ -1,7 +1,7 @@
 use trace_model::{Answer, Refusal};
 
 /// What came of a step.
-#[derive(Debug, Drop)]
+#[derive(Drop)]
 pub enum Outcome {
     /// The job waits, under its seat's next number.
     Put { number: u64 },

@@ -11,7 +11,7 @@ use std::marker::Model;
 const READERS: usize = 64;
 
 /// A reader inside.
-#[derive(Clone, Copy, Debug)]
+#[derive(Clone, Copy)]
 pub(crate) struct Inside {
     /// How many entries the list has that it entered.
     pub front: u64,
@@ -20,7 +20,7 @@ pub(crate) struct Inside {
 }
 
 /// Where a reader stands.
-#[derive(Clone, Copy, Debug)]
+#[derive(Clone, Copy)]
 pub(crate) struct Place {
     /// How many entries the longest list has that it has seen.
     pub seen: u64,

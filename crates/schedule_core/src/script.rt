@@ -1,6 +1,6 @@
 ghost use Rattle.std.specs.Prelude.{IfOk};
 ghost use Rattle.schedule_core.specs.Machine.{new_machine};
-ghost use Rattle.schedule_core.specs.Worlds.{PlaysAs};
+ghost use Rattle.schedule_core.specs.Worlds.{PlaysAs, PlaysFrom};
 
 use crate::outcome::Outcome;
 use crate::step::Step;
@@ -18,6 +18,19 @@ pub fn play(alloc: Global, steps: Vec<Step>, limits: Limits) -> Result<Vec<Outco
     ensures { IfOk result (λ outcomes. PlaysAs (new_machine limits) steps.items outcomes.items) }
 {
     let mut world = World::new(alloc, limits);
+    let outcomes = outcomes_of(alloc, &mut world, steps);
+    drop(world);
+    outcomes
+}
+
+/// The outcomes of the steps, in order, from where the machine stands.
+fn outcomes_of(
+    alloc: Global,
+    world: &mut World,
+    steps: Vec<Step>,
+) -> Result<Vec<Outcome>, AllocError>
+    ensures { IfOk result (λ outcomes. PlaysFrom world.old steps.items outcomes.items) }
+{
     let mut outcomes = Vec::new(alloc);
     for step in steps {
         outcomes.push(world.step(step))?;

@@ -49,11 +49,13 @@ impl Stage {
     pub fn new(alloc: Global, limits: Limits) -> Result<Stage, AllocError>
         ensures { IfOk result (λ s. s ≡ new_machine limits) }
     {
+        let seats = Seats::new(alloc)?;
+        let readers = Readers::new(alloc)?;
         Ok(Stage {
             copies: Copies::new(alloc, limits),
-            seats: Seats::new(alloc)?,
+            seats,
             fronts: Vec::new(alloc),
-            readers: Readers::new(alloc)?,
+            readers,
         })
     }
 

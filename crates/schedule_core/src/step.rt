@@ -2,7 +2,7 @@ use jaeger_model::Batch;
 use trace_model::Query;
 
 /// What the machine is told to do. Seats and readers have the numbers 0 to 63.
-#[derive(Debug, Drop)]
+#[derive(Drop)]
 pub enum Step {
     /// A seat hands in a batch.
     Put { seat: u32, batch: Batch },

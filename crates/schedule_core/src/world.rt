@@ -41,7 +41,7 @@ impl World {
         match stage.step(step) {
             Ok(outcome) => outcome,
             Err(_) => {
-                self.stage = None;
+                drop(self.stage.take());
                 Outcome::Refused(Refusal::NoMemory)
             }
         }
