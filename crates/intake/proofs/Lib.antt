@@ -1,0 +1,7 @@
+pub mod Steps
+pub mod Judging
+pub mod Accounts
+pub mod Ends
+pub mod Runs
+pub mod Seating
+pub mod Places

@@ -1,0 +1,97 @@
+-- Jobs judged one after the other.
+use Rattle.std.proofs.Common.{◌≡◌, ℕ, Bool, true, false, if◌then◌else◌, List, [], ◌∷◌, ◌++◌, refl, subst, sym, ap, ◌∙◌, append_assoc, Result, Ok, Err}
+use Rattle.std.proofs.lemmas.List.{append-nil}
+use mathlib.Core.List.{IsPrefix}
+use Rattle.trace_model.specs.declared.entry.Entry.{Entry}
+use Rattle.trace_model.specs.declared.limits.Limits.{Limits}
+use Rattle.trace_model.specs.declared.refusal.Refusal.{Refusal}
+use Rattle.trace_model.proofs.Prefixes.{prefix_trans}
+use Rattle.read_side.specs.Keepers.{Lists, accepted}
+use Rattle.intake.specs.declared.account.Account.{Account}
+use Rattle.intake.specs.declared.clerk.Turn.{Turn}
+use Rattle.intake.specs.declared.clerk.Turn.TheVariants.{Idle, Served, Ended}
+use Rattle.intake.specs.Turns.{ClerkValue, Accounted, Judged, Serves, IfServed, IfNotServed, account_of}
+use Rattle.intake.specs.Books.{JudgedInTurn, is_accepted, accepted_jobs, AllStand, Ran}
+use Rattle.intake.proofs.Accounts.{accounted-snoc}
+use Rattle.intake.proofs.Judging.{judged-accepted, judged-shown, judged-stands}
+
+pub judged-snoc : (limits : Limits) (k : Lists) (js : List Entry) (bs : List Account) (m : Lists) (j : Entry) (a : Account) (end : Lists) → JudgedInTurn limits k js bs m → Judged limits m j a.answer end → JudgedInTurn limits k (js ++ j ∷ []) (bs ++ a ∷ []) end
+judged-snoc limits k [] [] m j a end r g = (end, subst (λ (z : Lists). Judged limits z j a.answer end) r g, refl)
+judged-snoc limits k [] (b ∷ bs) m j a end r g = absurd r
+judged-snoc limits k (x ∷ xs) [] m j a end r g = absurd r
+judged-snoc limits k (x ∷ xs) (b ∷ bs) m j a end r g = (r.0, r.1, judged-snoc limits r.0 xs bs m j a end r.2 g)
+
+pub all-shown : (limits : Limits) (k : Lists) (js : List Entry) (bs : List Account) (end : Lists) → JudgedInTurn limits k js bs end → IsPrefix k.published end.published
+all-shown limits k [] [] end r = ([], append-nil k.published ∙ sym (ap (λ (z : Lists). z.published) r))
+all-shown limits k [] (b ∷ bs) end r = absurd r
+all-shown limits k (j ∷ js) [] end r = absurd r
+all-shown limits k (j ∷ js) (b ∷ bs) end r = prefix_trans k.published r.0.published end.published (judged-shown limits k j b.answer r.0 r.1) (all-shown limits r.0 js bs end r.2)
+
+pub all-stand : (limits : Limits) (k : Lists) (js : List Entry) (bs : List Account) (end : Lists) → JudgedInTurn limits k js bs end → AllStand end.published js bs
+all-stand limits k [] [] end r = tt
+all-stand limits k [] (b ∷ bs) end r = absurd r
+all-stand limits k (j ∷ js) [] end r = absurd r
+all-stand limits k (j ∷ js) (b ∷ bs) end r = (judged-stands limits k j b.answer r.0 end.published r.1 (all-shown limits r.0 js bs end r.2), all-stand limits r.0 js bs end r.2)
+
+pub all-accepted : (limits : Limits) (k : Lists) (js : List Entry) (bs : List Account) (end : Lists) → JudgedInTurn limits k js bs end → accepted end ≡ accepted k ++ accepted_jobs js bs
+all-accepted limits k [] [] end r = ap accepted r ∙ sym (append-nil (accepted k))
+all-accepted limits k [] (b ∷ bs) end r = absurd r
+all-accepted limits k (j ∷ js) [] end r = absurd r
+all-accepted limits k (j ∷ js) (b ∷ bs) end r =
+    let rest = accepted_jobs js bs in
+    all-accepted limits r.0 js bs end r.2
+    ∙ (ap (λ z. z ++ rest) (judged-accepted limits k j b.answer r.0 r.1)
+    ∙ (append_assoc (accepted k) (if is_accepted b.answer then j ∷ [] else []) rest ∙ ap (λ z. accepted k ++ z) (go (is_accepted b.answer) rest)))
+  where
+    go : (c : Bool) (rest : List Entry) → (if c then j ∷ [] else []) ++ rest ≡ (if c then j ∷ rest else rest)
+    go true rest = refl
+    go false rest = refl
+
+-- what a run leaves, by what was judged
+pub ran : (limits : Limits) (before : List Entry) (accounts : List Account) (start : Lists) (taken : List Entry) (after : List Account) (end : Lists) (js : List Entry) (bs : List Account)
+    → taken ≡ before ++ js → after ≡ accounts ++ bs → Accounted taken after → JudgedInTurn limits start js bs end → Ran limits before accounts start taken after end
+ran limits before accounts start taken after end js bs t a each judged = record {
+  jobs = js;
+  answers = bs;
+  taken_is = t;
+  accounts_are = a;
+  each = each;
+  judged = judged;
+  gained = all-accepted limits start js bs end judged;
+  stand = all-stand limits start js bs end judged;
+}
+
+pub ran-start : (limits : Limits) (before : List Entry) (accounts : List Account) (start : Lists) → Accounted before accounts → Ran limits before accounts start before accounts start
+ran-start limits before accounts start each = ran limits before accounts start before accounts start [] [] (sym (append-nil before)) (sym (append-nil accounts)) each refl
+
+-- one more job was judged
+pub ran-served : (limits : Limits) (before : List Entry) (accounts : List Account) (start : Lists) (c d : ClerkValue) (m end : Lists) (seat number : ℕ)
+    → Ran limits before accounts start c.taken c.accounts m → Serves limits c m seat number d end → Ran limits before accounts start d.taken d.accounts end
+ran-served limits before accounts start c d m end seat number h s =
+    let j = s.0 in
+    let a = account_of j s.1 in
+    let t : d.taken ≡ c.taken ++ j ∷ [] = ap (λ (z : ClerkValue). z.taken) s.4 in
+    let b : d.accounts ≡ c.accounts ++ a ∷ [] = ap (λ (z : ClerkValue). z.accounts) s.4 in
+    let each : Accounted d.taken d.accounts =
+    (let P : List Entry → Type 0 = λ z. Accounted z d.accounts in let Q : List Account → Type 0 = λ z. Accounted (c.taken ++ j ∷ []) z in subst P (sym t) (subst Q (sym b) (accounted-snoc c.taken c.accounts j a h.each refl refl))) in
+    ran limits before accounts start d.taken d.accounts end (h.jobs ++ j ∷ []) (h.answers ++ a ∷ [])
+    (t ∙ (ap (λ z. z ++ j ∷ []) h.taken_is ∙ append_assoc before h.jobs (j ∷ [])))
+    (b ∙ (ap (λ z. z ++ a ∷ []) h.accounts_are ∙ append_assoc accounts h.answers (a ∷ [])))
+    each
+    (judged-snoc limits start h.jobs h.answers m j a end h.judged s.5)
+
+pub ran-unchanged : (limits : Limits) (before : List Entry) (accounts : List Account) (start : Lists) (c d : ClerkValue) (m end : Lists)
+    → Ran limits before accounts start c.taken c.accounts m → d ≡ c → end ≡ m → Ran limits before accounts start d.taken d.accounts end × (d.desk ≡ c.desk) × (d.ended ≡ c.ended)
+ran-unchanged limits before accounts start c d m end h e k =
+    let P : ClerkValue → Type 0 = λ z. Ran limits before accounts start z.taken z.accounts end × (z.desk ≡ c.desk) × (z.ended ≡ c.ended) in
+    let Q : Lists → Type 0 = λ z. Ran limits before accounts start c.taken c.accounts z in
+    subst P (sym e) (subst Q (sym k) h, refl, refl)
+
+-- whatever the turn did
+pub ran-on : (limits : Limits) (before : List Entry) (accounts : List Account) (start : Lists) (c d : ClerkValue) (m end : Lists) (r : Result Turn Refusal)
+    → Ran limits before accounts start c.taken c.accounts m → IfServed r (λ seat number. Serves limits c m seat number d end) → IfNotServed r ((d ≡ c) × (end ≡ m))
+    → Ran limits before accounts start d.taken d.accounts end × (d.desk ≡ c.desk) × (d.ended ≡ c.ended)
+ran-on limits before accounts start c d m end (Ok (Served seat number)) h s u = (ran-served limits before accounts start c d m end seat number h s, ap (λ (z : ClerkValue). z.desk) s.4, ap (λ (z : ClerkValue). z.ended) s.4)
+ran-on limits before accounts start c d m end (Ok Idle) h s u = ran-unchanged limits before accounts start c d m end h u.0 u.1
+ran-on limits before accounts start c d m end (Ok Ended) h s u = ran-unchanged limits before accounts start c d m end h u.0 u.1
+ran-on limits before accounts start c d m end (Err why) h s u = ran-unchanged limits before accounts start c d m end h u.0 u.1

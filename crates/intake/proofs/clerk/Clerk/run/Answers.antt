@@ -1,0 +1,13 @@
+use Rattle.std.proofs.Common.{◌∙◌, refl}
+use Rattle.intake.proofs.Runs.{ran-start, ran-on}
+use Rattle.intake.proofs.clerk.Clerk.run.Goals as goal
+
+pub loop-init : goal.loop-init
+loop-init g c = (ran-start _ _ _ _ c.accounts-each.ensures.each, refl, refl)
+
+pub loop-preserved-in-Ok-Served : goal.loop-preserved-in-Ok-Served
+loop-preserved-in-Ok-Served g c =
+    let i = c.loop.invariant in
+    let e = c.turn.ensures in
+    let t = ran-on _ _ _ _ c.loop.clerk c.turn.new.self c.loop.keeper c.turn.new.keeper c.turn.result i.0 e.served e.unchanged in
+    (t.0, t.1 ∙ i.1, t.2 ∙ i.2)

@@ -1,0 +1,72 @@
+-- What the clerk leaves.
+use Rattle.std.specs.Prelude.{◌≡◌, ℕ, ◌⊎◌, Bool, true, false, if◌then◌else◌, List, [], ◌∷◌, ◌++◌, Result, Ok, Err, count_by, is_ok}
+use Rattle.trace_model.specs.declared.entry.Entry.{Entry}
+use Rattle.trace_model.specs.declared.limits.Limits.{Limits}
+use Rattle.trace_model.specs.declared.refusal.Refusal.{Refusal}
+use Rattle.trace_model.specs.declared.refusal.Refusal.TheVariants.{Deferred}
+use Rattle.read_side.specs.Keepers.{Lists, accepted}
+use Rattle.read_side.specs.Receipts.{StandsAt}
+use Rattle.intake.specs.declared.account.Account.{Account}
+use Rattle.intake.specs.declared.queue.EndedSeat.{EndedSeat}
+use Rattle.intake.specs.Queues.{jobs_of, CountUp}
+use Rattle.intake.specs.Turns.{Accounted, Judged}
+
+-- these jobs were judged one after the other, with these answers
+abbrev pub JudgedInTurn : Limits → Lists → List Entry → List Account → Lists → Type 0
+JudgedInTurn limits k [] [] end = end ≡ k
+JudgedInTurn limits k (j ∷ js) (a ∷ rest) end =
+    (m : Lists) × Judged limits k j a.answer m × JudgedInTurn limits m js rest end
+JudgedInTurn limits k _ _ end = ⊥
+
+-- the entry was acknowledged, or is pending
+abbrev pub is_accepted : Result ℕ Refusal → Bool
+is_accepted (Ok place) = true
+is_accepted (Err Deferred) = true
+is_accepted (Err _) = false
+
+-- the jobs that were accepted, in order
+abbrev pub accepted_jobs : List Entry → List Account → List Entry
+accepted_jobs [] accounts = []
+accepted_jobs (j ∷ js) [] = []
+accepted_jobs (j ∷ js) (a ∷ rest) =
+    if is_accepted a.answer then j ∷ accepted_jobs js rest else accepted_jobs js rest
+
+abbrev pub StandsIfPlaced : List Entry → Entry → Result ℕ Refusal → Type 0
+StandsIfPlaced list j (Ok place) = StandsAt list place j
+StandsIfPlaced list j (Err why) = Unit {0}
+
+-- each acknowledged job stands in this list at its place
+abbrev pub AllStand : List Entry → List Entry → List Account → Type 0
+AllStand list [] [] = Unit {0}
+AllStand list (j ∷ js) (a ∷ rest) = StandsIfPlaced list j a.answer × AllStand list js rest
+AllStand list _ _ = ⊥
+
+-- how many were acknowledged
+abbrev pub acknowledged : List Account → ℕ
+acknowledged accounts = count_by (λ (a : Account). is_ok a.answer) accounts
+
+-- what the clerk took in this run was judged in turn; each job that it ever took has its account
+pub record Ran (limits : Limits) (before : List Entry) (accounts : List Account) (start : Lists) (taken : List Entry) (after : List Account) (end : Lists) : Type 0 where
+  pub jobs : List Entry
+  pub answers : List Account
+  pub taken_is : taken ≡ before ++ jobs
+  pub accounts_are : after ≡ accounts ++ answers
+  pub each : Accounted taken after
+  pub judged : JudgedInTurn limits start jobs answers end
+  pub gained : accepted end ≡ accepted start ++ accepted_jobs jobs answers
+  pub stand : AllStand end.published jobs answers
+
+-- the jobs that were judged, each with its account, and behind them those that are left
+pub record Balances (taken : List Entry) (accounts : List Account) (left : List Entry) : Type 0 where
+  pub judged : List Entry
+  pub each : Accounted judged accounts
+  pub taken_is : taken ≡ judged ++ left
+
+-- the seat's list is among those of the ended ones
+abbrev pub HasEnded : List EndedSeat → ℕ → List Entry → Type 0
+HasEnded [] seat jobs = ⊥
+HasEnded (k ∷ ks) seat jobs = ((k.seat ≡ seat) × (k.jobs ≡ jobs)) ⊎ HasEnded ks seat jobs
+
+-- all that the seat handed in was taken, whole, in order, each job once, numbered from 1 on
+abbrev pub AllTaken : ℕ → List Entry → List Entry → Type 0
+AllTaken seat jobs taken = (jobs_of seat taken ≡ jobs) × CountUp 1 jobs

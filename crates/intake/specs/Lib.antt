@@ -1,0 +1,4 @@
+pub mod Queues
+pub mod Seats
+pub mod Turns
+pub mod Books

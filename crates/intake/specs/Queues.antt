@@ -1,0 +1,102 @@
+-- The rule of the queue: what is queued, what was taken, and what each seat and the clerk know of it.
+use Rattle.std.specs.Prelude.{◌≡◌, ℕ, ◌+◌, ◌==◌, ◌<◌, Bool, true, false, List, [], ◌∷◌, ◌++◌, filter}
+use mathlib.Core.Option.{Option, some, none}
+use lib.ListN.{get_elem?}
+use Rattle.trace_model.specs.declared.entry.Entry.{Entry}
+use Rattle.intake.specs.declared.queue.QueueView.{QueueView}
+use Rattle.intake.specs.declared.queue.EndedSeat.{EndedSeat}
+
+-- the jobs of a seat, in order
+abbrev pub jobs_of : ℕ → List Entry → List Entry
+jobs_of seat jobs = filter (λ (j : Entry). j.seat == seat) jobs
+
+-- the jobs have the numbers n, n + 1 and so on
+abbrev pub CountUp : ℕ → List Entry → Type 0
+CountUp n [] = Unit {0}
+CountUp n (j ∷ js) = (j.number ≡ n) × CountUp (n + 1) js
+
+abbrev pub queue_view : Bool → Bool → ℕ → ℕ → List Entry → List Entry → List EndedSeat → QueueView
+queue_view submits takes seat made handed taken ended =
+    record { submits = submits; takes = takes; seat = seat; made = made; handed = handed; taken = taken; ended = ended }
+
+abbrev pub ended_seat : ℕ → List Entry → EndedSeat
+ended_seat seat jobs = record { seat = seat; jobs = jobs }
+
+-- the view of the one pass of a new queue, which takes and has made no seat
+abbrev pub first_view : QueueView
+first_view = queue_view false true 0 0 [] [] []
+
+-- a view that submits has its seat to itself, and its list is the seat's
+abbrev pub FitsSeat : (ℕ → Option ℕ) → (ℕ → List Entry) → ℕ → QueueView → Type 0
+FitsSeat holder handed pass v =
+    v.submits ≡ true → (holder v.seat ≡ some pass) × (v.handed ≡ handed v.seat)
+
+-- these seats were made, no view is of them any more, and these jobs are theirs
+abbrev pub AreEnded : (ℕ → Option ℕ) → (ℕ → List Entry) → ℕ → List EndedSeat → Type 0
+AreEnded holder handed made [] = Unit {0}
+AreEnded holder handed made (k ∷ ks) =
+    ((k.seat < made) × (holder k.seat ≡ none) × (handed k.seat ≡ k.jobs))
+    × AreEnded holder handed made ks
+
+-- seats that were not made have no view and no job
+abbrev pub NotYetMade : (ℕ → Option ℕ) → (ℕ → List Entry) → ℕ → Type 0
+NotYetMade holder handed made = (s : ℕ) → made < s + 1 → (holder s ≡ none) × (handed s ≡ [])
+
+-- only one view takes: its list is all that was taken, and it knows which seats were made and which have ended
+abbrev pub FitsClerk : ℕ → (ℕ → Option ℕ) → (ℕ → List Entry) → List Entry → ℕ → QueueView → Type 0
+FitsClerk clerk holder handed taken pass v =
+    v.takes ≡ true → (pass ≡ clerk) × (v.taken ≡ taken)
+    × NotYetMade holder handed v.made × AreEnded holder handed v.made v.ended
+
+-- for each seat its jobs taken, followed by those queued, are the jobs that it handed in, numbered from 1 on
+abbrev pub Balanced : List Entry → List QueueView → Type 0
+Balanced items views =
+    (clerk : ℕ) × (holder : ℕ → Option ℕ) × (handed : ℕ → List Entry) × (taken : List Entry)
+    × ((s : ℕ) → jobs_of s (taken ++ items) ≡ handed s)
+    × ((s : ℕ) → CountUp 1 (handed s))
+    × ((pass : ℕ) (v : QueueView) → get_elem? views pass ≡ some v
+    → FitsSeat holder handed pass v × FitsClerk clerk holder handed taken pass v)
+
+-- ---- what a step does to the view of the one who makes it
+
+-- the job stands at the end of the seat's list
+abbrev pub Puts : QueueView → Entry → QueueView → Type 0
+Puts v j w = w ≡ record v { handed = v.handed ++ j ∷ [] }
+
+-- the job stands at the end of what was taken
+abbrev pub Takes : QueueView → Entry → QueueView → Type 0
+Takes v j w = w ≡ record v { taken = v.taken ++ j ∷ [] }
+
+-- a seat was made
+abbrev pub one_more : QueueView → QueueView
+one_more v = record v { made = v.made + 1 }
+
+abbrev pub new_seat : QueueView → QueueView
+new_seat v = queue_view true false v.made 0 [] [] []
+
+-- the right to submit is gone, the list stays
+abbrev pub retired : QueueView → QueueView
+retired v = record v { submits = false }
+
+-- the view of a right to submit that was given up
+abbrev pub spent : QueueView
+spent = queue_view false false 0 0 [] [] []
+
+-- a seat was taken in
+abbrev pub took_in : QueueView → QueueView → QueueView
+took_in v w = record v { ended = ended_seat w.seat w.handed ∷ v.ended }
+
+-- ---- what a step tells of the queue
+
+-- behind some jobs that were taken, these queued ones end with all that the seat handed in
+abbrev pub Queued : QueueView → List Entry → Type 0
+Queued v items = (taken : List Entry) × (jobs_of v.seat (taken ++ items) ≡ v.handed)
+
+-- of each ended seat these are just the jobs that it handed in, numbered from 1 on
+abbrev pub AreWhole : List EndedSeat → List Entry → Type 0
+AreWhole [] jobs = Unit {0}
+AreWhole (k ∷ ks) jobs = ((jobs_of k.seat jobs ≡ k.jobs) × CountUp 1 k.jobs) × AreWhole ks jobs
+
+-- what was taken, followed by these queued ones, has all jobs of the ended seats
+abbrev pub Waiting : QueueView → List Entry → Type 0
+Waiting v items = AreWhole v.ended (v.taken ++ items)

@@ -1,0 +1,67 @@
+-- What contracts see of seats, jobs and tickets.
+use Rattle.std.specs.Prelude.{◌≡◌, ℕ, ◌+◌, ◌⊎◌, Bool, true, false, List, [], ◌∷◌, ◌++◌, length}
+use Rattle.atomic_table.specs.Seated.{TableId}
+use Rattle.crossbeam_queue.specs.Passes.{Pass, view}
+use Rattle.jaeger_model.specs.declared.batch.Batch.{Batch}
+use Rattle.trace_model.specs.declared.entry.Entry.{Entry}
+use Rattle.trace_model.specs.declared.refusal.Refusal.{Refusal}
+use Rattle.trace_model.specs.declared.refusal.Refusal.TheVariants.{JournalFull, Stale, NoMemory, Deferred, Busy, Closed, Stranger, NoReply}
+use Rattle.intake.specs.declared.queue.QueueView.{QueueView}
+use Rattle.intake.specs.Queues.{jobs_of}
+
+-- a seat: its desk, how many jobs the queue has room for, the seat's number, the jobs that it handed in,
+-- and whether it may hand in more
+pub record SeatValue : Type 0 where
+  pub desk : TableId
+  pub capacity : ℕ
+  pub seat : ℕ
+  pub jobs : List Entry
+  pub hands_in : Bool
+
+abbrev pub seat_value : TableId → ℕ → ℕ → QueueView → SeatValue
+seat_value desk capacity number v =
+    record { desk = desk; capacity = capacity; seat = number; jobs = v.handed; hands_in = v.submits }
+
+-- a seat of this desk that has handed in nothing yet
+abbrev pub IsNewSeat : TableId → ℕ → SeatValue → Type 0
+IsNewSeat desk capacity s =
+    (s.desk ≡ desk) × (s.capacity ≡ capacity) × (s.jobs ≡ []) × (s.hands_in ≡ true)
+
+-- the entry that the seat makes of the batch: it has the seat's next number, the first one being 1
+abbrev pub next_job : SeatValue → Batch → Entry
+next_job s b = record { seat = s.seat; number = length s.jobs + 1; batch = b }
+
+-- one more job was handed in
+abbrev pub with_job : SeatValue → Entry → SeatValue
+with_job s e = record s { jobs = s.jobs ++ e ∷ [] }
+
+-- at one moment the queue held as many jobs as it has room for: behind what was taken they had all of this
+-- seat's
+abbrev pub WasFull : SeatValue → Type 0
+WasFull s = (items : List Entry) × (length items ≡ s.capacity)
+    × (taken : List Entry) × (jobs_of s.seat (taken ++ items) ≡ s.jobs)
+
+-- why a batch was not handed in; a seat that has ended says only that the desk is closed
+abbrev pub IsNotTaken : SeatValue → Refusal → Type 0
+IsNotTaken s why =
+    (why ≡ Closed)
+    ⊎ ((why ≡ NoMemory) × (s.hands_in ≡ true))
+    ⊎ ((why ≡ Busy) × (s.hands_in ≡ true) × WasFull s)
+
+-- why a job that was handed in was not acknowledged: its keeper's refusal, or there is no reply of its own
+abbrev pub IsUnacknowledged : Refusal → Type 0
+IsUnacknowledged (JournalFull batches spans) = Unit {0}
+IsUnacknowledged (Stale last) = Unit {0}
+IsUnacknowledged NoMemory = Unit {0}
+IsUnacknowledged Deferred = Unit {0}
+IsUnacknowledged Closed = Unit {0}
+IsUnacknowledged Stranger = Unit {0}
+IsUnacknowledged NoReply = Unit {0}
+IsUnacknowledged _ = ⊥
+
+-- a seat's right to hand in, and its list
+abbrev pub IsEndOf : {A : Type 0} → SeatValue → Pass A QueueView → Type 0
+IsEndOf s e =
+    (e.table_id ≡ s.desk) × (e.me.1 ≡ [])
+    × ((view e).submits ≡ true) × ((view e).takes ≡ false)
+    × ((view e).seat ≡ s.seat) × ((view e).handed ≡ s.jobs)

@@ -1,0 +1,230 @@
+//! The one that takes the jobs and has them judged.
+
+ghost use Rattle.std.specs.Prelude.{◌≡◌, ◌+◌, length, map, [], IfOk, IfErr};
+ghost use Rattle.std.specs.Arc.{arc_value};
+ghost use Rattle.trace_model.specs.declared.refusal.Refusal.TheVariants.{NoMemory};
+ghost use Rattle.read_side.specs.Receipts.{StandsAt};
+ghost use Rattle.intake.specs.Seats.{IsUnacknowledged};
+ghost use Rattle.intake.specs.Turns.{IsNewInbox, IsNewClerk, Accounted, Judged, place_or_refusal, Serves, IfServed, IfNotServed, IfNoJob, WasEmpty};
+ghost use Rattle.intake.specs.Books.{Ran, Balances, acknowledged};
+
+use crate::account::{Account, acknowledged};
+use crate::books::Books;
+use crate::inbox::Inbox;
+use crate::job::Reply;
+use crate::shared::Shared;
+use crate::ticket::Ack;
+use read_side::{Keeper, Receipt, StoreName};
+use std::alloc::Global;
+use std::marker::Model;
+use std::sync::{Arc, Wait};
+use std::thread::yield_now;
+use trace_model::{Entry, Refusal};
+
+/// What a turn did.
+#[derive(Clone, Copy, PartialEq, Eq, Debug)]
+pub enum Turn {
+    /// The queue was empty.
+    Idle,
+    /// This job was judged and answered.
+    Served { seat: u16, number: u64 },
+    /// The desk was closed, and then the queue was empty.
+    Ended,
+}
+
+/// The clerk of a desk. Contracts see all jobs that it took, and an account of each one.
+///
+/// Where it goes without [`run`](Self::run), each ticket that still waits is told that no reply
+/// comes.
+#[derive(Drop)]
+pub struct Clerk<N: StoreName> {
+    inbox: Inbox<N>,
+    ending: Ending<N>,
+    accounts: Vec<Account>,
+    alloc: Global,
+}
+
+/// Tells the tickets, when it goes, that the clerk has ended.
+pub(crate) struct Ending<N: StoreName> {
+    shared: Arc<Shared<N>>,
+}
+
+impl<N: StoreName> Drop for Ending<N> {
+    fn drop(self) {
+        let Ending { shared } = self;
+        shared.end();
+    }
+}
+
+impl<N: StoreName> Model for Clerk<N> {
+    ghost use Rattle.intake.specs.Turns.{ClerkValue, clerk_value, Accounted};
+
+    ghost Value = { ClerkValue };
+
+    ghost view = { λ c. clerk_value c.inbox c.accounts.items };
+
+    ghost invariant = { λ c. Accounted c.inbox.taken c.accounts.items };
+}
+
+/// Puts the receipt where there is room for it.
+fn fill<N: StoreName, R: Wait>(
+    rt: &R,
+    room: Arc<Receipt<N>>,
+    receipt: Receipt<N>,
+) -> Arc<Receipt<N>>
+    ensures { arc_value result ≡ receipt }
+{
+    let mut room = room;
+    for _ in rt.forever() {
+        if let Some(slot) = Arc::get_mut(&mut room) {
+            *slot = receipt;
+            return room;
+        }
+    }
+    unreachable!()
+}
+
+/// Has an entry judged. The room for its receipt was taken before.
+fn judged<N: StoreName, R: Wait>(
+    rt: &R,
+    keeper: &mut Keeper<N>,
+    room: Arc<Receipt<N>>,
+    entry: Arc<Entry>,
+) -> Result<Ack<N>, Refusal>
+    ensures judged { Judged N.limits keeper.old (arc_value entry) (place_or_refusal (λ a. a.place) result) keeper.new }
+    ensures stands { IfOk result (λ a. StandsAt (arc_value a.receipt).entries a.place (arc_value entry)) }
+    ensures reason { IfErr result IsUnacknowledged }
+{
+    let receipt = keeper.admit(rt, entry)?;
+    let place = receipt.front();
+    Ok(Ack {
+        receipt: fill(rt, room, receipt),
+        place,
+    })
+}
+
+/// The place alone, or the refusal.
+fn place_or_refusal<N: StoreName>(answer: &Result<Ack<N>, Refusal>) -> Result<u64, Refusal>
+    ensures { result ≡ place_or_refusal (λ a. a.place) answer.now }
+{
+    match answer {
+        Ok(ack) => Ok(ack.place),
+        Err(refusal) => Err(*refusal),
+    }
+}
+
+impl<N: StoreName> Clerk<N> {
+    pub(crate) fn new(alloc: Global, shared: Arc<Shared<N>>, inbox: Inbox<N>) -> Clerk<N>
+        requires { IsNewInbox inbox }
+        ensures new { IsNewClerk result }
+        ensures desk { result.desk ≡ inbox.desk }
+    {
+        Clerk {
+            inbox,
+            ending: Ending { shared },
+            accounts: Vec::new(alloc),
+            alloc,
+        }
+    }
+
+    /// Takes one job, if there is one, has the keeper judge it, and answers its ticket.
+    ///
+    /// # Errors
+    ///
+    /// [`Refusal::NoMemory`]: no job was taken.
+    pub fn turn<R: Wait>(&mut self, rt: &R, keeper: &mut Keeper<N>) -> Result<Turn, Refusal>
+        ensures served { IfServed result
+            (λ seat number. Serves N.limits self.old keeper.old seat number self.new keeper.new) }
+        ensures unchanged { IfNotServed result ((self.new ≡ self.old) × (keeper.new ≡ keeper.old)) }
+        ensures empty { IfNoJob result (WasEmpty self.old.ended self.old.taken) }
+        ensures reason { IfErr result (λ why. why ≡ NoMemory) }
+    {
+        if self.accounts.reserve(1).is_err() {
+            return Err(Refusal::NoMemory);
+        }
+        let Ok(room) = Arc::new(self.alloc, keeper.receipt()) else {
+            return Err(Refusal::NoMemory);
+        };
+        let closed = self.ending.shared.is_closed();
+        let Some(job) = self.inbox.pop(rt) else {
+            return Ok(if closed { Turn::Ended } else { Turn::Idle });
+        };
+        let (entry, named, cell) = job.split();
+        let (seat, number) = (entry.seat, entry.number);
+        let answer = judged(rt, keeper, room, entry);
+        self.accounts.push_reserved(Account {
+            seat,
+            number,
+            answer: place_or_refusal(&answer),
+        });
+        let reply = Reply::new(named, answer);
+        self.ending.shared.lay_down(rt, seat, &cell, reply);
+        Ok(Turn::Served { seat, number })
+    }
+
+    /// What became of each job that it took.
+    pub fn accounts(&self) -> &[Account]
+        ensures same { result.now ≡ self.now.accounts }
+        ensures each { Accounted self.now.taken self.now.accounts }
+    {
+        self.accounts.as_slice()
+    }
+
+    /// Serves until the desk is closed and the queue is empty, and leaves the books.
+    ///
+    /// Where there is nothing to do it sleeps until a job is handed in. Where memory is short it tries
+    /// again.
+    pub fn run<R: Wait>(self, rt: &R, keeper: Keeper<N>) -> Books<N>
+        ensures judged { Ran N.limits self.taken self.accounts keeper
+            result.inbox.taken result.accounts.items result.keeper }
+        ensures acknowledged { result.acknowledged ≡ acknowledged result.accounts.items }
+        ensures refused { result.acknowledged + result.refused ≡ length result.accounts.items }
+        ensures left { result.left.items ≡ [] }
+        ensures desk { (result.inbox.desk ≡ self.desk) × (result.inbox.ended ≡ self.ended) }
+        ensures books { Balances result.inbox.taken result.accounts.items (map arc_value result.left.items) }
+    {
+        let mut clerk = self;
+        let mut keeper = keeper;
+        let _each = clerk.accounts().len();
+        for _ in rt.forever() {
+            let rings = clerk.ending.shared.jobs.rings();
+            match clerk.turn(rt, &mut keeper) {
+                Ok(Turn::Ended) => break,
+                Ok(Turn::Served { .. }) => {}
+                Ok(Turn::Idle) => clerk.ending.shared.jobs.sleep(rt, rings),
+                Err(_) => yield_now(),
+            }
+        }
+        clerk.close(keeper)
+    }
+
+    /// Ends, and counts the answers.
+    fn close(self, keeper: Keeper<N>) -> Books<N>
+        ensures taken { result.inbox.taken ≡ self.taken }
+        ensures accounts { result.accounts.items ≡ self.accounts }
+        ensures keeper { result.keeper ≡ keeper }
+        ensures each { Accounted self.taken self.accounts }
+        ensures acknowledged { result.acknowledged ≡ acknowledged result.accounts.items }
+        ensures refused { result.acknowledged + result.refused ≡ length result.accounts.items }
+        ensures left { result.left.items ≡ [] }
+        ensures desk { (result.inbox.desk ≡ self.desk) × (result.inbox.ended ≡ self.ended) }
+    {
+        let Clerk {
+            inbox,
+            ending,
+            accounts,
+            alloc,
+        } = self;
+        drop(ending);
+        let acknowledged = acknowledged(accounts.as_slice());
+        let refused = accounts.len() as u64 - acknowledged;
+        Books {
+            keeper,
+            accounts,
+            acknowledged,
+            refused,
+            left: Vec::new(alloc),
+            inbox,
+        }
+    }
+}

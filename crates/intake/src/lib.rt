@@ -1,0 +1,38 @@
+//! The way of a batch to the one that writes: a desk with seats, a queue, and a clerk.
+//!
+//! [`desk`] opens it. A [`Seat`] hands a batch in and gets a [`Ticket`] for it; the [`Clerk`] takes the
+//! jobs in the queue's order and has the store's keeper judge each one; the ticket waits for the answer.
+//! An acknowledgement holds a receipt whose list has the ticket's own entry at the place that it names.
+//! For each seat the jobs that were taken, followed by those in the queue, are the jobs that it handed in,
+//! in order, with the numbers 1, 2 and so on: nothing is lost, doubled or changed on the way.
+//!
+//! * `queue`: the queue, and the rule that holds between any two steps.
+//! * `job`: what is queued, and what is laid down for its ticket. `ticket`: the [`Ticket`].
+//! * `seat`: the [`Seat`]. `inbox`: the clerk's end of the queue.
+//! * `account`: what became of a job. `clerk`: the [`Clerk`]. `books`: what it leaves.
+//! * `shared`: what all of them share. `bell`: how a sleeper is woken.
+//! * `opening`: [`desk`]. `closing`: the [`Desk`], which closes the queue.
+#![tactic(auto)]
+
+mod account;
+mod bell;
+mod books;
+mod clerk;
+mod closing;
+mod inbox;
+mod job;
+mod opening;
+mod queue;
+mod seat;
+mod shared;
+mod ticket;
+
+pub use account::Account;
+pub use books::Books;
+pub use clerk::{Clerk, Turn};
+pub use closing::Desk;
+pub use inbox::Inbox;
+pub use opening::desk;
+pub use queue::{EndedSeat, QueueView};
+pub use seat::Seat;
+pub use ticket::{Ack, Ticket};

@@ -1,0 +1,73 @@
+//! Opening a desk.
+
+ghost use Rattle.std.specs.Prelude.{◌≡◌, ◌≤◌, IfOk, IfErr, All, length, map};
+ghost use Rattle.std.specs.List.{range_with_len};
+ghost use Rattle.trace_model.specs.declared.refusal.Refusal.TheVariants.{NoMemory};
+ghost use Rattle.intake.specs.Seats.{IsNewSeat};
+ghost use Rattle.intake.specs.Turns.{IsNewClerk};
+
+use crate::bell::Bell;
+use crate::clerk::Clerk;
+use crate::closing::Desk;
+use crate::inbox::Inbox;
+use crate::queue::{MakeSeat, Queue, QueueEnd};
+use crate::seat::Seat;
+use crate::shared::Shared;
+use read_side::{Receipt, StoreName};
+use std::alloc::{AllocError, Global};
+use std::sync::atomic::AtomicBool;
+use std::sync::{Arc, Mutex};
+use trace_model::Refusal;
+
+/// So many bells.
+fn bells(alloc: Global, count: u16) -> Result<Vec<Bell>, AllocError> {
+    let mut bells = Vec::with_capacity(alloc, count as usize)?;
+    for _made in 0..count {
+        bells.push(Bell::new())?;
+    }
+    Ok(bells)
+}
+
+/// Opens a desk of the store that the receipt is of, whose queue has room for 1 to 4,096 jobs, with 1 to
+/// 64 seats and a clerk. The seats have the numbers 0, 1 and so on.
+///
+/// # Errors
+///
+/// [`Refusal::NoMemory`]: nothing is left behind.
+pub fn desk<N: StoreName>(
+    alloc: Global,
+    first: Receipt<N>,
+    capacity: usize,
+    seats: u16,
+) -> Result<(Desk<N>, Vec<Seat<N>>, Clerk<N>), Refusal>
+    requires capacity { (1 ≤ capacity) × (capacity ≤ 4096) }
+    requires seats { (1 ≤ seats) × (seats ≤ 64) }
+    ensures clerk { IfOk result (λ r. IsNewClerk r.2) }
+    ensures seats { IfOk result (λ r. All (IsNewSeat r.2.desk capacity) r.1.items) }
+    ensures numbers { IfOk result (λ r. map (λ s. s.seat) r.1.items ≡ range_with_len 0 seats) }
+    ensures reason { IfErr result (λ why. why ≡ NoMemory) }
+{
+    let last = Mutex::new(Arc::new(alloc, first)?);
+    let replies = bells(alloc, seats)?;
+    let mut made = Vec::with_capacity(alloc, seats as usize)?;
+    let (queue, mut end): (Queue<N>, QueueEnd<N>) = Queue::ruled(alloc, capacity)?;
+    let shared = Arc::new(
+        alloc,
+        Shared {
+            queue,
+            closed: AtomicBool::new(false),
+            ended: AtomicBool::new(false),
+            jobs: Bell::new(),
+            replies,
+            last,
+        },
+    )?;
+    for number in 0..seats {
+        let theirs = Arc::try_clone(&shared)?;
+        let seat = shared.queue.another::<MakeSeat>(&mut end);
+        made.push_reserved(Seat::new(theirs, seat, number));
+    }
+    let desk = Desk::new(Arc::try_clone(&shared)?);
+    let inbox = Inbox::new(Arc::try_clone(&shared)?, end);
+    Ok((desk, made, Clerk::new(alloc, shared, inbox)))
+}

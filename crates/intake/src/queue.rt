@@ -1,0 +1,115 @@
+//! The queue between the seats and the clerk, and its rule.
+
+use crate::job::Job;
+use crossbeam_queue::protocol::{Join, Lesson, Outcome, Protocol, Split};
+use crossbeam_queue::{Pass, RuledArrayQueue};
+use read_side::StoreName;
+use std::collections::LinkedList;
+use std::marker::PhantomData;
+use trace_model::Entry;
+
+/// What a seat that has ended handed in. No value of it is made: contracts alone speak of it.
+pub struct EndedSeat {
+    pub seat: u64,
+    pub jobs: LinkedList<Entry>,
+}
+
+/// What a seat or the clerk knows of the queue. No value of it is made: contracts alone speak of it.
+pub struct QueueView {
+    /// It may hand jobs in, as this seat.
+    pub submits: bool,
+    /// It takes the jobs.
+    pub takes: bool,
+    pub seat: u64,
+    /// How many seats it has made.
+    pub made: u64,
+    /// The jobs that it handed in.
+    pub handed: LinkedList<Entry>,
+    /// The jobs that it took.
+    pub taken: LinkedList<Entry>,
+    /// The seats that it took in.
+    pub ended: LinkedList<EndedSeat>,
+}
+
+/// The rule: for each seat the jobs taken, followed by those queued, are the jobs that it handed in, in
+/// order, numbered from 1 on.
+pub struct InOrder<N> {
+    of: PhantomData<N>,
+}
+
+impl<N: StoreName> Protocol<Job<N>, QueueView> for InOrder<N> {
+    ghost use Rattle.intake.specs.Queues.{first_view, Balanced};
+
+    ghost holds = { Balanced };
+
+    ghost first = { first_view };
+}
+
+/// The step that hands a job in, and what is told where the queue is full.
+pub struct PutJob;
+
+impl<N: StoreName> Outcome<Job<N>, QueueView> for PutJob {
+    ghost use Rattle.intake.specs.Queues.{Puts};
+
+    ghost then = { Puts };
+}
+
+impl<N: StoreName> Lesson<Job<N>, QueueView> for PutJob {
+    ghost use Rattle.intake.specs.Queues.{Queued};
+
+    ghost fact = { Queued };
+}
+
+/// The step that takes a job, and what is told where there is none.
+pub struct TakeJob;
+
+impl<N: StoreName> Outcome<Job<N>, QueueView> for TakeJob {
+    ghost use Rattle.intake.specs.Queues.{Takes};
+
+    ghost then = { Takes };
+}
+
+impl<N: StoreName> Lesson<Job<N>, QueueView> for TakeJob {
+    ghost use Rattle.intake.specs.Queues.{Waiting};
+
+    ghost fact = { Waiting };
+}
+
+/// One more seat.
+pub struct MakeSeat;
+
+impl Split<QueueView> for MakeSeat {
+    ghost use Rattle.intake.specs.Queues.{one_more, new_seat};
+
+    ghost left = { one_more };
+
+    ghost right = { new_seat };
+}
+
+/// A seat gives up its right to submit, and keeps its list.
+pub struct Resign;
+
+impl Split<QueueView> for Resign {
+    ghost use Rattle.intake.specs.Queues.{retired};
+
+    ghost left = { retired };
+
+    ghost right = { λ v. v };
+}
+
+/// The clerk takes in a right to submit that was given up.
+pub struct TakeIn;
+
+impl Join<QueueView> for TakeIn {
+    ghost use Rattle.intake.specs.Queues.{took_in, spent};
+
+    ghost both = { took_in };
+
+    ghost spent = { spent };
+}
+
+/// The queue of one desk.
+pub type Queue<N> = RuledArrayQueue<Job<N>, QueueView, InOrder<N>>;
+
+/// What a seat or the clerk holds of the queue.
+pub type QueueEnd<N> = Pass<Job<N>, QueueView>;

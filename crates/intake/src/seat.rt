@@ -1,0 +1,176 @@
+//! Where batches are handed in.
+
+ghost use Rattle.std.specs.Prelude.{◌≡◌, ◌+◌, true, false, length, [], MatchOption, OnOk, OnErr, IfOk, IfErr};
+ghost use Rattle.std.specs.Arc.{arc_value};
+ghost use Rattle.crossbeam_queue.specs.Passes.{view, IsPassOf, ruled_capacity};
+ghost use Rattle.intake.specs.Seats.{next_job, with_job, IsNotTaken, IsEndOf, IsNewSeat};
+
+use crate::job::Job;
+use crate::queue::{PutJob, QueueEnd, Resign};
+use crate::shared::Shared;
+use crate::ticket::Ticket;
+use jaeger_model::Batch;
+use read_side::StoreName;
+use std::alloc::Global;
+use std::marker::Model;
+use std::sync::{Arc, Mutex, Wait};
+use trace_model::{Entry, Refusal};
+
+/// A seat. Contracts see its desk and number, the jobs that it handed in, and whether it may hand in
+/// more.
+#[derive(Drop)]
+pub struct Seat<N: StoreName> {
+    shared: Arc<Shared<N>>,
+    end: QueueEnd<N>,
+    number: u16,
+    /// How many jobs it handed in.
+    handed: u64,
+    /// It may hand in more.
+    stays: bool,
+}
+
+impl<N: StoreName> Model for Seat<N> {
+    ghost use Rattle.std.specs.Prelude.{◌≡◌, true, false, length};
+    ghost use Rattle.std.specs.Arc.{arc_value};
+    ghost use Rattle.crossbeam_queue.specs.Passes.{view as view_at, IsPassOf, ruled_capacity};
+    ghost use Rattle.intake.specs.Seats.{SeatValue, seat_value};
+
+    ghost Value = { SeatValue };
+
+    ghost view = { λ s.
+        seat_value s.end.table_id (ruled_capacity (arc_value s.shared).queue) s.number (view_at s.end) };
+
+    ghost invariant = { λ s. IsPassOf (arc_value s.shared).queue s.end
+        × ((view_at s.end).takes ≡ false) × ((view_at s.end).submits ≡ s.stays)
+        × ((view_at s.end).seat ≡ s.number) × (length (view_at s.end).handed ≡ s.handed) };
+}
+
+/// The entry, once it has no other owner.
+fn alone<R: Wait>(rt: &R, entry: Arc<Entry>) -> Entry
+    ensures { result ≡ arc_value entry }
+{
+    let mut shared = entry;
+    for _ in rt.forever() {
+        match Arc::try_unwrap(shared) {
+            Ok(entry) => return entry,
+            Err(again) => shared = again,
+        }
+    }
+    unreachable!()
+}
+
+impl<N: StoreName> Seat<N> {
+    /// A seat that has handed in nothing.
+    pub(crate) fn new(shared: Arc<Shared<N>>, end: QueueEnd<N>, number: u16) -> Seat<N>
+        requires queue { IsPassOf (arc_value shared).queue end }
+        requires rights { ((view end).takes ≡ false) × ((view end).submits ≡ true) }
+        requires seat { (view end).seat ≡ number }
+        requires handed { (view end).handed ≡ [] }
+        ensures seat { result.seat ≡ number }
+        ensures unused { IsNewSeat end.table_id (ruled_capacity (arc_value shared).queue) result }
+    {
+        Seat {
+            shared,
+            end,
+            number,
+            handed: 0,
+            stays: true,
+        }
+    }
+
+    /// The seat's number; the first seat of a desk has 0.
+    pub fn number(&self) -> u16
+        ensures { result ≡ self.now.seat }
+    {
+        self.number
+    }
+
+    /// How many jobs it handed in. The last one has this number.
+    pub fn handed(&self) -> u64
+        ensures { result ≡ length self.now.jobs }
+    {
+        self.handed
+    }
+
+    /// Gives up the right to hand in, if it has it.
+    pub(crate) fn retire(&mut self) -> Option<QueueEnd<N>>
+        ensures { MatchOption result
+            ((self.old.hands_in ≡ false) × (self.new ≡ self.old))
+            (λ e. IsEndOf self.old e × (self.new ≡ record self.old { hands_in = false })) }
+    {
+        if !self.stays {
+            return None;
+        }
+        self.stays = false;
+        Some(self.shared.queue.another::<Resign>(&mut self.end))
+    }
+
+    /// Hands a batch in, as the entry with the seat's next number.
+    ///
+    /// A refused batch comes back with the refusal, and uses no number. The call may wait for other seats
+    /// and for the clerk, never for a reader.
+    ///
+    /// # Errors
+    ///
+    /// [`Refusal::Closed`]: the desk was closed, the seat has ended, or its numbers are used up; then
+    /// [`Refusal::NoMemory`]; then [`Refusal::Busy`]: the queue was full at some moment of the call.
+    pub fn submit<R: Wait>(
+        &mut self,
+        rt: &R,
+        alloc: Global,
+        batch: Batch,
+    ) -> Result<Ticket<N>, (Refusal, Batch)>
+        ensures may { OnOk result (self.old.hands_in ≡ true) }
+        ensures job { IfOk result (λ ticket. ticket ≡ next_job self.old batch) }
+        ensures handed_in { OnOk result (self.new ≡ with_job self.old (next_job self.old batch)) }
+
+        ensures batch_back { IfErr result (λ r. r.1 ≡ batch) }
+        ensures unchanged { OnErr result (self.new ≡ self.old) }
+        ensures reason { IfErr result (λ r. IsNotTaken self.old r.0) }
+    {
+        if self.shared.is_closed() || !self.stays || self.handed == u64::MAX {
+            return Err((Refusal::Closed, batch));
+        }
+        let number = self.handed + 1;
+        let entry = Entry {
+            seat: self.number,
+            number,
+            batch,
+        };
+        let entry = match Arc::new(alloc, entry) {
+            Ok(entry) => entry,
+            Err(failed) => return Err((Refusal::NoMemory, failed.value.batch)),
+        };
+        let Ok((ticket, job)) = self.pair(alloc, &entry) else {
+            return Err((Refusal::NoMemory, alone(rt, entry).batch));
+        };
+        match self
+            .shared
+            .queue
+            .push_as::<PutJob, R>(rt, &mut self.end, job)
+        {
+            Ok(()) => {
+                self.handed = number;
+                self.shared.jobs.ring();
+                Ok(ticket)
+            }
+            Err(job) => {
+                drop(job);
+                drop(ticket);
+                Err((Refusal::Busy, alone(rt, entry).batch))
+            }
+        }
+    }
+
+    /// A ticket and its job.
+    fn pair(&self, alloc: Global, entry: &Arc<Entry>) -> Result<(Ticket<N>, Job<N>), Refusal>
+        ensures ticket { IfOk result (λ r. r.0 ≡ arc_value entry.now) }
+        ensures job { IfOk result (λ r. r.1 ≡ arc_value entry.now) }
+    {
+        let cell = Arc::new(alloc, Mutex::new(None))?;
+        let job = Job::new(entry, &cell)?;
+        let entry = Arc::try_clone(entry)?;
+        let shared = Arc::try_clone(&self.shared)?;
+        Ok((Ticket::new(entry, cell, shared), job))
+    }
+}

@@ -1,0 +1,78 @@
+//! What the seats, their tickets, the clerk and the desk share.
+
+ghost use Rattle.std.specs.Prelude.{◌≡◌, ◌⊎◌};
+ghost use Rattle.trace_model.specs.declared.refusal.Refusal.TheVariants.{Closed, NoReply};
+
+use crate::bell::Bell;
+use crate::job::{Cell, Reply};
+use crate::queue::Queue;
+use read_side::{Receipt, StoreName};
+use std::sync::atomic::{AtomicBool, Ordering};
+use std::sync::{Arc, Mutex, Wait};
+use trace_model::Refusal;
+
+#[derive(Drop)]
+pub(crate) struct Shared<N: StoreName> {
+    pub(crate) queue: Queue<N>,
+    /// The desk was closed.
+    pub(crate) closed: AtomicBool,
+    /// The clerk has ended.
+    pub(crate) ended: AtomicBool,
+    /// Rings where a job was handed in, and where the desk is closed.
+    pub(crate) jobs: Bell,
+    /// One for each seat: rings where a reply to it is laid down, and where the clerk ends.
+    pub(crate) replies: Vec<Bell>,
+    /// The last receipt that was laid down, or the first of all.
+    pub(crate) last: Mutex<Arc<Receipt<N>>>,
+}
+
+impl<N: StoreName> Shared<N> {
+    pub(crate) fn is_closed(&self) -> bool {
+        self.closed.load(Ordering::SeqCst)
+    }
+
+    pub(crate) fn has_ended(&self) -> bool {
+        self.ended.load(Ordering::SeqCst)
+    }
+
+    /// The bell of a seat.
+    pub(crate) fn bell(&self, seat: u16) -> Option<&Bell> {
+        self.replies.get(seat as usize)
+    }
+
+    /// Why a job has no reply, once the clerk has ended.
+    pub(crate) fn lost(&self) -> Refusal
+        ensures { (result ≡ Closed) ⊎ (result ≡ NoReply) }
+    {
+        if self.is_closed() {
+            Refusal::Closed
+        } else {
+            Refusal::NoReply
+        }
+    }
+
+    /// No seat hands anything in from then on.
+    pub(crate) fn close(&self) {
+        self.closed.store(true, Ordering::SeqCst);
+        self.jobs.ring();
+    }
+
+    /// Lays a reply to a seat down, and its receipt, if it has one.
+    pub(crate) fn lay_down<R: Wait>(&self, rt: &R, seat: u16, cell: &Cell<N>, reply: Reply<N>) {
+        if let Some(receipt) = reply.receipt() {
+            *self.last.lock(rt) = receipt;
+        }
+        *cell.lock(rt) = Some(reply);
+        if let Some(bell) = self.bell(seat) {
+            bell.ring();
+        }
+    }
+
+    /// The clerk has ended: whoever waits for a reply looks once more.
+    pub(crate) fn end(&self) {
+        self.ended.store(true, Ordering::SeqCst);
+        for bell in &self.replies {
+            bell.ring();
+        }
+    }
+}

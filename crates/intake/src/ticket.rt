@@ -1,0 +1,97 @@
+//! What a seat waits for.
+
+ghost use Rattle.std.specs.Prelude.{◌≡◌, IfOk, IfErr};
+ghost use Rattle.std.specs.Arc.{arc_value};
+ghost use Rattle.read_side.specs.Receipts.{StandsAt};
+ghost use Rattle.intake.specs.Seats.{IsUnacknowledged};
+
+use crate::job::{Cell, Reply};
+use crate::shared::Shared;
+use read_side::{Receipt, StoreName};
+use std::marker::Model;
+use std::sync::{Arc, Wait};
+use std::thread::yield_now;
+use trace_model::{Entry, Refusal};
+
+/// An acknowledgement: a receipt, and the place of the job's entry in its list, the first one being 1.
+#[derive(Drop)]
+pub struct Ack<N: StoreName> {
+    pub receipt: Arc<Receipt<N>>,
+    pub place: u64,
+}
+
+/// Waits for the answer to one job. Contracts see the job's entry.
+#[derive(Drop)]
+pub struct Ticket<N: StoreName> {
+    entry: Arc<Entry>,
+    cell: Arc<Cell<N>>,
+    shared: Arc<Shared<N>>,
+}
+
+impl<N: StoreName> Model for Ticket<N> {
+    ghost use Rattle.std.specs.Arc.{arc_value};
+    ghost use Rattle.trace_model.specs.declared.entry.Entry.{Entry};
+
+    ghost Value = { Entry };
+
+    ghost view = { λ t. arc_value t.entry };
+}
+
+/// What was laid down, if anything was.
+fn laid_down<N: StoreName, R: Wait>(rt: &R, cell: &Cell<N>) -> Option<Reply<N>> {
+    cell.lock(rt).take()
+}
+
+impl<N: StoreName> Ticket<N> {
+    /// A ticket for the entry, whose reply comes into the cell.
+    pub(crate) fn new(entry: Arc<Entry>, cell: Arc<Cell<N>>, shared: Arc<Shared<N>>) -> Ticket<N>
+        ensures { result ≡ arc_value entry }
+    {
+        Ticket {
+            entry,
+            cell,
+            shared,
+        }
+    }
+
+    /// Waits for the answer. An acknowledgement's list has this job's own entry at the place.
+    ///
+    /// # Errors
+    ///
+    /// The keeper's refusals [`Refusal::JournalFull`], [`Refusal::Stale`], [`Refusal::NoMemory`] and
+    /// [`Refusal::Deferred`]. Where the clerk has ended without an answer: [`Refusal::Closed`] if the desk
+    /// was closed, else [`Refusal::NoReply`]. [`Refusal::Stranger`]: the reply is to another entry.
+    pub fn wait<R: Wait>(self, rt: &R) -> Result<Ack<N>, Refusal>
+        ensures stands { IfOk result (λ a. StandsAt (arc_value a.receipt).entries a.place self) }
+        ensures reason { IfErr result IsUnacknowledged }
+    {
+        for _ in rt.forever() {
+            let rings = self.rings();
+            let ended = self.shared.has_ended();
+            if let Some(reply) = laid_down(rt, &self.cell) {
+                return reply.to(&self.entry);
+            }
+            if ended {
+                return Err(self.shared.lost());
+            }
+            self.sleep(rt, rings);
+        }
+        unreachable!()
+    }
+
+    /// How often the seat's bell has rung.
+    fn rings(&self) -> u64 {
+        match self.shared.bell(self.entry.seat) {
+            Some(bell) => bell.rings(),
+            None => 0,
+        }
+    }
+
+    /// Sleeps until the seat's bell rings once more.
+    fn sleep<R: Wait>(&self, rt: &R, rings: u64) {
+        match self.shared.bell(self.entry.seat) {
+            Some(bell) => bell.sleep(rt, rings),
+            None => yield_now(),
+        }
+    }
+}
