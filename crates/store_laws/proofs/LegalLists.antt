@@ -9,7 +9,7 @@ use Rattle.trace_model.specs.declared.refusal.Refusal.{Refusal}
 use Rattle.trace_model.specs.declared.refusal.Refusal.TheVariants.{JournalFull, Stale}
 use Rattle.trace_model.specs.Refusals.{refusal_of, has_room}
 use Rattle.trace_model.specs.Histories.{last_number, span_count, IsLegal, AboveEach, RisesAfter}
-use Rattle.trace_model.proofs.Legality.{rises_pushed, above_last, above_each, span_count_push, legal_push, legal_front}
+use Rattle.trace_model.proofs.Legality.{rises_pushed, above_last, above_each, span_count_push, legal_push, rises_front, legal_front}
 use Rattle.store_laws.specs.Splits.{RisesBySplits}
 use mathlib.Core.List.{IsPrefix}
 

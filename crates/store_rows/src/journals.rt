@@ -1,0 +1,82 @@
+use crate::entries::entry;
+use arrival_journal::Journal;
+use std::alloc::{AllocError, Global};
+use std::process::Abort;
+use std::sync::Arc;
+use std::test::*;
+use trace_model::{Entry, Limits, Refusal};
+use trace_samples::span;
+
+/// An entry with so many spans.
+fn entry_of(alloc: Global, seat: u16, number: u64, count: u64) -> Result<Arc<Entry>, AllocError> {
+    let mut spans = Vec::new(alloc);
+    for id in 0..count {
+        spans.push(span(alloc, 1, id)?)?;
+    }
+    entry(alloc, seat, number, "a", spans)
+}
+
+/// The journal's answer. Want of memory ends the test, and must leave the journal as it was.
+fn answer(
+    rt: &impl Abort,
+    journal: &mut Journal,
+    entry: Arc<Entry>,
+) -> Result<Result<u64, Refusal>, Fail> {
+    let batches = journal.len();
+    let spans = journal.span_count();
+    let answer = journal.admit(entry);
+    if answer == Err(Refusal::NoMemory) {
+        assert_eq!(rt; journal.len(), batches);
+        assert_eq!(rt; journal.span_count(), spans);
+        return Err(AllocError.into());
+    }
+    Ok(answer)
+}
+
+#[test]
+fn admits_in_order(rt: HostRuntime) -> Result<(), Fail> {
+    let alloc = rt.alloc();
+    let limits = Limits::new(4, 5, 0, 0).expect(&rt, "limits");
+    let mut journal = Journal::new(alloc, limits);
+    let full = |batches, spans| Err(Refusal::JournalFull { batches, spans });
+    for (seat, number, spans, want) in [
+        (7, 0, 0, Err(Refusal::Stale { last: 0 })),
+        (7, 2, 3, Ok(1)),
+        (7, 2, 9, Err(Refusal::Stale { last: 2 })),
+        (8, 1, 3, full(1, 3)),
+        (8, 1, 2, Ok(2)),
+        (7, 3, 1, full(2, 5)),
+        (7, 3, 0, Ok(3)),
+        (65535, 9, 0, Ok(4)),
+        (9, 1, 0, full(4, 5)),
+    ] {
+        let got = answer(&rt, &mut journal, entry_of(alloc, seat, number, spans)?)?;
+        assert_eq!(rt; got, want, "seat {seat}, number {number}");
+    }
+    assert!(rt; journal.entry(0).is_none() && journal.entry(5).is_none());
+    assert_eq!(rt; journal.entry(1).map_or(0, |e| e.number), 2);
+    assert_eq!(rt; journal.entry(4).map_or(0, |e| e.number), 9);
+    assert_eq!(rt; journal.entries().len(), 4);
+    assert_eq!(rt; journal.limits().spans, 5);
+    Ok(())
+}
+
+#[test]
+fn one_of_each(rt: HostRuntime) -> Result<(), Fail> {
+    let alloc = rt.alloc();
+    let limits = Limits::new(1, 1, 0, 0).expect(&rt, "limits");
+    let mut journal = Journal::new(alloc, limits);
+    assert!(rt; journal.is_empty());
+    let first = entry_of(alloc, 0, 1, 1)?;
+    assert_eq!(rt; journal.judge(&first), Ok(()));
+    journal.reserve(1)?;
+    journal.append(first);
+    assert!(rt; !journal.is_empty());
+    let second = entry_of(alloc, 1, 1, 0)?;
+    let full = Err(Refusal::JournalFull {
+        batches: 1,
+        spans: 1,
+    });
+    assert_eq!(rt; journal.judge(&second), full);
+    Ok(())
+}

@@ -1,0 +1,22 @@
+//! Tests of the store and of what it keeps of its list of entries.
+//!
+//! * `limits`: what a store may hold, and why it turns an entry away.
+//! * `journals`: `arrival_journal`.
+//! * `rings`: `trace_ring`, `trace_assembly`, and which spans the plain store shows.
+//! * `names`: `service_index`, `service_places`, and the names of the plain store.
+//! * `stores`: `span_store`, put the same questions as the plain store of its entries.
+//! * `entries`: entries for these.
+#![tactic(auto)]
+
+#[cfg(test)]
+mod entries;
+#[cfg(test)]
+mod journals;
+#[cfg(test)]
+mod limits;
+#[cfg(test)]
+mod names;
+#[cfg(test)]
+mod rings;
+#[cfg(test)]
+mod stores;

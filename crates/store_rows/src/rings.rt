@@ -1,0 +1,169 @@
+use crate::entries::{entry, id};
+use jaeger_model::TraceId;
+use plain_store::plain_answer;
+use std::alloc::{AllocError, Global};
+use std::process::Abort;
+use std::sync::Arc;
+use std::test::*;
+use trace_assembly::{Assembly, Spot};
+use trace_model::{Answer, Entry, Limits, Query};
+use trace_ring::{Arrived, Ring};
+use trace_samples::span;
+
+/// What the arrival did. Want of memory ends the test, and must leave the ring as it was.
+fn arrive(rt: &impl Abort, ring: &mut Ring, trace: TraceId) -> Result<Arrived, AllocError> {
+    let count = ring.len();
+    let held = ring.position(trace);
+    let arrived = ring.arrive(trace);
+    if arrived.is_err() {
+        assert_eq!(rt; ring.len(), count);
+        assert_eq!(rt; ring.position(trace), held);
+    }
+    arrived
+}
+
+#[test]
+fn late_spans_renew_nothing(rt: HostRuntime) -> Result<(), Fail> {
+    let mut ring = Ring::new(rt.alloc(), 2);
+    for (trace, opened, left) in [
+        (1, true, None),
+        (2, true, None),
+        (1, false, None),
+        (3, true, Some(id(1))),
+        (1, true, Some(id(2))),
+    ] {
+        let arrived = arrive(&rt, &mut ring, id(trace))?;
+        assert_eq!(rt; arrived, Arrived { opened, left }, "trace {trace}");
+    }
+    assert_eq!(rt; ring.position(id(3)), Some(0));
+    assert_eq!(rt; ring.position(id(1)), Some(1));
+    assert_eq!(rt; ring.position(id(2)), None);
+    assert!(rt; ring.iter().map(|trace| trace.low).eq([3, 1]));
+    Ok(())
+}
+
+#[test]
+fn keeps_all_without_a_limit(rt: HostRuntime) -> Result<(), Fail> {
+    let mut ring = Ring::new(rt.alloc(), 0);
+    assert!(rt; ring.is_empty());
+    ring.reserve(2)?;
+    let first = ring.arrive_reserved(id(7));
+    let second = ring.arrive_reserved(id(8));
+    assert!(rt; first.opened && second.opened);
+    assert!(rt; first.left.is_none() && second.left.is_none());
+    assert!(rt; ring.holds(id(7)) && !ring.holds(TraceId { high: 7, low: 7 }));
+    assert_eq!(rt; ring.len(), 2);
+    assert_eq!(rt; ring.limit(), 0);
+    Ok(())
+}
+
+fn spot(place: u64) -> Spot {
+    Spot { place, index: 7 }
+}
+
+#[test]
+fn hidden_spots_stay_away(rt: HostRuntime) -> Result<(), Fail> {
+    let mut assembly = Assembly::new(rt.alloc());
+    for (trace, place) in [(1, 1), (2, 2), (1, 3)] {
+        assembly.add(id(trace), spot(place))?;
+    }
+    assert_eq!(rt; assembly.spans_of(id(1)), [spot(1), spot(3)].as_slice());
+    assembly.hide(id(1));
+    assembly.hide(id(3));
+    assert!(rt; assembly.spans_of(id(1)).is_empty());
+    assembly.add(id(1), spot(4))?;
+    assert_eq!(rt; assembly.spans_of(id(1)), [spot(4)].as_slice());
+    assert_eq!(rt; assembly.spans_of(id(2)), [spot(2)].as_slice());
+    assert!(rt; assembly.spans_of(TraceId { high: 2, low: 2 }).is_empty());
+    Ok(())
+}
+
+#[test]
+fn adds_in_room(rt: HostRuntime) -> Result<(), Fail> {
+    let alloc = rt.alloc();
+    let mut assembly = Assembly::new(alloc);
+    let mut spans = Vec::new(alloc);
+    for trace in [5, 6, 5, 5] {
+        spans.push(span(alloc, trace, 1)?)?;
+    }
+    assembly.reserve(&spans)?;
+    assert!(rt; assembly.spans_of(id(5)).is_empty());
+    Ok(())
+}
+
+/// An entry of seat 0 with spans of these traces and ids.
+fn entry_of(alloc: Global, number: u64, pairs: &[(u64, u64)]) -> Result<Arc<Entry>, AllocError> {
+    let mut spans = Vec::new(alloc);
+    for (trace, id) in pairs {
+        spans.push(span(alloc, *trace, *id)?)?;
+    }
+    entry(alloc, 0, number, "a", spans)
+}
+
+/// An entry for each of these.
+fn history(alloc: Global, rows: &[&[(u64, u64)]]) -> Result<Vec<Arc<Entry>>, AllocError> {
+    let mut entries = Vec::new(alloc);
+    for (place, pairs) in rows.iter().enumerate() {
+        entries.push(entry_of(alloc, place as u64 + 1, *pairs)?)?;
+    }
+    Ok(entries)
+}
+
+/// What the plain store answers under the limit of traces.
+fn found(
+    alloc: Global,
+    limit: u32,
+    rows: &[&[(u64, u64)]],
+    trace: u64,
+) -> Result<Answer, Fail> {
+    let limits = Limits::new(10, 10, limit, 0).ok_or("limits")?;
+    let entries = history(alloc, rows)?;
+    let id = id(trace);
+    let query = Query::Trace { id, raw: true };
+    Ok(plain_answer(alloc, &entries, limits, &query)?)
+}
+
+/// The trace is found with the spans of these ids; or not at all.
+fn is_wanted(answer: &Answer, wanted: Option<&[u64]>) -> bool {
+    match (answer, wanted) {
+        (Answer::Trace(None), None) => true,
+        (Answer::Trace(Some(spans)), Some(ids)) => {
+            let spans = spans.as_slice();
+            spans.len() == ids.len()
+                && spans
+                    .iter()
+                    .zip(ids)
+                    .all(|(shown, id)| shown.placed.span.id.0 == *id)
+        }
+        _ => false,
+    }
+}
+
+/// Traces and ids of the spans of each entry.
+const LATE: [&[(u64, u64)]; 4] = [&[(1, 1)], &[(2, 2)], &[(1, 3)], &[(3, 4)]];
+
+const ANEW: [&[(u64, u64)]; 1] = [&[(1, 1), (2, 2), (1, 3)]];
+
+const BACK: [&[(u64, u64)]; 4] = [&[(1, 1)], &[(2, 2)], &[(3, 3)], &[(1, 4)]];
+
+/// The limit of traces, what was handed in, a trace, and the ids of its spans, where it is found.
+const SHOWN: [(u32, &[&[(u64, u64)]], u64, Option<&[u64]>); 8] = [
+    (2, &LATE, 1, None),
+    (2, &LATE, 2, Some(&[2])),
+    (2, &LATE, 3, Some(&[4])),
+    (1, &ANEW, 1, Some(&[3])),
+    (1, &ANEW, 2, None),
+    (2, &BACK, 1, Some(&[4])),
+    (2, &BACK, 2, None),
+    (2, &BACK, 3, Some(&[3])),
+];
+
+#[test]
+fn late_spans_plainly(rt: HostRuntime) -> Result<(), Fail> {
+    let alloc = rt.alloc();
+    for (limit, rows, trace, wanted) in SHOWN {
+        let answer = found(alloc, limit, rows, trace)?;
+        assert!(rt; is_wanted(&answer, wanted), "trace {trace}");
+    }
+    Ok(())
+}

@@ -1,0 +1,235 @@
+use crate::entries::{entry, id};
+use jaeger_model::{Seq, Span, SpanId, Tag, Text};
+use plain_store::plain_answer;
+use span_store::{SpanStore, replay, replayed_answer};
+use std::alloc::{AllocError, Global};
+use std::process::Abort;
+use std::sync::Arc;
+use std::test::*;
+use trace_model::{Answer, Entry, Find, Limits, Query, Refusal};
+use trace_samples::{span, text_tag};
+
+/// A number that looks random and is the same in every run.
+fn after(seed: u64) -> u64 {
+    seed.wrapping_mul(6_364_136_223_846_793_005)
+        .wrapping_add(1_442_695_040_888_963_407)
+}
+
+fn text(alloc: Global, text: &str) -> Result<Text, Fail> {
+    Ok(Text::from_str(alloc, text)?)
+}
+
+fn service(number: u64) -> &'static str {
+    match number % 3 {
+        0 => "a",
+        1 => "b",
+        _ => "ab",
+    }
+}
+
+fn tags_by(alloc: Global, seed: u64) -> Result<Seq<Tag>, AllocError> {
+    let mut tags = Vec::new(alloc);
+    if seed % 2 == 0 {
+        tags.push(text_tag(alloc, "k", "v")?)?;
+    }
+    if seed % 3 == 0 {
+        tags.push(text_tag(alloc, "span.kind", "client")?)?;
+    }
+    Ok(Seq::from_vec(tags))
+}
+
+/// A span of the trace, and what else it has by the seed.
+fn span_by(alloc: Global, trace: u64, seed: u64) -> Result<Span, AllocError> {
+    let seed = after(seed) >> 20;
+    let operation = if seed % 7 < 3 { "get" } else { "put" };
+    let mut span = span(alloc, trace, seed % 5)?;
+    span.parent = SpanId(seed / 5 % 5);
+    span.operation = Text::from_str(alloc, operation)?;
+    span.start = if seed % 11 < 5 { 1000 } else { 1500 };
+    span.tags = tags_by(alloc, seed)?;
+    Ok(span)
+}
+
+/// An entry of seat 0 with a span of each of these traces.
+fn entry_of(alloc: Global, number: u64, traces: &[u64]) -> Result<Arc<Entry>, AllocError> {
+    let mut seed = after(number);
+    let mut spans = Vec::new(alloc);
+    for trace in traces {
+        seed = after(seed);
+        spans.push(span_by(alloc, *trace, seed)?)?;
+    }
+    entry(alloc, 0, number, service(seed >> 40), spans)
+}
+
+fn find(alloc: Global, seed: u64) -> Result<Find, Fail> {
+    let seed = seed >> 24;
+    let mut tags = Vec::new(alloc);
+    if seed % 5 == 0 {
+        tags.push((text(alloc, "k")?, text(alloc, "v")?))?;
+    }
+    Ok(Find {
+        service: text(alloc, service(seed))?,
+        operation: text(alloc, if seed % 7 < 5 { "" } else { "put" })?,
+        tags: Seq::from_vec(tags),
+        start_min: if seed % 11 < 7 { None } else { Some(1001) },
+        start_max: None,
+        duration_min: 0,
+        duration_max: 60,
+        limit: seed % 4,
+    })
+}
+
+/// The same question to the store and to the plain store of its entries.
+fn same_answer(
+    rt: &impl Abort,
+    alloc: Global,
+    store: &SpanStore,
+    query: Query,
+) -> Result<(), Fail> {
+    let plain = plain_answer(alloc, store.entries(), store.limits(), &query)?;
+    let Ok(quick) = store.answer(&query) else {
+        return Err(AllocError.into());
+    };
+    assert_eq!(rt;
+        format!(in alloc; "{quick:?}")?,
+        format!(in alloc; "{plain:?}")?
+    );
+    Ok(())
+}
+
+fn same_names(rt: &impl Abort, alloc: Global, store: &SpanStore, seed: u64) -> Result<(), Fail> {
+    same_answer(rt, alloc, store, Query::Services)?;
+    let asked = text(alloc, service(seed >> 30))?;
+    same_answer(rt, alloc, store, Query::OperationNames { service: asked })?;
+    let asked = text(alloc, service(seed >> 32))?;
+    let kind = text(alloc, if seed >> 34 & 1 == 0 { "" } else { "client" })?;
+    let operations = Query::Operations {
+        service: asked,
+        kind,
+    };
+    same_answer(rt, alloc, store, operations)
+}
+
+fn same_searches(rt: &impl Abort, alloc: Global, store: &SpanStore, seed: u64) -> Result<(), Fail> {
+    same_answer(rt, alloc, store, Query::Find(find(alloc, seed)?))?;
+    same_answer(rt, alloc, store, Query::FindIds(find(alloc, after(seed))?))?;
+    let links = Query::Links {
+        end_ms: 2,
+        lookback_ms: if seed >> 50 & 1 == 0 { 1 } else { 2 },
+    };
+    same_answer(rt, alloc, store, links)
+}
+
+fn same_answers(rt: &impl Abort, alloc: Global, store: &SpanStore, seed: u64) -> Result<(), Fail> {
+    for trace in 0..4 {
+        let id = id(trace);
+        same_answer(rt, alloc, store, Query::Trace { id, raw: true })?;
+        same_answer(rt, alloc, store, Query::Trace { id, raw: false })?;
+    }
+    same_names(rt, alloc, store, seed)?;
+    same_searches(rt, alloc, store, seed)?;
+    same_searches(rt, alloc, store, after(after(seed)))
+}
+
+/// Applies the entry. Where memory is wanting the store must be as before, and takes the entry then.
+fn apply(
+    rt: &impl Abort,
+    alloc: Global,
+    store: &mut SpanStore,
+    entry: &Arc<Entry>,
+) -> Result<Result<u64, Refusal>, Fail> {
+    let before = store.len();
+    let answer = store.apply(Arc::try_clone(entry)?);
+    if answer != Err(Refusal::NoMemory) {
+        return Ok(answer);
+    }
+    assert_eq!(rt; store.len(), before);
+    same_answers(rt, alloc, store, before)?;
+    Ok(store.apply(Arc::try_clone(entry)?))
+}
+
+/// Three traces, and the seed behind them.
+fn three_traces(alloc: Global, seed: u64) -> Result<(Vec<u64>, u64), AllocError> {
+    let mut seed = seed;
+    let mut traces = Vec::new(alloc);
+    for _ in 0..3 {
+        seed = after(seed);
+        traces.push((seed >> 60) % 4)?;
+    }
+    Ok((traces, seed))
+}
+
+/// Applies an entry with spans of three traces and asks the store everything. Gives the seed behind
+/// that.
+fn grow(
+    rt: &impl Abort,
+    alloc: Global,
+    store: &mut SpanStore,
+    number: u64,
+    seed: u64,
+) -> Result<u64, Fail> {
+    let (traces, seed) = three_traces(alloc, seed)?;
+    let place = apply(rt, alloc, store, &entry_of(alloc, number, &traces)?)?;
+    assert_eq!(rt; place, Ok(number));
+    same_answers(rt, alloc, store, seed)?;
+    Ok(seed)
+}
+
+#[test]
+fn as_the_plain_store(rt: HostRuntime) -> Result<(), Fail> {
+    let alloc = rt.alloc();
+    let mut seed: u64 = 1;
+    for limit in [0, 1, 2, 3] {
+        let limits = Limits::new(20, 40, limit, 300).expect(&rt, "limits");
+        let mut store = SpanStore::open(alloc, limits);
+        assert!(rt; store.is_empty());
+        same_answers(&rt, alloc, &store, seed)?;
+        for number in 1..9 {
+            seed = grow(&rt, alloc, &mut store, number, seed)?;
+        }
+    }
+    Ok(())
+}
+
+#[test]
+fn refused_entries_change_nothing(rt: HostRuntime) -> Result<(), Fail> {
+    let alloc = rt.alloc();
+    let limits = Limits::new(3, 5, 2, 0).expect(&rt, "limits");
+    let mut store = SpanStore::open(alloc, limits);
+    let full = |batches, spans| Err(Refusal::JournalFull { batches, spans });
+    let first: &[u64] = &[1, 2, 3];
+    let second: &[u64] = &[1, 1];
+    for (number, traces, want) in [
+        (0, second, Err(Refusal::Stale { last: 0 })),
+        (2, first, Ok(1)),
+        (2, first, Err(Refusal::Stale { last: 2 })),
+        (3, first, full(1, 3)),
+        (3, second, Ok(2)),
+        (4, second, full(2, 5)),
+    ] {
+        let got = apply(&rt, alloc, &mut store, &entry_of(alloc, number, traces)?)?;
+        assert_eq!(rt; got, want, "number {number}");
+        same_answers(&rt, alloc, &store, number)?;
+    }
+    Ok(())
+}
+
+#[test]
+fn replays_what_is_accepted(rt: HostRuntime) -> Result<(), Fail> {
+    let alloc = rt.alloc();
+    let limits = Limits::new(3, 5, 2, 0).expect(&rt, "limits");
+    let mut entries = Vec::new(alloc);
+    for number in [1, 1, 2, 3] {
+        entries.push(entry_of(alloc, number, &[number, 7])?)?;
+    }
+    let Ok(store) = replay(alloc, limits, &entries) else {
+        return Err(AllocError.into());
+    };
+    assert_eq!(rt; store.len(), 2);
+    same_answers(&rt, alloc, &store, 5)?;
+    let Ok(Answer::Names(names)) = replayed_answer(alloc, limits, &entries, &Query::Services) else {
+        return Err(AllocError.into());
+    };
+    assert!(rt; names.len() > 0);
+    Ok(())
+}
