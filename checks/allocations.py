@@ -1,7 +1,7 @@
 #!/usr/bin/env python3
 """Each allocation of the built program refused in turn.
 
-For `get` over the sample batches: the run ends with status 5, and what it wrote is a beginning of what
+For `get` over the sample batches, and for `play` over a script: the run ends with status 5, and what it wrote is a beginning of what
 it writes with ample memory; or nothing has changed.
 
 For `pipe` over a session of batches and queries: the run ends with status 5, and what it wrote are the
@@ -33,6 +33,9 @@ QUERIES = [
     "/api/traces?service=shop&limit=x",
     "/api/nothing",
 ]
+
+
+SCRIPT_END = ["publish", "learn 1 1", "enter 0", "publish", "publish", "leave 0", "enter 0", "leave 9", "bad", ""]
 
 
 class Program:
@@ -81,12 +84,21 @@ def responses(output):
     return parts
 
 
+def script(batches):
+    """Steps of `play`: each batch is put, taken and published while a reader comes and goes, and then every query is asked."""
+    lines = []
+    for batch in batches:
+        lines += ["enter 1", "put 0 " + batch.decode(), "take", "publish", "read 1 /api/services", "leave 1"]
+    lines += SCRIPT_END + [f"read 0 {target}" for target in QUERIES]
+    return "".join(line + "\n" for line in lines).encode()
+
+
 def is_want(response):
     return response.startswith(b"HTTP/1.1 500 ") and response.endswith(WANT)
 
 
-def get_ends(program, words, stdin, whole, number):
-    """How a run of `get` ends: "status 5", "same" or "wrong"."""
+def lines_end(program, words, stdin, whole, number):
+    """How a run of `get` or `play` ends: "status 5", "same" or "wrong"."""
     status, output, _ = program.run(words, stdin, number)
     if status == 5:
         return "status 5" if whole[1].startswith(output) else "wrong"
@@ -115,7 +127,11 @@ def cases(program):
         stdin = sample(name)
         words = ["get", "--traces", "2", "1"]
         whole = program.run(words, stdin)
-        yield f"get {name}", whole[2], lambda n, w=words, s=stdin, o=whole: get_ends(program, w, s, o, n)
+        yield f"get {name}", whole[2], lambda n, w=words, s=stdin, o=whole: lines_end(program, w, s, o, n)
+    stdin = script([line for name in ["first.hex", "shop.hex", "faults.hex"] for line in sample(name).split()])
+    words = ["play", "--traces", "2"]
+    played = program.run(words, stdin)
+    yield "play", played[2], lambda n: lines_end(program, words, stdin, played, n)
     bodies = [bytes.fromhex(line.decode()) for name in ["first.hex", "shop.hex", "apache.hex"] for line in sample(name).split()]
     requests = [part for body in bodies for part in (post(body), get("/api/traces/1"))] + [get(target) for target in QUERIES]
     whole = program.run(["pipe"], b"".join(requests))

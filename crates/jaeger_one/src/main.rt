@@ -1,37 +1,20 @@
 //! The program: a collector of traces that takes `jaeger.thrift` batches.
 //!
-//! `jaeger_one get TRACE` reads batches from standard input, a line of hexadecimal text each, and
-//! prints the spans of a trace. [`run_get`](get::run_get) does so over any reader and any writer, and
-//! promises the output as a function of the input; [`read_words`](words::read_words) promises that
-//! the command is what the words say. Nothing is promised of what a real file or terminal carried.
-//!
-//! * `words`: the command of the program's words.
-//! * `run`: the command of some words, over a reader and a writer.
-//! * `get`: the subcommand `get`.
-//! * `pipe`: the subcommand `pipe`.
-//! * `lines`: the lines of a reader, one at a time.
-//! * `line_fault`: why a line can't be used.
-//! * `halt`: why a run stops before the end of its input.
+//! Its words ask for a command, which `program_run` does over standard input and output. Nothing is promised
+//! of what a real file or terminal carried.
 #![tactic(auto)]
 
-pub mod get;
-pub mod halt;
-pub mod line_fault;
-pub mod lines;
-pub mod pipe;
-pub mod run;
-#[cfg(test)]
-mod tests;
-pub mod words;
-
-use crate::run::run;
+use program_run::run;
+use session_devices::Watched;
 use std::process::ExitCode;
 use std::{env, io};
 
 fn status_of(rt: &HostRuntime) -> io::Result<u8> {
     let alloc = rt.alloc();
     let words: Vec<String> = env::args(rt)?.collect(alloc)?;
-    Ok(run(alloc, words.as_slice(), &mut rt.stdin(), &mut rt.stdout()))
+    let mut input = Watched::new(rt.stdin());
+    let mut output = Watched::new(rt.stdout());
+    Ok(run(alloc, words.as_slice(), &mut input, &mut output))
 }
 
 fn main(rt: HostRuntime) -> ExitCode {

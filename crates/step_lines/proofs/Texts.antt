@@ -1,6 +1,7 @@
 -- Texts of a step: pieces joined, and targets.
 use Rattle.std.proofs.Common.{◌≡◌, ℕ, ◌==◌, not, Bool, true, false, List, [], ◌∷◌, ◌++◌, length, map, ◌≢◌, cond, codes, ne_eqb, Ok, Err, refl, sym, ap, ◌∙◌, Bor}
 use Rattle.std.specs.List.{All, AllZip, concat, filter, flat_map, onto_first}
+use Rattle.std.specs.Prelude.{if◌then◌else◌}
 use Rattle.std.specs.Str.{IsUtf8, is_utf8}
 use Rattle.std.proofs.lemmas.List.{map-id}
 use Rattle.std.proofs.lemmas.List.Splits.{slice_split_at}
@@ -44,8 +45,20 @@ joined_words (c ∷ t) = by (is_space c) refl (words_of t) (joined_words t)
     by false e [] ih = rw e (ap (λ (x : List ℕ). c ∷ x) ih)
     by false e (w ∷ ws) ih = rw e (ap (λ (x : List ℕ). c ∷ x) ih)
 
-pub put_line : (seat hex : List ℕ) → All (λ c. c ≢ 32) seat
+pub put_line : (seat hex : List ℕ) → All (λ c. c ≢ 32) seat → is_utf8 (codes "put " ++ (seat ++ 32 ∷ hex)) ≡ true
     → step_in (codes "put " ++ (seat ++ 32 ∷ hex)) ≡ put_by seat (filter (λ c. not (is_space c)) hex)
-put_line seat hex plain =
+put_line seat hex plain text =
     let words : words_of (seat ++ 32 ∷ hex) ≡ seat ∷ words_of hex = slice_split_at is_space seat 32 hex (λ k d l. ne_eqb _ 32 (plain k d l)) refl in
-    ap (λ (ws : List (List ℕ)). step_of (codes "put" ∷ ws)) words ∙ ap (put_by seat) (joined_words hex)
+    ap (λ b. if b then step_of (words_of (codes "put " ++ (seat ++ 32 ∷ hex))) else Err BadStep) text
+    ∙ ap (λ (ws : List (List ℕ)). step_of (codes "put" ∷ ws)) words ∙ ap (put_by seat) (joined_words hex)
+
+-- a line of text is judged by its words
+pub text_step : (line : List ℕ) → IsUtf8 line → step_of (words_of line) ≡ step_in line
+text_step line text = ap (λ b. if b then step_of (words_of line) else Err BadStep) (sym (is_utf8-from_IsUtf8 line text))
+
+pub bytes_step : (line : List ℕ) → ¬ IsUtf8 line → Err BadStep ≡ step_in line
+bytes_step line none = by (is_utf8 line) refl
+  where
+    by : (v : Bool) → is_utf8 line ≡ v → Err BadStep ≡ step_in line
+    by true e = absurd (none (IsUtf8-from_is_utf8 line e))
+    by false e = ap (λ b. if b then step_of (words_of line) else Err BadStep) (sym e)

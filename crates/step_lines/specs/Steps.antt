@@ -22,7 +22,7 @@ abbrev pub ◌>>=◌ : {A B : Type 0} → Result A StepFault → (A → Result B
 abbrev pub if_any : List ℕ → Result (List ℕ) StepFault
 if_any text = if not (length text == 0) then Ok text else Err BadStep
 
--- a target isn't empty, and is UTF-8: other bytes are a bad step
+-- a target isn't empty, and is UTF-8
 abbrev pub target_in : List ℕ → Result (List ℕ) StepFault
 target_in word = if not (length word == 0) && is_utf8 word then Ok word else Err BadStep
 
@@ -101,5 +101,6 @@ abbrev pub step_of : List (List ℕ) → Result Step StepFault
 step_of [] = Err BadStep
 step_of (first ∷ words) = verb_in first >>= λ v. step_by v words
 
+-- bytes that are no UTF-8 are a bad step, whichever word is the first
 abbrev pub step_in : List ℕ → Result Step StepFault
-step_in line = step_of (words_of line)
+step_in line = if is_utf8 line then step_of (words_of line) else Err BadStep

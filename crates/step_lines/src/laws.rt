@@ -1,6 +1,7 @@
 //! Facts about the definitions. Each function does nothing, and its contract is the fact.
 
-ghost use Rattle.std.specs.Prelude.{◌≡◌, ◌≢◌, ◌↔◌, ◌∷◌, ◌++◌, ℕ, List, All, Some, None, codes, filter, not};
+ghost use Rattle.std.specs.Prelude.{◌≡◌, ◌≢◌, ◌↔◌, ◌∷◌, ◌++◌, ℕ, List, All, Some, None, codes, filter, not, true};
+ghost use Rattle.std.specs.Str.{is_utf8};
 ghost use Rattle.query_http.specs.declared.paths.Endpoint.{Endpoint as Place};
 ghost use Rattle.query_http.specs.Paths.{IsPath, IsNoPath};
 ghost use Rattle.step_lines.specs.Targets.{place_of};
@@ -13,8 +14,10 @@ pub fn a_place_is_that_of_its_path()
     ensures none { (path : List ℕ) → (place_of path ≡ None) ↔ IsNoPath path }
 {}
 
-/// The batch of a `put` is all that stands behind the space after the seat, but for its spaces.
+/// The batch of a `put` is all that stands behind the space after the seat, but for its spaces, where
+/// the line is UTF-8.
 pub fn a_batch_is_what_stands_behind_its_seat()
     ensures { (seat hex : List ℕ) → All (λ c. c ≢ 32) seat →
+        is_utf8 (codes "put " ++ (seat ++ 32 ∷ hex)) ≡ true →
         step_in (codes "put " ++ (seat ++ 32 ∷ hex)) ≡ put_by seat (filter (λ c. not (is_space c)) hex) }
 {}

@@ -4,6 +4,7 @@ ghost use Rattle.std.specs.List.{concat};
 ghost use Rattle.query_http.specs.Paths.{endpoint_rows};
 ghost use Rattle.step_lines.specs.Steps.{alone, if_any, put_of, one_number, read_of, learn_of, step_by, step_of, step_in, two_words};
 ghost use Rattle.step_lines.specs.Reading.{Reads};
+ghost use Rattle.step_lines.specs.Words.{words_of as words_in};
 
 use crate::batch::read_batch;
 use crate::fault::StepFault;
@@ -135,11 +136,29 @@ fn read_words(alloc: Global, router: &Router<Endpoint>, words: &[&[u8]]) -> Resu
     read_by(alloc, router, verb, words)
 }
 
-/// The step that a line tells, or why it tells none. The line is without its end, and can be any bytes.
+/// The step that the words of a line tell.
+fn read_text(
+    alloc: Global,
+    router: &Router<Endpoint>,
+    line: &[u8],
+) -> Result<Result<Step, StepFault>, AllocError>
+    requires { router.now ≡ endpoint_rows }
+    ensures { IfOk result (λ step. step ≡ step_of (words_in line.now)) }
+{
+    let words = words_of(alloc, line)?;
+    match read_words(alloc, router, words.as_slice()) {
+        Ok(step) => Ok(Ok(step)),
+        Err(Stop::Fault(fault)) => Ok(Err(fault)),
+        Err(Stop::Memory) => Err(AllocError),
+    }
+}
+
+/// The step that a line tells, or why it tells none. The line is without its end, and can be any bytes;
+/// bytes that are no UTF-8 are a bad step, whichever word is the first.
 ///
-/// [`StepFault::BadStep`] is told before the other faults, as of a target that isn't UTF-8; then of a
-/// batch [`StepFault::BadHex`] before [`StepFault::Undecodable`], and of a target
-/// [`StepFault::NoSuchPath`] before [`StepFault::BadParameter`].
+/// [`StepFault::BadStep`] is told before the other faults; then of a batch [`StepFault::BadHex`] before
+/// [`StepFault::Undecodable`], and of a target [`StepFault::NoSuchPath`] before
+/// [`StepFault::BadParameter`].
 ///
 /// # Errors
 ///
@@ -152,10 +171,8 @@ pub fn read_step(
     requires { router.now ≡ endpoint_rows }
     ensures { IfOk result (λ step. step ≡ step_in line.now) }
 {
-    let words = words_of(alloc, line)?;
-    match read_words(alloc, router, words.as_slice()) {
-        Ok(step) => Ok(Ok(step)),
-        Err(Stop::Fault(fault)) => Ok(Err(fault)),
-        Err(Stop::Memory) => Err(AllocError),
+    match str::from_utf8(line) {
+        Ok(_) => read_text(alloc, router, line),
+        Err(_) => Ok(Err(StepFault::BadStep)),
     }
 }

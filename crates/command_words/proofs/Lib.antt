@@ -1,0 +1,4 @@
+pub mod Options
+pub mod Accepting
+pub mod Asking
+pub mod Answering

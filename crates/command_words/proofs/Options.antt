@@ -1,0 +1,53 @@
+-- What the options say.
+use Rattle.std.proofs.Common.{◌≡◌, ℕ, ◌<◌, List, Option, Some, None, IfSome, codes, refl, sym, ap, subst, ◌∙◌}
+use Rattle.std.specs.Str.Parse.{IsNumeral, digits_value, without_leading_plus}
+use Rattle.clap.specs.Words.{Row, Text, rows_of, one_text, first_value}
+use Rattle.clap.specs.declared.parser.matches.Found.{Found}
+use Rattle.clap.proofs.WalkLemmas.{one_text-rows, first_value-rows}
+use Rattle.jaeger_model.specs.declared.ids.TraceId.{TraceId}
+use Rattle.command_words.specs.Words.{HasLimits, HasNumber, HasTrace, trace_in}
+use Rattle.trace_model.specs.declared.limits.Limits.{Limits}
+
+-- what `get_one` reads is the number that the option's text spells
+pub number_read : (f : Found) (name : Text) (k n : ℕ) (Also : Text → Type 0)
+    → (one_text f name ≡ None → Some n ≡ None)
+    → ((t : Text) → one_text f name ≡ Some t → ((IsNumeral 10 (without_leading_plus t) × (digits_value 10 (without_leading_plus t) < k)) × (n ≡ digits_value 10 (without_leading_plus t))) × Unit {0} × Also t)
+    → HasNumber name (rows_of f) n
+number_read f name k n Also none value = go (one_text f name) refl
+  where
+    go : (o : Option Text) → one_text f name ≡ o → HasNumber name (rows_of f) n
+    go None e = let bad = none e in absurd cc
+    go (Some t) e = (t, sym (one_text-rows f name) ∙ e, (value t e).0.0.0, (value t e).0.1)
+
+-- a number that the option's text spells and that fits was read
+pub number_there : (f : Found) (name : Text) (k n : ℕ)
+    → ((t : Text) → one_text f name ≡ Some t → (IsNumeral 10 (without_leading_plus t) × (digits_value 10 (without_leading_plus t) < k)) → ⊥)
+    → HasNumber name (rows_of f) n → n < k → ⊥
+number_there f name k n none has below = none has.0 (one_text-rows f name ∙ has.1) (has.2, subst (λ m. m < k) has.3 below)
+
+-- an option has one number
+pub one_number : (rows : List Row) (name : Text) (n m : ℕ) → HasNumber name rows n → HasNumber name rows m → n ≡ m
+one_number rows name n m a b = let same : a.0 ≡ b.0 = let both = sym a.1 ∙ b.1 in cc in a.3 ∙ ap (λ t. digits_value 10 (without_leading_plus t)) same ∙ sym b.3
+
+-- the limits that have the numbers read
+pub limits_read : (rows : List Row) (b s t k : ℕ) (o : Option Limits)
+    → HasNumber (codes "batches") rows b → HasNumber (codes "spans") rows s → HasNumber (codes "traces") rows t → HasNumber (codes "max-skew") rows k
+    → IfSome o (λ (l : Limits). (l.batches ≡ b) × (l.spans ≡ s) × (l.traces ≡ t) × (l.max_skew ≡ k)) → IfSome o (HasLimits rows)
+limits_read rows b s t k None hb hs ht hk same = tt
+limits_read rows b s t k (Some l) hb hs ht hk same = record {
+  batches = subst (HasNumber (codes "batches") rows) (sym same.0) hb;
+  spans = subst (HasNumber (codes "spans") rows) (sym same.1) hs;
+  traces = subst (HasNumber (codes "traces") rows) (sym same.2) ht;
+  max_skew = subst (HasNumber (codes "max-skew") rows) (sym same.3) hk;
+}
+
+-- the id that was read is the one that the rows have
+pub trace_read : (f : Found) (id : TraceId) → trace_in (first_value f (codes "TRACE")) ≡ Some id → HasTrace (rows_of f) id
+trace_read f id = go (first_value f (codes "TRACE")) refl
+  where
+    go : (o : Option Text) → first_value f (codes "TRACE") ≡ o → trace_in o ≡ Some id → HasTrace (rows_of f) id
+    go None e is = absurd cc
+    go (Some t) e is = (t, sym (first_value-rows f (codes "TRACE")) ∙ e, is)
+
+pub trace_there : (f : Found) (id : TraceId) → HasTrace (rows_of f) id → trace_in (first_value f (codes "TRACE")) ≡ Some id
+trace_there f id has = ap trace_in (first_value-rows f (codes "TRACE") ∙ has.1) ∙ has.2

@@ -1,0 +1,385 @@
+//! What the words ask for, and what is said to words that ask for nothing.
+ghost use Rattle.std.specs.Prelude.{◌≡◌, ◌⊎◌, IfOk, IfErr, IfSome, IsOk, IsSome, None, OnOk, Some, codes, map, false, true};
+ghost use Rattle.std.specs.Io.KnownBytes.{Appends};
+ghost use Rattle.clap.specs.Words.{HasMatchesOf, app_of, first_value, found_of, kind_of, matches_of, rows_of, rule_of, takes};
+ghost use Rattle.trace_model.specs.declared.limits.Limits.{Limits as Most};
+ghost use Rattle.jaeger_model.specs.declared.ids.TraceId.{TraceId as Id};
+ghost use Rattle.command_words.specs.declared.words.Command.{Command as Wanted};
+ghost use Rattle.command_words.specs.Words.{HasLimits, HasTrace, IsFault, IsFaultOf, TakesGet, get_app, get_takes, number_rule, pipe_app, play_app, trace_in, with_limits as limits_on};
+ghost use Rattle.command_words.specs.Asked.{Accepts, AcceptsGetBy, AcceptsPipeBy, AcceptsPlayBy, Asks, AsksGetBy, AsksPipeBy, AsksPlayBy, IsGetOf, IsPipeOf, IsPlayOf};
+
+use clap::builder::ValueParser;
+use clap::error::ErrorKind;
+use clap::{Arg, ArgMatches, Error, value_parser};
+use jaeger_model::{TraceId, parse_trace};
+use session_devices::Output;
+use std::alloc::{AllocError, Global};
+use std::convert::AsStr;
+use std::io;
+use std::io::Write;
+use text_lines::say;
+use trace_model::Limits;
+
+/// A subcommand with its options. A further subcommand is a variant of its own: it has a function that
+/// makes its `clap::Command`, one that reads its words, and its line in [`judge_words`] and in `program`.
+#[derive(Drop)]
+pub enum Command {
+    /// The spans of a trace.
+    Get { limits: Limits, trace: TraceId },
+    /// The responses to a session's requests.
+    Pipe { limits: Limits },
+    /// What comes of steps.
+    Play { limits: Limits },
+}
+
+/// An option that takes a number.
+fn number<'a>(
+    alloc: Global,
+    name: &'a str,
+    numbers: ValueParser<'a>,
+    default: &'a str,
+    help: &'a str,
+) -> Arg<'a>
+    ensures rule { rule_of result ≡ number_rule name.entry.now numbers.entry default.entry.now }
+    ensures own { result.global ≡ false }
+{
+    Arg::new(alloc, name)
+        .long(name)
+        .value_name("N")
+        .value_parser(numbers)
+        .default_value(default)
+        .help(help)
+}
+
+/// The options that each subcommand has.
+fn with_limits(alloc: Global, command: clap::Command<'_>) -> Result<clap::Command<'_>, AllocError>
+    ensures { IfOk result (λ c. app_of c ≡ limits_on (app_of command.entry)) }
+{
+    let batches = value_parser!(u32).range(1..=1_000_000);
+    let spans = value_parser!(u32).range(1..=10_000_000);
+    let traces = value_parser!(u32).range(0..=1_000_000);
+    let skew = value_parser!(u64).range(0..=9_223_372_036_854_775_807);
+    command
+        .arg(number(
+            alloc,
+            "batches",
+            batches,
+            "1000",
+            "How many batches are kept, 1 to 1000000",
+        ))?
+        .arg(number(
+            alloc,
+            "spans",
+            spans,
+            "100000",
+            "How many spans are kept, 1 to 10000000",
+        ))?
+        .arg(number(
+            alloc,
+            "traces",
+            traces,
+            "0",
+            "How many of the newest traces are shown, up to 1000000; 0 for all",
+        ))?
+        .arg(number(
+            alloc,
+            "max-skew",
+            skew,
+            "0",
+            "By how many microseconds a span may be moved to mend clock skew",
+        ))
+}
+
+/// The subcommand `get`.
+fn get_command<'a>(alloc: Global) -> Result<clap::Command<'a>, AllocError>
+    ensures { IfOk result (λ c. app_of c ≡ get_app) }
+{
+    let trace = Arg::new(alloc, "TRACE")
+        .required(true)
+        .help("The trace's id, 1 to 32 hexadecimal digits");
+    let command = clap::Command::new(alloc, "get")
+        .bin_name("jaeger_one get")?
+        .about(
+            "Reads batches from standard input, a line of hexadecimal text each, and prints the spans of a trace",
+        )
+        .arg(trace)?;
+    with_limits(alloc, command)
+}
+
+/// The subcommand `pipe`.
+fn pipe_command<'a>(alloc: Global) -> Result<clap::Command<'a>, AllocError>
+    ensures { IfOk result (λ c. app_of c ≡ pipe_app) }
+{
+    let command = clap::Command::new(alloc, "pipe")
+        .bin_name("jaeger_one pipe")?
+        .about("Answers the HTTP requests of standard input on standard output");
+    with_limits(alloc, command)
+}
+
+/// The subcommand `play`.
+fn play_command<'a>(alloc: Global) -> Result<clap::Command<'a>, AllocError>
+    ensures { IfOk result (λ c. app_of c ≡ play_app) }
+{
+    let command = clap::Command::new(alloc, "play")
+        .bin_name("jaeger_one play")?
+        .about("Plays the steps of standard input, a line each, and prints what came of each");
+    with_limits(alloc, command)
+}
+
+/// The program with its subcommands, for the texts of help and faults.
+fn program<'a>(alloc: Global) -> Result<clap::Command<'a>, AllocError> {
+    clap::Command::new(alloc, "jaeger_one")
+        .about("Collects traces of Jaeger clients and answers queries on them")
+        .subcommand_required(true)
+        .subcommand(get_command(alloc)?)?
+        .subcommand(pipe_command(alloc)?)?
+        .subcommand(play_command(alloc)?)
+}
+
+/// Writes what is wrong with the words, or the help that they call for, and gives the status.
+fn explain<W: Write>(writer: &mut W, error: &Error) -> u8
+    ensures status { IsFault result }
+    ensures memory { kind_of error.now ≡ ErrorKind.OutOfMemory → result ≡ 5 }
+{
+    if error.kind() == ErrorKind::OutOfMemory {
+        return 5;
+    }
+    match write!(writer, "{error}") {
+        Ok(()) => 2,
+        Err(_) => 4,
+    }
+}
+
+/// Reads the words as clap does, or says what is wrong with them.
+fn matches_of<'a, S: AsStr, W: Write>(
+    command: clap::Command<'a>,
+    words: &'a [S],
+    writer: &mut W,
+) -> Result<ArgMatches<'a>, u8>
+    ensures matches { IfOk result (HasMatchesOf (app_of command.entry) (map S.text words.entry.now)) }
+    ensures silent { OnOk result (W.contents writer.new ≡ W.contents writer.old) }
+    ensures status { IfErr result IsFault }
+    ensures taken { takes (app_of command.entry) (map S.text words.entry.now) ≡ true → IfErr result (λ s. s ≡ 5) }
+{
+    match command.try_get_matches_from(words) {
+        Ok(matches) => Ok(matches),
+        Err(error) => Err(explain(writer, &error)),
+    }
+}
+
+/// The limits that the options give.
+fn limits_of(matches: &ArgMatches<'_>) -> Option<Limits>
+    ensures given { IfSome result (HasLimits (rows_of (found_of matches.now))) }
+    ensures found { (limits : Most) → HasLimits (rows_of (found_of matches.now)) limits → IsSome result }
+{
+    let batches = matches.get_one::<u32>("batches")?;
+    let spans = matches.get_one::<u32>("spans")?;
+    let traces = matches.get_one::<u32>("traces")?;
+    let max_skew = matches.get_one::<u64>("max-skew")?;
+    Limits::new(batches, spans, traces, max_skew)
+}
+
+/// The trace that is asked for, where its text is an id.
+fn asked_trace(matches: &ArgMatches<'_>) -> Option<TraceId>
+    ensures { result ≡ trace_in (first_value (found_of matches.now) (codes "TRACE")) }
+{
+    parse_trace(matches.get_str("TRACE")?)
+}
+
+/// Says that the trace's id can't be read.
+fn say_bad_trace<W: Write>(writer: &mut W) -> io::Result<()>
+    ensures { OnOk result (Appends (W.contents writer.old) (W.contents writer.new) (codes "bad trace id\n")) }
+{
+    writeln!(writer, "bad trace id")
+}
+
+/// The trace that is asked for, or the status once its fault is told.
+fn trace_of<W: Write>(matches: &ArgMatches<'_>, writer: &mut W) -> Result<TraceId, u8>
+    ensures trace { IfOk result (λ id. trace_in (first_value (found_of matches.now) (codes "TRACE")) ≡ Some id) }
+    ensures silent { OnOk result (W.contents writer.new ≡ W.contents writer.old) }
+    ensures none { IfErr result (λ s. trace_in (first_value (found_of matches.now) (codes "TRACE")) ≡ None) }
+    ensures said { IfErr result (λ s. (s ≡ 4) ⊎ ((s ≡ 2) × Appends (W.contents writer.old) (W.contents writer.new) (codes "bad trace id\n"))) }
+{
+    match asked_trace(matches) {
+        Some(trace) => Ok(trace),
+        None => match say_bad_trace(writer) {
+            Ok(()) => Err(2),
+            Err(_) => Err(4),
+        },
+    }
+}
+
+/// `get` with its options and its trace.
+fn get_of<W: Write>(matches: &ArgMatches<'_>, writer: &mut W) -> Result<Command, u8>
+    ensures asked { IfOk result (IsGetOf (rows_of (found_of matches.now))) }
+    ensures silent { OnOk result (W.contents writer.new ≡ W.contents writer.old) }
+    ensures status { IfErr result IsFault }
+    ensures found { (limits : Most) (id : Id) → HasLimits (rows_of (found_of matches.now)) limits → HasTrace (rows_of (found_of matches.now)) id → IsOk result }
+    ensures bad_trace { (limits : Most) → HasLimits (rows_of (found_of matches.now)) limits
+        → IfErr result (λ s. s ≡ 2 → Appends (W.contents writer.old) (W.contents writer.new) (codes "bad trace id\n")) }
+{
+    let Some(limits) = limits_of(matches) else {
+        return Err(2);
+    };
+    let trace = trace_of(matches, writer)?;
+    Ok(Command::Get { limits, trace })
+}
+
+/// The subcommand `get`, whose own name is the first of the words.
+fn read_get<S: AsStr, W: Write>(alloc: Global, words: &[S], writer: &mut W) -> Result<Command, u8>
+    ensures asked { IfOk result (AsksGetBy (map S.text words.now)) }
+    ensures silent { OnOk result (W.contents writer.new ≡ W.contents writer.old) }
+    ensures status { IfErr result IsFault }
+    ensures accepted { (command : Wanted) → AcceptsGetBy (map S.text words.now) command → IfErr result (λ s. s ≡ 5) }
+    ensures bad_trace { (limits : Most) → get_takes (map S.text words.now) ≡ true → HasLimits (matches_of get_app (map S.text words.now)) limits
+        → IfErr result (λ s. s ≡ 2 → Appends (W.contents writer.old) (W.contents writer.new) (codes "bad trace id\n")) }
+{
+    let Ok(command) = get_command(alloc) else {
+        return Err(5);
+    };
+    let matches = matches_of(command, words, writer)?;
+    get_of(&matches, writer)
+}
+
+/// `pipe` with its options.
+fn pipe_of(matches: &ArgMatches<'_>) -> Result<Command, u8>
+    ensures asked { IfOk result (IsPipeOf (rows_of (found_of matches.now))) }
+    ensures status { IfErr result IsFault }
+    ensures found { (limits : Most) → HasLimits (rows_of (found_of matches.now)) limits → IsOk result }
+{
+    match limits_of(matches) {
+        Some(limits) => Ok(Command::Pipe { limits }),
+        None => Err(2),
+    }
+}
+
+/// The subcommand `pipe`, whose own name is the first of the words.
+fn read_pipe<S: AsStr, W: Write>(alloc: Global, words: &[S], writer: &mut W) -> Result<Command, u8>
+    ensures asked { IfOk result (AsksPipeBy (map S.text words.now)) }
+    ensures silent { OnOk result (W.contents writer.new ≡ W.contents writer.old) }
+    ensures status { IfErr result IsFault }
+    ensures accepted { (command : Wanted) → AcceptsPipeBy (map S.text words.now) command → IfErr result (λ s. s ≡ 5) }
+{
+    let Ok(command) = pipe_command(alloc) else {
+        return Err(5);
+    };
+    let matches = matches_of(command, words, writer)?;
+    pipe_of(&matches)
+}
+
+/// `play` with its options.
+fn play_of(matches: &ArgMatches<'_>) -> Result<Command, u8>
+    ensures asked { IfOk result (IsPlayOf (rows_of (found_of matches.now))) }
+    ensures status { IfErr result IsFault }
+    ensures found { (limits : Most) → HasLimits (rows_of (found_of matches.now)) limits → IsOk result }
+{
+    match limits_of(matches) {
+        Some(limits) => Ok(Command::Play { limits }),
+        None => Err(2),
+    }
+}
+
+/// The subcommand `play`, whose own name is the first of the words.
+fn read_play<S: AsStr, W: Write>(alloc: Global, words: &[S], writer: &mut W) -> Result<Command, u8>
+    ensures asked { IfOk result (AsksPlayBy (map S.text words.now)) }
+    ensures silent { OnOk result (W.contents writer.new ≡ W.contents writer.old) }
+    ensures status { IfErr result IsFault }
+    ensures accepted { (command : Wanted) → AcceptsPlayBy (map S.text words.now) command → IfErr result (λ s. s ≡ 5) }
+{
+    let Ok(command) = play_command(alloc) else {
+        return Err(5);
+    };
+    let matches = matches_of(command, words, writer)?;
+    play_of(&matches)
+}
+
+/// What the words ask for, the first of them being the program's name, and the word behind it the
+/// subcommand's. An answer to the words is left to the writer.
+fn judge_words<S: AsStr, W: Write>(
+    alloc: Global,
+    words: &[S],
+    writer: &mut W,
+) -> Result<Command, u8>
+    ensures asked { IfOk result (Asks (map S.text words.now)) }
+    ensures silent { OnOk result (W.contents writer.new ≡ W.contents writer.old) }
+    ensures status { IfErr result IsFault }
+    ensures accepted { (command : Wanted) → Accepts (map S.text words.now) command → IfErr result (λ s. s ≡ 5) }
+    ensures bad_trace { (limits : Most) → TakesGet (map S.text words.now) limits
+        → IfErr result (λ s. s ≡ 2 → Appends (W.contents writer.old) (W.contents writer.new) (codes "bad trace id\n")) }
+{
+    if let Some((_, rest)) = words.split_first() {
+        if let Some(name) = rest.first() {
+            if name.as_str() == "get" {
+                return read_get(alloc, rest, writer);
+            }
+            if name.as_str() == "pipe" {
+                return read_pipe(alloc, rest, writer);
+            }
+            if name.as_str() == "play" {
+                return read_play(alloc, rest, writer);
+            }
+        }
+    }
+    Err(refuse(alloc, words, writer))
+}
+
+/// Says what is wrong with words that name no subcommand, and gives the status.
+fn refuse<S: AsStr, W: Write>(alloc: Global, words: &[S], writer: &mut W) -> u8
+    ensures { IsFault result }
+{
+    let Ok(command) = program(alloc) else {
+        return 5;
+    };
+    match matches_of(command, words, writer) {
+        Ok(_) => 2,
+        Err(status) => status,
+    }
+}
+
+/// Answers words that ask for no command, and gives the exit status.
+#[tactic(auto, using(crate::proofs::Answering::halted, crate::proofs::Answering::halted_not_2))]
+fn answer<W: Output>(alloc: Global, output: &mut W, text: &[u8], status: u8) -> u8
+    requires { W.has_failed output.old ≡ false }
+    ensures status { IsFaultOf result (W.has_failed output.new) }
+    ensures memory { status ≡ 5 → result ≡ 5 }
+    ensures text { result ≡ 2 → (status ≡ 2) × Appends (W.contents output.old) (W.contents output.new) text.now }
+{
+    // A text in memory fails for want of memory alone, so 4 means 5 here.
+    if status != 2 {
+        return 5;
+    }
+    match say(alloc, output, text) {
+        Ok(()) => 2,
+        Err(halt) => halt.status(),
+    }
+}
+
+/// What the words ask for, the first of them being the program's name.
+///
+/// The word behind it is the subcommand, and clap reads those that follow. A fault of the words, and
+/// a call for help, is answered on the output.
+///
+/// # Errors
+///
+/// The exit status: 2 for a fault of the words, a call for help or a trace's id that can't be read,
+/// 4 where the output failed, and 5 for want of memory.
+pub fn read_words<S: AsStr, W: Output>(
+    alloc: Global,
+    words: &[S],
+    output: &mut W,
+) -> Result<Command, u8>
+    requires { W.has_failed output.old ≡ false }
+    ensures asked { IfOk result (Asks (map S.text words.now)) }
+    ensures silent { OnOk result (W.contents output.new ≡ W.contents output.old) }
+    ensures works { OnOk result (W.has_failed output.new ≡ false) }
+    ensures status { IfErr result (λ s. IsFaultOf s (W.has_failed output.new)) }
+    ensures accepted { (command : Wanted) → Accepts (map S.text words.now) command → IfErr result (λ s. s ≡ 5) }
+    ensures bad_trace { (limits : Most) → TakesGet (map S.text words.now) limits
+        → IfErr result (λ s. s ≡ 2 → Appends (W.contents output.old) (W.contents output.new) (codes "bad trace id\n")) }
+{
+    let mut said = Vec::new(alloc);
+    match judge_words(alloc, words, &mut said) {
+        Ok(command) => Ok(command),
+        Err(status) => Err(answer(alloc, output, said.as_slice(), status)),
+    }
+}

@@ -1,0 +1,4 @@
+pub mod Judgings
+pub mod Finding
+pub mod Said
+pub mod Wholes

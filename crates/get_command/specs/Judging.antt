@@ -1,0 +1,59 @@
+-- What becomes of a line of input.
+use Rattle.std.specs.Prelude.{ℕ, ◌+◌, ◌==◌, ◌&&◌, Bool, not, List, filter, length, Option, Some, None, Result, Ok, Err, if◌then◌else◌}
+use Rattle.hex.specs.Hex.{decode_of}
+use Rattle.hex.specs.declared.error.FromHexError.{FromHexError}
+use Rattle.jaeger_model.specs.declared.batch.Batch.{Batch}
+use Rattle.batch_codec.specs.declared.fault.DecodeError.{DecodeError}
+use Rattle.batch_codec.specs.BatchReading.{decoded}
+use Rattle.trace_model.specs.declared.entry.Entry.{Entry}
+use Rattle.trace_model.specs.declared.refusal.Refusal.{Refusal}
+use Rattle.trace_model.specs.Held.{Held}
+use Rattle.trace_model.specs.Refusals.{refusal_of, followed_by}
+use Rattle.get_command.specs.declared.line_fault.LineFault.{LineFault}
+use Rattle.get_command.specs.declared.line_fault.LineFault.TheVariants.{BadHex, Undecodable, Refused}
+
+-- neither a space nor a tab
+abbrev pub is_written : ℕ → Bool
+is_written c = not (c == 32) && not (c == 9)
+
+-- the line without its spaces and tabs
+abbrev pub without_blanks : List ℕ → List ℕ
+without_blanks line = filter is_written line
+
+abbrev pub of_batch : Result Batch DecodeError → Result Batch LineFault
+of_batch (Ok batch) = Ok batch
+of_batch (Err fault) = Err (Undecodable fault)
+
+abbrev pub of_bytes : Result (List ℕ) FromHexError → Result Batch LineFault
+of_bytes (Ok bytes) = of_batch (decoded bytes)
+of_bytes (Err fault) = Err BadHex
+
+-- the batch that hexadecimal text spells
+unfoldable pub batch_in : List ℕ → Result Batch LineFault
+batch_in text = of_bytes (decode_of text)
+
+-- what a line says: nothing where it is empty but for spaces and tabs
+abbrev pub batch_on : List ℕ → Option (Result Batch LineFault)
+batch_on line = if length (without_blanks line) == 0 then None else Some (batch_in (without_blanks line))
+
+-- all entries come from seat 0, and are numbered from 1
+abbrev pub next_entry : Held → Batch → Entry
+next_entry held batch = record { seat = 0; number = length held.entries + 1; batch = batch }
+
+-- why a line can't be used, if it can't, and what is held after it
+pub record Judged : Type 0 where
+  pub fault : Option LineFault
+  pub held : Held
+
+abbrev pub admitted : Held → Entry → Option Refusal → Judged
+admitted held entry None = record { fault = None; held = followed_by held entry }
+admitted held entry (Some refusal) = record { fault = Some (Refused refusal); held = held }
+
+abbrev pub taken_in : Held → Option (Result Batch LineFault) → Judged
+taken_in held None = record { fault = None; held = held }
+taken_in held (Some (Err fault)) = record { fault = Some fault; held = held }
+taken_in held (Some (Ok batch)) = admitted held (next_entry held batch) (refusal_of held.limits held.entries (next_entry held batch))
+
+-- a refused batch leaves what is held
+unfoldable pub judged : Held → List ℕ → Judged
+judged held line = taken_in held (batch_on line)

@@ -1,0 +1,3 @@
+pub mod LineFaults
+pub mod Judging
+pub mod Runs

@@ -1,0 +1,90 @@
+-- What `get` writes for an input.
+use Rattle.std.specs.Prelude.{◌≡◌, ℕ, ◌+◌, Bool, ◌||◌, true, false, List, [], ◌∷◌, ◌++◌, flat_map, Option, Some, None, is_some, codes}
+use Rattle.std.specs.Fmt.{decimal, signed_decimal}
+use Rattle.jaeger_model.specs.declared.ids.TraceId.{TraceId}
+use Rattle.jaeger_model.specs.declared.placed.Placed.{Placed}
+use Rattle.jaeger_model.specs.Ids.{trace_text, span_text}
+use Rattle.trace_model.specs.declared.answer.Shown.{Shown}
+use Rattle.trace_model.specs.declared.limits.Limits.{Limits}
+use Rattle.trace_model.specs.Held.{Held}
+use Rattle.trace_model.specs.Histories.{arrivals}
+use Rattle.trace_model.specs.Showing.{trace_found}
+use Rattle.text_lines.specs.Lines.{lines_of}
+use Rattle.text_lines.specs.Taking.{Said, Takes}
+use Rattle.get_command.specs.LineFaults.{fault_text}
+use Rattle.get_command.specs.declared.line_fault.LineFault.{LineFault}
+use Rattle.get_command.specs.Judging.{Judged, judged}
+
+-- ---- the lines
+
+-- what is held after the lines
+abbrev pub held_after : Held → List (List ℕ) → Held
+held_after held [] = held
+held_after held (line ∷ rest) = held_after (judged held line).held rest
+
+abbrev pub fault_line : ℕ → Option LineFault → List ℕ
+fault_line n None = []
+fault_line n (Some fault) = codes "line " ++ decimal n ++ codes ": " ++ fault_text fault ++ codes "\n"
+
+-- a line for each that can't be used, where the first has the number n
+abbrev pub fault_lines : ℕ → Held → List (List ℕ) → List ℕ
+fault_lines n held [] = []
+fault_lines n held (line ∷ rest) = fault_line n (judged held line).fault ++ fault_lines (n + 1) (judged held line).held rest
+
+abbrev pub has_fault : Held → List (List ℕ) → Bool
+has_fault held [] = false
+has_fault held (line ∷ rest) = is_some (judged held line).fault || has_fault (judged held line).held rest
+
+-- what is said to a line
+abbrev pub said_to : ℕ → Judged → Said
+said_to n j = record { text = fault_line n j.fault; faulty = is_some j.fault }
+
+abbrev pub TakesBatch : Takes Held
+TakesBatch held n line said after = (after ≡ (judged held line).held) × (said ≡ said_to n (judged held line))
+
+-- ---- the trace
+
+abbrev pub ids_text : Placed → List ℕ
+ids_text p = trace_text p.span.trace ++ codes " " ++ span_text p.span.id ++ codes " "
+
+abbrev pub times_text : Placed → List ℕ
+times_text p = signed_decimal p.span.start ++ codes " " ++ signed_decimal p.span.duration ++ codes " "
+
+abbrev pub names_text : Placed → List ℕ
+names_text p = p.process.service ++ codes " " ++ p.span.operation ++ codes "\n"
+
+-- trace, span, start, duration, service and operation
+abbrev pub span_line : Placed → List ℕ
+span_line p = ids_text p ++ times_text p ++ names_text p
+
+abbrev pub shown_line : Shown → List ℕ
+shown_line s = span_line s.placed
+
+abbrev pub trace_lines : Option (List Placed) → List ℕ
+trace_lines None = codes "trace not found\n"
+trace_lines (Some spans) = flat_map span_line spans
+
+abbrev pub found_in : Held → TraceId → Option (List Placed)
+found_in held id = trace_found held.limits.traces (arrivals held.entries) id
+
+-- ---- the whole
+
+abbrev pub nothing_held : Limits → Held
+nothing_held limits = record { limits = limits; entries = [] }
+
+-- the fault lines, and then the spans of the trace
+abbrev pub output_of : Limits → TraceId → List ℕ → List ℕ
+output_of limits id input =
+    let lines = lines_of input in
+    fault_lines 1 (nothing_held limits) lines ++ trace_lines (found_in (held_after (nothing_held limits) lines) id)
+
+-- 3 where a line couldn't be used, else 0 where the trace was found, else 1
+abbrev pub status_by : Bool → Bool → ℕ
+status_by true found = 3
+status_by false true = 0
+status_by false false = 1
+
+abbrev pub status_of : Limits → TraceId → List ℕ → ℕ
+status_of limits id input =
+    let lines = lines_of input in
+    status_by (has_fault (nothing_held limits) lines) (is_some (found_in (held_after (nothing_held limits) lines) id))

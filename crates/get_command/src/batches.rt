@@ -1,0 +1,174 @@
+//! A store that takes a batch from each line.
+ghost use Rattle.std.specs.Prelude.{◌≡◌, ◌≢◌, ◌++◌, IfOk, OnOk, Some};
+ghost use Rattle.trace_model.specs.Refusals.{refusal_of};
+ghost use Rattle.get_command.specs.Judging.{admitted, batch_in, is_written, judged, next_entry, without_blanks};
+ghost use Rattle.get_command.specs.Runs.{fault_line, nothing_held};
+
+use crate::line_fault::LineFault;
+use batch_codec::{DecodeError, decode};
+use hex::FromHexError;
+use jaeger_model::Batch;
+use span_store::SpanStore;
+use std::alloc::{AllocError, Global};
+use std::io::Write;
+use std::marker::Model;
+use std::sync::Arc;
+use text_lines::LineTaker;
+use trace_model::{Entry, Limits, Refusal};
+
+/// The fault of text that isn't hexadecimal.
+fn bad_hex(error: FromHexError) -> Result<LineFault, AllocError>
+    ensures { IfOk result (λ fault. (fault ≡ LineFault.BadHex) × (error ≢ FromHexError.OutOfMemory)) }
+{
+    match error {
+        FromHexError::OutOfMemory => Err(AllocError),
+        _ => Ok(LineFault::BadHex),
+    }
+}
+
+/// The fault of bytes that are no batch.
+fn undecodable(error: DecodeError) -> Result<LineFault, AllocError>
+    ensures { IfOk result (λ fault. (fault ≡ LineFault.Undecodable error) × (error ≢ DecodeError.Memory)) }
+{
+    match error {
+        DecodeError::Memory => Err(AllocError),
+        _ => Ok(LineFault::Undecodable(error)),
+    }
+}
+
+/// The batch that hexadecimal text spells.
+fn read_batch(alloc: Global, text: &[u8]) -> Result<Result<Batch, LineFault>, AllocError>
+    ensures { IfOk result (λ r. r ≡ batch_in text.now) }
+{
+    let bytes = match hex::decode(alloc, text) {
+        Ok(bytes) => bytes,
+        Err(error) => return Ok(Err(bad_hex(error)?)),
+    };
+    match decode(alloc, bytes.as_slice()) {
+        Ok(batch) => Ok(Ok(batch)),
+        Err(error) => Ok(Err(undecodable(error)?)),
+    }
+}
+
+/// Hands the batch to the store, as seat 0's next entry.
+fn admit(
+    alloc: Global,
+    store: &mut SpanStore,
+    batch: Batch,
+) -> Result<Option<LineFault>, AllocError>
+    ensures { IfOk result (λ fault. record { fault = fault; held = store.new }
+        ≡ admitted store.old (next_entry store.old batch)
+        (refusal_of store.old.limits store.old.entries (next_entry store.old batch))) }
+{
+    let number = store.len() + 1;
+    let Ok(entry) = Arc::new(
+        alloc,
+        Entry {
+            seat: 0,
+            number,
+            batch,
+        },
+    ) else {
+        return Err(AllocError);
+    };
+    match store.apply(entry) {
+        Ok(_) => Ok(None),
+        Err(Refusal::NoMemory) => Err(AllocError),
+        Err(refusal) => Ok(Some(LineFault::Refused(refusal))),
+    }
+}
+
+/// The byte is neither a space nor a tab.
+fn is_written(c: u8) -> bool
+    ensures { result ≡ is_written c }
+{
+    c != b' ' && c != b'\t'
+}
+
+fn drop_blanks(line: &mut Vec<u8>)
+    ensures { line.new.items ≡ without_blanks line.old.items }
+{
+    line.retain(|c| is_written(*c));
+}
+
+/// Takes the batch of a line into the store, and tells why where it can't.
+fn take_batch(
+    alloc: Global,
+    store: &mut SpanStore,
+    line: &mut Vec<u8>,
+) -> Result<Option<LineFault>, AllocError>
+    ensures { IfOk result (λ fault. record { fault = fault; held = store.new } ≡ judged store.old line.old.items) }
+{
+    drop_blanks(line);
+    if line.is_empty() {
+        return Ok(None);
+    }
+    match read_batch(alloc, line.as_slice())? {
+        Ok(batch) => admit(alloc, store, batch),
+        Err(fault) => Ok(Some(fault)),
+    }
+}
+
+/// Says that a line can't be used.
+fn say_fault(said: &mut Vec<u8>, number: u64, fault: LineFault) -> Result<(), AllocError>
+    ensures { OnOk result (said.new.items ≡ said.old.items ++ fault_line number (Some fault)) }
+{
+    match writeln!(said, "line {number}: {fault}") {
+        Ok(()) => Ok(()),
+        Err(_) => Err(AllocError),
+    }
+}
+
+/// A store that takes a batch from each line, and says why where it can't.
+#[derive(Drop)]
+pub struct Batches {
+    store: SpanStore,
+}
+
+impl Model for Batches {
+    ghost use Rattle.trace_model.specs.Held.{Held};
+
+    ghost Value = { Held };
+
+    ghost view = { λ s. s.store };
+}
+
+impl Batches {
+    /// Nothing is held.
+    pub fn new(alloc: Global, limits: Limits) -> Self
+        ensures { result ≡ nothing_held limits }
+    {
+        Batches {
+            store: SpanStore::open(alloc, limits),
+        }
+    }
+
+    /// The store.
+    pub fn store(&self) -> &SpanStore
+        ensures { result.now ≡ self.now }
+    {
+        &self.store
+    }
+}
+
+impl LineTaker for Batches {
+    ghost use Rattle.get_command.specs.Runs.{TakesBatch};
+
+    ghost takes = { TakesBatch };
+
+    fn take_line(
+        &mut self,
+        alloc: Global,
+        number: u64,
+        line: &mut Vec<u8>,
+        said: &mut Vec<u8>,
+    ) -> Result<bool, AllocError> {
+        match take_batch(alloc, &mut self.store, line)? {
+            None => Ok(false),
+            Some(fault) => {
+                say_fault(said, number, fault)?;
+                Ok(true)
+            }
+        }
+    }
+}

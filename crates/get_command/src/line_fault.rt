@@ -1,0 +1,31 @@
+//! Why a line of input can't be used.
+ghost use Rattle.std.specs.Prelude.{Some};
+
+use batch_codec::DecodeError;
+use std::fmt;
+use trace_model::Refusal;
+
+/// Why a line of `get` is no batch of the store.
+#[derive(Clone, Copy, Debug, PartialEq, Eq)]
+pub enum LineFault {
+    /// It isn't hexadecimal text, or has an odd number of digits.
+    BadHex,
+    /// Its bytes are no batch.
+    Undecodable(DecodeError),
+    /// The store didn't take the batch.
+    Refused(Refusal),
+}
+
+impl fmt::Display for LineFault {
+    ghost use Rattle.get_command.specs.LineFaults.{fault_text};
+
+    ghost output = { λ f. Some (fault_text f) };
+
+    fn fmt<W: fmt::Write>(&self, f: &mut fmt::Formatter<W>) -> fmt::Result {
+        match self {
+            LineFault::BadHex => f.write_str("bad hex"),
+            LineFault::Undecodable(fault) => write!(f, "refused {fault}"),
+            LineFault::Refused(refusal) => write!(f, "refused {refusal}"),
+        }
+    }
+}

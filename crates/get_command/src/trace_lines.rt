@@ -1,0 +1,117 @@
+//! The lines of a trace's spans.
+ghost use Rattle.std.specs.Prelude.{◌≡◌, ◌++◌, None, IfOk, OnOk, false, flat_map, is_some, map, option_map};
+ghost use Rattle.text_lines.specs.Halting.{Says};
+ghost use Rattle.trace_model.specs.Adjusting.{unadjusted};
+ghost use Rattle.get_command.specs.Runs.{found_in, ids_text, names_text, shown_line, span_line, times_text, trace_lines};
+
+use jaeger_model::{Placed, Seq, TraceId};
+use session_devices::Output;
+use span_store::SpanStore;
+use std::alloc::{AllocError, Global};
+use std::io::Write;
+use text_lines::{Halt, Page, say};
+use trace_model::{Answer, Query, Shown};
+
+fn say_ids(said: &mut Vec<u8>, placed: &Placed) -> Result<(), AllocError>
+    ensures { OnOk result (said.new.items ≡ said.old.items ++ ids_text placed.now) }
+{
+    let trace = placed.span.trace;
+    let id = placed.span.id;
+    let Ok(()) = write!(said, "{trace} {id} ") else {
+        return Err(AllocError);
+    };
+    Ok(())
+}
+
+fn say_times(said: &mut Vec<u8>, placed: &Placed) -> Result<(), AllocError>
+    ensures { OnOk result (said.new.items ≡ said.old.items ++ times_text placed.now) }
+{
+    let start = placed.span.start;
+    let duration = placed.span.duration;
+    let Ok(()) = write!(said, "{start} {duration} ") else {
+        return Err(AllocError);
+    };
+    Ok(())
+}
+
+fn say_names(said: &mut Vec<u8>, placed: &Placed) -> Result<(), AllocError>
+    ensures { OnOk result (said.new.items ≡ said.old.items ++ names_text placed.now) }
+{
+    let service = placed.process.service.as_str();
+    let operation = placed.span.operation.as_str();
+    let Ok(()) = writeln!(said, "{service} {operation}") else {
+        return Err(AllocError);
+    };
+    Ok(())
+}
+
+/// Says the line of a span.
+fn say_span(said: &mut Vec<u8>, placed: &Placed) -> Result<(), AllocError>
+    ensures { OnOk result (said.new.items ≡ said.old.items ++ span_line placed.now) }
+{
+    say_ids(said, placed)?;
+    say_times(said, placed)?;
+    say_names(said, placed)
+}
+
+/// Writes the lines of the spans.
+fn say_spans<W: Output>(alloc: Global, output: &mut W, spans: &[Shown]) -> Result<(), Halt>
+    requires { W.has_failed output.old ≡ false }
+    ensures { Says (W.contents output.old) (W.contents output.new) (W.has_failed output.new) (flat_map shown_line spans.now) result }
+{
+    let mut page = Page::new(alloc);
+    let mut said = Vec::new(alloc);
+    for shown in spans {
+        said.clear();
+        say_span(&mut said, &shown.placed)?;
+        page.say(said.as_slice())?;
+        page.make_room(output)?;
+    }
+    page.hand_out(output)
+}
+
+/// The shown spans of the trace, or None where there are none.
+fn find_trace(store: &SpanStore, trace: TraceId) -> Result<Option<Seq<Shown>>, AllocError>
+    ensures { IfOk result (λ found. found ≡ option_map (map unadjusted) (found_in store.now trace)) }
+{
+    let query = Query::Trace {
+        id: trace,
+        raw: true,
+    };
+    match store.answer(&query) {
+        Ok(Answer::Trace(found)) => Ok(found),
+        Ok(_) => unreachable!(),
+        Err(_) => Err(AllocError),
+    }
+}
+
+/// Writes that the trace isn't found.
+fn say_none<W: Output>(alloc: Global, output: &mut W) -> Result<(), Halt>
+    requires { W.has_failed output.old ≡ false }
+    ensures { Says (W.contents output.old) (W.contents output.new) (W.has_failed output.new) (trace_lines None) result }
+{
+    say(alloc, output, b"trace not found\n")
+}
+
+/// Writes the spans of the trace, or that it isn't found, and tells whether it is.
+pub(crate) fn say_trace<W: Output>(
+    alloc: Global,
+    output: &mut W,
+    store: &SpanStore,
+    trace: TraceId,
+) -> Result<bool, Halt>
+    requires { W.has_failed output.old ≡ false }
+    ensures found { IfOk result (λ found. found ≡ is_some (found_in store.now trace)) }
+    ensures lines { Says (W.contents output.old) (W.contents output.new) (W.has_failed output.new) (trace_lines (found_in store.now trace)) result }
+{
+    match find_trace(store, trace)? {
+        Some(spans) => {
+            say_spans(alloc, output, spans.as_slice())?;
+            Ok(true)
+        }
+        None => {
+            say_none(alloc, output)?;
+            Ok(false)
+        }
+    }
+}

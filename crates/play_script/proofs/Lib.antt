@@ -1,0 +1,2 @@
+pub mod PlayingLines
+pub mod Wholes

@@ -1,0 +1,62 @@
+//! Runs of the program over memory.
+use program_run::run;
+use session_devices::Watched;
+use std::alloc::Global;
+use std::process::Abort;
+use std::test::Fail;
+
+/// A batch of service `a` with one span of trace 1, up to and from the end of the operation.
+pub(crate) const HEAD: &str =
+    "0c00010b00010000000161000f00020c000000010a000100000000000000010a000200000000000000000a000300000000000000020a000400000000000000000b0005000000026f70";
+
+pub(crate) const TAIL: &str = "080007000000010a000800000000000003e80a000900000000000000320000";
+/// A batch of service `a` without spans, but for its stop byte.
+pub(crate) const OPEN: &str = "0c00010b00010000000161000f00020c00000000";
+
+pub(crate) const SPAN: &str = "0000000000000001 0000000000000002 1000 50 a op\n";
+
+pub(crate) const NONE: &str = "trace not found\n";
+
+/// The pieces of a text, joined.
+pub(crate) fn joined(alloc: Global, pieces: &[&str]) -> Result<String, Fail> {
+    let mut text = String::new(alloc);
+    for piece in pieces {
+        text.push_str(piece)?;
+    }
+    Ok(text)
+}
+
+/// Runs the words over the input, and looks at the status and the output.
+pub(crate) fn check<A: Abort>(
+    rt: &A,
+    alloc: Global,
+    words: &[&str],
+    input: &[&str],
+    status: u8,
+    output: &[&str],
+) -> Result<(), Fail> {
+    let input = joined(alloc, input)?;
+    check_bytes(rt, alloc, words, input.as_bytes(), status, output)
+}
+
+/// The same of any bytes.
+pub(crate) fn check_bytes<A: Abort>(
+    rt: &A,
+    alloc: Global,
+    words: &[&str],
+    input: &[u8],
+    status: u8,
+    output: &[&str],
+) -> Result<(), Fail> {
+    let wanted = joined(alloc, output)?;
+    let mut written = Vec::new(alloc);
+    let got = run(
+        alloc,
+        words,
+        &mut Watched::new(input),
+        &mut Watched::new(&mut written),
+    );
+    assert_eq!(rt; written.as_slice(), wanted.as_bytes());
+    assert_eq!(rt; got, status);
+    Ok(())
+}

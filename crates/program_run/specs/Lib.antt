@@ -1,0 +1,2 @@
+pub mod Piping
+pub mod Running

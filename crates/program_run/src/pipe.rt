@@ -1,0 +1,40 @@
+//! `pipe`: a session over standard input and output.
+ghost use Rattle.std.specs.Prelude.{◌≡◌, false};
+ghost use Rattle.program_run.specs.Piping.{Pipes, cause_status};
+
+use direct_store::Direct;
+use http_session::Cause;
+use pipe_session::pipe;
+use session_devices::{Input, Output};
+use span_store::SpanStore;
+use std::alloc::Global;
+use trace_model::Limits;
+
+fn status_of(cause: Cause) -> u8
+    ensures { result ≡ cause_status cause }
+{
+    match cause {
+        Cause::Reading | Cause::Writing => 4,
+        Cause::Memory => 5,
+    }
+}
+
+/// Answers the HTTP requests of the input on the output, from a store that is empty at first, and gives
+/// the exit status: 0 where the session ended, by itself or by a response that closes it, 4 where a read
+/// or a write failed, and 5 for want of memory.
+pub fn run_pipe<R: Input, W: Output>(
+    alloc: Global,
+    input: &mut R,
+    output: &mut W,
+    limits: Limits,
+) -> u8
+    requires input_works { R.has_failed input.old ≡ false }
+    requires output_works { W.has_failed output.old ≡ false }
+    ensures { Pipes (R.remaining input.old) (R.remaining input.new) (W.contents output.old) (W.contents output.new) (R.has_failed input.new) (W.has_failed output.new) limits result }
+{
+    let mut store = Direct::new(SpanStore::open(alloc, limits));
+    match pipe(alloc, input, output, &mut store) {
+        Ok(_) => 0,
+        Err(fault) => status_of(fault.cause),
+    }
+}

@@ -1,0 +1,6 @@
+pub mod Feeds
+pub mod LineEnds
+pub mod Taking
+pub mod Pages
+pub mod Progress
+pub mod Wholes

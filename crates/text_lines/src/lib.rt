@@ -1,0 +1,26 @@
+//! The lines of an input, answered on an output one by one.
+//!
+//! [`answer_lines`] takes the lines of an [`Input`](session_devices::Input) and hands each to a
+//! [`LineTaker`], whose words are written before the next read, so that a person at a terminal sees
+//! what came of a line. Where it ends, all of the input was taken, and what was written is what was
+//! said to its lines, in order. Where a device fails or memory is wanting, what was written is a
+//! beginning of that.
+//!
+//! * `answering`: the lines of an input, answered one by one.
+//! * `taker`: what takes lines.
+//! * `lines`: the lines of an input, one at a time.
+//! * `page`: text that waits to be written.
+//! * `halt`: why a run stops before the end of its input.
+#![tactic(auto)]
+
+mod answering;
+mod halt;
+mod lines;
+mod page;
+mod taker;
+
+pub use answering::answer_lines;
+pub use halt::Halt;
+pub use lines::MOST_READS;
+pub use page::{Page, say};
+pub use taker::LineTaker;
