@@ -1,0 +1,16 @@
+//! Tests of the two copies, their passes and receipts.
+//!
+//! * `rows`: worked rows, one call after another.
+//! * `machine`: the same steps on the stepped machine and on the two copies.
+//! * `threads`: three threads that read beside one that writes.
+//! * `entries`: what they hand in.
+#![tactic(auto)]
+
+#[cfg(test)]
+mod entries;
+#[cfg(test)]
+mod machine;
+#[cfg(test)]
+mod rows;
+#[cfg(test)]
+mod threads;

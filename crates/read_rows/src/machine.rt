@@ -1,0 +1,124 @@
+ghost use Rattle.std.specs.Prelude.{◌≡◌};
+
+use crate::entries::{batch_of, entries_to, limits_of};
+use jaeger_model::TraceId;
+use read_side::{Keeper, Opened, Pass, StoreName, open};
+use schedule_core::{Outcome, Step, play};
+use std::alloc::Global;
+use std::marker::Brand;
+use std::process::Abort;
+use std::sync::{Arc, Wait};
+use std::test::*;
+use trace_model::{Entry, Limits, Query, Refusal};
+
+/// Number n of each list is what stood in the store when n entries were published: the front, and the answers
+/// to both questions, as text.
+type Looks = Vec<(u64, String)>;
+
+fn question(before: u64) -> Query {
+    if before % 2 == 0 {
+        Query::Services
+    } else {
+        let id = TraceId {
+            high: 0,
+            low: before,
+        };
+        Query::Trace { id, raw: false }
+    }
+}
+
+/// The steps by which a machine admits this batch and a reader looks at what is shown then.
+fn steps_of(alloc: Global, before: u64) -> Result<Vec<Step>, Fail> {
+    let batch = batch_of(alloc, before.saturating_add(1))?;
+    let query = question(before);
+    let mut steps = Vec::new(alloc);
+    steps.push(Step::Put { seat: 0, batch })?;
+    steps.push(Step::Take)?;
+    steps.push(Step::Publish)?;
+    steps.push(Step::Enter { reader: 5 })?;
+    steps.push(Step::Read { reader: 5, query })?;
+    steps.push(Step::Leave { reader: 5 })?;
+    Ok(steps)
+}
+
+/// The looks of a machine to which so many batches are admitted.
+fn machine_looks(alloc: Global, limits: Limits, last: u64) -> Result<Looks, Fail> {
+    let mut steps = Vec::new(alloc);
+    for before in 0..last {
+        for step in steps_of(alloc, before)? {
+            steps.push(step)?;
+        }
+    }
+    looks_of(alloc, play(alloc, steps, limits)?)
+}
+
+/// What was answered, of these outcomes.
+fn looks_of(alloc: Global, outcomes: Vec<Outcome>) -> Result<Looks, Fail> {
+    let mut looks = Vec::new(alloc);
+    for outcome in outcomes {
+        if let Outcome::Answered { front, answer } = outcome {
+            looks.push((front, format!(in alloc; "{answer:?}")?))?;
+        }
+    }
+    Ok(looks)
+}
+
+/// The looks of a pass of two copies to which the same batches are admitted.
+fn copies_look<N: StoreName, R: Wait>(
+    rt: &R,
+    alloc: Global,
+    keeper: &mut Keeper<N>,
+    passes: &mut Vec<Pass<N>>,
+    entries: Vec<Arc<Entry>>,
+) -> Result<Looks, Refusal> {
+    let mut looks = Vec::new(alloc);
+    let Some(pass) = passes.first_mut() else {
+        return Ok(looks);
+    };
+    let mut before = 0;
+    for entry in entries {
+        let _receipt = keeper.admit(rt, entry)?;
+        let reading = pass.read(&question(before))?;
+        let answer = reading.answer;
+        let Ok(text) = format!(in alloc; "{answer:?}") else {
+            return Err(Refusal::NoMemory);
+        };
+        looks.push((reading.front, text))?;
+        before = before.saturating_add(1);
+    }
+    Ok(looks)
+}
+
+#[test]
+fn copies_follow_the_machine(rt: HostRuntime) -> Result<(), Fail> {
+    let limits = limits_of(&rt, 20);
+    followed::<Brand, _>(&rt, rt.alloc(), Opened::new(), limits)
+}
+
+fn followed<N: StoreName, R: Wait + Abort>(
+    rt: &R,
+    alloc: Global,
+    name: Opened,
+    limits: Limits,
+) -> Result<(), Fail>
+    requires book { name.seen.book ≡ N.book }
+    requires limits { limits ≡ N.limits }
+{
+    let wanted = machine_looks(alloc, limits, 12)?;
+    let entries = entries_to(alloc, 12)?;
+    let (mut keeper, mut passes) = open::<N>(alloc, name, limits, 1)?;
+    let seen = copies_look(rt, alloc, &mut keeper, &mut passes, entries);
+    keeper.close(rt);
+    assert_eq!(rt; wanted.len(), 12);
+    match seen {
+        Ok(looks) => {
+            for (look, wanted) in looks.iter().zip(wanted.iter()) {
+                assert_eq!(rt; look.0, wanted.0);
+                assert!(rt; look.1 == wanted.1);
+            }
+            assert_eq!(rt; looks.len(), 12);
+        }
+        Err(_) => panic!(rt; "a call was refused"),
+    }
+    Ok(())
+}
