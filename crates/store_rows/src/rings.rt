@@ -110,12 +110,7 @@ fn history(alloc: Global, rows: &[&[(u64, u64)]]) -> Result<Vec<Arc<Entry>>, All
 }
 
 /// What the plain store answers under the limit of traces.
-fn found(
-    alloc: Global,
-    limit: u32,
-    rows: &[&[(u64, u64)]],
-    trace: u64,
-) -> Result<Answer, Fail> {
+fn found(alloc: Global, limit: u32, rows: &[&[(u64, u64)]], trace: u64) -> Result<Answer, Fail> {
     let limits = Limits::new(10, 10, limit, 0).ok_or("limits")?;
     let entries = history(alloc, rows)?;
     let id = id(trace);

@@ -14,8 +14,8 @@ returns-in-Ok-Get g c =
     let id = c.in-Ok-Get.trace in
     let asks : Command → Type 0 = λ k. Asks (map g.S.AsStr.text c.args.words.now) k in
     let does : Option (List ℕ) → Type 0 = λ w.
-        RunsAs (g.R.Input.remaining c.args.input.now) (g.R.Input.remaining c.run_get.new.input) w (g.W.Output.contents c.run_get.new.output)
-            (g.R.Input.has_failed c.run_get.new.input) (g.W.Output.has_failed c.run_get.new.output) (get_output limits id) (get_status limits id) c.run_get.result in
+    RunsAs (g.R.Input.remaining c.args.input.now) (g.R.Input.remaining c.run_get.new.input) w (g.W.Output.contents c.run_get.new.output)
+    (g.R.Input.has_failed c.run_get.new.input) (g.W.Output.has_failed c.run_get.new.output) (get_output limits id) (get_status limits id) c.run_get.result in
     inl (Get limits id, subst asks c.in-Ok-Get.field-0-is c.in-Ok-Get.ensures.asked, subst does c.in-Ok-Get.ensures.silent c.run_get.ensures)
 
 pub returns-in-Ok-Pipe : goal.returns-in-Ok-Pipe
@@ -23,8 +23,8 @@ returns-in-Ok-Pipe g c =
     let limits = c.in-Ok-Pipe.limits in
     let asks : Command → Type 0 = λ k. Asks (map g.S.AsStr.text c.args.words.now) k in
     let does : Option (List ℕ) → Type 0 = λ w.
-        Pipes (g.R.Input.remaining c.args.input.now) (g.R.Input.remaining c.run_pipe.new.input) w (g.W.Output.contents c.run_pipe.new.output)
-            (g.R.Input.has_failed c.run_pipe.new.input) (g.W.Output.has_failed c.run_pipe.new.output) limits c.run_pipe.result in
+    Pipes (g.R.Input.remaining c.args.input.now) (g.R.Input.remaining c.run_pipe.new.input) w (g.W.Output.contents c.run_pipe.new.output)
+    (g.R.Input.has_failed c.run_pipe.new.input) (g.W.Output.has_failed c.run_pipe.new.output) limits c.run_pipe.result in
     inl (Pipe limits, subst asks c.in-Ok-Pipe.field-0-is c.in-Ok-Pipe.ensures.asked, subst does c.in-Ok-Pipe.ensures.silent c.run_pipe.ensures)
 
 pub returns-in-Ok-Play : goal.returns-in-Ok-Play
@@ -32,8 +32,8 @@ returns-in-Ok-Play g c =
     let limits = c.in-Ok-Play.limits in
     let asks : Command → Type 0 = λ k. Asks (map g.S.AsStr.text c.args.words.now) k in
     let does : Option (List ℕ) → Type 0 = λ w.
-        RunsAs (g.R.Input.remaining c.args.input.now) (g.R.Input.remaining c.run_play.new.input) w (g.W.Output.contents c.run_play.new.output)
-            (g.R.Input.has_failed c.run_play.new.input) (g.W.Output.has_failed c.run_play.new.output) (play_output limits) (play_status limits) c.run_play.result in
+    RunsAs (g.R.Input.remaining c.args.input.now) (g.R.Input.remaining c.run_play.new.input) w (g.W.Output.contents c.run_play.new.output)
+    (g.R.Input.has_failed c.run_play.new.input) (g.W.Output.has_failed c.run_play.new.output) (play_output limits) (play_status limits) c.run_play.result in
     inl (Play limits, subst asks c.in-Ok-Play.field-0-is c.in-Ok-Play.ensures.asked, subst does c.in-Ok-Play.ensures.silent c.run_play.ensures)
 
 pub returns-in-Err : goal.returns-in-Err
