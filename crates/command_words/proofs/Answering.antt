@@ -1,6 +1,5 @@
 -- What an answer to words comes to.
-use Rattle.std.proofs.Common.{◌≡◌, ℕ, Bool, List, [], ◌++◌, Option, Some, Result, Ok, Err, IfErr, OnOk, true, false, inl, inr, refl}
-use Rattle.std.specs.Io.KnownBytes.{Appends}
+use Rattle.std.proofs.Common.{◌≡◌, Bool, inl, inr, refl}
 use Rattle.text_lines.specs.declared.halt.Halt.{Halt}
 use Rattle.text_lines.specs.declared.halt.Halt.TheVariants.{Device, Memory}
 use Rattle.text_lines.specs.Halting.{IsWhyOf, status_by}

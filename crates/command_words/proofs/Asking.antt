@@ -3,10 +3,10 @@ use Rattle.std.proofs.Common.{◌≡◌, ℕ, List, [], ◌∷◌, Some, Result,
 use Rattle.std.specs.Prelude.{slice_get}
 use Rattle.clap.specs.Words.{Text, matches_of}
 use Rattle.trace_model.specs.declared.limits.Limits.{Limits}
-use Rattle.command_words.specs.Words.{ReadsGet, ReadsPipe, ReadsPlay, HasLimits, TakesGet, get_app, get_takes, pipe_takes, play_takes}
-use Rattle.command_words.specs.Asked.{Accepts, AcceptsGetBy, AcceptsPipeBy, AcceptsPlayBy, Asks, AsksGetBy, AsksPipeBy, AsksPlayBy}
+use Rattle.command_words.specs.Words.{ReadsGet, ReadsPipe, ReadsPlay, ReadsServe, HasLimits, TakesGet, get_app, get_takes, pipe_takes, play_takes, serve_takes}
+use Rattle.command_words.specs.Asked.{Accepts, AcceptsGetBy, AcceptsPipeBy, AcceptsPlayBy, AcceptsServeBy, Asks, AsksGetBy, AsksPipeBy, AsksPlayBy, AsksServeBy}
 use Rattle.command_words.specs.declared.words.Command.{Command}
-use Rattle.command_words.specs.declared.words.Command.TheVariants.{Get, Pipe, Play}
+use Rattle.command_words.specs.declared.words.Command.TheVariants.{Get, Pipe, Play, Serve}
 
 -- the two names begin alike, so they are told apart by their second letters
 pipe_is_not_play : codes "pipe" ≡ codes "play" → ⊥
@@ -27,6 +27,7 @@ module _ {S : Type 0} (text : S → Text) where
       }
   asks words (y ∷ ys) program name all first get (Pipe limits) reads = absurd reads
   asks words (y ∷ ys) program name all first get (Play limits) reads = absurd reads
+  asks words (y ∷ ys) program name all first get (Serve options) reads = absurd reads
 
   pub asked : (words rest : List S) (program name : S) → words ≡ program ∷ rest → Some name ≡ slice_get rest 0 → text name ≡ codes "get"
       → (r : Result Command ℕ) → IfOk r (AsksGetBy (map text rest)) → IfOk r (Asks (map text words))
@@ -47,6 +48,7 @@ module _ {S : Type 0} (text : S → Text) where
         words_are = ap (map text) all ∙ ap (λ t. text program ∷ t ∷ map text ys) named;
         reads = subst (λ t. ReadsPipe (t ∷ map text ys) limits) named reads;
       }
+  asks_pipe words (y ∷ ys) program name all first pipe (Serve options) reads = absurd reads
 
   pub asked_pipe : (words rest : List S) (program name : S) → words ≡ program ∷ rest → Some name ≡ slice_get rest 0 → text name ≡ codes "pipe"
       → (r : Result Command ℕ) → IfOk r (AsksPipeBy (map text rest)) → IfOk r (Asks (map text words))
@@ -67,11 +69,33 @@ module _ {S : Type 0} (text : S → Text) where
         words_are = ap (map text) all ∙ ap (λ t. text program ∷ t ∷ map text ys) named;
         reads = subst (λ t. ReadsPlay (t ∷ map text ys) limits) named reads;
       }
+  asks_play words (y ∷ ys) program name all first play (Serve options) reads = absurd reads
 
   pub asked_play : (words rest : List S) (program name : S) → words ≡ program ∷ rest → Some name ≡ slice_get rest 0 → text name ≡ codes "play"
       → (r : Result Command ℕ) → IfOk r (AsksPlayBy (map text rest)) → IfOk r (Asks (map text words))
   asked_play words rest program name all first play (Ok command) reads = asks_play words rest program name all first play command reads
   asked_play words rest program name all first play (Err status) reads = reads
+
+  asks_serve : (words rest : List S) (program name : S) → words ≡ program ∷ rest → Some name ≡ slice_get rest 0 → text name ≡ codes "serve"
+      → (command : Command) → AsksServeBy (map text rest) command → Asks (map text words) command
+  asks_serve words [] program name all first serve command reads = absurd cc
+  asks_serve words (y ∷ ys) program name all first serve (Get limits id) reads = absurd reads
+  asks_serve words (y ∷ ys) program name all first serve (Pipe limits) reads = absurd reads
+  asks_serve words (y ∷ ys) program name all first serve (Play limits) reads = absurd reads
+  asks_serve words (y ∷ ys) program name all first serve (Serve options) reads =
+      let same : name ≡ y = cc in
+      let named : text y ≡ codes "serve" = ap text (sym same) ∙ serve in
+      record {
+        program = text program;
+        others = map text ys;
+        words_are = ap (map text) all ∙ ap (λ t. text program ∷ t ∷ map text ys) named;
+        reads = subst (λ t. ReadsServe (t ∷ map text ys) options) named reads;
+      }
+
+  pub asked_serve : (words rest : List S) (program name : S) → words ≡ program ∷ rest → Some name ≡ slice_get rest 0 → text name ≡ codes "serve"
+      → (r : Result Command ℕ) → IfOk r (AsksServeBy (map text rest)) → IfOk r (Asks (map text words))
+  asked_serve words rest program name all first serve (Ok command) reads = asks_serve words rest program name all first serve command reads
+  asked_serve words rest program name all first serve (Err status) reads = reads
 
   -- the words behind the program's name
   behind : (words rest : List S) (program : S) (p n : Text) (others : List Text) → words ≡ program ∷ rest → map text words ≡ p ∷ n ∷ others → map text rest ≡ n ∷ others
@@ -96,6 +120,10 @@ module _ {S : Type 0} (text : S → Text) where
       let are = behind words rest program takes.asks.program (codes "play") takes.asks.others all takes.asks.words_are in
       let bad : codes "get" ≡ codes "play" = sym get ∙ named rest name (codes "play") takes.asks.others first are in
       absurd cc
+  accepted words rest program name all first get r by (Serve options) takes =
+      let are = behind words rest program takes.asks.program (codes "serve") takes.asks.others all takes.asks.words_are in
+      let bad : codes "get" ≡ codes "serve" = sym get ∙ named rest name (codes "serve") takes.asks.others first are in
+      absurd cc
 
   pub accepted_pipe : (words rest : List S) (program name : S) → words ≡ program ∷ rest → Some name ≡ slice_get rest 0 → text name ≡ codes "pipe"
       → (r : Result Command ℕ) → ((command : Command) → AcceptsPipeBy (map text rest) command → IfErr r (λ s. s ≡ 5))
@@ -110,6 +138,10 @@ module _ {S : Type 0} (text : S → Text) where
   accepted_pipe words rest program name all first pipe r by (Play limits) takes =
       let are = behind words rest program takes.asks.program (codes "play") takes.asks.others all takes.asks.words_are in
       absurd (pipe_is_not_play (sym pipe ∙ named rest name (codes "play") takes.asks.others first are))
+  accepted_pipe words rest program name all first pipe r by (Serve options) takes =
+      let are = behind words rest program takes.asks.program (codes "serve") takes.asks.others all takes.asks.words_are in
+      let bad : codes "pipe" ≡ codes "serve" = sym pipe ∙ named rest name (codes "serve") takes.asks.others first are in
+      absurd cc
 
   pub accepted_play : (words rest : List S) (program name : S) → words ≡ program ∷ rest → Some name ≡ slice_get rest 0 → text name ≡ codes "play"
       → (r : Result Command ℕ) → ((command : Command) → AcceptsPlayBy (map text rest) command → IfErr r (λ s. s ≡ 5))
@@ -124,6 +156,29 @@ module _ {S : Type 0} (text : S → Text) where
   accepted_play words rest program name all first play r by (Pipe limits) takes =
       let are = behind words rest program takes.asks.program (codes "pipe") takes.asks.others all takes.asks.words_are in
       absurd (pipe_is_not_play (sym (named rest name (codes "pipe") takes.asks.others first are) ∙ play))
+  accepted_play words rest program name all first play r by (Serve options) takes =
+      let are = behind words rest program takes.asks.program (codes "serve") takes.asks.others all takes.asks.words_are in
+      let bad : codes "play" ≡ codes "serve" = sym play ∙ named rest name (codes "serve") takes.asks.others first are in
+      absurd cc
+
+  pub accepted_serve : (words rest : List S) (program name : S) → words ≡ program ∷ rest → Some name ≡ slice_get rest 0 → text name ≡ codes "serve"
+      → (r : Result Command ℕ) → ((command : Command) → AcceptsServeBy (map text rest) command → IfErr r (λ s. s ≡ 5))
+      → (command : Command) → Accepts (map text words) command → IfErr r (λ s. s ≡ 5)
+  accepted_serve words rest program name all first serve r by (Serve options) takes =
+      let are = behind words rest program takes.asks.program (codes "serve") takes.asks.others all takes.asks.words_are in
+      by (Serve options) (subst (λ ws. serve_takes ws ≡ true) (sym are) takes.taken, subst (λ ws. ReadsServe ws options) (sym are) takes.asks.reads)
+  accepted_serve words rest program name all first serve r by (Get limits id) takes =
+      let are = behind words rest program takes.asks.program (codes "get") takes.asks.others all takes.asks.words_are in
+      let bad : codes "serve" ≡ codes "get" = sym serve ∙ named rest name (codes "get") takes.asks.others first are in
+      absurd cc
+  accepted_serve words rest program name all first serve r by (Pipe limits) takes =
+      let are = behind words rest program takes.asks.program (codes "pipe") takes.asks.others all takes.asks.words_are in
+      let bad : codes "serve" ≡ codes "pipe" = sym serve ∙ named rest name (codes "pipe") takes.asks.others first are in
+      absurd cc
+  accepted_serve words rest program name all first serve r by (Play limits) takes =
+      let are = behind words rest program takes.asks.program (codes "play") takes.asks.others all takes.asks.words_are in
+      let bad : codes "serve" ≡ codes "play" = sym serve ∙ named rest name (codes "play") takes.asks.others first are in
+      absurd cc
 
   -- what holds where clap takes the words of `get` and its options can be had
   pub of_get : (words rest : List S) (program : S) → words ≡ program ∷ rest → (X : Type 0)

@@ -5,7 +5,8 @@ use Rattle.clap.specs.Words.{Row, Text, rows_of, one_text, first_value}
 use Rattle.clap.specs.declared.parser.matches.Found.{Found}
 use Rattle.clap.proofs.WalkLemmas.{one_text-rows, first_value-rows}
 use Rattle.jaeger_model.specs.declared.ids.TraceId.{TraceId}
-use Rattle.command_words.specs.Words.{HasLimits, HasNumber, HasTrace, trace_in}
+use Rattle.command_words.specs.Words.{HasLimits, HasNumber, HasServeOptions, HasTrace, trace_in}
+use Rattle.command_words.specs.declared.serve_options.ServeOptions.{ServeOptions}
 use Rattle.trace_model.specs.declared.limits.Limits.{Limits}
 
 -- what `get_one` reads is the number that the option's text spells
@@ -39,6 +40,22 @@ limits_read rows b s t k (Some l) hb hs ht hk same = record {
   spans = subst (HasNumber (codes "spans") rows) (sym same.1) hs;
   traces = subst (HasNumber (codes "traces") rows) (sym same.2) ht;
   max_skew = subst (HasNumber (codes "max-skew") rows) (sym same.3) hk;
+}
+
+-- the options of `serve` that have the numbers read
+pub serve_options_read : (rows : List Row) (l : Limits) (p w q s i : ℕ) (o : Option ServeOptions)
+    → HasLimits rows l → HasNumber (codes "port") rows p → HasNumber (codes "workers") rows w
+    → HasNumber (codes "queue") rows q → HasNumber (codes "sessions") rows s → HasNumber (codes "idle") rows i
+    → IfSome o (λ (v : ServeOptions). (v.limits ≡ l) × (v.port ≡ p)) → IfSome o (λ (v : ServeOptions). (v.workers ≡ w) × (v.queue ≡ q))
+    → IfSome o (λ (v : ServeOptions). (v.sessions ≡ s) × (v.idle ≡ i)) → IfSome o (HasServeOptions rows)
+serve_options_read rows l p w q s i None hl hp hw hq hs hi listens holds ends = tt
+serve_options_read rows l p w q s i (Some v) hl hp hw hq hs hi listens holds ends = record {
+  limits = subst (HasLimits rows) (sym listens.0) hl;
+  port = subst (HasNumber (codes "port") rows) (sym listens.1) hp;
+  workers = subst (HasNumber (codes "workers") rows) (sym holds.0) hw;
+  queue = subst (HasNumber (codes "queue") rows) (sym holds.1) hq;
+  sessions = subst (HasNumber (codes "sessions") rows) (sym ends.0) hs;
+  idle = subst (HasNumber (codes "idle") rows) (sym ends.1) hi;
 }
 
 -- the id that was read is the one that the rows have

@@ -1,2 +1,3 @@
+pub mod ServeOptions
 pub mod Words
 pub mod Asked

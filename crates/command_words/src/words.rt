@@ -8,6 +8,8 @@ ghost use Rattle.command_words.specs.declared.words.Command.{Command as Wanted};
 ghost use Rattle.command_words.specs.Words.{HasLimits, HasTrace, IsFault, IsFaultOf, TakesGet, get_app, get_takes, number_rule, pipe_app, play_app, trace_in, with_limits as limits_on};
 ghost use Rattle.command_words.specs.Asked.{Accepts, AcceptsGetBy, AcceptsPipeBy, AcceptsPlayBy, Asks, AsksGetBy, AsksPipeBy, AsksPlayBy, IsGetOf, IsPipeOf, IsPlayOf};
 
+use crate::serve::{read_serve, serve_command};
+use crate::serve_options::ServeOptions;
 use clap::builder::ValueParser;
 use clap::error::ErrorKind;
 use clap::{Arg, ArgMatches, Error, value_parser};
@@ -30,10 +32,12 @@ pub enum Command {
     Pipe { limits: Limits },
     /// What comes of steps.
     Play { limits: Limits },
+    /// The responses to requests of many connections.
+    Serve { options: ServeOptions },
 }
 
 /// An option that takes a number.
-fn number<'a>(
+pub(crate) fn number<'a>(
     alloc: Global,
     name: &'a str,
     numbers: ValueParser<'a>,
@@ -52,7 +56,10 @@ fn number<'a>(
 }
 
 /// The options that each subcommand has.
-fn with_limits(alloc: Global, command: clap::Command<'_>) -> Result<clap::Command<'_>, AllocError>
+pub(crate) fn with_limits(
+    alloc: Global,
+    command: clap::Command<'_>,
+) -> Result<clap::Command<'_>, AllocError>
     ensures { IfOk result (λ c. app_of c ≡ limits_on (app_of command.entry)) }
 {
     let batches = value_parser!(u32).range(1..=1_000_000);
@@ -133,7 +140,8 @@ fn program<'a>(alloc: Global) -> Result<clap::Command<'a>, AllocError> {
         .subcommand_required(true)
         .subcommand(get_command(alloc)?)?
         .subcommand(pipe_command(alloc)?)?
-        .subcommand(play_command(alloc)?)
+        .subcommand(play_command(alloc)?)?
+        .subcommand(serve_command(alloc)?)
 }
 
 /// Writes what is wrong with the words, or the help that they call for, and gives the status.
@@ -151,7 +159,7 @@ fn explain<W: Write>(writer: &mut W, error: &Error) -> u8
 }
 
 /// Reads the words as clap does, or says what is wrong with them.
-fn matches_of<'a, S: AsStr, W: Write>(
+pub(crate) fn matches_of<'a, S: AsStr, W: Write>(
     command: clap::Command<'a>,
     words: &'a [S],
     writer: &mut W,
@@ -168,7 +176,7 @@ fn matches_of<'a, S: AsStr, W: Write>(
 }
 
 /// The limits that the options give.
-fn limits_of(matches: &ArgMatches<'_>) -> Option<Limits>
+pub(crate) fn limits_of(matches: &ArgMatches<'_>) -> Option<Limits>
     ensures given { IfSome result (HasLimits (rows_of (found_of matches.now))) }
     ensures found { (limits : Most) → HasLimits (rows_of (found_of matches.now)) limits → IsSome result }
 {
@@ -317,6 +325,9 @@ fn judge_words<S: AsStr, W: Write>(
             }
             if name.as_str() == "play" {
                 return read_play(alloc, rest, writer);
+            }
+            if name.as_str() == "serve" {
+                return read_serve(alloc, rest, writer);
             }
         }
     }

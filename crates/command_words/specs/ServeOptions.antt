@@ -1,0 +1,8 @@
+-- The ranges of what a server is asked to do.
+use Rattle.std.specs.Prelude.{ℕ, ◌<◌, ◌≤◌, ◌^◌}
+
+-- A port and a number of sessions are as large as their types let them be.
+abbrev pub IsWithin : ℕ → ℕ → ℕ → ℕ → ℕ → Type 0
+IsWithin port workers queue sessions idle =
+    (port < 2 ^ 16) × (1 ≤ workers) × (workers ≤ 64) × (1 ≤ queue) × (queue ≤ 4096)
+    × (sessions < 2 ^ 32) × (idle ≤ 86400)

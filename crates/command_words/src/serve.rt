@@ -1,0 +1,133 @@
+//! The subcommand `serve`: its options, and what its words ask for.
+ghost use Rattle.std.specs.Prelude.{◌≡◌, IfErr, IfOk, IfSome, IsOk, IsSome, OnOk, false, map};
+ghost use Rattle.clap.specs.Words.{app_of, found_of, rows_of, rule_of};
+ghost use Rattle.command_words.specs.declared.serve_options.ServeOptions.{ServeOptions as Options};
+ghost use Rattle.command_words.specs.declared.words.Command.{Command as Wanted};
+ghost use Rattle.command_words.specs.Words.{HasServeOptions, IsFault, idle_rule, port_rule, queue_rule, serve_app, sessions_rule, with_serving as serving_on, workers_rule};
+ghost use Rattle.command_words.specs.Asked.{AcceptsServeBy, AsksServeBy, IsServeOf};
+
+use crate::serve_options::ServeOptions;
+use crate::words::{Command, limits_of, matches_of, number, with_limits};
+use clap::{Arg, ArgMatches, value_parser};
+use std::alloc::{AllocError, Global};
+use std::convert::AsStr;
+use std::io::Write;
+
+/// The option `--port`.
+fn port_option<'a>(alloc: Global) -> Arg<'a>
+    ensures rule { rule_of result ≡ port_rule }
+    ensures own { result.global ≡ false }
+{
+    let help = "Which port of 127.0.0.1 to listen on; 0 for any free one";
+    number(alloc, "port", value_parser!(u16), "0", help)
+}
+
+/// The option `--workers`.
+fn workers_option<'a>(alloc: Global) -> Arg<'a>
+    ensures rule { rule_of result ≡ workers_rule }
+    ensures own { result.global ≡ false }
+{
+    let workers = value_parser!(u16).range(1..=64);
+    let help = "How many connections are served at a time, 1 to 64";
+    number(alloc, "workers", workers, "4", help)
+}
+
+/// The option `--queue`.
+fn queue_option<'a>(alloc: Global) -> Arg<'a>
+    ensures rule { rule_of result ≡ queue_rule }
+    ensures own { result.global ≡ false }
+{
+    let queue = value_parser!(u16).range(1..=4_096);
+    let help = "How many batches may wait to be written, 1 to 4096";
+    number(alloc, "queue", queue, "256", help)
+}
+
+/// The option `--sessions`.
+fn sessions_option<'a>(alloc: Global) -> Arg<'a>
+    ensures rule { rule_of result ≡ sessions_rule }
+    ensures own { result.global ≡ false }
+{
+    let help = "After how many connections the program ends; 0 for never";
+    number(alloc, "sessions", value_parser!(u32), "0", help)
+}
+
+/// The option `--idle`.
+fn idle_option<'a>(alloc: Global) -> Arg<'a>
+    ensures rule { rule_of result ≡ idle_rule }
+    ensures own { result.global ≡ false }
+{
+    let idle = value_parser!(u32).range(0..=86_400);
+    let help =
+        "After how many seconds without a byte a connection is closed, up to 86400; 0 for never";
+    number(alloc, "idle", idle, "10", help).value_name("SECONDS")
+}
+
+/// The options that only `serve` has.
+fn with_serving(alloc: Global, command: clap::Command<'_>) -> Result<clap::Command<'_>, AllocError>
+    ensures { IfOk result (λ c. app_of c ≡ serving_on (app_of command.entry)) }
+{
+    command
+        .arg(port_option(alloc))?
+        .arg(workers_option(alloc))?
+        .arg(queue_option(alloc))?
+        .arg(sessions_option(alloc))?
+        .arg(idle_option(alloc))
+}
+
+/// The subcommand `serve`.
+pub(crate) fn serve_command<'a>(alloc: Global) -> Result<clap::Command<'a>, AllocError>
+    ensures { IfOk result (λ c. app_of c ≡ serve_app) }
+{
+    let command = clap::Command::new(alloc, "serve")
+        .bin_name("jaeger_one serve")?
+        .about("Takes batches and answers queries over HTTP on 127.0.0.1");
+    let command = with_serving(alloc, command)?;
+    with_limits(alloc, command)
+}
+
+/// What the options ask of a server.
+fn serve_options_of(matches: &ArgMatches<'_>) -> Option<ServeOptions>
+    ensures given { IfSome result (HasServeOptions (rows_of (found_of matches.now))) }
+    ensures found { (options : Options)
+        → HasServeOptions (rows_of (found_of matches.now)) options → IsSome result }
+{
+    let limits = limits_of(matches)?;
+    let port = matches.get_one::<u16>("port")?;
+    let workers = matches.get_one::<u16>("workers")?;
+    let queue = matches.get_one::<u16>("queue")?;
+    let sessions = matches.get_one::<u32>("sessions")?;
+    let idle = matches.get_one::<u32>("idle")?;
+    ServeOptions::new(limits, port, workers, queue, sessions, idle)
+}
+
+/// `serve` with its options.
+fn serve_of(matches: &ArgMatches<'_>) -> Result<Command, u8>
+    ensures asked { IfOk result (IsServeOf (rows_of (found_of matches.now))) }
+    ensures status { IfErr result IsFault }
+    ensures found { (options : Options)
+        → HasServeOptions (rows_of (found_of matches.now)) options → IsOk result }
+{
+    match serve_options_of(matches) {
+        Some(options) => Ok(Command::Serve { options }),
+        None => Err(2),
+    }
+}
+
+/// The subcommand `serve`, whose own name is the first of the words.
+pub(crate) fn read_serve<S: AsStr, W: Write>(
+    alloc: Global,
+    words: &[S],
+    writer: &mut W,
+) -> Result<Command, u8>
+    ensures asked { IfOk result (AsksServeBy (map S.text words.now)) }
+    ensures silent { OnOk result (W.contents writer.new ≡ W.contents writer.old) }
+    ensures status { IfErr result IsFault }
+    ensures accepted { (command : Wanted) → AcceptsServeBy (map S.text words.now) command
+        → IfErr result (λ s. s ≡ 5) }
+{
+    let Ok(command) = serve_command(alloc) else {
+        return Err(5);
+    };
+    let matches = matches_of(command, words, writer)?;
+    serve_of(&matches)
+}

@@ -1,0 +1,52 @@
+//! What `serve` is asked to do.
+ghost use Rattle.std.specs.Prelude.{◌≡◌, ◌↔◌, IfSome, IsSome};
+ghost use Rattle.command_words.specs.ServeOptions.{IsWithin};
+
+use trace_model::Limits;
+
+/// What a server is asked to do, within ranges that each such value keeps.
+#[derive(Clone, Copy, Debug)]
+pub struct ServeOptions {
+    /// How much its store keeps.
+    pub limits: Limits,
+    /// The port of 127.0.0.1 that it listens on; 0 for any free one.
+    pub port: u16,
+    /// How many connections are served at a time, 1 to 64.
+    pub workers: u16,
+    /// How many batches may wait to be written, 1 to 4,096.
+    pub queue: u16,
+    /// After how many connections the program ends; 0 for never.
+    pub sessions: u32,
+    /// After how many seconds without a byte a connection is closed, up to 86,400; 0 for never.
+    pub idle: u32,
+    ghost within: { IsWithin port workers queue sessions idle },
+}
+
+impl ServeOptions {
+    /// These options, or None where one is out of its range.
+    pub fn new(
+        limits: Limits,
+        port: u16,
+        workers: u16,
+        queue: u16,
+        sessions: u32,
+        idle: u32,
+    ) -> Option<ServeOptions>
+        ensures within { IsSome result ↔ IsWithin port workers queue sessions idle }
+        ensures listens { IfSome result (λ o. (o.limits ≡ limits) × (o.port ≡ port)) }
+        ensures holds { IfSome result (λ o. (o.workers ≡ workers) × (o.queue ≡ queue)) }
+        ensures ends { IfSome result (λ o. (o.sessions ≡ sessions) × (o.idle ≡ idle)) }
+    {
+        if workers < 1 || workers > 64 || queue < 1 || queue > 4_096 || idle > 86_400 {
+            return None;
+        }
+        Some(ServeOptions {
+            limits,
+            port,
+            workers,
+            queue,
+            sessions,
+            idle,
+        })
+    }
+}
