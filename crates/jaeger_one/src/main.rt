@@ -1,7 +1,7 @@
 //! The program: a collector of traces that takes `jaeger.thrift` batches.
 //!
-//! Its words ask for a command, which `program_run` does over standard input and output. Nothing is promised
-//! of what a real file or terminal carried.
+//! Its words ask for a command, which `program_run` does over standard input and output, and `serve` over a
+//! socket. Nothing is promised of what a real file, terminal or socket carried.
 #![tactic(auto)]
 
 use program_run::run;
@@ -9,17 +9,17 @@ use session_devices::Watched;
 use std::process::ExitCode;
 use std::{env, io};
 
-fn status_of(rt: &HostRuntime) -> io::Result<u8> {
-    let alloc = rt.alloc();
-    let words: Vec<String> = env::args(rt)?.collect(alloc)?;
-    let mut input = Watched::new(rt.stdin());
-    let mut output = Watched::new(rt.stdout());
-    Ok(run(alloc, words.as_slice(), &mut input, &mut output))
+fn words(rt: &HostRuntime) -> io::Result<Vec<String>> {
+    let words: Vec<String> = env::args(rt)?.collect(rt.alloc())?;
+    Ok(words)
 }
 
 fn main(rt: HostRuntime) -> ExitCode {
-    match status_of(&rt) {
-        Ok(status) => ExitCode::from(status),
-        Err(_) => ExitCode::from(5),
-    }
+    let Ok(words) = words(&rt) else {
+        return ExitCode::from(5);
+    };
+    let mut input = Watched::new(rt.stdin());
+    let mut output = Watched::new(rt.stdout());
+    let status = run(&rt, rt.alloc(), words.as_slice(), &mut input, &mut output);
+    ExitCode::from(status)
 }

@@ -5,8 +5,12 @@ use session_devices::Watched;
 use std::alloc::Global;
 use std::io;
 use std::io::{Error, ErrorKind, Read, Write};
+use std::net::{Net, TcpListener, TcpStream};
 use std::process::Abort;
+use std::sync::Wait;
 use std::test::Fail;
+use std::thread::Threads;
+use std::time::Clock;
 
 /// A reader of a text, some bytes a call, whose one call fails.
 #[derive(Drop)]
@@ -51,7 +55,9 @@ impl Write for Full {
 
 /// Runs the words over the input with a reader that fails at each of its calls, and with a writer of each
 /// room below the output's size: each run ends with 4 after a beginning of the output.
-fn check_failures<A: Abort>(
+fn check_failures<
+    A: Abort + Threads + Wait + Clock + Net<Stream = TcpStream, Listener = TcpListener> + Sync,
+>(
     rt: &A,
     alloc: Global,
     words: &[&str],
@@ -68,6 +74,7 @@ fn check_failures<A: Abort>(
         };
         let mut written = Vec::new(alloc);
         let got = run(
+            rt,
             alloc,
             words,
             &mut Watched::new(&mut reader),
@@ -79,6 +86,7 @@ fn check_failures<A: Abort>(
     for room in 0..output.len() {
         let mut writer = Full { taken: 0, room };
         let got = run(
+            rt,
             alloc,
             words,
             &mut Watched::new(input),

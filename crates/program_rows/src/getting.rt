@@ -126,6 +126,7 @@ fn lines_and_words(rt: HostRuntime) -> Result<(), Fail> {
     ] {
         assert_eq!(&rt;
             run(
+                &rt,
                 alloc,
                 words,
                 &mut Watched::new("zz".as_bytes()),

@@ -2,8 +2,12 @@
 use program_run::run;
 use session_devices::Watched;
 use std::alloc::Global;
+use std::net::{Net, TcpListener, TcpStream};
 use std::process::Abort;
+use std::sync::Wait;
 use std::test::Fail;
+use std::thread::Threads;
+use std::time::Clock;
 
 /// A batch of service `a` with one span of trace 1, up to and from the end of the operation.
 pub(crate) const HEAD: &str =
@@ -27,7 +31,9 @@ pub(crate) fn joined(alloc: Global, pieces: &[&str]) -> Result<String, Fail> {
 }
 
 /// Runs the words over the input, and looks at the status and the output.
-pub(crate) fn check<A: Abort>(
+pub(crate) fn check<
+    A: Abort + Threads + Wait + Clock + Net<Stream = TcpStream, Listener = TcpListener> + Sync,
+>(
     rt: &A,
     alloc: Global,
     words: &[&str],
@@ -40,7 +46,9 @@ pub(crate) fn check<A: Abort>(
 }
 
 /// The same of any bytes.
-pub(crate) fn check_bytes<A: Abort>(
+pub(crate) fn check_bytes<
+    A: Abort + Threads + Wait + Clock + Net<Stream = TcpStream, Listener = TcpListener> + Sync,
+>(
     rt: &A,
     alloc: Global,
     words: &[&str],
@@ -51,6 +59,7 @@ pub(crate) fn check_bytes<A: Abort>(
     let wanted = joined(alloc, output)?;
     let mut written = Vec::new(alloc);
     let got = run(
+        rt,
         alloc,
         words,
         &mut Watched::new(input),

@@ -1,2 +1,3 @@
 pub mod Piping
 pub mod Running
+pub mod Serving

@@ -3,24 +3,32 @@ ghost use Rattle.std.specs.Prelude.{◌≡◌, false, map};
 ghost use Rattle.program_run.specs.Running.{Runs};
 
 use crate::pipe::run_pipe;
+use crate::serve::run_serve;
 use command_words::{Command, read_words};
 use get_command::run_get;
 use play_script::run_play;
 use session_devices::{Input, Output};
 use std::alloc::Global;
 use std::convert::AsStr;
+use std::net::{Net, TcpListener, TcpStream};
+use std::sync::Wait;
+use std::thread::Threads;
+use std::time::Clock;
 
 /// Does what the words ask for, and gives the exit status: 4 exactly where a device failed or the limit of
 /// reads was met. Words that ask for nothing, and a trace's id that can't be read, are answered on the
-/// output, and nothing is read then.
+/// output, and nothing is read then. `serve` reads nothing of the input either.
 ///
 /// A further subcommand has a line here, and one in `Does` of `specs/Running.antt`.
-pub fn run<S: AsStr, R: Input, W: Output>(
+pub fn run<H, S: AsStr, R: Input, W: Output>(
+    rt: &H,
     alloc: Global,
     words: &[S],
     input: &mut R,
     output: &mut W,
 ) -> u8
+where
+    H: Threads + Wait + Clock + Net<Stream = TcpStream, Listener = TcpListener> + Sync,
     requires input_works { R.has_failed input.old ≡ false }
     requires output_works { W.has_failed output.old ≡ false }
     ensures { Runs (map S.text words.now) (R.remaining input.old) (R.remaining input.new) (W.contents output.old) (W.contents output.new) (R.has_failed input.new) (W.has_failed output.new) result }
@@ -29,6 +37,7 @@ pub fn run<S: AsStr, R: Input, W: Output>(
         Ok(Command::Get { limits, trace }) => run_get(alloc, input, output, limits, trace),
         Ok(Command::Pipe { limits }) => run_pipe(alloc, input, output, limits),
         Ok(Command::Play { limits }) => run_play(alloc, input, output, limits),
+        Ok(Command::Serve { options }) => run_serve(rt, alloc, output, options),
         Err(status) => status,
     }
 }

@@ -4,11 +4,13 @@
 //! that ask for none. What the commands promise: `get_command`, `play_script` and [`run_pipe`].
 //!
 //! * `command`: the command of some words.
-//! * `pipe`: the subcommand `pipe`.
+//! * `pipe`: the subcommand `pipe`. `serve`: the subcommand `serve`.
 #![tactic(auto)]
 
 mod command;
 mod pipe;
+mod serve;
 
 pub use command::run;
 pub use pipe::run_pipe;
+pub use serve::run_serve;

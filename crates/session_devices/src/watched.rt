@@ -1,9 +1,13 @@
 ghost use Rattle.std.specs.Prelude.{◌≡◌, false};
 
 use crate::{Failed, Input, Output};
-use std::io::{Read, Write};
+use std::io::{ErrorKind, Read, Write};
 
-/// A reader or a writer of std, watched: the same bytes, and every error is a failure.
+/// How often a call that a signal interrupted is made again before it counts as failed.
+const MOST_INTERRUPTIONS: u32 = 1_000_000;
+
+/// A reader or a writer of std, watched: the same bytes, and every error is a failure, but for a call
+/// that a signal interrupted, which is made again.
 #[derive(Drop)]
 pub struct Watched<T> {
     inner: T,
@@ -29,13 +33,15 @@ impl<T: Read> Input for Watched<T> {
     ghost has_failed = { λ s. s.failed };
 
     fn read(&mut self, buf: &mut [u8]) -> Result<usize, Failed> {
-        match self.inner.read(buf) {
-            Ok(count) => Ok(count),
-            Err(_) => {
-                self.failed = true;
-                Err(Failed)
+        for _tried in 0..MOST_INTERRUPTIONS {
+            match self.inner.read(buf) {
+                Ok(count) => return Ok(count),
+                Err(error) if error.kind() == ErrorKind::Interrupted => {}
+                Err(_) => break,
             }
         }
+        self.failed = true;
+        Err(Failed)
     }
 
     fn failed(&self) -> bool {
@@ -49,13 +55,15 @@ impl<T: Write> Output for Watched<T> {
     ghost has_failed = { λ s. s.failed };
 
     fn write(&mut self, buf: &[u8]) -> Result<usize, Failed> {
-        match self.inner.write(buf) {
-            Ok(count) if count > 0 || buf.is_empty() => Ok(count),
-            _ => {
-                self.failed = true;
-                Err(Failed)
+        for _tried in 0..MOST_INTERRUPTIONS {
+            match self.inner.write(buf) {
+                Ok(count) if count > 0 || buf.is_empty() => return Ok(count),
+                Err(error) if error.kind() == ErrorKind::Interrupted => {}
+                _ => break,
             }
         }
+        self.failed = true;
+        Err(Failed)
     }
 
     fn failed(&self) -> bool {

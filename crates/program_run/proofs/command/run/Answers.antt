@@ -4,8 +4,9 @@ use Rattle.play_script.specs.Playing.{output_of as play_output, status_of as pla
 use Rattle.text_lines.specs.Halting.{RunsAs}
 use Rattle.command_words.specs.Asked.{Asks}
 use Rattle.command_words.specs.declared.words.Command.{Command}
-use Rattle.command_words.specs.declared.words.Command.TheVariants.{Get, Pipe, Play}
+use Rattle.command_words.specs.declared.words.Command.TheVariants.{Get, Pipe, Play, Serve}
 use Rattle.program_run.specs.Piping.{Pipes}
+use Rattle.program_run.specs.Serving.{ServesOrNot}
 use Rattle.program_run.proofs.command.run.Goals as goal
 
 pub returns-in-Ok-Get : goal.returns-in-Ok-Get
@@ -35,6 +36,14 @@ returns-in-Ok-Play g c =
     RunsAs (g.R.Input.remaining c.args.input.now) (g.R.Input.remaining c.run_play.new.input) w (g.W.Output.contents c.run_play.new.output)
     (g.R.Input.has_failed c.run_play.new.input) (g.W.Output.has_failed c.run_play.new.output) (play_output limits) (play_status limits) c.run_play.result in
     inl (Play limits, subst asks c.in-Ok-Play.field-0-is c.in-Ok-Play.ensures.asked, subst does c.in-Ok-Play.ensures.silent c.run_play.ensures)
+
+pub returns-in-Ok-Serve : goal.returns-in-Ok-Serve
+returns-in-Ok-Serve g c =
+    let options = c.in-Ok-Serve.options in
+    let asks : Command → Type 0 = λ k. Asks (map g.S.AsStr.text c.args.words.now) k in
+    let does : Option (List ℕ) → Type 0 = λ w.
+    ServesOrNot w (g.W.Output.contents c.run_serve.new.output) (g.W.Output.has_failed c.run_serve.new.output) c.run_serve.result in
+    inl (Serve options, subst asks c.in-Ok-Serve.field-0-is c.in-Ok-Serve.ensures.asked, (refl, c.requires.input_works, subst does c.in-Ok-Serve.ensures.silent c.run_serve.ensures))
 
 pub returns-in-Err : goal.returns-in-Err
 returns-in-Err g c = inr (record {

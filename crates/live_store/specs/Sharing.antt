@@ -1,0 +1,74 @@
+-- What a store over a seat and a pass does, and what it knows.
+use Rattle.std.specs.Prelude.{◌≡◌, ℕ, ◌⊎◌, List, Result, Ok, Err, refl}
+use Rattle.std.proofs.Common.{sym, subst}
+use mathlib.Core.List.{IsPrefix}
+use Rattle.jaeger_model.specs.declared.batch.Batch.{Batch}
+use Rattle.trace_model.specs.declared.entry.Entry.{Entry}
+use Rattle.trace_model.specs.declared.limits.Limits.{Limits}
+use Rattle.trace_model.specs.declared.query.Query.{Query}
+use Rattle.trace_model.specs.declared.answer.Answer.{Answer}
+use Rattle.trace_model.specs.declared.refusal.Refusal.{Refusal}
+use Rattle.trace_model.specs.declared.refusal.Refusal.TheVariants.{NoMemory, Gone}
+use Rattle.trace_model.specs.Histories.{IsLegal}
+use Rattle.trace_model.specs.Answers.{answer}
+use Rattle.trace_model.proofs.Prefixes.{prefix_self, prefix_trans}
+use Rattle.read_side.specs.Receipts.{StandsAt}
+use Rattle.intake.specs.Seats.{SeatValue, next_job, with_job}
+use Rattle.intake.proofs.Places.{stands-split}
+use Rattle.store_backend.specs.Knowing.{History, Begins, HasAt, Keeps, SubmitKnows, ReadKnows}
+
+-- the seat, and the longest list that the pass knows
+pub record LiveValue : Type 0 where
+  pub seat : SeatValue
+  pub known : List Entry
+
+abbrev pub LiveKnows : LiveValue → History → Type 0
+LiveKnows s h = IsPrefix h s.known
+
+-- the seat handed the batch in
+abbrev pub HandsIn : SeatValue → Batch → SeatValue → Type 0
+HandsIn s b t = t ≡ with_job s (next_job s b)
+
+-- a legal list is known that has the entry at the place
+abbrev pub KnowsPlace : Limits → Entry → ℕ → List Entry → Type 0
+KnowsPlace limits e place known =
+    (list : List Entry) × IsLegal limits list × StandsAt list place e × IsPrefix list known
+
+-- the seat handed the batch in, and its own entry stands at the place of a list that is known then; or,
+-- at a refusal, it may have handed it in
+abbrev pub LiveSubmits : Limits → LiveValue → Batch → Result ℕ Refusal → LiveValue → Type 0
+LiveSubmits limits s b (Ok place) t =
+    IsPrefix s.known t.known × HandsIn s.seat b t.seat
+    × KnowsPlace limits (next_job s.seat b) place t.known
+LiveSubmits limits s b (Err why) t =
+    (t.known ≡ s.known) × ((t.seat ≡ s.seat) ⊎ HandsIn s.seat b t.seat)
+
+-- the answer is the plain store's of the list that is known then, which begins with what was known
+abbrev pub LiveReads : Limits → LiveValue → Query → Result Answer Refusal → LiveValue → Type 0
+LiveReads limits s q (Ok a) t =
+    IsPrefix s.known t.known × (t.seat ≡ s.seat)
+    × IsLegal limits t.known × (a ≡ answer limits t.known q)
+LiveReads limits s q (Err why) t =
+    IsPrefix s.known t.known × (t.seat ≡ s.seat)
+    × ((why ≡ NoMemory) ⊎ (why ≡ Gone)) × (why ≡ Gone → t.known ≡ s.known)
+
+-- ---- what that means for what is known
+
+keeps : (limits : Limits) (s t : LiveValue) → IsPrefix s.known t.known → Keeps (λ _. limits) LiveKnows s t
+keeps limits s t more = record { same_limits = refl; knowledge = λ h k. prefix_trans h s.known t.known k more }
+
+pub submit_knows : (limits : Limits) (s : LiveValue) (b : Batch) (r : Result ℕ Refusal) (t : LiveValue) → LiveSubmits limits s b r t → SubmitKnows (λ _. limits) LiveKnows s b r t
+submit_knows limits s b (Ok place) t d =
+    let list = d.2.0 in
+    let job = next_job s.seat b in
+    let split = stands-split list place job d.2.2 in
+    let has : HasAt list place b = record { before = split.0; entry = job; after = split.1; whole = split.2; batch_is = refl; place_is = split.3 } in
+    (keeps limits s t d.0, record { history = list; legal = d.2.1; has = has; known = d.2.3 })
+submit_knows limits s b (Err why) t d =
+    let P : List Entry → Type 0 = λ z. IsPrefix s.known z in keeps limits s t (subst P (sym d.0) (prefix_self s.known))
+
+pub read_knows : (limits : Limits) (s : LiveValue) (q : Query) (r : Result Answer Refusal) (t : LiveValue) → LiveReads limits s q r t → ReadKnows (λ _. limits) LiveKnows s q r t
+read_knows limits s q (Ok a) t d =
+    let begins : (h : History) → LiveKnows s h → Begins h t.known = λ h k. (let p = prefix_trans h s.known t.known k d.0 in (p.0, sym p.1)) in
+    (keeps limits s t d.0, record { history = t.known; legal = d.2; behind = begins; answer_is = d.3; known = prefix_self t.known })
+read_knows limits s q (Err why) t d = keeps limits s t d.0

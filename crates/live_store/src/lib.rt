@@ -1,0 +1,93 @@
+//! A store behind a session that others share: one seat hands its batches in, and one pass reads.
+//!
+//! Contracts see a [`Live`] as its seat and the longest list that its pass knows. What it hands in is told
+//! to the pass before the call returns, so a session reads its own writes. What its calls do is told by
+//! relations of seat and list, so that the seat's list of jobs is known at a session's end.
+#![tactic(auto)]
+
+ghost use Rattle.std.specs.Prelude.{◌≡◌};
+ghost use mathlib.Core.List.{IsPrefix};
+
+use intake::Seat;
+use jaeger_model::Batch;
+use read_side::{Pass, Receipt, StoreName};
+use std::alloc::Global;
+use std::marker::Model;
+use std::sync::Wait;
+use store_backend::Backend;
+use trace_model::{Answer, Query, Refusal};
+
+/// A seat and a pass of one store.
+#[derive(Drop)]
+pub struct Live<N: StoreName> {
+    seat: Seat<N>,
+    pass: Pass<N>,
+}
+
+impl<N: StoreName> Model for Live<N> {
+    ghost use Rattle.live_store.specs.Sharing.{LiveValue};
+
+    ghost Value = { LiveValue };
+
+    ghost view = { λ l. record { seat = l.seat; known = l.pass } };
+}
+
+impl<N: StoreName> Live<N> {
+    /// Hands in by the seat, and reads by the pass.
+    pub fn new(seat: Seat<N>, pass: Pass<N>) -> Live<N>
+        ensures seat { result.seat ≡ seat }
+        ensures known { result.known ≡ pass }
+    {
+        Live { seat, pass }
+    }
+
+    /// Takes in the list of a receipt, which it knows from then on.
+    pub fn learn(&mut self, receipt: &Receipt<N>)
+        ensures seat { self.new.seat ≡ self.old.seat }
+        ensures old { IsPrefix self.old.known self.new.known }
+        ensures told { IsPrefix receipt.now.entries self.new.known }
+    {
+        self.pass.learn(receipt);
+    }
+
+    /// The seat, and the pass with all that it knew.
+    pub fn into_parts(self) -> (Seat<N>, Pass<N>)
+        ensures seat { result.0 ≡ self.seat }
+        ensures known { result.1 ≡ self.known }
+    {
+        let Live { seat, pass } = self;
+        (seat, pass)
+    }
+}
+
+impl<N: StoreName, R: Wait> Backend<R> for Live<N> {
+    ghost use Rattle.live_store.specs.Sharing.{LiveKnows, LiveSubmits, LiveReads};
+    ghost use Rattle.live_store.specs.Sharing.{submit_knows, read_knows};
+
+    ghost limits = { λ s. N.limits };
+
+    ghost knows = { LiveKnows };
+
+    ghost submits = { LiveSubmits N.limits };
+
+    ghost reads = { LiveReads N.limits };
+
+    ghost submit_knows = { submit_knows N.limits };
+
+    ghost read_knows = { read_knows N.limits };
+
+    fn submit(&mut self, rt: &R, alloc: Global, batch: Batch) -> Result<u64, Refusal> {
+        let ticket = match self.seat.submit(rt, alloc, batch) {
+            Ok(ticket) => ticket,
+            Err((why, _batch)) => return Err(why),
+        };
+        let ack = ticket.wait(rt)?;
+        let _front = ack.receipt.front();
+        self.pass.learn(&ack.receipt);
+        Ok(ack.place)
+    }
+
+    fn read(&mut self, _alloc: Global, query: &Query) -> Result<Answer, Refusal> {
+        Ok(self.pass.read(query)?.answer)
+    }
+}

@@ -1,0 +1,65 @@
+//! `serve`: a server on a port of this machine.
+ghost use Rattle.std.specs.Prelude.{◌≡◌, ◌≤◌, false};
+ghost use Rattle.program_run.specs.Serving.{ServesOrNot, TurnsDown};
+
+use command_words::ServeOptions;
+use session_devices::Output;
+use std::alloc::{AllocError, Global};
+use std::io;
+use std::io::Write;
+use std::net::{Ipv4Addr, Net, SocketAddr, SocketAddrV4, TcpListener, TcpStream};
+use std::sync::Wait;
+use std::thread::Threads;
+use std::time::Clock;
+use text_lines::say;
+use trace_server::{NoGate, Options, serve_with};
+
+/// The line that says why nothing can be served on a port.
+fn why_not(alloc: Global, port: u16, error: &io::Error) -> Result<Vec<u8>, AllocError> {
+    let mut line = Vec::new(alloc);
+    match writeln!(line, "cannot listen on 127.0.0.1:{port}: {error}") {
+        Ok(()) => Ok(line),
+        Err(_) => Err(AllocError),
+    }
+}
+
+/// Says why nothing can be served on a port, and gives the exit status.
+fn turn_down<W: Output>(alloc: Global, output: &mut W, port: u16, error: &io::Error) -> u8
+    requires { W.has_failed output.old ≡ false }
+    ensures { TurnsDown (W.contents output.old) (W.contents output.new) result }
+{
+    let Ok(line) = why_not(alloc, port, error) else {
+        return 5;
+    };
+    match say(alloc, output, line.as_slice()) {
+        Ok(()) => 4,
+        Err(halt) => halt.status(),
+    }
+}
+
+/// Takes connections on a port of 127.0.0.1 over an empty store, until as many have ended as were asked
+/// for, and gives the exit status: 4 where the port can't be used, else that of
+/// [`serve_with`](trace_server::serve_with).
+pub fn run_serve<H, W>(rt: &H, alloc: Global, output: &mut W, options: ServeOptions) -> u8
+where
+    H: Threads + Wait + Clock + Net<Stream = TcpStream, Listener = TcpListener> + Sync,
+    W: Output,
+    requires workers { (1 ≤ options.workers) × (options.workers ≤ 64) }
+    requires queue { (1 ≤ options.queue) × (options.queue ≤ 4096) }
+    requires output_works { W.has_failed output.old ≡ false }
+    ensures { ServesOrNot (W.contents output.old) (W.contents output.new) (W.has_failed output.new) result }
+{
+    let address = SocketAddr::V4(SocketAddrV4::new(Ipv4Addr::LOCALHOST, options.port));
+    let listener = match TcpListener::bind(rt, address) {
+        Ok(listener) => listener,
+        Err(error) => return turn_down(alloc, output, options.port, &error),
+    };
+    let plan = Options {
+        limits: options.limits,
+        workers: options.workers,
+        queue: options.queue,
+        sessions: options.sessions,
+        idle: options.idle,
+    };
+    serve_with(rt, alloc, &listener, &plan, &NoGate, output)
+}

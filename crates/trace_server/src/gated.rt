@@ -1,0 +1,89 @@
+//! A store whose calls a gate is told of.
+
+ghost use Rattle.std.specs.Prelude.{◌≡◌};
+ghost use mathlib.Core.List.{IsPrefix};
+
+use crate::gate::Gate;
+use jaeger_model::Batch;
+use live_store::Live;
+use read_side::{Receipt, StoreName};
+use std::alloc::Global;
+use std::marker::Model;
+use std::sync::Wait;
+use store_backend::Backend;
+use trace_model::{Answer, Query, Refusal};
+
+/// A worker's store, whose calls the gate is told of. Contracts see the store alone.
+#[derive(Drop)]
+pub(crate) struct Gated<'a, N: StoreName, G, R> {
+    rt: &'a R,
+    gate: &'a G,
+    worker: u32,
+    calls: u64,
+    live: Live<N>,
+}
+
+impl<'a, N: StoreName, G, R> Model for Gated<'a, N, G, R> {
+    ghost use Rattle.live_store.specs.Sharing.{LiveValue};
+
+    ghost Value = { LiveValue };
+
+    ghost view = { λ g. g.live };
+}
+
+impl<'a, N: StoreName, G, R> Gated<'a, N, G, R> {
+    /// The store of the worker with this number.
+    pub(crate) fn new(rt: &'a R, gate: &'a G, worker: u32, live: Live<N>) -> Gated<'a, N, G, R>
+        ensures { result ≡ live }
+    {
+        Gated {
+            rt,
+            gate,
+            worker,
+            calls: 0,
+            live,
+        }
+    }
+
+    /// Takes in the list of a receipt, which it knows from then on.
+    pub(crate) fn learn(&mut self, receipt: &Receipt<N>)
+        ensures seat { self.new.seat ≡ self.old.seat }
+        ensures old { IsPrefix self.old.known self.new.known }
+        ensures told { IsPrefix receipt.now.entries self.new.known }
+    {
+        self.live.learn(receipt);
+    }
+}
+
+impl<'a, N: StoreName, G: Gate, R: Wait> Backend<R> for Gated<'a, N, G, R> {
+    ghost use Rattle.live_store.specs.Sharing.{LiveKnows, LiveSubmits, LiveReads};
+    ghost use Rattle.live_store.specs.Sharing.{submit_knows, read_knows};
+
+    ghost limits = { λ s. N.limits };
+
+    ghost knows = { LiveKnows };
+
+    ghost submits = { LiveSubmits N.limits };
+
+    ghost reads = { LiveReads N.limits };
+
+    ghost submit_knows = { submit_knows N.limits };
+
+    ghost read_knows = { read_knows N.limits };
+
+    fn submit(&mut self, rt: &R, alloc: Global, batch: Batch) -> Result<u64, Refusal> {
+        self.calls = self.calls.saturating_add(1);
+        self.gate.before(self.rt, self.worker, self.calls);
+        let place = self.live.submit(rt, alloc, batch);
+        self.gate.after(self.rt, self.worker, self.calls);
+        place
+    }
+
+    fn read(&mut self, alloc: Global, query: &Query) -> Result<Answer, Refusal> {
+        self.calls = self.calls.saturating_add(1);
+        self.gate.before(self.rt, self.worker, self.calls);
+        let answer = Backend::<R>::read(&mut self.live, alloc, query);
+        self.gate.after(self.rt, self.worker, self.calls);
+        answer
+    }
+}

@@ -1,0 +1,29 @@
+//! A server on a socket: many workers read one store and hand their batches to one clerk.
+//!
+//! [`serve_with`] takes connections until as many came as it is to serve. Each worker has a seat at the
+//! store's desk and a pass of its own, and serves one connection at a time, by a session over them
+//! ([`http_session::session`]): so each session's answers are the plain store's at points of one growing
+//! history, never before what was vouched for when it began. A fault of a connection ends that connection
+//! alone.
+//!
+//! * `options`: how many workers, how long a queue, how many sessions.
+//! * `gate`: what is told of each call that a worker makes of the store.
+//! * `gated`: a store whose calls a gate is told of.
+//! * `connection`: one connection, from its first byte to its last.
+//! * `worker`: a worker, who serves one connection after the other.
+//! * `house`: a store with its desk and its clerk.
+//! * `telling`: what it says of itself. `serving`: [`serve_with`].
+#![tactic(auto)]
+
+mod connection;
+mod gate;
+mod gated;
+mod house;
+mod options;
+mod serving;
+mod telling;
+mod worker;
+
+pub use gate::{Gate, NoGate};
+pub use options::Options;
+pub use serving::serve_with;

@@ -1,0 +1,19 @@
+//! How a server is set up.
+
+use trace_model::Limits;
+
+/// How a server is set up.
+#[derive(Clone, Copy, Debug)]
+pub struct Options {
+    /// How much its store keeps.
+    pub limits: Limits,
+    /// How many connections are served at a time, 1 to 64.
+    pub workers: u16,
+    /// How many batches may wait for the clerk, 1 to 4,096.
+    pub queue: u16,
+    /// After how many connections it ends; 0 is never.
+    pub sessions: u32,
+    /// For how many seconds a connection may be silent before it is closed, or leave its response
+    /// unread; 0 is for ever.
+    pub idle: u32,
+}
