@@ -1,0 +1,453 @@
+//! A plain scanning trace server: what `bench/serve.py` compares `jaeger_one serve` with. One mutex around one list of
+//! spans, threads that each serve one connection at a time, no index and no proofs. Standard library alone:
+//!
+//!     rustc --edition 2021 -O -o plain_server bench/plain_server.rs
+//!     ./plain_server serve --port 0 --workers 4
+//!
+//! It takes `POST /api/traces`, and answers `GET /api/traces/{id}` and `GET /api/services` with the JSON of
+//! docs/query-api.md, the parent's reference included, but never adjusts for clock skew. Options: `--port`, `--workers`,
+//! `--idle`, `--sessions` as `serve` has them. The other options of `serve` are taken and not looked at: it has no limits.
+
+#[path = "compare/batch.rs"]
+mod batch;
+
+use batch::{Process, RefKind, Span, SpanRef, Tag, TraceId, Value};
+use std::collections::BTreeSet;
+use std::fmt::Write as _;
+use std::io::{self, BufRead, BufReader, Read, Write};
+use std::net::{Shutdown, TcpListener, TcpStream};
+use std::sync::atomic::{AtomicUsize, Ordering};
+use std::sync::{Arc, Mutex};
+use std::time::{Duration, Instant};
+
+const HEAD: u64 = 8192;
+const BODY: u64 = 4_194_304;
+
+struct Held {
+    span: Span,
+    process: Arc<Process>,
+}
+
+struct Server {
+    listener: TcpListener,
+    spans: Mutex<Vec<Held>>,
+    idle: Option<Duration>,
+    sessions: usize,
+    served: AtomicUsize,
+}
+
+// The store: what is asked under the lock.
+
+impl Server {
+    /// A batch is kept; a parent that is not 0 becomes a reference in front, unless one to it is there.
+    fn keep(&self, batch: batch::Batch) {
+        let process = Arc::new(batch.process);
+        let mut held: Vec<Held> = batch.spans.into_iter().map(|span| Held { span, process: process.clone() }).collect();
+        for Held { span, .. } in &mut held {
+            let known = span.references.iter().any(|r| r.trace == span.trace && r.id == span.parent);
+            if span.parent != 0 && !known {
+                span.references.insert(0, SpanRef { kind: RefKind::ChildOf, trace: span.trace, id: span.parent });
+            }
+        }
+        self.spans.lock().unwrap().append(&mut held);
+    }
+
+    /// The spans of a trace, found by a look at every span.
+    fn trace(&self, id: TraceId) -> Option<String> {
+        let spans = self.spans.lock().unwrap();
+        let found: Vec<&Held> = spans.iter().filter(|held| held.span.trace == id).collect();
+        if found.is_empty() {
+            return None;
+        }
+        let mut data = String::with_capacity(1024 * found.len());
+        write_trace(&mut data, &found);
+        Some(envelope(&data, 1))
+    }
+
+    fn services(&self) -> String {
+        let spans = self.spans.lock().unwrap();
+        let names: BTreeSet<&str> = spans.iter().map(|held| held.process.service.as_str()).collect();
+        let mut data = String::new();
+        list(&mut data, &names, |out, name| write_text(out, name));
+        envelope(&data[1..data.len() - 1], names.len())
+    }
+}
+
+// JSON.
+
+fn envelope(items: &str, total: usize) -> String {
+    format!(r#"{{"data":[{items}],"errors":null,"limit":0,"offset":0,"total":{total}}}"#)
+}
+
+fn list<T>(out: &mut String, items: impl IntoIterator<Item = T>, write: impl Fn(&mut String, T)) {
+    out.push('[');
+    for (place, item) in items.into_iter().enumerate() {
+        if place > 0 {
+            out.push(',');
+        }
+        write(out, item);
+    }
+    out.push(']');
+}
+
+fn write_text(out: &mut String, text: &str) {
+    out.push('"');
+    for c in text.chars() {
+        match c {
+            '"' => out.push_str("\\\""),
+            '\\' => out.push_str("\\\\"),
+            '\u{8}' => out.push_str("\\b"),
+            '\u{c}' => out.push_str("\\f"),
+            '\n' => out.push_str("\\n"),
+            '\r' => out.push_str("\\r"),
+            '\t' => out.push_str("\\t"),
+            c if c < ' ' => write!(out, "\\u{:04x}", c as u32).unwrap(),
+            c => out.push(c),
+        }
+    }
+    out.push('"');
+}
+
+fn write_hex(out: &mut String, bytes: &[u8]) {
+    out.push('"');
+    for byte in bytes {
+        write!(out, "{byte:02x}").unwrap();
+    }
+    out.push('"');
+}
+
+fn write_trace_id(out: &mut String, id: TraceId) {
+    if id.high != 0 {
+        write!(out, "\"{:016x}{:016x}\"", id.high, id.low).unwrap();
+    } else {
+        write!(out, "\"{:016x}\"", id.low).unwrap();
+    }
+}
+
+fn write_tag(out: &mut String, tag: &Tag) {
+    out.push_str("{\"key\":");
+    write_text(out, &tag.key);
+    out.push_str(",\"type\":");
+    match &tag.value {
+        Value::Text(text) => {
+            out.push_str("\"string\",\"value\":");
+            write_text(out, text);
+        }
+        Value::Double(bytes) => {
+            out.push_str("\"float64\",\"value\":");
+            write_hex(out, bytes);
+        }
+        Value::Bool(value) => write!(out, "\"bool\",\"value\":{value}").unwrap(),
+        Value::Long(value) => write!(out, "\"int64\",\"value\":{value}").unwrap(),
+        Value::Bytes(bytes) => {
+            out.push_str("\"binary\",\"value\":");
+            write_hex(out, bytes);
+        }
+    }
+    out.push('}');
+}
+
+fn write_reference(out: &mut String, reference: &SpanRef) {
+    let kind = match reference.kind {
+        RefKind::ChildOf => "CHILD_OF",
+        RefKind::FollowsFrom => "FOLLOWS_FROM",
+    };
+    write!(out, "{{\"refType\":\"{kind}\",\"spanID\":\"{:016x}\",\"traceID\":", reference.id).unwrap();
+    write_trace_id(out, reference.trace);
+    out.push('}');
+}
+
+/// The references, the parent's changed with the one in front.
+fn shown(span: &Span) -> Vec<&SpanRef> {
+    let mut references: Vec<&SpanRef> = span.references.iter().collect();
+    let own = |r: &&SpanRef| r.trace == span.trace;
+    let child = references.iter().position(|r| own(r) && r.kind == RefKind::ChildOf);
+    if let Some(place) = child.or_else(|| references.iter().position(own)) {
+        references.swap(0, place);
+    }
+    references
+}
+
+fn write_span(out: &mut String, span: &Span, process: usize) {
+    write!(out, "{{\"duration\":{},\"flags\":{},\"logs\":", span.duration, span.flags as u32).unwrap();
+    list(out, &span.logs, |out, log| {
+        out.push_str("{\"fields\":");
+        list(out, &log.fields, write_tag);
+        write!(out, ",\"timestamp\":{}}}", log.at).unwrap();
+    });
+    out.push_str(",\"operationName\":");
+    write_text(out, &span.operation);
+    write!(out, ",\"processID\":\"p{process}\",\"references\":").unwrap();
+    list(out, shown(span), write_reference);
+    write!(out, ",\"spanID\":\"{:016x}\",\"startTime\":{},\"tags\":", span.id, span.start).unwrap();
+    list(out, &span.tags, write_tag);
+    out.push_str(",\"traceID\":");
+    write_trace_id(out, span.trace);
+    out.push_str(",\"warnings\":null}");
+}
+
+fn write_trace(out: &mut String, spans: &[&Held]) {
+    let mut processes: Vec<&Process> = Vec::new();
+    let mut numbers = Vec::new();
+    for held in spans {
+        let place = processes.iter().position(|process| **process == *held.process).unwrap_or_else(|| {
+            processes.push(&held.process);
+            processes.len() - 1
+        });
+        numbers.push(place + 1);
+    }
+    let mut named: Vec<(String, &Process)> =
+        processes.into_iter().enumerate().map(|(place, process)| (format!("p{}", place + 1), process)).collect();
+    named.sort_by(|a, b| a.0.cmp(&b.0));
+    out.push_str("{\"processes\":{");
+    for (place, (name, process)) in named.iter().enumerate() {
+        let comma = if place > 0 { "," } else { "" };
+        write!(out, "{comma}\"{name}\":{{\"serviceName\":").unwrap();
+        write_text(out, &process.service);
+        out.push_str(",\"tags\":");
+        list(out, &process.tags, write_tag);
+        out.push('}');
+    }
+    out.push_str("},\"spans\":");
+    list(out, spans.iter().zip(numbers), |out, (held, number)| write_span(out, &held.span, number));
+    out.push_str(",\"traceID\":");
+    write_trace_id(out, spans[0].span.trace);
+    out.push_str(",\"warnings\":null}");
+}
+
+// HTTP.
+
+struct Head {
+    method: String,
+    path: String,
+    length: u64,
+    thrift: bool,
+    close: bool,
+}
+
+struct Reply {
+    status: u16,
+    body: String,
+    allow: &'static str,
+    close: bool,
+}
+
+impl Reply {
+    fn ok(body: String) -> Self {
+        Reply { status: 200, body, allow: "", close: false }
+    }
+
+    fn fault(status: u16, text: &str, close: bool) -> Self {
+        let body = format!(
+            r#"{{"data":null,"errors":[{{"code":{status},"msg":"{text}"}}],"limit":0,"offset":0,"total":0}}"#
+        );
+        Reply { status, body, allow: "", close }
+    }
+
+    fn write(&self, output: &mut impl Write) -> io::Result<()> {
+        let reason = match self.status {
+            200 => "OK",
+            202 => "Accepted",
+            400 => "Bad Request",
+            404 => "Not Found",
+            405 => "Method Not Allowed",
+            413 => "Content Too Large",
+            _ => "Unsupported Media Type",
+        };
+        let mut text = String::with_capacity(self.body.len() + 200);
+        write!(text, "HTTP/1.1 {} {reason}\r\n", self.status).unwrap();
+        if !self.body.is_empty() {
+            text.push_str("Content-Type: application/json\r\n");
+        }
+        write!(text, "Content-Length: {}\r\n", self.body.len()).unwrap();
+        if !self.allow.is_empty() {
+            write!(text, "Allow: {}\r\n", self.allow).unwrap();
+        }
+        text.push_str(if self.close { "Connection: close\r\n\r\n" } else { "\r\n" });
+        text.push_str(&self.body);
+        output.write_all(text.as_bytes())
+    }
+}
+
+/// The lines of a head; `None` where the input ended before it.
+fn head_lines(input: &mut impl BufRead) -> io::Result<Option<Vec<String>>> {
+    let mut input = input.take(HEAD);
+    let mut lines = Vec::new();
+    loop {
+        let mut line = String::new();
+        if input.read_line(&mut line)? == 0 && lines.is_empty() {
+            return Ok(None);
+        }
+        if line.pop() != Some('\n') {
+            return Err(io::ErrorKind::InvalidData.into());
+        }
+        if line.ends_with('\r') {
+            line.pop();
+        }
+        match (line.is_empty(), lines.is_empty()) {
+            (true, true) => continue,
+            (true, false) => return Ok(Some(lines)),
+            _ => lines.push(line),
+        }
+    }
+}
+
+/// The head of those lines, or what is wrong with it.
+fn read_head(lines: &[String]) -> Result<Head, &'static str> {
+    let bad = "bad request head";
+    let mut words = lines[0].split(' ');
+    let (Some(method), Some(path), Some(version), None) = (words.next(), words.next(), words.next(), words.next()) else {
+        return Err(bad);
+    };
+    if !matches!(version, "HTTP/1.0" | "HTTP/1.1") || method.is_empty() || path.is_empty() {
+        return Err(bad);
+    }
+    let path = path.split('?').next().unwrap().to_owned();
+    let mut head = Head { method: method.to_owned(), path, length: 0, thrift: false, close: version == "HTTP/1.0" };
+    for line in &lines[1..] {
+        let (name, value) = line.split_once(':').ok_or(bad)?;
+        let value = value.trim();
+        match name.to_ascii_lowercase().as_str() {
+            "content-length" => head.length = value.parse().map_err(|_| "bad request body")?,
+            "transfer-encoding" => return Err("bad request body"),
+            "content-type" => {
+                let kind = value.split(';').next().unwrap().trim().to_ascii_lowercase();
+                head.thrift = matches!(kind.as_str(), "application/x-thrift" | "application/vnd.apache.thrift.binary");
+            }
+            "connection" => head.close |= value.split(',').any(|word| word.trim().eq_ignore_ascii_case("close")),
+            _ => {}
+        }
+    }
+    Ok(head)
+}
+
+fn trace_id(text: &str) -> Option<TraceId> {
+    if text.len() > 32 || text.starts_with('+') {
+        return None;
+    }
+    let id = u128::from_str_radix(text, 16).ok()?;
+    Some(TraceId { high: (id >> 64) as u64, low: id as u64 })
+}
+
+impl Server {
+    fn answer(&self, head: &Head, body: &[u8]) -> Reply {
+        let not_allowed = |allow| Reply { allow, ..Reply::fault(405, "method not allowed", true) };
+        if head.path == "/api/traces" {
+            return match (head.method.as_str(), head.thrift) {
+                ("POST", true) => match batch::decode(body) {
+                    Ok(batch) => {
+                        self.keep(batch);
+                        Reply { status: 202, body: String::new(), allow: "", close: false }
+                    }
+                    Err(_) => Reply::fault(400, "batch refused", false),
+                },
+                ("POST", false) => Reply::fault(415, "unsupported content type", false),
+                ("GET", _) => Reply::fault(400, "no searches here", false),
+                _ => not_allowed("GET, POST"),
+            };
+        }
+        let id = head.path.strip_prefix("/api/traces/").filter(|id| !id.is_empty() && !id.contains('/'));
+        match (id, head.path.as_str(), head.method.as_str()) {
+            (Some(id), _, "GET") => match trace_id(id) {
+                Some(id) => self.trace(id).map_or_else(|| Reply::fault(404, "trace not found", false), Reply::ok),
+                None => Reply::fault(400, "bad parameter: traceID", false),
+            },
+            (None, "/api/services", "GET") => Reply::ok(self.services()),
+            (Some(_), _, _) | (_, "/api/services", _) => not_allowed("GET"),
+            _ => Reply::fault(404, "no such path", false),
+        }
+    }
+
+    /// Requests and responses, until the client ends or a response closes; tells whether a response did.
+    fn session(&self, stream: &TcpStream) -> io::Result<bool> {
+        stream.set_nodelay(true)?;
+        stream.set_read_timeout(self.idle)?;
+        let mut input = BufReader::with_capacity(65536, stream);
+        let mut output = stream;
+        let mut body = Vec::new();
+        loop {
+            let head = match head_lines(&mut input) {
+                Ok(None) => return Ok(false),
+                Ok(Some(lines)) => read_head(&lines),
+                Err(fault) if fault.kind() == io::ErrorKind::InvalidData => Err("bad request head"),
+                Err(fault) => return Err(fault),
+            };
+            let mut reply = match &head {
+                Err(text) => Reply::fault(400, text, true),
+                Ok(head) if head.length > BODY => Reply::fault(413, "body too large", true),
+                Ok(head) => {
+                    body.clear();
+                    (&mut input).take(head.length).read_to_end(&mut body)?;
+                    if body.len() as u64 == head.length {
+                        self.answer(head, &body)
+                    } else {
+                        Reply::fault(400, "bad request body", true)
+                    }
+                }
+            };
+            reply.close |= head.is_ok_and(|head| head.close);
+            reply.write(&mut output)?;
+            if reply.close {
+                return Ok(true);
+            }
+        }
+    }
+
+    fn work(&self) {
+        loop {
+            let Ok((stream, _)) = self.listener.accept() else {
+                continue;
+            };
+            if let Ok(true) = self.session(&stream) {
+                linger(&stream);
+            }
+            drop(stream);
+            if self.served.fetch_add(1, Ordering::SeqCst) + 1 == self.sessions {
+                println!("served {}", self.sessions);
+                std::process::exit(0);
+            }
+        }
+    }
+}
+
+/// What the client still sends is read and dropped for a while, so that it sees the last response and no reset.
+fn linger(stream: &TcpStream) {
+    let end = Instant::now() + Duration::from_secs(2);
+    let _ = stream.shutdown(Shutdown::Write);
+    let _ = stream.set_read_timeout(Some(Duration::from_secs(1)));
+    let mut rest = [0; 65536];
+    let mut input = stream;
+    while Instant::now() < end && matches!(input.read(&mut rest), Ok(1..)) {}
+}
+
+fn option(words: &[String], name: &str, otherwise: u64) -> u64 {
+    let place = words.iter().position(|word| word == name);
+    place.and_then(|place| words.get(place + 1)?.parse().ok()).unwrap_or(otherwise)
+}
+
+fn main() {
+    let words: Vec<String> = std::env::args().collect();
+    let port = option(&words, "--port", 0) as u16;
+    let listener = TcpListener::bind(("127.0.0.1", port)).unwrap_or_else(|fault| {
+        eprintln!("{fault}");
+        std::process::exit(4);
+    });
+    let idle = option(&words, "--idle", 10);
+    println!("listening {}", listener.local_addr().unwrap());
+    let server = Arc::new(Server {
+        listener,
+        spans: Mutex::new(Vec::new()),
+        idle: (idle > 0).then(|| Duration::from_secs(idle)),
+        sessions: option(&words, "--sessions", 0) as usize,
+        served: AtomicUsize::new(0),
+    });
+    let workers: Vec<_> = (0..option(&words, "--workers", 4))
+        .map(|_| {
+            let server = server.clone();
+            std::thread::spawn(move || server.work())
+        })
+        .collect();
+    for worker in workers {
+        worker.join().unwrap();
+    }
+}

@@ -1,0 +1,182 @@
+#!/usr/bin/env python3
+"""What `jaeger_one serve` takes and answers over loopback, beside a plain scanning server, in one run on one machine.
+
+The plain server is bench/plain_server.rs: one mutex around one list of spans, which a read looks through, in plain Rust
+without proofs. The clients are bench/load.rs. Both are built by `rustc` in a temporary folder. For each number of spans held
+each server is started anew for each measurement, filled, measured and killed, the two in turn, in some rounds:
+
+  spans a second    1, 2, 4 and 8 writers at full speed, each of which waits for the 202 of a batch of 10 spans
+  reads, paced      one reader that asks for random traces by their ids, one after the other, beside 4 writers of 25 batches
+                    a second each, so that the number of spans held stays about the same
+  reads, full speed the same beside 4 writers at full speed; the rows tell how many spans were held at the end
+
+    bench/serve.py [--bin PATH] [--sizes 1000,10000,100000] [--seconds 0.6] [--rounds 3] [--only ours|plain]
+
+A figure is the median of the rounds. A ratio is that of the two medians, and behind it stand the least and the most of the
+rounds' own ratios. How far equal servers seem to differ is seen by giving the plain server as `--bin` (build it as its head
+says): what is within that says nothing. Clients and server share the machine's cores, so the figures are those of both
+together. It ends by itself after three minutes at most; what was not measured by then is `-`.
+"""
+import argparse
+import json
+import os
+import select
+import statistics
+import subprocess
+import sys
+import tempfile
+import time
+import urllib.request
+
+HERE = os.path.dirname(os.path.abspath(__file__))
+ROOT = os.path.dirname(HERE)
+LIMITS = ["--queue", "256", "--batches", "1000000", "--spans", "10000000"]
+AT_MOST = 170
+SERVERS = ["ours", "plain"]
+NAMES = {"ours": "jaeger_one", "plain": "plain server"}
+
+
+def first_trace():
+    """The id of trace 0 of load.rs."""
+    mask = (1 << 64) - 1
+    x = 0x9E3779B97F4A7C15
+    x = (x ^ (x >> 30)) * 0xBF58476D1CE4E5B9 & mask
+    x = (x ^ (x >> 27)) * 0x94D049BB133111EB & mask
+    return (x ^ (x >> 31)) | 1
+
+
+def build(folder, name):
+    program = os.path.join(folder, name)
+    source = os.path.join(HERE, name + ".rs")
+    subprocess.run(["rustc", "--edition", "2021", "-O", "-o", program, source], check=True)
+    return program
+
+
+class Server:
+    """A server on a free port, killed at the end."""
+
+    def __init__(self, program, workers):
+        words = [program, "serve", "--port", "0", "--workers", str(workers), *LIMITS]
+        self.run = subprocess.Popen(words, stdin=subprocess.DEVNULL, stdout=subprocess.PIPE)
+        ready, _, _ = select.select([self.run.stdout], [], [], 10)
+        line = self.run.stdout.readline().decode() if ready else ""
+        if not line.startswith("listening 127.0.0.1:"):
+            self.run.kill()
+            self.run.wait()
+            raise OSError(f"{program} serve does not listen: {line!r}")
+        self.port = line.strip().rsplit(":", 1)[1]
+
+    def __enter__(self):
+        return self
+
+    def __exit__(self, *_):
+        self.run.kill()
+        self.run.wait()
+        self.run.stdout.close()
+
+    def peak(self):
+        """The most memory it had, in megabytes."""
+        with open(f"/proc/{self.run.pid}/status") as file:
+            return next(int(line.split()[1]) for line in file if line.startswith("VmHWM")) / 1000
+
+    def get(self, target):
+        with urllib.request.urlopen(f"http://127.0.0.1:{self.port}{target}", timeout=10) as response:
+            return response.read()
+
+
+class Bench:
+    def __init__(self, programs, load, seconds, rounds):
+        self.programs = programs
+        self.load = load
+        self.seconds = seconds
+        self.rounds = rounds
+        self.end = time.monotonic() + AT_MOST
+        self.shown = {}
+        self.faults = []
+
+    def measure(self, name, size, writers, readers=0, pace=0, seconds=None):
+        """The numbers of one measurement, and none where there is no such server, no time is left or it failed."""
+        if name not in self.programs or time.monotonic() > self.end:
+            return {}
+        try:
+            with Server(self.programs[name], writers + readers + 1) as server:
+                words = [self.load, "--port", server.port, "--fill", str(size), "--writers", str(writers), "--readers",
+                         str(readers), "--pace", str(pace), "--seconds", str(seconds or self.seconds)]
+                run = subprocess.run(words, capture_output=True, timeout=60, env=dict(os.environ, RUST_BACKTRACE="0"))
+                if run.returncode:
+                    raise OSError(run.stderr.decode(errors="replace").strip())
+                told = run.stdout.decode().split()
+                numbers = {key: float(value) for key, value in zip(told[::2], told[1::2])}
+                numbers["peak"] = server.peak()
+                self.shown[name] = server.get(f"/api/traces/{first_trace():x}")
+        except (OSError, subprocess.TimeoutExpired) as fault:
+            self.faults.append(f"{NAMES[name]}, {size} spans, {writers} writers, {readers} readers: {fault}")
+            return {}
+        numbers["held"] = size + numbers["spans"]
+        return numbers
+
+    def both(self, *words, **more):
+        """The numbers of each round, of each server; each goes first in turn."""
+        orders = (SERVERS if number % 2 == 0 else SERVERS[::-1] for number in range(self.rounds))
+        return [{name: self.measure(name, *words, **more) for name in order} for order in orders]
+
+
+def row(title, found, key, form):
+    cells, middles = [], []
+    for name in SERVERS:
+        values = [each[name][key] for each in found if key in each[name]]
+        middles.append(statistics.median(values) if values else None)
+        cells.append(format(middles[-1], form) if values else "-")
+    ratio = "-"
+    if all(middles):
+        ratios = [each["ours"][key] / each["plain"][key] for each in found if each["ours"].get(key) and each["plain"].get(key)]
+        ratio = f"{middles[0] / middles[1]:.2f} ({min(ratios):.2f} to {max(ratios):.2f})" if ratios else "-"
+    print(f"{'':9} {title:58} {cells[0]:>12} {cells[1]:>13}   {ratio}", flush=True)
+
+
+def table(bench, sizes):
+    print(f"{'held':>9} {'':58} {NAMES['ours']:>12} {NAMES['plain']:>13}   ratio (rounds)")
+    for size in sizes:
+        print(f"{size:9,}", flush=True)
+        for writers in (1, 2, 4, 8):
+            row(f"spans a second, writers: {writers}", bench.both(size, writers), "rate", ",.0f")
+        for title, pace in (("beside 4 writers, paced", 25), ("beside 4 writers at full speed", 0)):
+            found = bench.both(size, 4, readers=1, pace=pace, seconds=2 * bench.seconds)
+            row(f"a trace by its id, {title}: p50, ms", found, "p50", ".3f")
+            row("   p99, ms", found, "p99", ".3f")
+            row("   reads", found, "reads", ",.0f")
+            row("   spans a second, written beside", found, "rate", ",.0f")
+            row("   spans held at the end", found, "held", ",.0f")
+            row("   peak memory, MB", found, "peak", ",.0f")
+
+
+def main():
+    asked = argparse.ArgumentParser(description=__doc__, formatter_class=argparse.RawDescriptionHelpFormatter)
+    asked.add_argument("--bin", default=os.path.join(ROOT, "crates/jaeger_one/out/jaeger_one"))
+    asked.add_argument("--sizes", default="1000,10000,100000", help="spans held")
+    asked.add_argument("--seconds", type=float, default=0.6, help="of each writing; a reading takes twice as long")
+    asked.add_argument("--rounds", type=int, default=3)
+    asked.add_argument("--only", choices=SERVERS)
+    options = asked.parse_args()
+    with tempfile.TemporaryDirectory() as folder:
+        programs = {"ours": options.bin, "plain": build(folder, "plain_server")}
+        if options.only:
+            programs = {options.only: programs[options.only]}
+        if "ours" in programs and not os.path.exists(options.bin):
+            print(f"{options.bin} is not there, so the plain server stands alone")
+            del programs["ours"]
+        cores = len(os.sched_getaffinity(0))
+        print(f"{cores} cores, load {os.getloadavg()[0]:.1f} at the start; batches of 10 spans, 8 tags each")
+        bench = Bench(programs, build(folder, "load"), options.seconds, options.rounds)
+        table(bench, [int(size) for size in options.sizes.split(",")])
+    if len(bench.shown) == 2:
+        texts = [json.dumps(json.loads(text), sort_keys=True) for text in bench.shown.values()]
+        same = "the same bytes" if len(set(bench.shown.values())) == 1 else "the same JSON" if len(set(texts)) == 1 else "NOT the same"
+        print(f"One trace as both answer it: {same}, {len(bench.shown['ours'])} and {len(bench.shown['plain'])} bytes")
+    for fault in bench.faults:
+        print("FAILED", fault)
+    sys.exit(1 if bench.faults else 0)
+
+
+if __name__ == "__main__":
+    main()

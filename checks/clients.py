@@ -1,0 +1,383 @@
+#!/usr/bin/env python3
+"""`jaeger_one serve` driven by clients that are not ours: Apache Thrift's Python library, curl, and the Jaeger client for Ruby.
+
+    checks/clients.py [--bin PATH] [--port N]
+
+Starts the program on a free port of 127.0.0.1, or drives the empty one that listens on `--port`. What each client sends is read
+back through the query interface and compared field by field. One line for each check; the last line is `N passed, M failed`.
+
+Needs Debian's packages python3-thrift, thrift-compiler (for samples/jaeger.thrift) and curl, and says so with status 2 where one
+is missing; nothing is installed. With ruby-jaeger-client there are more checks; without it they are left out, and a line says so.
+"""
+import argparse
+import json
+import os
+import select
+import shutil
+import struct
+import subprocess
+import sys
+import tempfile
+import urllib.error
+import urllib.request
+
+ROOT = os.path.dirname(os.path.dirname(os.path.abspath(__file__)))
+TRACE = 0x0102030405060708_F1F2F3F4F5F6F7F8
+OTHER = 0x00000000000000AA_00000000000000BB
+LOW = 0xDEAD
+TEXT = 'gr\u00fcn "quoted" \\ back\tslash \u4f60\u597d \U0001f680\n\x01'
+
+
+def missing(package):
+    print(f"missing: Debian's package {package} (apt-get install {package})")
+    sys.exit(2)
+
+
+def with_thrift():
+    """Goes on in an interpreter that has Apache Thrift's library: Debian's package is for /usr/bin/python3."""
+    try:
+        import thrift  # noqa: F401
+        return
+    except ImportError:
+        pass
+    for python in ("/usr/bin/python3", shutil.which("python3")):
+        if python and os.path.exists(python) and os.environ.get("CLIENTS_PYTHON") != "chosen":
+            if subprocess.run([python, "-c", "import thrift"], stderr=subprocess.DEVNULL).returncode == 0:
+                os.environ["CLIENTS_PYTHON"] = "chosen"
+                os.execv(python, [python, *sys.argv])
+    missing("python3-thrift")
+
+
+class Checks:
+    def __init__(self):
+        self.passed = self.failed = 0
+
+    def same(self, name, found, wanted):
+        if found == wanted:
+            self.passed += 1
+            print(f"ok {name}", flush=True)
+        else:
+            self.failed += 1
+            print(f"FAILED {name}: {found!r} is not {wanted!r}", flush=True)
+
+    def each(self, client, call):
+        """The checks of one client; what it raises is one that failed."""
+        try:
+            call()
+        except Exception as fault:  # a client's own faults are of many types
+            self.failed += 1
+            print(f"FAILED {client}: {type(fault).__name__}: {fault}", flush=True)
+
+
+class Server:
+    """The program, or one that listens already."""
+
+    def __init__(self, binary, port):
+        self.run = None
+        self.port = port
+        if port is None:
+            if not os.path.exists(binary):
+                sys.exit(f"{binary} is not there")
+            self.run = subprocess.Popen([binary, "serve", "--port", "0"], stdin=subprocess.DEVNULL, stdout=subprocess.PIPE)
+            ready, _, _ = select.select([self.run.stdout], [], [], 10)
+            line = self.run.stdout.readline().decode().strip() if ready else ""
+            if not line.startswith("listening 127.0.0.1:"):
+                self.run.kill()
+                sys.exit(f"{binary} serve does not listen: {line!r}")
+            self.port = int(line.rpartition(":")[2])
+
+    def __enter__(self):
+        return self
+
+    def __exit__(self, *_):
+        if self.run:
+            self.run.kill()
+            self.run.wait()
+
+    def url(self, target):
+        return f"http://127.0.0.1:{self.port}{target}"
+
+    def get(self, target):
+        """The status of an answer, and its JSON."""
+        try:
+            with urllib.request.urlopen(self.url(target), timeout=10) as response:
+                return response.status, json.load(response)
+        except urllib.error.HTTPError as fault:
+            return fault.code, json.load(fault)
+
+    def trace(self, trace):
+        status, answer = self.get(f"/api/traces/{trace:x}")
+        if status != 200:
+            raise ValueError(f"trace {trace:x} is answered {status} {answer}")
+        return answer["data"][0]
+
+
+def trace_text(trace):
+    return f"{trace:032x}" if trace >> 64 else f"{trace:016x}"
+
+
+def signed(number):
+    return number - (1 << 64) if number >> 63 else number
+
+
+def shown(key, kind, value):
+    return {"key": key, "type": kind, "value": value}
+
+
+def double(value):
+    return struct.pack(">d", value).hex()
+
+
+# Apache Thrift's library.
+
+def generated(folder):
+    subprocess.run(["thrift", "--gen", "py", "-out", folder, os.path.join(ROOT, "samples", "jaeger.thrift")],
+                   check=True, stderr=subprocess.DEVNULL)
+    sys.path.insert(0, folder)
+    import jaeger.ttypes
+    return jaeger.ttypes
+
+
+def tags(j):
+    """A tag of each type, and how each is shown."""
+    sent = [
+        j.Tag(key="text", vType=j.TagType.STRING, vStr=TEXT),
+        j.Tag(key="empty", vType=j.TagType.STRING, vStr=""),
+        j.Tag(key="double", vType=j.TagType.DOUBLE, vDouble=-2.5),
+        j.Tag(key="tiny", vType=j.TagType.DOUBLE, vDouble=5e-324),
+        j.Tag(key="true", vType=j.TagType.BOOL, vBool=True),
+        j.Tag(key="false", vType=j.TagType.BOOL, vBool=False),
+        j.Tag(key="long", vType=j.TagType.LONG, vLong=-9223372036854775808),
+        j.Tag(key="bytes", vType=j.TagType.BINARY, vBinary=bytes(range(256))),
+        j.Tag(key="other values too", vType=j.TagType.LONG, vStr="dropped", vLong=8, vBinary=b"\xfe"),
+    ]
+    wanted = [
+        shown("text", "string", TEXT),
+        shown("empty", "string", ""),
+        shown("double", "float64", double(-2.5)),
+        shown("tiny", "float64", double(5e-324)),
+        shown("true", "bool", True),
+        shown("false", "bool", False),
+        shown("long", "int64", -9223372036854775808),
+        shown("bytes", "binary", bytes(range(256)).hex()),
+        shown("other values too", "int64", 8),
+    ]
+    return sent, wanted
+
+
+def halves(trace):
+    return {"traceIdLow": signed(trace & (1 << 64) - 1), "traceIdHigh": signed(trace >> 64)}
+
+
+def full_batch(j):
+    """Every field set: a span with a parent and references of both kinds, and a plain one of a trace whose high half is 0."""
+    sent, _ = tags(j)
+    own, other = halves(TRACE), halves(OTHER)
+    full = j.Span(
+        **own, spanId=signed(0xFEDCBA9876543210), parentSpanId=0x77, operationName="charge " + TEXT,
+        references=[j.SpanRef(refType=j.SpanRefType.CHILD_OF, spanId=6, **other),
+                    j.SpanRef(refType=j.SpanRefType.FOLLOWS_FROM, spanId=9, **own),
+                    j.SpanRef(refType=j.SpanRefType.FOLLOWS_FROM, spanId=10, **other)],
+        flags=-3, startTime=1_700_000_000_123_456, duration=9_223_372_036, tags=sent,
+        logs=[j.Log(timestamp=1_700_000_000_123_460, fields=sent), j.Log(timestamp=-5, fields=[])])
+    plain = j.Span(traceIdLow=LOW, traceIdHigh=0, spanId=1, parentSpanId=0, operationName="", flags=0, startTime=0, duration=0)
+    return j.Batch(process=j.Process(serviceName="bank " + TEXT, tags=sent), spans=[full, plain], seqNo=12,
+                   stats=j.Statistics(dropped=3, byKind={"full": [1, 2], "late": []}, seen={4}))
+
+
+def by_thrift(checks, server, j):
+    from thrift.protocol.TBinaryProtocol import TBinaryProtocol, TBinaryProtocolAccelerated
+    from thrift.transport.THttpClient import THttpClient
+
+    transport = THttpClient(server.url("/api/traces"))
+    transport.setTimeout(10_000)
+    full_batch(j).write(TBinaryProtocol(transport))
+    transport.flush()
+    checks.same("thrift: the batch's status", transport.code, 202)
+    checks.same("thrift: the body behind it", transport.read(1), b"")
+    _, wanted_tags = tags(j)
+    trace = server.trace(TRACE)
+    own, other = trace_text(TRACE), trace_text(OTHER)
+    checks.same("thrift: the trace's id, both halves", trace["traceID"], own)
+    checks.same("thrift: the number of spans", len(trace["spans"]), 1)
+    span = trace["spans"][0]
+    wanted = {
+        "traceID": own,
+        "spanID": "fedcba9876543210",
+        "operationName": "charge " + TEXT,
+        "references": [
+            {"refType": "CHILD_OF", "spanID": f"{0x77:016x}", "traceID": own},
+            {"refType": "CHILD_OF", "spanID": f"{6:016x}", "traceID": other},
+            {"refType": "FOLLOWS_FROM", "spanID": f"{9:016x}", "traceID": own},
+            {"refType": "FOLLOWS_FROM", "spanID": f"{10:016x}", "traceID": other},
+        ],
+        "flags": (1 << 32) - 3,
+        "startTime": 1_700_000_000_123_456,
+        "duration": 9_223_372_036,
+        "warnings": None,
+    }
+    for name, value in wanted.items():
+        checks.same(f"thrift: {name}", span[name], value)
+    for found, value in zip(span["tags"], wanted_tags):
+        checks.same(f"thrift: tag {value['key']}", found, value)
+    checks.same("thrift: number of tags", len(span["tags"]), len(wanted_tags))
+    checks.same("thrift: times of logs", [log["timestamp"] for log in span["logs"]], [1_700_000_000_123_460, -5])
+    checks.same("thrift: fields of logs", [log["fields"] for log in span["logs"]], [wanted_tags, []])
+    process = trace["processes"][span["processID"]]
+    checks.same("thrift: the service", process["serviceName"], "bank " + TEXT)
+    checks.same("thrift: tags of the process", process["tags"], wanted_tags)
+    checks.same("thrift: keys of a span", sorted(span), sorted([*wanted, "tags", "logs", "processID"]))
+    second = server.trace(LOW)
+    checks.same("thrift: the id of a trace whose high half is 0", second["traceID"], trace_text(LOW))
+    plain = dict(second["spans"][0])
+    del plain["processID"]
+    checks.same("thrift: a span of required fields alone", plain, {
+        "traceID": trace_text(LOW), "spanID": f"{1:016x}", "operationName": "", "references": [], "flags": 0, "startTime": 0,
+        "duration": 0, "tags": [], "logs": [], "warnings": None})
+    # The same transport again, by the accelerated protocol (in C, where it is there), in batches that grow.
+    for count in (1, 10, 1000):
+        spans = [j.Span(traceIdLow=count, traceIdHigh=0, spanId=n + 1, parentSpanId=0, operationName=f"op {n}", flags=1,
+                        startTime=n, duration=1, tags=tags(j)[0]) for n in range(count)]
+        j.Batch(process=j.Process(serviceName="many"), spans=spans).write(TBinaryProtocolAccelerated(transport))
+        transport.flush()
+        checks.same(f"thrift: a batch of {count} spans", transport.code, 202)
+        found = [span["operationName"] for span in server.trace(count)["spans"]]
+        checks.same(f"thrift: all {count} are found", found, [f"op {n}" for n in range(count)])
+    transport.close()
+
+
+# curl.
+
+def curl(*words, stdin=None):
+    """What curl printed, and its status."""
+    done = subprocess.run(["curl", "--silent", "--show-error", "--noproxy", "*", "--max-time", "20", *words], input=stdin,
+                          stdout=subprocess.PIPE, stderr=subprocess.STDOUT)
+    return done.returncode, done.stdout.decode(errors="replace")
+
+
+def by_curl(checks, server, folder, searches):
+    status = ["--output", os.devnull, "--write-out", "%{http_code}"]
+    to = server.url("/api/traces")
+
+    def post(path, kind, *more):
+        return curl(*status, "-H", f"Content-Type: {kind}", "--data-binary", "@" + path, *more, to)
+
+    files = []
+    for name in ("first.hex", "shop.hex"):
+        with open(os.path.join(ROOT, "samples", name)) as file:
+            for line in file:
+                files.append(os.path.join(folder, f"batch{len(files)}.bin"))
+                with open(files[-1], "wb") as out:
+                    out.write(bytes.fromhex(line.strip()))
+    kinds = ["application/x-thrift", "application/vnd.apache.thrift.binary", "Application/X-Thrift; charset=none"]
+    for path, kind in zip(files, kinds):
+        checks.same(f"curl: a sample as {kind}", post(path, kind), (0, "202"))
+    checks.same("curl: a sample as JSON", post(files[0], "application/json"), (0, "415"))
+    _, answer = curl(server.url("/api/traces/def"))
+    checks.same("curl: a trace, byte by byte", answer, (
+        '{"data":[{"processes":{"p1":{"serviceName":"orders","tags":[]}},"spans":[{"duration":40,"flags":1,"logs":[],'
+        '"operationName":"sweep","processID":"p1","references":[],"spanID":"0000000000000004","startTime":2000,"tags":[],'
+        '"traceID":"0000000000000def","warnings":null}],"traceID":"0000000000000def","warnings":null}],"errors":null,'
+        '"limit":0,"offset":0,"total":1}'))
+    checks.same("curl: a trace that is not there", curl("--write-out", "%{http_code}", server.url("/api/traces/eeee")), (
+        0, '{"data":null,"errors":[{"code":404,"msg":"trace not found"}],"limit":0,"offset":0,"total":0}404'))
+    _, answer = curl(server.url("/api/services"))
+    checks.same("curl: the services", {"a", "frontend", "orders"} <= set(json.loads(answer)["data"]), True)
+    if searches:
+        checks.same("curl: operations of a service", curl(server.url("/api/services/orders/operations")), (
+            0, '{"data":["list orders","sweep"],"errors":null,"limit":0,"offset":0,"total":2}'))
+        checks.same("curl: operations with their kinds", curl(server.url("/api/operations?service=frontend")), (
+            0, '{"data":[{"name":"GET /orders","spanKind":""},{"name":"call orders","spanKind":""}],"errors":null,"limit":0,'
+               '"offset":0,"total":2}'))
+        _, answer = curl("--get", to, "--data-urlencode", "service=orders", "--data-urlencode", "operation=list orders")
+        checks.same("curl: a search", [trace["traceID"] for trace in json.loads(answer)["data"]], [f"{0xabc:016x}"])
+        _, answer = curl(server.url("/api/dependencies?endTs=10"))
+        checks.same("curl: dependencies", json.loads(answer)["data"], [{"callCount": 1, "child": "orders", "parent": "frontend"}])
+    # How curl speaks HTTP.
+    services = server.url("/api/services")
+    two = curl("--output", os.devnull, services, "--output", os.devnull, services, "--write-out", "%{http_code} %{num_connects};")
+    checks.same("curl: two requests on one connection", two, (0, "200 1;200 0;"))
+    checks.same("curl: HTTP/1.0", curl("--http1.0", *status, services), (0, "200"))
+    checks.same("curl: an upgrade to HTTP/2 is not taken", curl("--http2", *status, services), (0, "200"))
+    checks.same("curl: a body that is waited for (Expect)", post(files[0], kinds[0], "-H", "Expect: 100-continue"), (0, "202"))
+    checks.same("curl: a body in chunks", post(files[0], kinds[0], "-H", "Transfer-Encoding: chunked"), (0, "400"))
+    checks.same("curl: DELETE", curl("--request", "DELETE", *status, to), (0, "405"))
+    large = os.path.join(folder, "large.bin")
+    with open(large, "wb") as out:
+        out.write(bytes(3_000_000))
+    checks.same("curl: 3 MB that are no batch", post(large, kinds[0]), (0, "400"))
+    with open(large, "wb") as out:
+        out.write(bytes(5_000_000))
+    checks.same("curl: 5 MB, which are too many", post(large, kinds[0]), (0, "413"))
+    checks.same("curl: 5 MB at once", post(large, kinds[0], "-H", "Expect:"), (0, "413"))
+
+
+# Jaeger's client for Ruby.
+
+RUBY = """
+require 'jaeger/client'
+logger = Logger.new($stderr)
+encoder = Jaeger::Encoders::ThriftEncoder.new(service_name: 'ruby shop', logger: logger, tags: {'hostname' => 'h1', 'ip' => '10.0.0.1'})
+sender = Jaeger::HttpSender.new(url: ARGV[0], encoder: encoder, logger: logger)
+reporter = Jaeger::Reporters::InMemoryReporter.new
+tracer = Jaeger::Client.build(service_name: 'ruby shop', reporter: reporter)
+at = Time.at(1_700_000_000)
+parent = tracer.start_span('checkout', start_time: at, tags: {'span.kind' => 'server', 'count' => 3, 'share' => 0.5, 'paid' => true})
+parent.log_kv(timestamp: at + 1, event: 'asked', size: 7)
+child = tracer.start_span('charge', child_of: parent, start_time: at + 2)
+child.finish(end_time: at + 3)
+parent.finish(end_time: at + 4)
+sender.send_spans(reporter.spans)
+puts [parent.context.trace_id, parent.context.span_id, child.context.span_id].map { |id| id.to_s(16).rjust(16, '0') }
+"""
+
+
+def by_ruby(checks, server):
+    done = subprocess.run(["ruby", "-e", RUBY, server.url("/api/traces")], capture_output=True, timeout=60)
+    checks.same("ruby: the client's own log", (done.returncode, done.stderr.decode()), (0, ""))
+    own, first, second = done.stdout.decode().split()
+    trace = server.trace(int(own, 16))
+    spans = {span["spanID"]: span for span in trace["spans"]}
+    checks.same("ruby: the spans", sorted(spans), sorted([first, second]))
+    parent, child = spans[first], spans[second]
+    checks.same("ruby: names", (parent["operationName"], child["operationName"]), ("checkout", "charge"))
+    checks.same("ruby: times", [(span["startTime"], span["duration"]) for span in (parent, child)],
+                [(1_700_000_000_000_000, 4_000_000), (1_700_000_002_000_000, 1_000_000)])
+    checks.same("ruby: references", (parent["references"], child["references"]),
+                ([], [{"refType": "CHILD_OF", "spanID": first, "traceID": own}]))
+    wanted = [shown("span.kind", "string", "server"), shown("count", "int64", 3), shown("share", "float64", double(0.5)),
+              shown("paid", "bool", True)]
+    checks.same("ruby: tags", [tag for tag in parent["tags"] if not tag["key"].startswith("sampler.")], wanted)
+    checks.same("ruby: the log", parent["logs"], [
+        {"fields": [shown("event", "string", "asked"), shown("size", "int64", 7)], "timestamp": 1_700_000_001_000_000}])
+    process = trace["processes"][parent["processID"]]
+    found = {tag["key"]: tag["value"] for tag in process["tags"]}
+    checks.same("ruby: the process", (process["serviceName"], found.get("hostname"), found.get("ip")), ("ruby shop", "h1", "10.0.0.1"))
+
+
+def main():
+    asked = argparse.ArgumentParser(description=__doc__, formatter_class=argparse.RawDescriptionHelpFormatter)
+    asked.add_argument("--bin", default=os.path.join(ROOT, "crates/jaeger_one/out/jaeger_one"))
+    asked.add_argument("--port", type=int, help="drive the program that listens there")
+    asked.add_argument("--no-searches", action="store_true", help="for bench/plain_server.rs, which has none")
+    options = asked.parse_args()
+    with_thrift()
+    for word, package in (("thrift", "thrift-compiler"), ("curl", "curl")):
+        if not shutil.which(word):
+            missing(package)
+    os.environ["no_proxy"] = "127.0.0.1"
+    checks = Checks()
+    with tempfile.TemporaryDirectory() as folder, Server(options.bin, options.port) as server:
+        checks.each("thrift", lambda: by_thrift(checks, server, generated(folder)))
+        checks.each("curl", lambda: by_curl(checks, server, folder, not options.no_searches))
+        ruby = ["ruby", "-e", "require 'jaeger/client'"]
+        if shutil.which("ruby") and subprocess.run(ruby, capture_output=True).returncode == 0:
+            checks.each("ruby", lambda: by_ruby(checks, server))
+        else:
+            print("left out: ruby, for want of Debian's package ruby-jaeger-client")
+    print(f"{checks.passed} passed, {checks.failed} failed")
+    sys.exit(1 if checks.failed else 0)
+
+
+if __name__ == "__main__":
+    main()

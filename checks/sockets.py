@@ -1,0 +1,619 @@
+#!/usr/bin/env python3
+"""`jaeger_one serve` over real sockets, as a black box: many clients at once, clients that stall, go away or reset, closing
+responses, the ends of the program.
+
+    checks/sockets.py [--bin PATH] [--only WORD]
+
+Each case starts the program anew on a free port of 127.0.0.1 and looks only at what the sockets, its standard output and its
+status tell. Standard library alone. One line for each failing case; the last line is `N passed, M failed`.
+"""
+import argparse
+import contextlib
+import json
+import os
+import select
+import signal
+import socket
+import struct
+import subprocess
+import sys
+import threading
+import time
+
+ROOT = os.path.dirname(os.path.dirname(os.path.abspath(__file__)))
+PATIENCE = 10
+THRIFT = "application/x-thrift"
+
+
+class Failed(Exception):
+    pass
+
+
+def check(holds, text):
+    if not holds:
+        raise Failed(text)
+
+
+# Batches: one span each, by docs/wire-format.md.
+
+def field(code, number):
+    return struct.pack(">bh", code, number)
+
+
+def text(value):
+    return struct.pack(">i", len(value)) + value.encode()
+
+
+def batch(trace, service="shop", operation="op"):
+    span = b"".join(field(10, number) + struct.pack(">Q", value) for number, value in ((1, trace), (2, 0), (3, 7), (4, 0)))
+    span += field(11, 5) + text(operation) + field(8, 7) + struct.pack(">i", 1)
+    span += field(10, 8) + struct.pack(">q", 1000) + field(10, 9) + struct.pack(">q", 50) + b"\0"
+    process = field(12, 1) + field(11, 1) + text(service) + b"\0"
+    return process + field(15, 2) + b"\x0c" + struct.pack(">i", 1) + span + b"\0"
+
+
+def head(line, *fields):
+    return "".join(part + "\r\n" for part in (line, "Host: 127.0.0.1", *fields, "")).encode()
+
+
+def post(trace, **more):
+    body = batch(trace, **more)
+    return head("POST /api/traces HTTP/1.1", f"Content-Type: {THRIFT}", f"Content-Length: {len(body)}") + body
+
+
+def get(target):
+    return head(f"GET {target} HTTP/1.1")
+
+
+class Response:
+    def __init__(self, status, fields, body):
+        self.status = status
+        self.fields = fields
+        self.body = body
+
+    def closes(self):
+        return self.fields.get("connection", "").lower() == "close"
+
+    def traces(self):
+        """The ids of the traces in the answer."""
+        return [item["traceID"] for item in json.loads(self.body)["data"] or []]
+
+
+class Client:
+    """One connection. Every wait ends after `PATIENCE` seconds, as a failure."""
+
+    def __init__(self, port):
+        self.socket = socket.create_connection(("127.0.0.1", port), timeout=PATIENCE)
+        self.socket.setsockopt(socket.IPPROTO_TCP, socket.TCP_NODELAY, 1)
+        self.input = b""
+
+    def __enter__(self):
+        return self
+
+    def __exit__(self, *_):
+        self.socket.close()
+
+    def send(self, data):
+        self.socket.sendall(data)
+
+    def more(self):
+        """Some bytes are read; False where the server has ended its side."""
+        try:
+            data = self.socket.recv(65536)
+        except TimeoutError:
+            raise Failed("nothing came from the server in time") from None
+        self.input += data
+        return bool(data)
+
+    def response(self):
+        while b"\r\n\r\n" not in self.input:
+            check(self.more(), f"the connection ended in the head of a response: {self.input!r}")
+        top, _, self.input = self.input.partition(b"\r\n\r\n")
+        lines = top.decode().split("\r\n")
+        check(lines[0].startswith("HTTP/1.1 "), f"no status line: {lines[0]!r}")
+        fields = {name.lower(): value.strip() for name, _, value in (line.partition(":") for line in lines[1:])}
+        length = int(fields.get("content-length", "0"))
+        while len(self.input) < length:
+            check(self.more(), "the connection ended in the body of a response")
+        body, self.input = self.input[:length], self.input[length:]
+        return Response(int(lines[0].split()[1]), fields, body)
+
+    def ask(self, request, status):
+        self.send(request)
+        response = self.response()
+        check(response.status == status, f"{request[:60]!r} was answered {response.status}, not {status}")
+        return response
+
+    def reads_end(self):
+        """What is left, up to the server's end; a reset there is no end."""
+        while self.more():
+            pass
+        rest, self.input = self.input, b""
+        return rest
+
+    def reset(self):
+        """Goes away by a reset."""
+        self.socket.setsockopt(socket.SOL_SOCKET, socket.SO_LINGER, struct.pack("ii", 1, 0))
+        self.socket.close()
+
+
+class Server:
+    """The program, killed at the end unless it has ended by itself."""
+
+    binary = None
+
+    def __init__(self, *words):
+        command = [self.binary, "serve", *(str(word) for word in words)]
+        self.run = subprocess.Popen(command, stdin=subprocess.DEVNULL, stdout=subprocess.PIPE, stderr=subprocess.STDOUT)
+        self.output = b""
+        end = time.monotonic() + PATIENCE
+        while b"\n" not in self.output:
+            ready, _, _ = select.select([self.run.stdout], [], [], max(0, end - time.monotonic()))
+            data = os.read(self.run.stdout.fileno(), 4096) if ready else b""
+            if not data:
+                self.run.kill()
+                self.run.wait()
+                raise Failed(f"it does not listen: {self.output!r}")
+            self.output += data
+        line = self.output.partition(b"\n")[0].decode()
+        check(line.startswith("listening 127.0.0.1:"), f"the first line is {line!r}")
+        self.port = int(line.rpartition(":")[2])
+
+    def __enter__(self):
+        return self
+
+    def __exit__(self, *_):
+        self.run.kill()
+        self.run.wait()
+        self.run.stdout.close()
+
+    def client(self):
+        return Client(self.port)
+
+    def ends(self):
+        """Its status and all that it printed, once it has ended by itself."""
+        try:
+            status = self.run.wait(PATIENCE)
+        except subprocess.TimeoutExpired:
+            raise Failed("it does not end") from None
+        return status, (self.output + self.run.stdout.read()).decode()
+
+    def served(self, count):
+        """It ends with status 0 after so many sessions."""
+        status, output = self.ends()
+        check(status == 0, f"the status is {status}, and it printed {output!r}")
+        check(output.splitlines()[1:] == [f"served {count}"], f"it printed {output!r}")
+
+    def is_well(self, trace=0xE11):
+        """A new client hands in a batch and finds it, in little time."""
+        begin = time.monotonic()
+        with self.client() as client:
+            client.ask(post(trace), 202)
+            client.ask(get(f"/api/traces/{trace:x}"), 200)
+        took = time.monotonic() - begin
+        check(took < 2, f"another client waited {took:.1f} s")
+
+
+def found(client, trace):
+    answer = client.ask(get(f"/api/traces/{trace:x}"), 200)
+    check(answer.traces() == [f"{trace:016x}"], f"the answer for {trace:x} is {answer.body[:200]!r}")
+
+
+def all_at_once(calls):
+    """The calls, each in a thread of its own; the first failure is raised."""
+    faults = []
+
+    def guarded(call):
+        try:
+            call()
+        except (Failed, OSError) as fault:
+            faults.append(fault)
+
+    threads = [threading.Thread(target=guarded, args=(call,)) for call in calls]
+    for thread in threads:
+        thread.start()
+    for thread in threads:
+        thread.join()
+    if faults:
+        raise faults[0]
+
+
+# The cases.
+
+def own_traces(server, number, count, accepted):
+    with server.client() as client:
+        for place in range(1, count + 1):
+            trace = number << 32 | place
+            client.send(post(trace, service=f"s{number}"))
+            status = client.response().status
+            check(status in (202, 503), f"a batch was answered {status}")
+            if status == 202:
+                found(client, trace)
+                accepted.append(trace)
+
+
+def eight_clients(workers):
+    accepted = []
+    with Server("--port", 0, "--workers", workers) as server:
+        all_at_once([lambda n=n: own_traces(server, n, 50, accepted) for n in range(1, 9)])
+        with server.client() as client:
+            for trace in accepted:
+                found(client, trace)
+            services = json.loads(client.ask(get("/api/services"), 200).body)["data"]
+        check(services == [f"s{n}" for n in range(1, 9)], f"the services are {services}")
+    check(len(accepted) == 400, f"{len(accepted)} of 400 batches were accepted: the others were answered 503")
+
+
+def stalled_heads():
+    with Server("--port", 0, "--workers", 4, "--idle", 1) as server, contextlib.ExitStack() as stack:
+        stalled = [stack.enter_context(server.client()) for _ in range(3)]
+        for client in stalled:
+            client.send(b"GET /api/serv")
+        begin = time.monotonic()
+        time.sleep(0.2)
+        server.is_well()
+        for client in stalled:
+            with contextlib.suppress(ConnectionResetError):
+                client.reads_end()
+        took = time.monotonic() - begin
+        check(0.7 < took < 4, f"the clients that stalled were cut after {took:.1f} s")
+        server.is_well(0xE12)
+
+
+def stalled_body():
+    with Server("--port", 0, "--workers", 2, "--idle", 1) as server, server.client() as client:
+        client.send(post(1)[:-20])
+        begin = time.monotonic()
+        server.is_well()
+        with contextlib.suppress(ConnectionResetError):
+            client.reads_end()
+        took = time.monotonic() - begin
+        check(0.7 < took < 4, f"the client that stalled was cut after {took:.1f} s")
+        with server.client() as other:
+            other.ask(get("/api/traces/1"), 404)
+
+
+def stalled_everywhere():
+    with Server("--port", 0, "--workers", 2, "--idle", 1) as server, contextlib.ExitStack() as stack:
+        for _ in range(2):
+            stack.enter_context(server.client()).send(b"GET /api/serv")
+        time.sleep(0.2)
+        begin = time.monotonic()
+        with server.client() as client:
+            client.ask(post(1), 202)
+        check(time.monotonic() - begin < 5, "with a stalled client at each worker the next one waited for more than 5 s")
+
+
+def idle_between_requests():
+    with Server("--port", 0, "--workers", 1, "--idle", 1) as server, server.client() as client:
+        client.ask(post(1), 202)
+        time.sleep(0.5)
+        found(client, 1)
+        time.sleep(0.7)
+        found(client, 1)
+        begin = time.monotonic()
+        rest = client.reads_end()
+        took = time.monotonic() - begin
+        check(rest == b"" or rest.startswith(b"HTTP/1.1 "), f"an idle client was sent {rest!r}")
+        check(0.5 < took < 4, f"an idle client was cut after {took:.1f} s")
+
+
+def slow_sender():
+    with Server("--port", 0, "--workers", 1, "--idle", 2) as server, server.client() as client:
+        request = post(1)
+        for place in range(0, len(request), 40):
+            client.send(request[place:place + 40])
+            time.sleep(0.6)
+        status = client.response().status
+        check(status == 202, f"a client with pauses below the idle time was answered {status}")
+
+
+def no_idle_limit():
+    with Server("--port", 0, "--workers", 1, "--idle", 0) as server, server.client() as client:
+        client.ask(post(1), 202)
+        time.sleep(2.5)
+        found(client, 1)
+
+
+def goes_away_in_a_body(leave):
+    with Server("--port", 0, "--workers", 2) as server:
+        with server.client() as before:
+            before.ask(post(1), 202)
+            for _ in range(5):
+                client = server.client()
+                client.send(post(2)[:-20])
+                leave(client)
+            found(before, 1)
+            before.ask(get("/api/traces/2"), 404)
+        server.is_well()
+
+
+def goes_away_unread():
+    with Server("--port", 0, "--workers", 2) as server:
+        with server.client() as client:
+            client.ask(post(1), 202)
+        for _ in range(5):
+            client = server.client()
+            client.send(get("/api/traces/1") * 200)
+            client.reset()
+        server.is_well()
+
+
+def sessions_end():
+    with Server("--port", 0, "--sessions", 3) as server:
+        for trace in (1, 2, 3):
+            with server.client() as client:
+                client.ask(post(trace), 202)
+                found(client, 1)
+        server.served(3)
+
+
+def sessions_end_at_once():
+    with Server("--port", 0, "--workers", 2, "--sessions", 8) as server:
+        all_at_once([lambda n=n: own_traces(server, n, 5, []) for n in range(1, 9)])
+        server.served(8)
+
+
+def last_session_is_whole():
+    with Server("--port", 0, "--workers", 4, "--sessions", 2) as server:
+        with server.client() as first:
+            first.ask(post(1), 202)
+            with server.client() as second:
+                found(second, 1)
+            time.sleep(0.5)
+            first.ask(post(2), 202)
+            found(first, 2)
+        server.served(2)
+
+
+def one_session():
+    with Server("--port", 0, "--workers", 1, "--sessions", 1) as server:
+        with server.client() as client:
+            client.ask(post(1), 202)
+        server.served(1)
+
+
+def port_in_use():
+    with socket.create_server(("127.0.0.1", 0)) as taken:
+        words = [Server.binary, "serve", "--port", str(taken.getsockname()[1])]
+        try:
+            done = subprocess.run(words, stdin=subprocess.DEVNULL, stdout=subprocess.PIPE, stderr=subprocess.STDOUT, timeout=PATIENCE)
+        except subprocess.TimeoutExpired:
+            raise Failed("it does not end") from None
+    lines = done.stdout.decode().splitlines()
+    check(done.returncode == 4, f"the status is {done.returncode}, and it printed {lines}")
+    check(len(lines) == 1 and "listening" not in lines[0], f"it printed {lines}")
+
+
+def closing(request, status, rest=b"", workers=1):
+    """A client that has sent everything before it reads, and one that reads meanwhile, get the response whole and then the end."""
+    with Server("--port", 0, "--workers", workers) as server:
+        with server.client() as client:
+            try:
+                client.send(request + rest)
+                time.sleep(0.3)
+                response = client.response()
+                end = client.reads_end()
+            except (ConnectionError, TimeoutError) as fault:
+                raise Failed(f"a client that first sends and then reads: {fault}") from None
+        check(response.status == status and response.closes(), f"it was answered {response.status}, {response.fields}")
+        check(end == b"", f"after the closing response came {end[:80]!r}")
+        check(json.loads(response.body)["errors"][0]["code"] == status, f"the body is {response.body!r}")
+        with server.client() as client:
+            client.send(request)
+            sender = threading.Thread(target=drip, args=(client, rest))
+            sender.start()
+            try:
+                again = client.response()
+            except ConnectionError as fault:
+                raise Failed(f"a client that reads while it sends: {fault}") from None
+            finally:
+                with contextlib.suppress(OSError):
+                    client.socket.shutdown(socket.SHUT_RDWR)
+                sender.join()
+        check(again.body == response.body, f"the second client was answered {again.body!r}")
+        server.is_well()
+
+
+def drip(client, rest):
+    with contextlib.suppress(OSError):
+        for place in range(0, len(rest), 100_000):
+            client.send(rest[place:place + 100_000])
+            time.sleep(0.01)
+
+
+def body_too_large():
+    line = head("POST /api/traces HTTP/1.1", f"Content-Type: {THRIFT}", "Content-Length: 5000000")
+    closing(line, 413, bytes(5_000_000))
+
+
+def bad_head():
+    closing(b"GET /api/services\r\n\r\n", 400)
+    closing(b"\x16\x03\x01\x02\x00\x01\x00\x01\xfc\x03\x03 not HTTP at all\r\n\r\n", 400, bytes(100_000))
+
+
+def head_too_long():
+    closing(b"GET /api/services HTTP/1.1\r\n", 400, b"".join(b"X-%d: %s\r\n" % (n, b"y" * 500) for n in range(200)) + b"\r\n")
+
+
+def method_not_allowed():
+    body = batch(1)
+    closing(head("DELETE /api/traces HTTP/1.1", f"Content-Length: {len(body)}") + body, 405)
+    closing(head("PUT /api/services HTTP/1.1"), 405, get("/api/services") * 2000)
+
+
+def asked_to_close():
+    request = head("GET /api/services HTTP/1.1", "Connection: close")
+    for asked in (request, b"GET /api/services HTTP/1.0\r\n\r\n"):
+        with Server("--port", 0, "--workers", 1) as server, server.client() as client:
+            client.send(asked + get("/api/services") * 3)
+            response = client.response()
+            check(response.status == 200 and response.closes(), f"it was answered {response.status}, {response.fields}")
+            check(client.reads_end() == b"", "something follows a closing response")
+
+
+def half_closed():
+    with Server("--port", 0, "--workers", 1) as server, server.client() as client:
+        client.send(post(1) + get("/api/traces/1"))
+        client.socket.shutdown(socket.SHUT_WR)
+        check([client.response().status, client.response().status] == [202, 200], "a client that has ended its side was answered otherwise")
+        check(client.reads_end() == b"", "something follows the last response")
+
+
+def pipelined():
+    with Server("--port", 0, "--workers", 1) as server, server.client() as client:
+        client.send(b"".join(post(trace) + get(f"/api/traces/{trace:x}") + get("/api/x") for trace in range(1, 101)))
+        for trace in range(1, 101):
+            statuses = []
+            for _ in range(3):
+                response = client.response()
+                statuses.append(response.status)
+                if response.status == 200:
+                    check(response.traces() == [f"{trace:016x}"], f"trace {trace} is answered by {response.traces()}")
+            check(statuses == [202, 200, 404], f"the requests of trace {trace} were answered {statuses}")
+
+
+def pipelined_in_pieces():
+    with Server("--port", 0, "--workers", 1) as server, server.client() as client:
+        requests = b"".join(post(trace) + get(f"/api/traces/{trace:x}") for trace in range(1, 4))
+        for byte in requests:
+            client.send(bytes([byte]))
+        statuses = [client.response().status for _ in range(6)]
+        check(statuses == [202, 200] * 3, f"the requests were answered {statuses}")
+        for place in range(0, len(requests), 7):
+            client.send(requests[place:place + 7])
+        statuses = [client.response().status for _ in range(6)]
+        check(statuses == [202, 200] * 3, f"the requests were answered {statuses}")
+
+
+def large_answers_unread():
+    """A client that asks for much before it reads: the server's writes have to wait."""
+    with Server("--port", 0, "--workers", 2, "--idle", 5) as server, server.client() as client:
+        for _ in range(100):
+            client.ask(post(1, operation="o" * 2000), 202)
+        client.send(get("/api/traces/1") * 60)
+        time.sleep(1)
+        server.is_well()
+        lengths = {len(client.response().body) for _ in range(60)}
+        check(len(lengths) == 1 and min(lengths) > 200_000, f"the answers have {lengths} bytes")
+
+
+def seen_elsewhere():
+    with Server("--port", 0, "--workers", 4) as server, server.client() as early, server.client() as writer:
+        early.ask(get("/api/traces/1"), 404)
+        for trace in range(1, 101):
+            writer.ask(post(trace), 202)
+            found(early, trace)
+            with server.client() as late:
+                found(late, trace)
+
+
+def reset_at_once():
+    with Server("--port", 0, "--workers", 2, "--sessions", 12) as server:
+        with server.client() as client:
+            client.ask(post(1), 202)
+            for _ in range(10):
+                server.client().reset()
+            found(client, 1)
+        with server.client() as client:
+            found(client, 1)
+        server.served(12)
+
+
+def closed_at_once():
+    with Server("--port", 0, "--workers", 2, "--sessions", 11) as server:
+        for _ in range(10):
+            server.client().socket.close()
+        with server.client() as client:
+            client.ask(post(1), 202)
+        server.served(11)
+
+
+def stop(server, seconds):
+    server.run.send_signal(signal.SIGSTOP)
+    time.sleep(seconds)
+    server.run.send_signal(signal.SIGCONT)
+    time.sleep(0.1)
+
+
+def stopped_and_continued(idle):
+    with Server("--port", 0, "--workers", 2, "--idle", idle, "--sessions", 2) as server:
+        stop(server, 0.2)
+        with server.client() as client:
+            client.ask(post(1), 202)
+            for _ in range(3):
+                time.sleep(0.1)
+                stop(server, 0.2)
+            found(client, 1)
+            request = post(2)
+            client.send(request[:30])
+            time.sleep(0.1)
+            stop(server, 0.2)
+            client.send(request[30:-20])
+            time.sleep(0.1)
+            stop(server, 0.2)
+            client.send(request[-20:])
+            status = client.response().status
+            check(status == 202, f"a batch during whose body it was stopped was answered {status}")
+        stop(server, 0.2)
+        with server.client() as client:
+            found(client, 2)
+        server.served(2)
+
+
+CASES = {
+    "8 clients at once, 8 workers": lambda: eight_clients(8),
+    "8 clients at once, 2 workers": lambda: eight_clients(2),
+    "clients that stall in a head": stalled_heads,
+    "a client that stalls in a body": stalled_body,
+    "a stalled client at each worker": stalled_everywhere,
+    "idle between requests": idle_between_requests,
+    "pauses below the idle time": slow_sender,
+    "no idle limit": no_idle_limit,
+    "goes away in a body": lambda: goes_away_in_a_body(lambda client: client.socket.close()),
+    "reset in a body": lambda: goes_away_in_a_body(Client.reset),
+    "reset with answers unread": goes_away_unread,
+    "--sessions, one after the other": sessions_end,
+    "--sessions, at once": sessions_end_at_once,
+    "--sessions, the first ends last": last_session_is_whole,
+    "--sessions 1": one_session,
+    "a port in use": port_in_use,
+    "closing: body too large": body_too_large,
+    "closing: bad head": bad_head,
+    "closing: head too long": head_too_long,
+    "closing: method not allowed": method_not_allowed,
+    "closing: asked to close": asked_to_close,
+    "half-closed": half_closed,
+    "pipelined": pipelined,
+    "pipelined in pieces": pipelined_in_pieces,
+    "large answers that are read late": large_answers_unread,
+    "acknowledged here, found there": seen_elsewhere,
+    "reset right after connecting": reset_at_once,
+    "closed right after connecting": closed_at_once,
+    "stopped and continued": lambda: stopped_and_continued(10),
+    "stopped and continued, no idle limit": lambda: stopped_and_continued(0),
+}
+
+
+def main():
+    asked = argparse.ArgumentParser(description=__doc__, formatter_class=argparse.RawDescriptionHelpFormatter)
+    asked.add_argument("--bin", default=os.path.join(ROOT, "crates/jaeger_one/out/jaeger_one"))
+    asked.add_argument("--only", default="", help="the cases whose name has this word")
+    options = asked.parse_args()
+    Server.binary = options.bin
+    passed = failed = 0
+    for name, case in CASES.items():
+        if options.only not in name:
+            continue
+        try:
+            case()
+            passed += 1
+        except (Failed, OSError) as fault:
+            failed += 1
+            print(f"FAILED {name}: {fault or type(fault).__name__}", flush=True)
+    print(f"{passed} passed, {failed} failed")
+    sys.exit(1 if failed else 0)
+
+
+if __name__ == "__main__":
+    main()
