@@ -1,5 +1,6 @@
-use super::*;
-use http_session::Cause;
+use direct_store::Direct;
+use http_session::{Cause, Ended};
+use pipe_session::pipe;
 use session_devices::{MemoryInput, MemoryOutput};
 use span_store::SpanStore;
 use std::alloc::Global;
