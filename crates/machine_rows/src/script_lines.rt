@@ -1,10 +1,10 @@
-use super::*;
 use jaeger_model::{Seq, Text};
 use query_http::endpoints;
 use schedule_core::{Outcome, Step};
 use std::alloc::{AllocError, Global};
 use std::process::Abort;
 use std::test::*;
+use step_lines::{outcome_text, read_step};
 use trace_model::{Answer, Query, Refusal};
 
 /// A batch of service `a` with one span.

@@ -1,9 +1,9 @@
-use super::*;
-use jaeger_model::{Batch, Process, Seq, Span, SpanId, Text, TraceId};
+use schedule_core::{Outcome, Step, play};
 use std::alloc::Global;
 use std::process::Abort;
 use std::test::*;
 use trace_model::{Answer, Limits, Query};
+use trace_samples::{batch, span};
 
 /// What came of a step, and the number that tells it apart.
 fn word(outcome: &Outcome) -> (&'static str, u64) {
@@ -31,27 +31,8 @@ fn word(outcome: &Outcome) -> (&'static str, u64) {
 /// A batch of one span of service `a`, handed in by the seat.
 fn put(alloc: Global, seat: u32) -> Result<Step, Fail> {
     let mut spans = Vec::new(alloc);
-    spans.push(Span {
-        trace: TraceId { high: 0, low: 1 },
-        id: SpanId(2),
-        parent: SpanId(0),
-        operation: Text::from_str(alloc, "op")?,
-        references: Seq::new(alloc),
-        flags: 1,
-        start: 1000,
-        duration: 50,
-        tags: Seq::new(alloc),
-        logs: Seq::new(alloc),
-    })?;
-    let process = Process {
-        service: Text::from_str(alloc, "a")?,
-        tags: Seq::new(alloc),
-    };
-    let batch = Batch {
-        process,
-        spans: Seq::from_vec(spans),
-        seq_no: None,
-    };
+    spans.push(span(alloc, 1, 2)?)?;
+    let batch = batch(alloc, "a", spans)?;
     Ok(Step::Put { seat, batch })
 }
 
