@@ -1,47 +1,25 @@
-use super::*;
-use jaeger_model::{
-    Log, Placed, Process, RefKind, Seq, Span, SpanId, SpanRef, Tag, Text, TraceId, Value,
-};
+use jaeger_model::{Log, RefKind, Seq, Span, SpanId, SpanRef, Tag, Text, TraceId, Value};
+use query_json::{answer_json, answer_text, error_json, error_text};
 use std::alloc::{AllocError, Global};
 use std::process::Abort;
 use std::test::*;
 use trace_model::{Answer, Link, Operation, Shown};
+use trace_samples::{list_of, placed};
 
 /// The span of the sample batch: trace 1, span 2, operation `op`, from 1000 for 50 microseconds.
-fn span(alloc: Global) -> Result<Span, Fail> {
-    Ok(Span {
-        trace: TraceId { high: 0, low: 1 },
-        id: SpanId(2),
-        parent: SpanId(0),
-        operation: Text::from_str(alloc, "op")?,
-        references: Seq::new(alloc),
-        flags: 1,
-        start: 1000,
-        duration: 50,
-        tags: Seq::new(alloc),
-        logs: Seq::new(alloc),
-    })
+fn span(alloc: Global) -> Result<Span, AllocError> {
+    trace_samples::span(alloc, 1, 2)
 }
 
 fn shown(alloc: Global, service: &str, span: Span) -> Result<Shown, Fail> {
-    let process = Process {
-        service: Text::from_str(alloc, service)?,
-        tags: Seq::new(alloc),
-    };
     Ok(Shown {
-        placed: Placed { process, span },
+        placed: placed(alloc, service, span)?,
         warnings: Seq::new(alloc),
     })
 }
 
-fn one<T: Drop>(alloc: Global, item: T) -> Result<Seq<T>, AllocError> {
-    let mut items = Vec::new(alloc);
-    items.push(item)?;
-    Ok(Seq::from_vec(items))
-}
-
 fn found(alloc: Global, span: Shown) -> Result<Answer, AllocError> {
-    Ok(Answer::Trace(Some(one(alloc, span)?)))
+    Ok(Answer::Trace(Some(list_of(alloc, span)?)))
 }
 
 fn tag(alloc: Global, key: &str, value: Value) -> Result<Tag, AllocError> {
@@ -66,7 +44,7 @@ fn shows(rt: &impl Abort, alloc: Global, answer: &Answer, want: &str) -> Result<
 /// A trace whose one span has one tag shows this tag.
 fn shows_tag(rt: &impl Abort, alloc: Global, value: Value, want: &str) -> Result<(), Fail> {
     let mut span = span(alloc)?;
-    span.tags = one(alloc, tag(alloc, "d", value)?)?;
+    span.tags = list_of(alloc, tag(alloc, "d", value)?)?;
     let text = text_of(alloc, &found(alloc, shown(alloc, "a", span)?)?)?;
     let want = format!(in alloc; "\"tags\":[{{\"key\":\"d\",{want}}}]")?;
     assert!(rt; text.contains(want.as_str()), "{text}");
@@ -118,7 +96,7 @@ fn reference(
 ) -> Result<Seq<SpanRef>, AllocError> {
     let trace = span.trace;
     let id = SpanId(id);
-    one(alloc, SpanRef { kind, trace, id })
+    list_of(alloc, SpanRef { kind, trace, id })
 }
 
 fn full_span(alloc: Global) -> Result<Span, Fail> {
@@ -132,16 +110,16 @@ fn full_span(alloc: Global) -> Result<Span, Fail> {
         &span,
         18_446_744_073_709_551_615,
     )?;
-    let fields = one(alloc, tag(alloc, "k", Value::Long(7))?)?;
-    span.logs = one(alloc, Log { at: -1, fields })?;
+    let fields = list_of(alloc, tag(alloc, "k", Value::Long(7))?)?;
+    span.logs = list_of(alloc, Log { at: -1, fields })?;
     Ok(span)
 }
 
 fn full_trace(alloc: Global) -> Result<Answer, Fail> {
     let mut first = shown(alloc, "b", full_span(alloc)?)?;
-    first.placed.process.tags = one(alloc, tag(alloc, "ip", Value::Bool(true))?)?;
+    first.placed.process.tags = list_of(alloc, tag(alloc, "ip", Value::Bool(true))?)?;
     let warning = Text::from_str(alloc, "clock skew adjusted by 125 us")?;
-    first.warnings = one(alloc, warning)?;
+    first.warnings = list_of(alloc, warning)?;
     Ok(found(alloc, first)?)
 }
 
@@ -173,7 +151,7 @@ fn circle(alloc: Global) -> Result<Seq<Shown>, Fail> {
 
 #[test]
 fn names_of_processes(rt: HostRuntime) -> Result<(), Fail> {
-    let answer = Answer::Traces(one(rt.alloc(), circle(rt.alloc())?)?);
+    let answer = Answer::Traces(list_of(rt.alloc(), circle(rt.alloc())?)?);
     let want =
         r#"{"data":[{"processes":{"p1":{"serviceName":"b","tags":[]},"p2":{"serviceName":"a","tags":[]}},"spans":[{"duration":50,"flags":1,"logs":[],"operationName":"op","processID":"p1","references":[{"refType":"CHILD_OF","spanID":"0000000000000002","traceID":"0000000000000001"}],"spanID":"0000000000000003","startTime":1010,"tags":[],"traceID":"0000000000000001","warnings":null},{"duration":50,"flags":1,"logs":[],"operationName":"op","processID":"p2","references":[{"refType":"CHILD_OF","spanID":"0000000000000003","traceID":"0000000000000001"}],"spanID":"0000000000000002","startTime":1000,"tags":[],"traceID":"0000000000000001","warnings":null},{"duration":50,"flags":1,"logs":[],"operationName":"op","processID":"p1","references":[{"refType":"CHILD_OF","spanID":"0000000000000003","traceID":"0000000000000001"}],"spanID":"0000000000000004","startTime":1020,"tags":[],"traceID":"0000000000000001","warnings":null}],"traceID":"0000000000000001","warnings":null}],"errors":null,"limit":0,"offset":0,"total":1}"#;
     shows(&rt, rt.alloc(), &answer, want)
@@ -214,7 +192,7 @@ fn links(rt: HostRuntime) -> Result<(), Fail> {
 fn operations(rt: HostRuntime) -> Result<(), Fail> {
     let name = Text::from_str(rt.alloc(), "op")?;
     let kind = Text::from_str(rt.alloc(), "server")?;
-    let answer = Answer::Operations(one(rt.alloc(), Operation { name, kind })?);
+    let answer = Answer::Operations(list_of(rt.alloc(), Operation { name, kind })?);
     let want = r#"[{"name":"op","spanKind":"server"}]"#;
     shows_items(&rt, rt.alloc(), answer, want, 1)
 }
@@ -223,7 +201,7 @@ fn operations(rt: HostRuntime) -> Result<(), Fail> {
 fn names_and_ids(rt: HostRuntime) -> Result<(), Fail> {
     let alloc = rt.alloc();
     shows_items(&rt, alloc, Answer::Names(Seq::new(alloc)), "[]", 0)?;
-    let names = one(alloc, Text::from_str(alloc, "a")?)?;
+    let names = list_of(alloc, Text::from_str(alloc, "a")?)?;
     shows_items(&rt, alloc, Answer::Names(names), r#"["a"]"#, 1)?;
     let ids = vec![in alloc; TraceId { high: 0, low: 171 }, TraceId { high: 1, low: 0 }]?;
     let want = r#"["00000000000000ab","00000000000000010000000000000000"]"#;
