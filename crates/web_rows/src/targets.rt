@@ -208,7 +208,21 @@ fn tags_of_searches(rt: HostRuntime) -> Result<(), Fail> {
     )
 }
 
-/// The shortest duration that a search of service `a` asks for, or that it is bad.
+/// What a search of service `a` asks with this shortest duration.
+fn asked_of_duration(alloc: Global, text: &str) -> Result<String, Fail> {
+    let target = format!(in alloc; "/api/traces?service=a&minDuration={text}")?;
+    asked(alloc, &target)
+}
+
+/// A search of service `a` with this shortest duration, or that it is bad.
+fn line_of_duration(alloc: Global, want: &str) -> Result<String, AllocError> {
+    if want.is_empty() {
+        String::from_str(alloc, "minDuration")
+    } else {
+        format!(in alloc; "a/ None None {want} 0 100")
+    }
+}
+
 #[test]
 fn durations(rt: HostRuntime) -> Result<(), Fail> {
     for (text, want) in [
@@ -228,14 +242,18 @@ fn durations(rt: HostRuntime) -> Result<(), Fail> {
         ("1ns", ""),
         ("-1s", ""),
     ] {
-        let target = format!(in rt.alloc(); "/api/traces?service=a&minDuration={text}")?;
-        let mut line = format!(in rt.alloc(); "a/ None None {want} 0 100")?;
-        if want.is_empty() {
-            line = String::from_str(rt.alloc(), "minDuration")?;
-        }
-        assert!(rt; asked(rt.alloc(), &target)? == line, "{text}");
+        let line = line_of_duration(rt.alloc(), want)?;
+        assert!(rt; asked_of_duration(rt.alloc(), text)? == line, "{text}");
     }
     Ok(())
+}
+
+/// What a search asks whose parameters are bad, but for those in front.
+fn asked_behind(alloc: Global, mended: &str) -> Result<String, Fail> {
+    let target = format!(in alloc;
+        "/api/traces?{mended}tags=x&tag=x&maxDuration=1&minDuration=1m30s&limit=1.5&end=9223372036854775808&start=-1"
+    )?;
+    asked(alloc, &target)
 }
 
 /// Each bad parameter is mended in turn, by a good one in front.
@@ -252,10 +270,10 @@ fn first_faults_of_searches(rt: HostRuntime) -> Result<(), Fail> {
         ("maxDuration=1s&", "tag"),
     ] {
         mended.push_str(more)?;
-        let target = format!(in rt.alloc();
-            "/api/traces?{mended}tags=x&tag=x&maxDuration=1&minDuration=1m30s&limit=1.5&end=9223372036854775808&start=-1"
-        )?;
-        assert!(rt; asked(rt.alloc(), &target)?.as_str() == want, "{target}");
+        assert!(rt;
+            asked_behind(rt.alloc(), &mended)?.as_str() == want,
+            "{mended}"
+        );
     }
     Ok(())
 }
