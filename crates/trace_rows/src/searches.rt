@@ -89,17 +89,23 @@ const BOUNDS: [([i64; 2], [i64; 2], [Option<i64>; 2], bool); 17] = [
     ([i64::MAX, 0], [0, 0], [None, Some(i64::MAX - 1)], false),
 ];
 
+/// Whether a trace of one span that starts then and lasts so long is found within the bounds.
+fn is_within(
+    alloc: Global,
+    [start, duration]: [i64; 2],
+    durations: [i64; 2],
+    starts: [Option<i64>; 2],
+) -> Result<bool, AllocError> {
+    let query = within(alloc, durations, starts)?;
+    let one = begun_once(alloc, 1, start, duration)?;
+    Ok(is_found(&[seen(&one)], &query))
+}
+
 #[test]
 fn bounds(rt: HostRuntime) -> Result<(), Fail> {
-    let alloc = rt.alloc();
-    for ([start, duration], durations, starts, wanted) in BOUNDS {
-        let query = within(alloc, durations, starts)?;
-        let one = begun_once(alloc, 1, start, duration)?;
-        assert_eq!(rt;
-            is_found(&[seen(&one)], &query),
-            wanted,
-            "{start} {duration} {durations:?}"
-        );
+    for (span, durations, starts, wanted) in BOUNDS {
+        let found = is_within(rt.alloc(), span, durations, starts)?;
+        assert_eq!(rt; found, wanted, "{span:?} {durations:?}");
     }
     Ok(())
 }
@@ -139,15 +145,25 @@ fn expect_places(rt: &impl Abort, ids: &[TraceId], places: &[usize]) {
     }
 }
 
+/// The places and the ids of the traces of these starts that are found.
+fn found_of(
+    alloc: Global,
+    starts: &[[i64; 2]],
+    limit: u64,
+) -> Result<(Vec<usize>, Vec<TraceId>), AllocError> {
+    let query = limited(alloc, limit)?;
+    let traces = begun(alloc, starts)?;
+    let traces = seen_traces(alloc, &traces)?;
+    let places = find(alloc, &traces, &query)?;
+    Ok((places, find_ids(alloc, &traces, &query)?))
+}
+
 #[test]
 fn latest_first(rt: HostRuntime) -> Result<(), Fail> {
-    let alloc = rt.alloc();
     for (starts, limit, wanted) in ORDERS {
-        let query = limited(alloc, limit)?;
-        let traces = begun(alloc, starts)?;
-        let traces = seen_traces(alloc, &traces)?;
-        assert!(rt; find(alloc, &traces, &query)?.as_slice() == wanted);
-        expect_places(&rt, &find_ids(alloc, &traces, &query)?, wanted);
+        let (places, ids) = found_of(rt.alloc(), starts, limit)?;
+        assert!(rt; places.as_slice() == wanted);
+        expect_places(&rt, &ids, wanted);
     }
     Ok(())
 }
@@ -243,15 +259,21 @@ fn is_found_beside(alloc: Global, other: &Placed) -> Result<bool, AllocError> {
     Ok(is_found(&[seen(&plain), seen(other)], &query))
 }
 
+/// The same of a span of this service with the tag.
+fn is_found_at(alloc: Global, place: u8, service: &str) -> Result<bool, AllocError> {
+    let service = Text::from_str(alloc, service)?;
+    let mut other = tagged(alloc, place)?;
+    other.process.service = service;
+    is_found_beside(alloc, &other)
+}
+
 /// A tag counts wherever it stands, but not beside a span of another service.
 #[test]
 fn tags_of_one_span(rt: HostRuntime) -> Result<(), Fail> {
     let alloc = rt.alloc();
     for place in 0..3u8 {
-        let mut other = tagged(alloc, place)?;
-        assert!(rt; is_found_beside(alloc, &other)?);
-        other.process.service = Text::new(alloc);
-        assert!(rt; !is_found_beside(alloc, &other)?);
+        assert!(rt; is_found_at(alloc, place, "a")?);
+        assert!(rt; !is_found_at(alloc, place, "")?);
     }
     Ok(())
 }
@@ -320,7 +342,7 @@ fn latest_first_plainly(rt: HostRuntime) -> Result<(), Fail> {
     let alloc = rt.alloc();
     for (rows, limit, wanted) in PLAIN_ORDERS {
         let query = Query::FindIds(limited(alloc, limit)?);
-        let answer = answer_of(alloc, rows, 0, &query)?;
+        let answer = answer_of(alloc, rows, 0, query)?;
         expect_ids(&rt, &answer, wanted);
     }
     Ok(())
@@ -349,7 +371,7 @@ fn bounds_plainly(rt: HostRuntime) -> Result<(), Fail> {
     let alloc = rt.alloc();
     for (durations, starts, wanted) in PLAIN_BOUNDS {
         let query = Query::Find(within(alloc, durations, starts)?);
-        let answer = answer_of(alloc, &ONE, 0, &query)?;
+        let answer = answer_of(alloc, &ONE, 0, query)?;
         assert_eq!(rt; found_in(&answer), wanted);
     }
     Ok(())
