@@ -24,6 +24,3 @@ mod scan;
 pub use asked::{BodyLength, Breach, Method, Request};
 pub use reading::{Next, next_request};
 pub use received::{Interrupted, Received};
-
-#[cfg(test)]
-mod tests;

@@ -16,8 +16,6 @@ use session_devices::{Input, Output};
 use std::alloc::Global;
 
 pub mod laws;
-#[cfg(test)]
-mod tests;
 
 /// Answers the requests of the input one after the other, from a store of one's own. It waits for nothing
 /// but the devices.

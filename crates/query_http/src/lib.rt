@@ -24,6 +24,3 @@ pub use form::{Pair, form_pairs};
 pub use paths::{Endpoint, endpoints, find_endpoint};
 pub use query::{parse_query, path_and_form, read_query};
 pub use response::respond;
-
-#[cfg(test)]
-mod tests;

@@ -20,6 +20,3 @@ mod tree;
 mod values;
 
 pub use answer::{answer_json, answer_text, error_json, error_text};
-
-#[cfg(test)]
-mod tests;

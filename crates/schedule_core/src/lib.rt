@@ -29,6 +29,3 @@ pub use outcome::Outcome;
 pub use script::play;
 pub use step::Step;
 pub use world::World;
-
-#[cfg(test)]
-mod tests;

@@ -17,9 +17,6 @@ mod watched;
 pub use memory::{MemoryInput, MemoryOutput};
 pub use watched::Watched;
 
-#[cfg(test)]
-mod tests;
-
 /// The device failed.
 #[derive(Clone, Copy, Debug, PartialEq, Eq)]
 pub struct Failed;

@@ -29,6 +29,3 @@ mod words;
 pub use fault::StepFault;
 pub use outcome::outcome_text;
 pub use step::read_step;
-
-#[cfg(test)]
-mod tests;

@@ -1,4 +1,4 @@
-use crate::histories::{Row as Reported, answer_of};
+use crate::histories::{CYCLE, Row as Reported, answer_of};
 use jaeger_model::{Log, Placed, Process, RefKind, Seq, Span, SpanId, SpanRef, TraceId};
 use std::alloc::{AllocError, Global};
 use std::process::Abort;
@@ -317,11 +317,6 @@ const FAMILY: [Reported; 3] = [
     (["a", "h2"], [1, 3, 2], [905, 10]),
 ];
 
-const CYCLE: [Reported; 2] = [
-    (["a", "h1"], [1, 2, 3], [1000, 50]),
-    (["b", "h2"], [1, 3, 2], [1010, 50]),
-];
-
 /// Spans, the limit of the skew, whether they are asked for as they came, and what is shown.
 const SHOWN: [(&[Reported], u64, bool, &[(i64, &str)]); 4] = [
     (
@@ -352,7 +347,7 @@ fn shown_in(answer: &Answer) -> &[Shown] {
 fn shown_plainly(rt: HostRuntime) -> Result<(), Fail> {
     let alloc = rt.alloc();
     for (rows, max_skew, raw, wanted) in SHOWN {
-        let answer = answer_of(alloc, rows, max_skew, &Query::Trace { id: OWN, raw })?;
+        let answer = answer_of(alloc, rows, max_skew, Query::Trace { id: OWN, raw })?;
         expect_all(&rt, shown_in(&answer), wanted);
     }
     Ok(())

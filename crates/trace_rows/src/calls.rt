@@ -1,4 +1,4 @@
-use crate::histories::{Row as Reported, answer_of};
+use crate::histories::{CYCLE, Row as Reported, answer_of};
 use call_links::links;
 use jaeger_model::{Placed, SpanId};
 use std::alloc::{AllocError, Global};
@@ -119,11 +119,6 @@ const CALL: [Reported; 2] = [
     (["b", "h1"], [1, 2, 1], [1000, 50]),
 ];
 
-const CYCLE: [Reported; 2] = [
-    (["a", "h1"], [1, 2, 3], [1000, 50]),
-    (["b", "h2"], [1, 3, 2], [1010, 50]),
-];
-
 /// Spans, the end and the lookback, and the services that call one another, once each.
 const PLAIN_LINKS: [(&[Reported], i64, i64, &[(&str, &str, u64)]); 4] = [
     (&CALL, 2, 1, &[]),
@@ -147,7 +142,7 @@ fn calls_plainly(rt: HostRuntime) -> Result<(), Fail> {
             end_ms,
             lookback_ms,
         };
-        let answer = answer_of(alloc, rows, 0, &query)?;
+        let answer = answer_of(alloc, rows, 0, query)?;
         expect_links(&rt, links_in(&answer), wanted);
     }
     Ok(())

@@ -11,6 +11,12 @@ use trace_samples::{host_process, list_of, span};
 /// A span: its service and its host; its trace, its id and its parent's; its start and its duration.
 pub(crate) type Row = ([&'static str; 2], [u64; 3], [i64; 2]);
 
+/// Two spans that are each other's parents.
+pub(crate) const CYCLE: [Row; 2] = [
+    (["a", "h1"], [1, 2, 3], [1000, 50]),
+    (["b", "h2"], [1, 3, 2], [1010, 50]),
+];
+
 fn span_of(alloc: Global, ids: [u64; 3], times: [i64; 2]) -> Result<Span, AllocError> {
     let [trace, id, parent] = ids;
     let [start, duration] = times;
@@ -55,9 +61,9 @@ pub(crate) fn answer_of(
     alloc: Global,
     rows: &[Row],
     max_skew: u64,
-    query: &Query,
+    query: Query,
 ) -> Result<Answer, Fail> {
     let limits = Limits::new(10, 10, 0, max_skew).ok_or("limits")?;
     let entries = history(alloc, rows)?;
-    Ok(plain_answer(alloc, &entries, limits, query)?)
+    Ok(plain_answer(alloc, &entries, limits, &query)?)
 }

@@ -30,6 +30,27 @@ fn by_service(alloc: Global) -> Result<Find, AllocError> {
     })
 }
 
+/// The same within bounds of durations and of starts.
+fn within(
+    alloc: Global,
+    durations: [i64; 2],
+    starts: [Option<i64>; 2],
+) -> Result<Find, AllocError> {
+    let mut find = by_service(alloc)?;
+    find.duration_min = durations[0];
+    find.duration_max = durations[1];
+    find.start_min = starts[0];
+    find.start_max = starts[1];
+    Ok(find)
+}
+
+/// The same for no more traces than the limit.
+fn limited(alloc: Global, limit: u64) -> Result<Find, AllocError> {
+    let mut find = by_service(alloc)?;
+    find.limit = limit;
+    Ok(find)
+}
+
 fn seen(placed: &Placed) -> Seen<'_> {
     Seen {
         process: &placed.process,
@@ -68,23 +89,23 @@ const BOUNDS: [([i64; 2], [i64; 2], [Option<i64>; 2], bool); 17] = [
     ([i64::MAX, 0], [0, 0], [None, Some(i64::MAX - 1)], false),
 ];
 
+/// Whether a trace of one span that starts then and lasts so long is found within the bounds.
+fn is_within(
+    alloc: Global,
+    [start, duration]: [i64; 2],
+    durations: [i64; 2],
+    starts: [Option<i64>; 2],
+) -> Result<bool, AllocError> {
+    let query = within(alloc, durations, starts)?;
+    let one = begun_once(alloc, 1, start, duration)?;
+    Ok(is_found(&[seen(&one)], &query))
+}
+
 #[test]
 fn bounds(rt: HostRuntime) -> Result<(), Fail> {
-    let alloc = rt.alloc();
-    for ([start, duration], durations, starts, wanted) in BOUNDS {
-        let query = Find {
-            duration_min: durations[0],
-            duration_max: durations[1],
-            start_min: starts[0],
-            start_max: starts[1],
-            ..by_service(alloc)?
-        };
-        let one = begun_once(alloc, 1, start, duration)?;
-        assert_eq!(rt;
-            is_found(&[seen(&one)], &query),
-            wanted,
-            "{start} {duration} {durations:?}"
-        );
+    for (span, durations, starts, wanted) in BOUNDS {
+        let found = is_within(rt.alloc(), span, durations, starts)?;
+        assert_eq!(rt; found, wanted, "{span:?} {durations:?}");
     }
     Ok(())
 }
@@ -124,18 +145,25 @@ fn expect_places(rt: &impl Abort, ids: &[TraceId], places: &[usize]) {
     }
 }
 
+/// The places and the ids of the traces of these starts that are found.
+fn found_of(
+    alloc: Global,
+    starts: &[[i64; 2]],
+    limit: u64,
+) -> Result<(Vec<usize>, Vec<TraceId>), AllocError> {
+    let query = limited(alloc, limit)?;
+    let traces = begun(alloc, starts)?;
+    let traces = seen_traces(alloc, &traces)?;
+    let places = find(alloc, &traces, &query)?;
+    Ok((places, find_ids(alloc, &traces, &query)?))
+}
+
 #[test]
 fn latest_first(rt: HostRuntime) -> Result<(), Fail> {
-    let alloc = rt.alloc();
     for (starts, limit, wanted) in ORDERS {
-        let query = Find {
-            limit,
-            ..by_service(alloc)?
-        };
-        let traces = begun(alloc, starts)?;
-        let traces = seen_traces(alloc, &traces)?;
-        assert!(rt; find(alloc, &traces, &query)?.as_slice() == wanted);
-        expect_places(&rt, &find_ids(alloc, &traces, &query)?, wanted);
+        let (places, ids) = found_of(rt.alloc(), starts, limit)?;
+        assert!(rt; places.as_slice() == wanted);
+        expect_places(&rt, &ids, wanted);
     }
     Ok(())
 }
@@ -187,11 +215,18 @@ const TEXTS: [&str; 5] = [
     "00ff",
 ];
 
-/// Whether a span with the value under `k` is found by this key and text.
-fn is_told(alloc: Global, kind: u8, key: &str, text: &str) -> Result<bool, AllocError> {
+/// A span with the value under `k`.
+fn telling(alloc: Global, kind: u8) -> Result<Placed, AllocError> {
     let mut placed = begun_once(alloc, 1, 1000, 50)?;
     placed.span.tags = tags(alloc, value(alloc, kind)?)?;
-    Ok(is_match(seen(&placed), &by_tag(alloc, key, text)?))
+    Ok(placed)
+}
+
+/// Whether such a span is found by this key and text.
+fn is_told(alloc: Global, kind: u8, key: &str, text: &str) -> Result<bool, AllocError> {
+    let placed = telling(alloc, kind)?;
+    let query = by_tag(alloc, key, text)?;
+    Ok(is_match(seen(&placed), &query))
 }
 
 #[test]
@@ -217,17 +252,28 @@ fn tagged(alloc: Global, place: u8) -> Result<Placed, AllocError> {
     Ok(tagged)
 }
 
+/// Whether a trace of a span without tags and of this one is found by the tag.
+fn is_found_beside(alloc: Global, other: &Placed) -> Result<bool, AllocError> {
+    let query = by_tag(alloc, "k", "true")?;
+    let plain = begun_once(alloc, 1, 1000, 50)?;
+    Ok(is_found(&[seen(&plain), seen(other)], &query))
+}
+
+/// The same of a span of this service with the tag.
+fn is_found_at(alloc: Global, place: u8, service: &str) -> Result<bool, AllocError> {
+    let service = Text::from_str(alloc, service)?;
+    let mut other = tagged(alloc, place)?;
+    other.process.service = service;
+    is_found_beside(alloc, &other)
+}
+
 /// A tag counts wherever it stands, but not beside a span of another service.
 #[test]
 fn tags_of_one_span(rt: HostRuntime) -> Result<(), Fail> {
     let alloc = rt.alloc();
-    let query = by_tag(alloc, "k", "true")?;
-    let plain = begun_once(alloc, 1, 1000, 50)?;
     for place in 0..3u8 {
-        let mut other = tagged(alloc, place)?;
-        assert!(rt; is_found(&[seen(&plain), seen(&other)], &query));
-        other.process.service = Text::new(alloc);
-        assert!(rt; !is_found(&[seen(&plain), seen(&other)], &query));
+        assert!(rt; is_found_at(alloc, place, "a")?);
+        assert!(rt; !is_found_at(alloc, place, "")?);
     }
     Ok(())
 }
@@ -295,11 +341,8 @@ const PLAIN_ORDERS: [(&[Row], u64, &[u64]); 5] = [
 fn latest_first_plainly(rt: HostRuntime) -> Result<(), Fail> {
     let alloc = rt.alloc();
     for (rows, limit, wanted) in PLAIN_ORDERS {
-        let find = Find {
-            limit,
-            ..by_service(alloc)?
-        };
-        let answer = answer_of(alloc, rows, 0, &Query::FindIds(find))?;
+        let query = Query::FindIds(limited(alloc, limit)?);
+        let answer = answer_of(alloc, rows, 0, query)?;
         expect_ids(&rt, &answer, wanted);
     }
     Ok(())
@@ -326,15 +369,9 @@ const PLAIN_BOUNDS: [([i64; 2], [Option<i64>; 2], usize); 4] = [
 #[test]
 fn bounds_plainly(rt: HostRuntime) -> Result<(), Fail> {
     let alloc = rt.alloc();
-    for ([duration_min, duration_max], [start_min, start_max], wanted) in PLAIN_BOUNDS {
-        let find = Find {
-            duration_min,
-            duration_max,
-            start_min,
-            start_max,
-            ..by_service(alloc)?
-        };
-        let answer = answer_of(alloc, &ONE, 0, &Query::Find(find))?;
+    for (durations, starts, wanted) in PLAIN_BOUNDS {
+        let query = Query::Find(within(alloc, durations, starts)?);
+        let answer = answer_of(alloc, &ONE, 0, query)?;
         assert_eq!(rt; found_in(&answer), wanted);
     }
     Ok(())

@@ -1,24 +1,28 @@
-use super::*;
 use jaeger_model::{Seq, Text};
 use query_http::endpoints;
 use schedule_core::{Outcome, Step};
 use std::alloc::{AllocError, Global};
 use std::process::Abort;
 use std::test::*;
+use step_lines::{StepFault, outcome_text, read_step};
 use trace_model::{Answer, Query, Refusal};
 
 /// A batch of service `a` with one span.
 const FIRST: &[u8] =
     b"0c00010b00010000000161000f00020c000000010a000100000000000000010a000200000000000000000a000300000000000000020a000400000000000000000b0005000000026f70080007000000010a000800000000000003e80a000900000000000000320000";
 
-/// A line's step in one line, or its fault. A call that found no memory is made once more.
-fn told(alloc: Global, line: &[u8]) -> Result<String, Fail> {
+/// A line's step or its fault. A call that found no memory is made once more.
+fn read(alloc: Global, line: &[u8]) -> Result<Result<Step, StepFault>, Fail> {
     let router = endpoints(alloc)?;
-    let step = match read_step(alloc, &router, line) {
-        Err(AllocError) => read_step(alloc, &router, line)?,
-        Ok(step) => step,
-    };
-    match step {
+    match read_step(alloc, &router, line) {
+        Err(AllocError) => Ok(read_step(alloc, &router, line)?),
+        Ok(step) => Ok(step),
+    }
+}
+
+/// The same in one line.
+fn told(alloc: Global, line: &[u8]) -> Result<String, Fail> {
+    match read(alloc, line)? {
         Ok(step) => Ok(step_text(alloc, &step)?),
         Err(fault) => Ok(format!(in alloc; "{fault}")?),
     }

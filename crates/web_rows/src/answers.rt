@@ -1,47 +1,27 @@
-use super::*;
 use jaeger_model::{
     Log, Placed, Process, RefKind, Seq, Span, SpanId, SpanRef, Tag, Text, TraceId, Value,
 };
+use query_json::{answer_json, answer_text, error_json, error_text};
 use std::alloc::{AllocError, Global};
 use std::process::Abort;
 use std::test::*;
 use trace_model::{Answer, Link, Operation, Shown};
+use trace_samples::{list_of, placed};
 
 /// The span of the sample batch: trace 1, span 2, operation `op`, from 1000 for 50 microseconds.
-fn span(alloc: Global) -> Result<Span, Fail> {
-    Ok(Span {
-        trace: TraceId { high: 0, low: 1 },
-        id: SpanId(2),
-        parent: SpanId(0),
-        operation: Text::from_str(alloc, "op")?,
-        references: Seq::new(alloc),
-        flags: 1,
-        start: 1000,
-        duration: 50,
-        tags: Seq::new(alloc),
-        logs: Seq::new(alloc),
-    })
+fn span(alloc: Global) -> Result<Span, AllocError> {
+    trace_samples::span(alloc, 1, 2)
 }
 
-fn shown(alloc: Global, service: &str, span: Span) -> Result<Shown, Fail> {
-    let process = Process {
-        service: Text::from_str(alloc, service)?,
-        tags: Seq::new(alloc),
-    };
+fn shown(alloc: Global, service: &str, span: Span) -> Result<Shown, AllocError> {
     Ok(Shown {
-        placed: Placed { process, span },
+        placed: placed(alloc, service, span)?,
         warnings: Seq::new(alloc),
     })
 }
 
-fn one<T: Drop>(alloc: Global, item: T) -> Result<Seq<T>, AllocError> {
-    let mut items = Vec::new(alloc);
-    items.push(item)?;
-    Ok(Seq::from_vec(items))
-}
-
 fn found(alloc: Global, span: Shown) -> Result<Answer, AllocError> {
-    Ok(Answer::Trace(Some(one(alloc, span)?)))
+    Ok(Answer::Trace(Some(list_of(alloc, span)?)))
 }
 
 fn tag(alloc: Global, key: &str, value: Value) -> Result<Tag, AllocError> {
@@ -63,23 +43,38 @@ fn shows(rt: &impl Abort, alloc: Global, answer: &Answer, want: &str) -> Result<
     Ok(())
 }
 
-/// A trace whose one span has one tag shows this tag.
-fn shows_tag(rt: &impl Abort, alloc: Global, value: Value, want: &str) -> Result<(), Fail> {
+/// The text of a trace whose one span has one tag.
+fn text_with_tag(alloc: Global, value: Value) -> Result<String, AllocError> {
+    let tags = list_of(alloc, tag(alloc, "d", value)?)?;
     let mut span = span(alloc)?;
-    span.tags = one(alloc, tag(alloc, "d", value)?)?;
-    let text = text_of(alloc, &found(alloc, shown(alloc, "a", span)?)?)?;
+    span.tags = tags;
+    text_of(alloc, &found(alloc, shown(alloc, "a", span)?)?)
+}
+
+/// It shows this tag.
+fn shows_tag(rt: &impl Abort, alloc: Global, value: Value, want: &str) -> Result<(), Fail> {
+    let text = text_with_tag(alloc, value)?;
     let want = format!(in alloc; "\"tags\":[{{\"key\":\"d\",{want}}}]")?;
     assert!(rt; text.contains(want.as_str()), "{text}");
     Ok(())
 }
 
+fn sample(alloc: Global) -> Result<Answer, AllocError> {
+    found(alloc, shown(alloc, "a", span(alloc)?)?)
+}
+
+/// The text of the answer's tree.
+fn tree_text(alloc: Global, answer: &Answer) -> Result<String, Fail> {
+    Ok(answer_json(alloc, answer)?.to_string(alloc)?)
+}
+
 #[test]
 fn sample_trace(rt: HostRuntime) -> Result<(), Fail> {
-    let answer = found(rt.alloc(), shown(rt.alloc(), "a", span(rt.alloc())?)?)?;
+    let answer = sample(rt.alloc())?;
     let want =
         r#"{"data":[{"processes":{"p1":{"serviceName":"a","tags":[]}},"spans":[{"duration":50,"flags":1,"logs":[],"operationName":"op","processID":"p1","references":[],"spanID":"0000000000000002","startTime":1000,"tags":[],"traceID":"0000000000000001","warnings":null}],"traceID":"0000000000000001","warnings":null}],"errors":null,"limit":0,"offset":0,"total":1}"#;
     shows(&rt, rt.alloc(), &answer, want)?;
-    let text = answer_json(rt.alloc(), &answer)?.to_string(rt.alloc())?;
+    let text = tree_text(rt.alloc(), &answer)?;
     assert!(rt; text.as_str() == want, "{text}");
     Ok(())
 }
@@ -109,40 +104,52 @@ fn tags(rt: HostRuntime) -> Result<(), Fail> {
     Ok(())
 }
 
-/// A reference to a span of the same trace.
-fn reference(
-    alloc: Global,
-    kind: RefKind,
-    span: &Span,
-    id: u64,
-) -> Result<Seq<SpanRef>, AllocError> {
+/// The span with a reference to a span of its trace.
+fn referring(alloc: Global, span: Span, kind: RefKind, id: u64) -> Result<Span, AllocError> {
     let trace = span.trace;
     let id = SpanId(id);
-    one(alloc, SpanRef { kind, trace, id })
+    let mut span = span;
+    span.references = list_of(alloc, SpanRef { kind, trace, id })?;
+    Ok(span)
 }
 
-fn full_span(alloc: Global) -> Result<Span, Fail> {
+fn log(alloc: Global) -> Result<Log, AllocError> {
+    let fields = list_of(alloc, tag(alloc, "k", Value::Long(7))?)?;
+    Ok(Log { at: -1, fields })
+}
+
+fn full_span(alloc: Global) -> Result<Span, AllocError> {
+    let logs = list_of(alloc, log(alloc)?)?;
     let mut span = span(alloc)?;
     span.trace = TraceId { high: 1, low: 10 };
     span.flags = -1;
     span.start = -5;
-    span.references = reference(
+    span.logs = logs;
+    referring(
         alloc,
+        span,
         RefKind::FollowsFrom,
-        &span,
         18_446_744_073_709_551_615,
-    )?;
-    let fields = one(alloc, tag(alloc, "k", Value::Long(7))?)?;
-    span.logs = one(alloc, Log { at: -1, fields })?;
-    Ok(span)
+    )
 }
 
-fn full_trace(alloc: Global) -> Result<Answer, Fail> {
-    let mut first = shown(alloc, "b", full_span(alloc)?)?;
-    first.placed.process.tags = one(alloc, tag(alloc, "ip", Value::Bool(true))?)?;
+fn tagged_process(alloc: Global) -> Result<Process, AllocError> {
+    let service = Text::from_str(alloc, "b")?;
+    let tags = list_of(alloc, tag(alloc, "ip", Value::Bool(true))?)?;
+    Ok(Process { service, tags })
+}
+
+fn full_placed(alloc: Global) -> Result<Placed, AllocError> {
+    let process = tagged_process(alloc)?;
+    let span = full_span(alloc)?;
+    Ok(Placed { process, span })
+}
+
+fn full_trace(alloc: Global) -> Result<Answer, AllocError> {
     let warning = Text::from_str(alloc, "clock skew adjusted by 125 us")?;
-    first.warnings = one(alloc, warning)?;
-    Ok(found(alloc, first)?)
+    let warnings = list_of(alloc, warning)?;
+    let placed = full_placed(alloc)?;
+    found(alloc, Shown { placed, warnings })
 }
 
 #[test]
@@ -154,16 +161,15 @@ fn every_field_of_a_trace(rt: HostRuntime) -> Result<(), Fail> {
 }
 
 /// A span whose parent is another span of its trace.
-fn child(alloc: Global, id: u64, parent: u64, start: i64) -> Result<Span, Fail> {
+fn child(alloc: Global, id: u64, parent: u64, start: i64) -> Result<Span, AllocError> {
     let mut span = span(alloc)?;
     span.id = SpanId(id);
     span.start = start;
-    span.references = reference(alloc, RefKind::ChildOf, &span, parent)?;
-    Ok(span)
+    referring(alloc, span, RefKind::ChildOf, parent)
 }
 
 /// Two spans that are each other's parents, and a third one of the first one's process.
-fn circle(alloc: Global) -> Result<Seq<Shown>, Fail> {
+fn circle(alloc: Global) -> Result<Seq<Shown>, AllocError> {
     let mut spans = Vec::new(alloc);
     for (service, id, parent, start) in [("b", 3, 2, 1010), ("a", 2, 3, 1000), ("b", 4, 3, 1020)] {
         spans.push(shown(alloc, service, child(alloc, id, parent, start)?)?)?;
@@ -173,7 +179,7 @@ fn circle(alloc: Global) -> Result<Seq<Shown>, Fail> {
 
 #[test]
 fn names_of_processes(rt: HostRuntime) -> Result<(), Fail> {
-    let answer = Answer::Traces(one(rt.alloc(), circle(rt.alloc())?)?);
+    let answer = Answer::Traces(list_of(rt.alloc(), circle(rt.alloc())?)?);
     let want =
         r#"{"data":[{"processes":{"p1":{"serviceName":"b","tags":[]},"p2":{"serviceName":"a","tags":[]}},"spans":[{"duration":50,"flags":1,"logs":[],"operationName":"op","processID":"p1","references":[{"refType":"CHILD_OF","spanID":"0000000000000002","traceID":"0000000000000001"}],"spanID":"0000000000000003","startTime":1010,"tags":[],"traceID":"0000000000000001","warnings":null},{"duration":50,"flags":1,"logs":[],"operationName":"op","processID":"p2","references":[{"refType":"CHILD_OF","spanID":"0000000000000003","traceID":"0000000000000001"}],"spanID":"0000000000000002","startTime":1000,"tags":[],"traceID":"0000000000000001","warnings":null},{"duration":50,"flags":1,"logs":[],"operationName":"op","processID":"p1","references":[{"refType":"CHILD_OF","spanID":"0000000000000003","traceID":"0000000000000001"}],"spanID":"0000000000000004","startTime":1020,"tags":[],"traceID":"0000000000000001","warnings":null}],"traceID":"0000000000000001","warnings":null}],"errors":null,"limit":0,"offset":0,"total":1}"#;
     shows(&rt, rt.alloc(), &answer, want)
@@ -214,7 +220,7 @@ fn links(rt: HostRuntime) -> Result<(), Fail> {
 fn operations(rt: HostRuntime) -> Result<(), Fail> {
     let name = Text::from_str(rt.alloc(), "op")?;
     let kind = Text::from_str(rt.alloc(), "server")?;
-    let answer = Answer::Operations(one(rt.alloc(), Operation { name, kind })?);
+    let answer = Answer::Operations(list_of(rt.alloc(), Operation { name, kind })?);
     let want = r#"[{"name":"op","spanKind":"server"}]"#;
     shows_items(&rt, rt.alloc(), answer, want, 1)
 }
@@ -223,7 +229,7 @@ fn operations(rt: HostRuntime) -> Result<(), Fail> {
 fn names_and_ids(rt: HostRuntime) -> Result<(), Fail> {
     let alloc = rt.alloc();
     shows_items(&rt, alloc, Answer::Names(Seq::new(alloc)), "[]", 0)?;
-    let names = one(alloc, Text::from_str(alloc, "a")?)?;
+    let names = list_of(alloc, Text::from_str(alloc, "a")?)?;
     shows_items(&rt, alloc, Answer::Names(names), r#"["a"]"#, 1)?;
     let ids = vec![in alloc; TraceId { high: 0, low: 171 }, TraceId { high: 1, low: 0 }]?;
     let want = r#"["00000000000000ab","00000000000000010000000000000000"]"#;

@@ -1,4 +1,4 @@
-use super::*;
+use session_devices::{Failed, Input, MemoryInput, MemoryOutput, Output, Watched};
 use std::io::{Read, Write};
 use std::test::*;
 

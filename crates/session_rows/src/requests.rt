@@ -1,4 +1,4 @@
-use super::*;
+use http_requests::{Breach, Interrupted, Method, Next, Received, next_request};
 use session_devices::MemoryInput;
 use std::alloc::Global;
 use std::process::Abort;

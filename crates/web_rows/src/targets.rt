@@ -1,4 +1,4 @@
-use super::*;
+use query_http::{Endpoint, QueryFault, endpoints, find_endpoint, parse_query};
 use std::alloc::{AllocError, Global};
 use std::process::Abort;
 use std::test::*;
@@ -208,7 +208,21 @@ fn tags_of_searches(rt: HostRuntime) -> Result<(), Fail> {
     )
 }
 
-/// The shortest duration that a search of service `a` asks for, or that it is bad.
+/// What a search of service `a` asks with this shortest duration.
+fn asked_of_duration(alloc: Global, text: &str) -> Result<String, Fail> {
+    let target = format!(in alloc; "/api/traces?service=a&minDuration={text}")?;
+    asked(alloc, &target)
+}
+
+/// A search of service `a` with this shortest duration, or that it is bad.
+fn line_of_duration(alloc: Global, want: &str) -> Result<String, AllocError> {
+    if want.is_empty() {
+        String::from_str(alloc, "minDuration")
+    } else {
+        format!(in alloc; "a/ None None {want} 0 100")
+    }
+}
+
 #[test]
 fn durations(rt: HostRuntime) -> Result<(), Fail> {
     for (text, want) in [
@@ -228,14 +242,18 @@ fn durations(rt: HostRuntime) -> Result<(), Fail> {
         ("1ns", ""),
         ("-1s", ""),
     ] {
-        let target = format!(in rt.alloc(); "/api/traces?service=a&minDuration={text}")?;
-        let mut line = format!(in rt.alloc(); "a/ None None {want} 0 100")?;
-        if want.is_empty() {
-            line = String::from_str(rt.alloc(), "minDuration")?;
-        }
-        assert!(rt; asked(rt.alloc(), &target)? == line, "{text}");
+        let line = line_of_duration(rt.alloc(), want)?;
+        assert!(rt; asked_of_duration(rt.alloc(), text)? == line, "{text}");
     }
     Ok(())
+}
+
+/// What a search asks whose parameters are bad, but for those in front.
+fn asked_behind(alloc: Global, mended: &str) -> Result<String, Fail> {
+    let target = format!(in alloc;
+        "/api/traces?{mended}tags=x&tag=x&maxDuration=1&minDuration=1m30s&limit=1.5&end=9223372036854775808&start=-1"
+    )?;
+    asked(alloc, &target)
 }
 
 /// Each bad parameter is mended in turn, by a good one in front.
@@ -252,90 +270,10 @@ fn first_faults_of_searches(rt: HostRuntime) -> Result<(), Fail> {
         ("maxDuration=1s&", "tag"),
     ] {
         mended.push_str(more)?;
-        let target = format!(in rt.alloc();
-            "/api/traces?{mended}tags=x&tag=x&maxDuration=1&minDuration=1m30s&limit=1.5&end=9223372036854775808&start=-1"
-        )?;
-        assert!(rt; asked(rt.alloc(), &target)?.as_str() == want, "{target}");
+        assert!(rt;
+            asked_behind(rt.alloc(), &mended)?.as_str() == want,
+            "{mended}"
+        );
     }
-    Ok(())
-}
-
-/// The response to a request that is refused has this head, and the refusal as its body.
-fn refusal(
-    rt: &impl Abort,
-    alloc: Global,
-    (status, msg, allow, close): (u16, &str, &str, bool),
-    head: &str,
-) -> Result<(), Fail> {
-    let body = format!(in alloc;
-        "{{\"data\":null,\"errors\":[{{\"code\":{status},\"msg\":\"{msg}\"}}],\"limit\":0,\"offset\":0,\"total\":0}}"
-    )?;
-    let want = format!(in alloc; "HTTP/1.1 {status} {head}\r\n\r\n{body}")?;
-    let bytes = respond(alloc, status, body.as_bytes(), allow, close)?;
-    assert!(rt; bytes.as_slice() == want.as_bytes(), "{want}");
-    Ok(())
-}
-
-#[test]
-fn refusals(rt: HostRuntime) -> Result<(), Fail> {
-    for (refused, head) in [
-        (
-            (415, "unsupported content type", "", false),
-            "Unsupported Media Type\r\nContent-Type: application/json\r\nContent-Length: 101",
-        ),
-        (
-            (404, "no such path", "", false),
-            "Not Found\r\nContent-Type: application/json\r\nContent-Length: 89",
-        ),
-        (
-            (405, "method not allowed", "GET", true),
-            "Method Not Allowed\r\nContent-Type: application/json\r\nContent-Length: 95\r\nAllow: GET\r\nConnection: close",
-        ),
-        (
-            (405, "method not allowed", "GET, POST", false),
-            "Method Not Allowed\r\nContent-Type: application/json\r\nContent-Length: 95\r\nAllow: GET, POST",
-        ),
-        (
-            (400, "batch refused: 1 Truncated", "", false),
-            "Bad Request\r\nContent-Type: application/json\r\nContent-Length: 103",
-        ),
-        (
-            (503, "journal full", "", false),
-            "Service Unavailable\r\nContent-Type: application/json\r\nContent-Length: 89",
-        ),
-        (
-            (404, "trace not found", "", false),
-            "Not Found\r\nContent-Type: application/json\r\nContent-Length: 92",
-        ),
-        (
-            (409, "conflict", "", false),
-            "Conflict\r\nContent-Type: application/json\r\nContent-Length: 85",
-        ),
-        (
-            (413, "body too large", "", true),
-            "Content Too Large\r\nContent-Type: application/json\r\nContent-Length: 91\r\nConnection: close",
-        ),
-        (
-            (500, "internal error", "", false),
-            "Internal Server Error\r\nContent-Type: application/json\r\nContent-Length: 91",
-        ),
-    ] {
-        refusal(&rt, rt.alloc(), refused, head)?;
-    }
-    Ok(())
-}
-
-#[test]
-fn responses_that_refuse_nothing(rt: HostRuntime) -> Result<(), Fail> {
-    let alloc = rt.alloc();
-    let accepted = respond(alloc, 202, b"", "", false)?;
-    let want = b"HTTP/1.1 202 Accepted\r\nContent-Length: 0\r\n\r\n";
-    assert!(rt; accepted.as_slice() == want.as_slice());
-    let last = respond(alloc, 202, b"", "", true)?;
-    let want = b"HTTP/1.1 202 Accepted\r\nContent-Length: 0\r\nConnection: close\r\n\r\n";
-    assert!(rt; last.as_slice() == want.as_slice());
-    let answered = respond(alloc, 200, b"{}", "", false)?;
-    let want = b"HTTP/1.1 200 OK\r\nContent-Type: application/json\r\nContent-Length: 2\r\n\r\n{}";
-    assert!(rt; answered.as_slice() == want.as_slice());
     Ok(())
 }

@@ -1,5 +1,6 @@
-use super::*;
-use http_session::Cause;
+use direct_store::Direct;
+use http_session::{Cause, Ended, SessionFault};
+use pipe_session::pipe;
 use session_devices::{MemoryInput, MemoryOutput};
 use span_store::SpanStore;
 use std::alloc::Global;
@@ -33,15 +34,29 @@ fn empty_store(rt: &impl Abort, alloc: Global) -> Direct {
     Direct::new(SpanStore::open(alloc, limits))
 }
 
+/// A session over a store that was empty: how it ended, what was written, and how many entries the store
+/// has. The reader gives so many bytes a call and fails at that call; the writer has that room and takes so
+/// many bytes a call.
+fn played(
+    rt: &impl Abort,
+    alloc: Global,
+    bytes: &[u8],
+    (step, fails_at): (usize, u64),
+    (room, taken): (usize, usize),
+) -> (Result<Ended, SessionFault>, MemoryOutput, u64) {
+    let mut input = MemoryInput::new(bytes, step, fails_at);
+    let mut output = MemoryOutput::new(alloc, room, taken);
+    let mut store = empty_store(rt, alloc);
+    let ended = pipe(alloc, &mut input, &mut output, &mut store);
+    (ended, output, store.into_store().len())
+}
+
 #[test]
 fn one_byte_a_call(rt: HostRuntime) -> Result<(), Fail> {
     let alloc = rt.alloc();
     let bytes = batch_and_services(alloc)?;
     for step in [1, 7, 10_000] {
-        let mut input = MemoryInput::new(bytes.as_slice(), step, 0);
-        let mut output = MemoryOutput::new(alloc, 10_000, step);
-        let mut store = empty_store(&rt, alloc);
-        let ended = pipe(alloc, &mut input, &mut output, &mut store);
+        let (ended, output, _) = played(&rt, alloc, bytes.as_slice(), (step, 0), (10_000, step));
         assert!(rt;
             ended
                 == Ok(Ended {
@@ -59,10 +74,14 @@ fn a_reader_that_fails_at_each_call(rt: HostRuntime) -> Result<(), Fail> {
     let alloc = rt.alloc();
     let bytes = batch_and_services(alloc)?;
     for fails_at in 1..16 {
-        let mut input = MemoryInput::new(bytes.as_slice(), 16, fails_at);
-        let mut output = MemoryOutput::new(alloc, 10_000, 10_000);
-        let mut store = empty_store(&rt, alloc);
-        let fault = pipe(alloc, &mut input, &mut output, &mut store).expect_err(&rt, "fault");
+        let (ended, output, _) = played(
+            &rt,
+            alloc,
+            bytes.as_slice(),
+            (16, fails_at),
+            (10_000, 10_000),
+        );
+        let fault = ended.expect_err(&rt, "fault");
         assert!(rt; fault.cause == Cause::Reading);
         assert_eq!(rt; fault.written, 0);
         assert!(rt; ANSWERS.starts_with(output.as_slice()));
@@ -75,13 +94,11 @@ fn a_writer_that_fails_after_each_byte(rt: HostRuntime) -> Result<(), Fail> {
     let alloc = rt.alloc();
     let bytes = batch_and_services(alloc)?;
     for room in 0..ANSWERS.len() {
-        let mut input = MemoryInput::new(bytes.as_slice(), 10_000, 0);
-        let mut output = MemoryOutput::new(alloc, room, 5);
-        let mut store = empty_store(&rt, alloc);
-        let fault = pipe(alloc, &mut input, &mut output, &mut store).expect_err(&rt, "fault");
+        let (ended, output, entries) = played(&rt, alloc, bytes.as_slice(), (10_000, 0), (room, 5));
+        let fault = ended.expect_err(&rt, "fault");
         assert!(rt; fault.cause == Cause::Writing);
         assert!(rt; output.as_slice() == &ANSWERS[..room]);
-        assert_eq!(rt; store.into_store().len(), 1);
+        assert_eq!(rt; entries, 1);
     }
     Ok(())
 }

@@ -1,0 +1,14 @@
+//! Tests of sessions: devices that fail, requests in pieces, and whole sessions over a store of one's
+//! own (`session_devices`, `http_requests`, `pipe_session` and what that stands on).
+//!
+//! * `devices`: readers and writers over memory, and std's, watched.
+//! * `requests`: the next request of an input, each end, and what a head asks.
+//! * `pipes`: whole sessions, and those whose devices fail at each call.
+#![tactic(auto)]
+
+#[cfg(test)]
+mod devices;
+#[cfg(test)]
+mod pipes;
+#[cfg(test)]
+mod requests;

@@ -1,0 +1,14 @@
+//! Tests of what the web asks and is answered: worked rows of `query_http` and `query_json`, whose
+//! expected texts come from Jaeger's query interface.
+//!
+//! * `targets`: the query that a target asks, or what is wrong with it.
+//! * `responses`: the bytes of responses.
+//! * `answers`: the JSON of answers and errors.
+#![tactic(auto)]
+
+#[cfg(test)]
+mod answers;
+#[cfg(test)]
+mod responses;
+#[cfg(test)]
+mod targets;
