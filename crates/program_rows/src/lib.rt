@@ -12,3 +12,5 @@ mod piping;
 mod playing;
 #[cfg(test)]
 mod runs;
+#[cfg(test)]
+mod serving;

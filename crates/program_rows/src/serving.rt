@@ -1,0 +1,33 @@
+//! `serve` where it can't.
+use program_run::run;
+use session_devices::Watched;
+use std::fmt::Write;
+use std::net::{Ipv4Addr, SocketAddr, SocketAddrV4, TcpListener};
+use std::test::*;
+
+#[test]
+fn a_port_in_use(rt: HostRuntime) -> Result<(), Fail> {
+    let alloc = rt.alloc();
+    let any = SocketAddr::V4(SocketAddrV4::new(Ipv4Addr::LOCALHOST, 0));
+    let taken = TcpListener::bind(&rt, any).expect(&rt, "bind");
+    let port = taken.local_addr().expect(&rt, "address").port();
+    let mut word = String::new(alloc);
+    assert!(&rt; write!(word, "--port={port}").is_ok());
+    let words = ["jaeger_one", "serve", word.as_str()];
+    let mut written = Vec::new(alloc);
+    let status = run(
+        &rt,
+        alloc,
+        words.as_slice(),
+        &mut Watched::new("".as_bytes()),
+        &mut Watched::new(&mut written),
+    );
+    assert_eq!(&rt; status, 4);
+    assert!(&rt;
+        written
+            .as_slice()
+            .starts_with(b"cannot listen on 127.0.0.1:")
+    );
+    assert!(&rt; written.as_slice().ends_with(b"\n"));
+    Ok(())
+}
