@@ -11,8 +11,8 @@ read by the ids of held ones. Four kinds of measurement, each a process of its o
 
     bench/copies.py [--bin PATH | --folder PATH] [--sizes 1000,10000,100000] [--timed 100] [--rounds 9]
 
-The program is proved and built by `rt run` in a copy of the crates that it stands on: quick where their `out/` has the proofs, and
-an hour from a plain clone. The copy is temporary, or stays in the folder that `--folder` names; `--bin` names a program that
+The program is proved and built by `rt run` in a copy of the crates that it stands on: some five minutes where their `out/` has the
+proofs, and about an hour from a plain clone. The copy is temporary, or stays in the folder that `--folder` names; `--bin` names a program that
 was built so. Times are those of the machine's monotonic clock, taken in the program around each call; a read's time does not have
 the letting go of its answer. `admits/s` is the number of timed batches by the sum of their times, and `of one` its ratio
 to that of one thread in the same round. `reads/s` is of all reading
