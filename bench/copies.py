@@ -1,0 +1,523 @@
+#!/usr/bin/env python3
+"""What two copies of the store cost beside the store of one thread, in one run on one machine.
+
+Batches of 10 spans are handed in until so many spans are held; then so many more are timed, one after the other, and traces are
+read by the ids of held ones. Four kinds of measurement, each a process of its own, one after the other, in some rounds:
+
+  one      the store of one thread: `SpanStore::apply` of the timed batches, then `SpanStore::answer` of 2,000 traces
+  copies   two copies: `Keeper::admit` of the timed batches, and nobody reads
+  beside   the same while three threads read, each by its own `Pass::read`, as fast as they can
+  still    three threads read for 20 ms, and nobody writes
+
+    bench/copies.py [--bin PATH | --folder PATH] [--sizes 1000,10000,100000] [--timed 100] [--rounds 9]
+
+The program is proved and built by `rt run` in a copy of the crates that it stands on: some five minutes where their `out/` has the
+proofs, and about an hour from a plain clone. The copy is temporary, or stays in the folder that `--folder` names; `--bin` names a program that
+was built so. Times are those of the machine's monotonic clock, taken in the program around each call; a read's time does not have
+the letting go of its answer. `admits/s` is the number of timed batches by the sum of their times, and `of one` its ratio
+to that of one thread in the same round. `reads/s` is of all reading
+threads together, and has the letting go of the answers. Each figure is the median of the rounds' own figures; with `--spread` the
+least and the most of the rounds follow.
+"""
+import argparse
+import os
+import random
+import shutil
+import statistics
+import struct
+import subprocess
+import sys
+import tempfile
+
+from decode import ROOT, field, span, text
+
+IN_BATCH = 10
+KINDS = ["one", "copies", "beside", "still"]
+NAMES = {"one": "one thread", "copies": "two copies", "beside": "two copies, 3 readers", "still": "3 readers, no writer"}
+
+# The program.
+MAIN = """//! Times the store of one thread, or two copies of a store, over the bodies of standard input: the last ones are timed as they are
+//! taken in, and traces are read after that or beside it.
+//!
+//! Its words are `one`, `copies`, `beside` or `still`, and how many bodies are timed; without words it does nothing. It prints a
+//! line for each timed body and for each read, with its nanoseconds, and one for each reading thread, with those of all its reads.
+#![tactic(auto)]
+
+ghost use Rattle.std.specs.Prelude.{◌≡◌};
+
+use anyhow::{Result, bail};
+use batch_codec::decode;
+use jaeger_model::TraceId;
+use read_side::{Keeper, Opened, Pass, StoreName, open};
+use span_store::SpanStore;
+use std::alloc::Global;
+use std::io::Read;
+use std::marker::Brand;
+use std::sync::atomic::{AtomicU64, Ordering};
+use std::sync::{Arc, Wait};
+use std::thread::{Threads, join, map_vec};
+use std::time::{Clock, Duration};
+use std::{env, thread};
+use trace_model::{Answer, Entry, Limits, Query, Refusal};
+
+/// What is handed in before the timing and within it, and the traces that are held before.
+#[derive(Drop)]
+struct Load {
+    first: Vec<Arc<Entry>>,
+    timed: Vec<Arc<Entry>>,
+    ids: Vec<TraceId>,
+}
+
+/// Nanoseconds of each read, and of all.
+#[derive(Drop)]
+struct Reads {
+    each: Vec<u64>,
+    took: u64,
+}
+
+/// Nanoseconds of each entry that was admitted, and what was read.
+#[derive(Drop)]
+struct Times {
+    admits: Vec<u64>,
+    reads: Vec<Reads>,
+}
+
+/// How many threads have begun to read, and how far the measurement is: 0 until all have, 1 while it is timed, 2 once it is over.
+#[derive(Drop)]
+struct Stage {
+    reading: AtomicU64,
+    phase: AtomicU64,
+}
+
+/// Nanoseconds since some moment.
+fn now<R: Clock>(rt: &R) -> u64 {
+    match rt.monotonic() {
+        Ok(time) => u64::try_from(time.as_nanos()).unwrap_or(0),
+        Err(_) => 0,
+    }
+}
+
+/// The entries of the bodies, which are a length of four bytes and then that many bytes, each.
+fn entries(alloc: Global, input: &[u8]) -> Result<Vec<Arc<Entry>>> {
+    let mut entries = Vec::new(alloc);
+    let mut rest = input;
+    for before in 0..1_000_000u64 {
+        let [a, b, c, d, tail @ ..] = rest else {
+            break;
+        };
+        let length = u32::from_be_bytes([*a, *b, *c, *d]) as usize;
+        if tail.len() < length {
+            break;
+        }
+        let (body, after) = tail.split_at(length);
+        let batch = decode(alloc, body)?;
+        let number = before + 1;
+        let entry = Entry {
+            seat: 0,
+            number,
+            batch,
+        };
+        entries.push(Arc::new(alloc, entry)?)?;
+        rest = after;
+    }
+    Ok(entries)
+}
+
+/// The last entries are timed, as many as that.
+fn split_load(alloc: Global, input: &[u8], timed: usize) -> Result<Load> {
+    let all = entries(alloc, input)?;
+    let held = all.len().saturating_sub(timed);
+    let mut load = Load {
+        first: Vec::new(alloc),
+        timed: Vec::new(alloc),
+        ids: Vec::new(alloc),
+    };
+    for entry in all {
+        if load.first.len() < held {
+            if let Some(span) = entry.batch.spans.as_slice().first() {
+                load.ids.push(span.trace)?;
+            }
+            load.first.push(entry)?;
+        } else {
+            load.timed.push(entry)?;
+        }
+    }
+    Ok(load)
+}
+
+/// One of the traces, and the choice after it.
+fn choose(ids: &[TraceId], choice: &mut u64) -> TraceId {
+    *choice = choice
+        .wrapping_mul(6_364_136_223_846_793_005)
+        .wrapping_add(1_442_695_040_888_963_407);
+    let place = (*choice >> 33) as usize;
+    if ids.is_empty() {
+        return TraceId { high: 0, low: 0 };
+    }
+    ids[place % ids.len()]
+}
+
+/// Applies entries and times each.
+fn apply_timed<R: Clock>(
+    rt: &R,
+    alloc: Global,
+    store: &mut SpanStore,
+    entries: Vec<Arc<Entry>>,
+) -> Result<Vec<u64>, Refusal> {
+    let mut times = Vec::new(alloc);
+    for entry in entries {
+        let begin = now(rt);
+        store.apply(entry)?;
+        times.push(now(rt).saturating_sub(begin))?;
+    }
+    Ok(times)
+}
+
+/// Asks for held traces and times each.
+fn answer_timed<R: Clock>(
+    rt: &R,
+    alloc: Global,
+    store: &SpanStore,
+    ids: &[TraceId],
+) -> Result<Reads, Refusal> {
+    let mut each = Vec::new(alloc);
+    let mut choice = 1;
+    let start = now(rt);
+    for _ in 0..2000 {
+        let id = choose(ids, &mut choice);
+        let begin = now(rt);
+        let answer = store.answer(&Query::Trace { id, raw: false })?;
+        each.push(now(rt).saturating_sub(begin))?;
+        if !matches!(answer, Answer::Trace(Some(_))) {
+            return Err(Refusal::Gone);
+        }
+    }
+    let took = now(rt).saturating_sub(start);
+    Ok(Reads { each, took })
+}
+
+/// The store of one thread: entries and reads, one after the other.
+fn timed_one<R: Clock>(
+    rt: &R,
+    alloc: Global,
+    limits: Limits,
+    load: Load,
+) -> Result<Times, Refusal> {
+    let Load { first, timed, ids } = load;
+    let mut store = SpanStore::open(alloc, limits);
+    let _untimed = apply_timed(rt, alloc, &mut store, first)?;
+    let admits = apply_timed(rt, alloc, &mut store, timed)?;
+    let mut reads = Vec::new(alloc);
+    reads.push(answer_timed(rt, alloc, &store, ids.as_slice())?)?;
+    Ok(Times { admits, reads })
+}
+
+/// Reads held traces until the measurement is over.
+fn read_on<N: StoreName, R: Clock>(
+    rt: &R,
+    alloc: Global,
+    mut pass: Pass<N>,
+    ids: &[TraceId],
+    stage: &Stage,
+) -> Result<Reads, Refusal> {
+    let mut each = Vec::with_capacity(alloc, 10_000)?;
+    let mut choice = stage.reading.fetch_add(1, Ordering::SeqCst);
+    let mut start = 0;
+    let mut end = 0;
+    for _ in 0..100_000_000u64 {
+        let phase = stage.phase.load(Ordering::SeqCst);
+        if phase == 2 {
+            break;
+        }
+        let id = choose(ids, &mut choice);
+        let begin = now(rt);
+        let reading = pass.read(&Query::Trace { id, raw: false })?;
+        end = now(rt);
+        if !matches!(reading.answer, Answer::Trace(Some(_))) {
+            return Err(Refusal::Gone);
+        }
+        if phase == 1 {
+            each.push(end.saturating_sub(begin))?;
+            if start == 0 {
+                start = begin;
+            }
+        }
+    }
+    let took = end.saturating_sub(start);
+    Ok(Reads { each, took })
+}
+
+/// Admits entries and times each.
+fn admit_timed<N: StoreName, R: Wait + Clock>(
+    rt: &R,
+    alloc: Global,
+    keeper: &mut Keeper<N>,
+    entries: Vec<Arc<Entry>>,
+) -> Result<Vec<u64>, Refusal> {
+    let mut times = Vec::new(alloc);
+    for entry in entries {
+        let begin = now(rt);
+        let _receipt = keeper.admit(rt, entry)?;
+        times.push(now(rt).saturating_sub(begin))?;
+    }
+    Ok(times)
+}
+
+/// Waits until so many read, admits the entries, or only waits for some time where there are none, and ends the stage.
+fn write_beside<N: StoreName, R: Wait + Clock>(
+    rt: &R,
+    alloc: Global,
+    keeper: &mut Keeper<N>,
+    entries: Vec<Arc<Entry>>,
+    readers: u64,
+    stage: &Stage,
+) -> Result<Vec<u64>, Refusal> {
+    for _ in 0..100_000 {
+        if stage.reading.load(Ordering::SeqCst) == readers {
+            break;
+        }
+        thread::sleep(rt, Duration::from_micros(50));
+    }
+    stage.phase.store(1, Ordering::SeqCst);
+    if entries.is_empty() {
+        thread::sleep(rt, Duration::from_millis(20));
+    }
+    let times = admit_timed(rt, alloc, keeper, entries);
+    stage.phase.store(2, Ordering::SeqCst);
+    times
+}
+
+/// Entries before, and then the timed ones beside as many readers as there are passes.
+fn write_and_read<N: StoreName + Send + Sync, R: Threads + Wait + Clock + Sync>(
+    rt: &R,
+    alloc: Global,
+    keeper: &mut Keeper<N>,
+    passes: Vec<Pass<N>>,
+    load: Load,
+) -> Result<Times, Refusal> {
+    let Load { first, timed, ids } = load;
+    admit_timed(rt, alloc, keeper, first)?;
+    let stage = Stage {
+        reading: AtomicU64::new(0),
+        phase: AtomicU64::new(0),
+    };
+    let readers = passes.len() as u64;
+    let (admits, found) = join(
+        rt,
+        || write_beside(rt, alloc, keeper, timed, readers, &stage),
+        || map_vec(
+            rt,
+            passes,
+            &|pass| read_on(rt, alloc, pass, ids.as_slice(), &stage),
+        ),
+    );
+    let mut reads = Vec::new(alloc);
+    for one in found? {
+        reads.push(one?)?;
+    }
+    Ok(Times {
+        admits: admits?,
+        reads,
+    })
+}
+
+/// Two copies, of a store of this name, which is spent.
+fn timed_named<N: StoreName + Send + Sync, R: Threads + Wait + Clock + Sync>(
+    rt: &R,
+    alloc: Global,
+    name: Opened,
+    limits: Limits,
+    readers: bool,
+    load: Load,
+) -> Result<Times, Refusal>
+    requires book { name.seen.book ≡ N.book }
+    requires limits { limits ≡ N.limits }
+{
+    let (mut keeper, mut passes) = open::<N>(alloc, name, limits, 3)?;
+    if !readers {
+        passes.clear();
+    }
+    let times = write_and_read(rt, alloc, &mut keeper, passes, load);
+    keeper.close(rt);
+    times
+}
+
+/// Two copies.
+fn timed_copies<R: Threads + Wait + Clock + Sync>(
+    rt: &R,
+    alloc: Global,
+    limits: Limits,
+    readers: bool,
+    load: Load,
+) -> Result<Times, Refusal> {
+    timed_named::<Brand, R>(rt, alloc, Opened::new(), limits, readers, load)
+}
+
+fn main(rt: HostRuntime) -> Result<()> {
+    let alloc = rt.alloc();
+    let words: Vec<String> = env::args(&rt)?.collect(alloc)?;
+    let kind = words.get(1).map_or("", |word| word.as_str());
+    if kind.is_empty() {
+        return Ok(());
+    }
+    let timed: usize = words.get(2).and_then(|word| word.parse().ok()).unwrap_or(0);
+    let mut input = Vec::new(alloc);
+    rt.stdin().read_to_end(&mut input)?;
+    let mut load = split_load(alloc, &input, timed)?;
+    let Some(limits) = Limits::new(1_000_000, 10_000_000, 0, 0) else {
+        bail!("limits out of their ranges");
+    };
+    if kind == "still" {
+        load.timed.clear();
+    }
+    let times = if kind == "one" {
+        timed_one(&rt, alloc, limits, load)
+    } else {
+        timed_copies(&rt, alloc, limits, kind != "copies", load)
+    };
+    let times = match times {
+        Ok(times) => times,
+        Err(why) => bail!("{why}"),
+    };
+    for took in times.admits.iter() {
+        println!(&rt; "admit {took}")?;
+    }
+    for reads in times.reads.iter() {
+        let took = reads.took;
+        println!(&rt; "reader {took}")?;
+        for took in reads.each.iter() {
+            println!(&rt; "read {took}")?;
+        }
+    }
+    Ok(())
+}
+"""
+
+# Which store the program opens, for its proof.
+GHOSTS = """use Rattle.copies_times.proofs.timed_copies.Given as goal
+
+-- the store that is opened here
+abbrev pub ghosts-timed_named : goal.ghosts-timed_named
+ghosts-timed_named g a = record { book = a.name.seen.book; limits = a.limits }
+"""
+
+DEPS = "read_side span_store batch_codec jaeger_model trace_model anyhow left_right crossbeam_utils atomic_table logbook"
+
+
+def below(names, lists):
+    """The crates of the repository that these stand on, and these."""
+    found = set()
+    for name in names:
+        if name in lists:
+            found |= {name} | below(lists[name], lists)
+    return found
+
+
+def build(top):
+    """Proves and builds the program in a copy below this folder."""
+    with open(os.path.join(ROOT, "crates.txt")) as file:
+        lines = [line.partition(":") for line in file if ":" in line and not line.startswith("#")]
+    lists = {name.split()[0]: deps.split() for name, _, deps in lines}
+    names = sorted(below(DEPS.split(), lists))
+    for name in names:
+        there = os.path.join(top, "crates", name)
+        if not os.path.exists(there):
+            shutil.copytree(os.path.join(ROOT, "crates", name), there, symlinks=True)
+    shutil.copy(os.path.join(ROOT, "HANDLES"), top)
+    with open(os.path.join(top, "crates.txt"), "w") as file:
+        file.writelines(f"{name}: {' '.join(lists[name])}\n" for name in names)
+        file.write(f"copies_times: {DEPS}\n")
+    crate = os.path.join(top, "crates", "copies_times")
+    for name, contents in {"src/main.rt": MAIN, "proofs/timed_copies/Invariants.antt": GHOSTS}.items():
+        path = os.path.join(crate, name)
+        os.makedirs(os.path.dirname(path), exist_ok=True)
+        with open(path, "w") as file:
+            file.write(contents)
+    subprocess.run(["rt", "run", "--jobs", "1"], cwd=crate, check=True, stdin=subprocess.DEVNULL, stdout=sys.stderr)
+    return os.path.join(crate, "out", "copies_times")
+
+
+def batch(rng, trace):
+    """Spans of one trace, each the parent of the next."""
+    spans = [span(rng, trace, n, n - 1) for n in range(1, IN_BATCH + 1)]
+    process = field(12, 1) + field(11, 1) + text(rng.choice(["frontend", "orders", "billing", "catalogue"])) + b"\0"
+    return process + field(15, 2) + b"\x0c" + struct.pack(">i", IN_BATCH) + b"".join(spans) + b"\0"
+
+
+def share(times, part):
+    """The time that this part of the calls did not exceed, in microseconds."""
+    ordered = sorted(times)
+    return ordered[min(len(ordered) - 1, int(part * len(ordered)))] / 1e3
+
+
+def measure(program, kind, timed, path):
+    """One process: its figures by their names."""
+    with open(path, "rb") as stdin:
+        run = subprocess.run([program, kind, str(timed)], stdin=stdin, capture_output=True, text=True, check=True)
+    admits, readers = [], []
+    for line in run.stdout.splitlines():
+        word, took = line.split()
+        if word == "admit":
+            admits.append(int(took))
+        elif word == "reader":
+            readers.append((int(took), []))
+        else:
+            readers[-1][1].append(int(took))
+    figures = {}
+    if admits:
+        figures["admits/s"] = len(admits) / sum(admits) * 1e9
+        figures["admit p50"], figures["admit p99"] = share(admits, 0.5), share(admits, 0.99)
+    reads = [took for _, each in readers for took in each]
+    if reads:
+        figures["reads/s"] = sum(len(each) / took * 1e9 for took, each in readers if each)
+        figures["read p50"], figures["read p99"] = share(reads, 0.5), share(reads, 0.99)
+    return figures
+
+
+def load():
+    with open("/proc/loadavg") as file:
+        return file.read().split()[0]
+
+
+def cell(values, spread):
+    """The median of the rounds, and where it is asked for the least and the most."""
+    if not values:
+        return "-"
+    shown = [f"{value:,.0f}" if value >= 100 else f"{value:.1f}" if value >= 2 else f"{value:.3f}" for value in (statistics.median(values), min(values), max(values))]
+    return f"{shown[0]} ({shown[1]}..{shown[2]})" if spread else shown[0]
+
+
+def main():
+    asked = argparse.ArgumentParser(description=__doc__, formatter_class=argparse.RawDescriptionHelpFormatter)
+    asked.add_argument("--bin", help="a program that was built by this script")
+    asked.add_argument("--folder", help="where the program is built, and stays")
+    asked.add_argument("--sizes", default="1000,10000,100000", help="spans held")
+    asked.add_argument("--timed", type=int, default=100, help="batches that are timed")
+    asked.add_argument("--rounds", type=int, default=9)
+    asked.add_argument("--spread", action="store_true", help="the least and the most of the rounds too")
+    options = asked.parse_args()
+    columns = ["admits/s", "of one", "admit p50", "admit p99", "reads/s", "read p50", "read p99"]
+    with tempfile.TemporaryDirectory() as folder:
+        program = options.bin or build(os.path.abspath(options.folder) if options.folder else os.path.join(folder, "repository"))
+        print(f"load at the start {load()}; times in microseconds; medians of {options.rounds} rounds")
+        print("| Spans held | | " + " | ".join(columns) + " |")
+        print("|---" * (len(columns) + 2) + "|")
+        for size in [int(s) for s in options.sizes.split(",")]:
+            rng = random.Random(size)
+            path = os.path.join(folder, "bodies")
+            with open(path, "wb") as file:
+                for number in range(size // IN_BATCH + options.timed):
+                    body = batch(rng, number + 1)
+                    file.write(struct.pack(">I", len(body)) + body)
+            rounds = [{kind: measure(program, kind, options.timed, path) for kind in KINDS} for _ in range(options.rounds)]
+            for one in rounds:
+                for kind in KINDS[1:3]:
+                    one[kind]["of one"] = one[kind]["admits/s"] / one["one"]["admits/s"]
+            for kind in KINDS:
+                cells = [cell([one[kind][name] for one in rounds if name in one[kind]], options.spread) for name in columns]
+                print(f"| {size:,} | {NAMES[kind]} | " + " | ".join(cells) + " |", flush=True)
+        print(f"load at the end {load()}")
+
+
+if __name__ == "__main__":
+    main()
