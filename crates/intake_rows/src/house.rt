@@ -1,0 +1,80 @@
+//! A store with a desk of four seats, whose queue has room for one job.
+
+ghost use Rattle.std.specs.Prelude.{◌≡◌};
+
+use crate::rows::Row;
+use intake::{Clerk, Desk, Seat, desk};
+use jaeger_model::{Batch, Process, Seq, Span, SpanId, Text, TraceId};
+use read_side::{Keeper, Opened, Pass, StoreName, open};
+use std::alloc::{AllocError, Global};
+use std::process::Abort;
+use std::sync::Wait;
+use std::test::*;
+use std::thread::Threads;
+use trace_model::Limits;
+
+/// All that belongs to one store.
+pub struct House<N: StoreName> {
+    pub keeper: Keeper<N>,
+    pub passes: Vec<Pass<N>>,
+    pub desk: Desk<N>,
+    pub seats: Vec<Seat<N>>,
+    pub clerk: Clerk<N>,
+}
+
+/// A batch of one span, which has the id.
+pub fn batch(alloc: Global, id: u64) -> Result<Batch, AllocError> {
+    let span = Span {
+        trace: TraceId { high: 0, low: id },
+        id: SpanId(id),
+        parent: SpanId(0),
+        operation: Text::from_str(alloc, "op")?,
+        references: Seq::new(alloc),
+        flags: 1,
+        start: 1000,
+        duration: 50,
+        tags: Seq::new(alloc),
+        logs: Seq::new(alloc),
+    };
+    let mut spans = Vec::new(alloc);
+    spans.push(span)?;
+    let process = Process {
+        service: Text::from_str(alloc, "a")?,
+        tags: Seq::new(alloc),
+    };
+    Ok(Batch {
+        process,
+        spans: Seq::from_vec(spans),
+        seq_no: None,
+    })
+}
+
+/// Opens a store and its desk, and plays the row with them.
+pub fn played<N: StoreName + Send + Sync, R: Threads + Wait + Abort + Sync>(
+    rt: &R,
+    alloc: Global,
+    name: Opened,
+    limits: Limits,
+    row: Row,
+) -> Result<bool, Fail>
+    requires { (name.seen.book ≡ N.book) × (limits ≡ N.limits) }
+{
+    let (mut keeper, passes) = open::<N>(alloc, name, limits, 2)?;
+    let first = keeper.receipt();
+    match desk(alloc, first, 1, 4) {
+        Err(_) => {
+            keeper.close(rt);
+            Ok(false)
+        }
+        Ok((desk, seats, clerk)) => {
+            let house = House {
+                keeper,
+                passes,
+                desk,
+                seats,
+                clerk,
+            };
+            Ok(row.play(rt, alloc, house))
+        }
+    }
+}

@@ -1,0 +1,124 @@
+//! A server in a thread of its own, and what clients do meanwhile.
+
+ghost use Rattle.std.specs.Prelude.{◌≡◌, ◌≤◌};
+
+use crate::guests::Guests;
+use session_devices::MemoryOutput;
+use std::alloc::Global;
+use std::io;
+use std::io::{Read, Write};
+use std::net::{
+    Ipv4Addr, Net, OpenStream, Shutdown, SocketAddr, SocketAddrV4, TcpListener, TcpStream,
+};
+use std::process::Abort;
+use std::sync::Wait;
+use std::test::*;
+use std::thread::{Threads, join};
+use std::time::Clock;
+use trace_model::Limits;
+use trace_server::{Gate, Options, serve_with};
+
+/// So many workers and sessions.
+pub fn options(rt: &impl Abort, workers: u16, sessions: u32, idle: u32) -> Options
+    requires { (1 ≤ workers) × (workers ≤ 64) }
+    ensures workers { result.workers ≡ workers }
+    ensures queue { result.queue ≡ 4 }
+{
+    let limits = Limits::new(100, 1000, 0, 0).expect(rt, "limits");
+    Options {
+        limits,
+        workers,
+        queue: 4,
+        sessions,
+        idle,
+    }
+}
+
+/// What came of a server and its clients.
+#[derive(Drop)]
+pub struct Outcome {
+    pub status: u8,
+    /// What the server wrote.
+    pub output: MemoryOutput,
+    /// Whether the clients met what they wanted.
+    pub pleased: bool,
+}
+
+impl Outcome {
+    /// Whether all was well, and the server said at its end that it took so many connections.
+    pub fn is_well(&self, served: &[u8]) -> bool {
+        self.status == 0 && self.pleased && self.output.as_slice().ends_with(served)
+    }
+}
+
+/// Serves until all sessions are over, and gives the status and what was written.
+fn serve<G: Gate + Sync, R: Threads + Wait + Clock + Sync>(
+    rt: &R,
+    alloc: Global,
+    listener: &TcpListener,
+    options: &Options,
+    gate: &G,
+) -> (u8, MemoryOutput)
+    requires workers { (1 ≤ options.now.workers) × (options.now.workers ≤ 64) }
+    requires queue { (1 ≤ options.now.queue) × (options.now.queue ≤ 4096) }
+{
+    let mut output = MemoryOutput::new(alloc, 1000, 1000);
+    let status = serve_with(rt, alloc, listener, options, gate, &mut output);
+    (status, output)
+}
+
+/// Runs a server on a port of its own beside its clients.
+pub fn visited<
+    G: Gate + Sync,
+    R: Threads + Wait + Clock + Net<Stream = TcpStream, Listener = TcpListener> + Abort + Sync,
+>(rt: &R, alloc: Global, options: &Options, gate: &G, guests: Guests) -> Result<Outcome, Fail>
+    requires workers { (1 ≤ options.now.workers) × (options.now.workers ≤ 64) }
+    requires queue { (1 ≤ options.now.queue) × (options.now.queue ≤ 4096) }
+{
+    let any = SocketAddr::V4(SocketAddrV4::new(Ipv4Addr::LOCALHOST, 0));
+    let listener = TcpListener::bind(rt, any).expect(rt, "bind");
+    let address = listener.local_addr().expect(rt, "address");
+    let ((status, output), pleased) = join(
+        rt,
+        || -> (u8, MemoryOutput)
+            requires { (1 ≤ options.now.workers) × (options.now.workers ≤ 64) × (1 ≤ options.now.queue) × (options.now.queue ≤ 4096) }
+        { serve(rt, alloc, &listener, options, gate) },
+        || guests.visit(rt, alloc, address),
+    );
+    let pleased = matches!(pleased, Ok(true));
+    Ok(Outcome {
+        status,
+        output,
+        pleased,
+    })
+}
+
+/// Sends the bytes and reads so many of the answer as `wanted` has; true where they are these.
+pub fn ask<S: Read + Write>(
+    alloc: Global,
+    stream: &mut S,
+    sent: &[u8],
+    wanted: &[u8],
+) -> io::Result<bool> {
+    stream.write_all(sent)?;
+    hears(alloc, stream, wanted)
+}
+
+/// Reads so many bytes as `wanted` has; true where they are these.
+pub fn hears<S: Read>(alloc: Global, stream: &mut S, wanted: &[u8]) -> io::Result<bool> {
+    let mut heard = Vec::new(alloc);
+    stream.take(wanted.len() as u64).read_to_end(&mut heard)?;
+    Ok(heard.as_slice() == wanted)
+}
+
+/// Says that no more comes, and reads to the end; true where that was `wanted`.
+pub fn parts<S: OpenStream + Read>(
+    alloc: Global,
+    stream: &mut S,
+    wanted: &[u8],
+) -> io::Result<bool> {
+    stream.shutdown(Shutdown::Write)?;
+    let mut heard = Vec::new(alloc);
+    stream.read_to_end(&mut heard)?;
+    Ok(heard.as_slice() == wanted)
+}

@@ -1,0 +1,17 @@
+//! Tests of the server: sessions over a shared store give the bytes of a store of one's own, workers serve
+//! at the same time and see each other's batches, and a client that stalls, goes away or breaks the rules
+//! harms nobody else. The sockets are real ones, of this machine alone.
+#![tactic(auto)]
+
+#[cfg(test)]
+mod clients;
+#[cfg(test)]
+mod gates;
+#[cfg(test)]
+mod guests;
+#[cfg(test)]
+mod over_live;
+#[cfg(test)]
+mod requests;
+#[cfg(test)]
+mod sockets;

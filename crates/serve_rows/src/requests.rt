@@ -1,0 +1,46 @@
+//! Requests, and what is answered to them.
+
+use std::alloc::{AllocError, Global};
+
+/// A batch of service `a` with one span, `op`, of trace 1.
+pub const BATCH: &[u8] =
+    b"\x0c\x00\x01\x0b\x00\x01\x00\x00\x00\x01a\x00\x0f\x00\x02\x0c\x00\x00\x00\x01\x0a\x00\x01\x00\x00\x00\x00\x00\x00\x00\x01\x0a\x00\x02\x00\x00\x00\x00\x00\x00\x00\x00\x0a\x00\x03\x00\x00\x00\x00\x00\x00\x00\x02\x0a\x00\x04\x00\x00\x00\x00\x00\x00\x00\x00\x0b\x00\x05\x00\x00\x00\x02op\x08\x00\x07\x00\x00\x00\x01\x0a\x00\x08\x00\x00\x00\x00\x00\x00\x03\xe8\x0a\x00\x09\x00\x00\x00\x00\x00\x00\x002\x00\x00";
+
+/// The head of a request that hands it in.
+pub const POST: &[u8] =
+    b"POST /api/traces HTTP/1.1\r\nContent-Type: application/x-thrift\r\nContent-Length: 104\r\n\r\n";
+
+/// One with no type.
+pub const UNTYPED: &[u8] = b"POST /api/traces HTTP/1.1\r\nContent-Length: 104\r\n\r\n";
+
+/// One whose body is a beginning of a batch.
+pub const CUT: &[u8] =
+    b"POST /api/traces HTTP/1.1\r\nContent-Type: application/x-thrift\r\nContent-Length: 1\r\n\r\n\x0c";
+
+/// One that says that its body has 5,000,000 bytes.
+pub const HUGE: &[u8] =
+    b"POST /api/traces HTTP/1.1\r\nContent-Type: application/x-thrift\r\nContent-Length: 5000000\r\n\r\n";
+
+pub const SERVICES: &[u8] = b"GET /api/services HTTP/1.1\r\n\r\n";
+
+pub const TRACE: &[u8] = b"GET /api/traces/1 HTTP/1.1\r\n\r\n";
+
+pub const NOWHERE: &[u8] = b"GET /api/x HTTP/1.1\r\n\r\n";
+
+pub const DELETE: &[u8] = b"DELETE /api/services HTTP/1.1\r\n\r\n";
+
+/// What is answered to a batch that was accepted.
+pub const ACCEPTED: &[u8] = b"HTTP/1.1 202 Accepted\r\nContent-Length: 0\r\n\r\n";
+
+/// The list of the services of a store that has the batch.
+pub const ONE_SERVICE: &[u8] =
+    b"HTTP/1.1 200 OK\r\nContent-Type: application/json\r\nContent-Length: 59\r\n\r\n{\"data\":[\"a\"],\"errors\":null,\"limit\":0,\"offset\":0,\"total\":1}";
+
+/// The parts behind each other.
+pub fn joined(alloc: Global, parts: &[&[u8]]) -> Result<Vec<u8>, AllocError> {
+    let mut bytes = Vec::new(alloc);
+    for part in parts {
+        bytes.extend_from_slice(part)?;
+    }
+    Ok(bytes)
+}
