@@ -1,5 +1,6 @@
 //! Opening a store.
-ghost use Rattle.std.specs.Prelude.{◌≡◌, ◌≤◌, [], IfOk, All, length};
+ghost use Rattle.std.specs.Prelude.{◌≡◌, ◌≤◌, [], IfOk, IfErr, All, length};
+ghost use Rattle.trace_model.specs.declared.refusal.Refusal.TheVariants.{NoMemory};
 ghost use Rattle.read_side.specs.Keepers.{no_entries};
 
 use crate::history::{Log, Opened, StoreName};
@@ -30,6 +31,7 @@ pub fn open<N: StoreName>(
     ensures keeper { IfOk result (λ r. r.0 ≡ no_entries) }
     ensures passes { IfOk result (λ r. All (λ p. p ≡ []) r.1.items) }
     ensures count { IfOk result (λ r. length r.1.items ≡ readers) }
+    ensures reason { IfErr result (λ why. why ≡ NoMemory) }
 {
     let history: Log<N> = Log::new(name);
     let first = Side::new(SpanStore::open(alloc, limits), history.seen());
