@@ -13,7 +13,7 @@ use Rattle.trace_model.specs.Histories.{IsLegal}
 use Rattle.trace_model.specs.Answers.{answer}
 use Rattle.trace_model.proofs.Prefixes.{prefix_self, prefix_trans}
 use Rattle.read_side.specs.Receipts.{StandsAt}
-use Rattle.intake.specs.Seats.{SeatValue, next_job, with_job}
+use Rattle.intake.specs.Seats.{SeatValue, IsNotTaken, IsUnacknowledged, next_job, with_job}
 use Rattle.intake.proofs.Places.{stands-split}
 use Rattle.store_backend.specs.Knowing.{History, Begins, HasAt, Keeps, SubmitKnows, ReadKnows}
 
@@ -35,13 +35,14 @@ KnowsPlace limits e place known =
     (list : List Entry) × IsLegal limits list × StandsAt list place e × IsPrefix list known
 
 -- the seat handed the batch in, and its own entry stands at the place of a list that is known then; or,
--- at a refusal, it may have handed it in
+-- at a refusal, it did not, for the seat's reason, or it did, for the reason that its ticket was told
 abbrev pub LiveSubmits : Limits → LiveValue → Batch → Result ℕ Refusal → LiveValue → Type 0
 LiveSubmits limits s b (Ok place) t =
     IsPrefix s.known t.known × HandsIn s.seat b t.seat
     × KnowsPlace limits (next_job s.seat b) place t.known
 LiveSubmits limits s b (Err why) t =
-    (t.known ≡ s.known) × ((t.seat ≡ s.seat) ⊎ HandsIn s.seat b t.seat)
+    (t.known ≡ s.known)
+    × (((t.seat ≡ s.seat) × IsNotTaken s.seat why) ⊎ (HandsIn s.seat b t.seat × IsUnacknowledged why))
 
 -- the answer is the plain store's of the list that is known then, which begins with what was known
 abbrev pub LiveReads : Limits → LiveValue → Query → Result Answer Refusal → LiveValue → Type 0
