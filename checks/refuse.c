@@ -1,5 +1,5 @@
 /* Preloaded into a program: the allocation whose number is in REFUSE_AT is refused, and the count of all
-   is written to the file that REFUSE_COUNT names. */
+   is written to the file that REFUSE_COUNT names, at exit or at _exit, by which a program with threads leaves. */
 #define _GNU_SOURCE
 #include <dlfcn.h>
 #include <stdio.h>
@@ -17,7 +17,7 @@ __attribute__((constructor)) static void begin(void)
 
 static int is_refused(void)
 {
-    return ++count == refused;
+    return __sync_add_and_fetch(&count, 1) == refused;
 }
 
 void *malloc(size_t size)
@@ -45,4 +45,12 @@ __attribute__((destructor)) static void end(void)
         fprintf(file, "%lu\n", total);
         fclose(file);
     }
+}
+
+void _exit(int status)
+{
+    void (*next)(int) = dlsym(RTLD_NEXT, "_exit");
+    end();
+    next(status);
+    __builtin_unreachable();
 }
