@@ -1,6 +1,8 @@
--- How parameters are named.
+-- How parameters are named, and faults numbered.
 use Rattle.std.specs.Prelude.{ℕ, List, codes}
 use Rattle.query_http.specs.declared.fault.Parameter.{Parameter}
+use Rattle.query_http.specs.declared.fault.QueryFault.{QueryFault}
+use Rattle.query_http.specs.declared.fault.QueryFault.TheVariants.{NoPath, Bad, NoMemory}
 use Rattle.query_http.specs.declared.fault.Parameter.TheVariants.{TraceId, Service, Start, End, Limit, MinDuration, MaxDuration, Tag, Tags, EndTs, Lookback}
 
 abbrev pub parameter_name : Parameter → List ℕ
@@ -15,3 +17,13 @@ parameter_name Tag = codes "tag"
 parameter_name Tags = codes "tags"
 parameter_name EndTs = codes "endTs"
 parameter_name Lookback = codes "lookback"
+
+abbrev pub fault_number : QueryFault → ℕ
+fault_number (Bad parameter) = 40
+fault_number NoPath = 41
+fault_number NoMemory = 22
+
+abbrev pub fault_name : QueryFault → List ℕ
+fault_name (Bad parameter) = codes "BadQuery"
+fault_name NoPath = codes "NoPath"
+fault_name NoMemory = codes "NoMemory"

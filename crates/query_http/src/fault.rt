@@ -1,5 +1,5 @@
 ghost use Rattle.std.specs.Prelude.{◌≡◌};
-ghost use Rattle.query_http.specs.Faults.{parameter_name};
+ghost use Rattle.query_http.specs.Faults.{fault_name, fault_number, parameter_name};
 ghost use Rattle.query_http.specs.declared.fault.QueryFault.TheVariants.{Bad, NoMemory};
 
 use std::alloc::{AllocError, AllocFailed};
@@ -49,6 +49,30 @@ pub enum QueryFault {
     /// The first parameter that can't be read, in the order of the endpoint's table.
     Bad(Parameter),
     NoMemory,
+}
+
+impl QueryFault {
+    /// The number that names the fault for good.
+    pub fn number(self) -> u8
+        ensures { result ≡ fault_number self }
+    {
+        match self {
+            QueryFault::Bad(_) => 40,
+            QueryFault::NoPath => 41,
+            QueryFault::NoMemory => 22,
+        }
+    }
+
+    /// The name, without the parameter.
+    pub fn name(self) -> &'static str
+        ensures { result.now ≡ fault_name self }
+    {
+        match self {
+            QueryFault::Bad(_) => "BadQuery",
+            QueryFault::NoPath => "NoPath",
+            QueryFault::NoMemory => "NoMemory",
+        }
+    }
 }
 
 impl From<Parameter> for QueryFault {

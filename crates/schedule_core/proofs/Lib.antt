@@ -9,3 +9,5 @@ pub mod Fronts
 pub mod Staging
 pub mod Stepping
 pub mod Playing
+pub mod Naming
+pub mod Facts

@@ -13,12 +13,13 @@ use Rattle.schedule_core.specs.declared.step.Step.TheVariants as ask
 use Rattle.schedule_core.specs.declared.outcome.Outcome.{Outcome}
 use Rattle.schedule_core.specs.declared.outcome.Outcome.TheVariants.{Idle, Published, Held, Left, Inside, Outside, Unknown}
 use Rattle.schedule_core.specs.Machine.{Machine, Reader, Visit, Stepped, stays, accepted, handed_in, puts, judged, takes, holds, published, publishes_by, with_reader, enters, reads, longer, learns_list, learns, leaves, front_of, step}
-use Rattle.schedule_core.specs.Runs.{job_of, verdict_of, front_in, IsOf}
+use Rattle.schedule_core.specs.Runs.{job_of, verdict_of, told_by, front_in, IsOf}
 
 -- the step changed nothing, and its outcome tells nothing
 pub record Silent (s : Step) (o : Outcome) : Type 0 where
   pub job : job_of s o ≡ []
   pub verdict : verdict_of s o ≡ []
+  pub name : told_by s o ≡ []
   pub front : front_in o ≡ []
   pub answer : (limits : Limits) (h : List Entry) → IsOf limits h s o
 
@@ -39,18 +40,19 @@ pub record StepCases (m : Machine) (P : Step → Stepped → Type 0) : Type 0 wh
       → P (ask.Leave r) (record { outcome = Left; machine = with_reader m r (record reader { inside = None }) })
 
 module _ (m : Machine) (P : Step → Stepped → Type 0) (c : StepCases m P) where
-  quiet : (s : Step) (o : Outcome) → job_of s o ≡ [] → verdict_of s o ≡ [] → front_in o ≡ []
+  quiet : (s : Step) (o : Outcome) → job_of s o ≡ [] → verdict_of s o ≡ [] → told_by s o ≡ [] → front_in o ≡ []
       → ((limits : Limits) (h : List Entry) → IsOf limits h s o)
       → P s (stays m o)
-  quiet s o job verdict front answer = c.silent s o (record { job = job; verdict = verdict; front = front; answer = answer })
+  quiet s o job verdict name front answer =
+      c.silent s o (record { job = job; verdict = verdict; name = name; front = front; answer = answer })
 
   -- ---- jobs
   on_put : (seat : ℕ) (batch : Batch) (o : Option ℕ) → slice_get m.numbers seat ≡ o → P (ask.Put seat batch) (puts m seat batch o)
-  on_put seat batch None e = quiet (ask.Put seat batch) Unknown refl refl refl (λ l h. tt)
+  on_put seat batch None e = quiet (ask.Put seat batch) Unknown refl refl refl refl (λ l h. tt)
   on_put seat batch (Some last) e =
       elim (nat_lt last 18446744073709551615) as (λ b. P (ask.Put seat batch) (if b then handed_in m seat batch (last + 1) else stays m Unknown)) [
         | true ↦ c.put seat batch last e
-        | false ↦ quiet (ask.Put seat batch) Unknown refl refl refl (λ l h. tt)
+        | false ↦ quiet (ask.Put seat batch) Unknown refl refl refl refl (λ l h. tt)
       ]
 
   on_verdict : (job : Entry) (rest : List Entry) (b : Bool) → m.waiting ≡ job ∷ rest → has_room m.limits (accepted m) job ≡ b
@@ -59,56 +61,56 @@ module _ (m : Machine) (P : Step → Stepped → Type 0) (c : StepCases m P) whe
   on_verdict job rest false e room = c.dropped job rest e
 
   on_take : (w : List Entry) → m.waiting ≡ w → P ask.Take (takes m w)
-  on_take [] e = quiet ask.Take Idle refl refl refl (λ l h. tt)
+  on_take [] e = quiet ask.Take Idle refl refl refl refl (λ l h. tt)
   on_take (job ∷ rest) e = on_verdict job rest (has_room m.limits (accepted m) job) e refl
 
   -- ---- publishes
   on_publish : (first : Option ℕ) → P ask.Publish (publishes_by m first)
   on_publish None = c.shown
-  on_publish (Some first) = quiet ask.Publish (Held first) refl refl refl (λ l h. tt)
+  on_publish (Some first) = quiet ask.Publish (Held first) refl refl refl refl (λ l h. tt)
 
   -- ---- readers
   on_enter_inside : (r : ℕ) (reader : Reader) (i : Option Visit) → slice_get m.readers r ≡ Some reader → P (ask.Enter r) (enters m r i)
   on_enter_inside r reader None e = c.entered r reader e
-  on_enter_inside r reader (Some v) e = quiet (ask.Enter r) Inside refl refl refl (λ l h. tt)
+  on_enter_inside r reader (Some v) e = quiet (ask.Enter r) Inside refl refl refl refl (λ l h. tt)
 
   on_enter : (r : ℕ) (o : Option Reader) → slice_get m.readers r ≡ o
       → P (ask.Enter r) (option_map_or (λ reader. enters m r reader.inside) o (stays m Unknown))
-  on_enter r None e = quiet (ask.Enter r) Unknown refl refl refl (λ l h. tt)
+  on_enter r None e = quiet (ask.Enter r) Unknown refl refl refl refl (λ l h. tt)
   on_enter r (Some reader) e = on_enter_inside r reader reader.inside e
 
   on_read_inside : (r : ℕ) (query : Query) (reader : Reader) (i : Option Visit) → slice_get m.readers r ≡ Some reader → reader.inside ≡ i
       → P (ask.Read r query) (reads m query i)
-  on_read_inside r query reader None e is = quiet (ask.Read r query) Outside refl refl refl (λ l h. tt)
+  on_read_inside r query reader None e is = quiet (ask.Read r query) Outside refl refl refl refl (λ l h. tt)
   on_read_inside r query reader (Some v) e is = c.answered r query reader v e is
 
   on_read : (r : ℕ) (query : Query) (o : Option Reader) → slice_get m.readers r ≡ o
       → P (ask.Read r query) (option_map_or (λ reader. reads m query reader.inside) o (stays m Unknown))
-  on_read r query None e = quiet (ask.Read r query) Unknown refl refl refl (λ l h. tt)
+  on_read r query None e = quiet (ask.Read r query) Unknown refl refl refl refl (λ l h. tt)
   on_read r query (Some reader) e = on_read_inside r query reader reader.inside e refl
 
   on_learn_inside : (r k : ℕ) (reader : Reader) (front : ℕ) (i : Option Visit) → slice_get m.readers r ≡ Some reader
       → P (ask.Learn r k) (option_map_or (λ v. stays m Inside) i (learns_list m r (longer reader.seen (take front m.history))))
   on_learn_inside r k reader front None e = c.learnt r k reader front e
-  on_learn_inside r k reader front (Some v) e = quiet (ask.Learn r k) Inside refl refl refl (λ l h. tt)
+  on_learn_inside r k reader front (Some v) e = quiet (ask.Learn r k) Inside refl refl refl refl (λ l h. tt)
 
   on_learn_front : (r k : ℕ) (reader : Reader) (o : Option ℕ) → slice_get m.readers r ≡ Some reader
       → P (ask.Learn r k) (option_map_or (learns m r reader) o (stays m Unknown))
-  on_learn_front r k reader None e = quiet (ask.Learn r k) Unknown refl refl refl (λ l h. tt)
+  on_learn_front r k reader None e = quiet (ask.Learn r k) Unknown refl refl refl refl (λ l h. tt)
   on_learn_front r k reader (Some front) e = on_learn_inside r k reader front reader.inside e
 
   on_learn : (r k : ℕ) (o : Option Reader) → slice_get m.readers r ≡ o
       → P (ask.Learn r k) (option_map_or (λ reader. option_map_or (learns m r reader) (front_of m k) (stays m Unknown)) o (stays m Unknown))
-  on_learn r k None e = quiet (ask.Learn r k) Unknown refl refl refl (λ l h. tt)
+  on_learn r k None e = quiet (ask.Learn r k) Unknown refl refl refl refl (λ l h. tt)
   on_learn r k (Some reader) e = on_learn_front r k reader (front_of m k) e
 
   on_leave_inside : (r : ℕ) (reader : Reader) (i : Option Visit) → slice_get m.readers r ≡ Some reader
       → P (ask.Leave r) (option_map_or (λ v. record { outcome = Left; machine = with_reader m r (record reader { inside = None }) }) i (stays m Outside))
-  on_leave_inside r reader None e = quiet (ask.Leave r) Outside refl refl refl (λ l h. tt)
+  on_leave_inside r reader None e = quiet (ask.Leave r) Outside refl refl refl refl (λ l h. tt)
   on_leave_inside r reader (Some v) e = c.left r reader e
 
   on_leave : (r : ℕ) (o : Option Reader) → slice_get m.readers r ≡ o → P (ask.Leave r) (option_map_or (leaves m r) o (stays m Unknown))
-  on_leave r None e = quiet (ask.Leave r) Unknown refl refl refl (λ l h. tt)
+  on_leave r None e = quiet (ask.Leave r) Unknown refl refl refl refl (λ l h. tt)
   on_leave r (Some reader) e = on_leave_inside r reader reader.inside e
 
   -- ---- every step

@@ -1,4 +1,5 @@
 pub mod Copied
+pub mod Facts
 pub mod Machine
 pub mod Numbering
 pub mod Queued

@@ -42,6 +42,20 @@ kept (j ∷ js) [] = []
 kept (j ∷ js) (true ∷ vs) = j ∷ kept js vs
 kept (j ∷ js) (false ∷ vs) = kept js vs
 
+-- the seat and the number that name a job
+abbrev pub name_of : Entry → ℕ × ℕ
+name_of e = (e.seat, e.number)
+
+-- those by which a job is told that was taken and accepted
+abbrev pub told_by : Step → Outcome → List (ℕ × ℕ)
+told_by s (Taken seat number) = (seat, number) ∷ []
+told_by s o = []
+
+-- the numbers of a seat's jobs
+abbrev pub numbers_of : ℕ → List Entry → List ℕ
+numbers_of seat [] = []
+numbers_of seat (j ∷ js) = if j.seat == seat then j.number ∷ numbers_of seat js else numbers_of seat js
+
 -- ---- readers
 
 -- the step is this reader's

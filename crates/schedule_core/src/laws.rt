@@ -10,6 +10,7 @@ ghost use Rattle.schedule_core.specs.declared.step.Step.{Step as Move};
 ghost use Rattle.schedule_core.specs.declared.step.Step.TheVariants.{Read as Ask};
 ghost use Rattle.schedule_core.specs.Machine.{new_machine, outcomes, at_last, accepted, step, Reader as Stand, Visit};
 ghost use Rattle.schedule_core.specs.Runs.{along, AllAlong, IsOf, NeverFalls, front_for, is_of, job_of, kept, verdict_of};
+ghost use Rattle.schedule_core.specs.Facts.{IsRun};
 
 /// The history only grows at its end.
 pub fn the_history_only_grows()
@@ -61,4 +62,10 @@ pub fn jobs_are_numbered()
 /// What is accepted is legal: no entry stands twice, and no limit is passed.
 pub fn accepted_jobs_are_legal()
     ensures { (limits : Bounds) (steps : List Move) → IsLegal limits (accepted (at_last (new_machine limits) steps)) }
+{}
+
+/// All of this of one list of steps, and two facts more: an accepted job is told by its own seat and number,
+/// and the jobs of each seat have the numbers 1, 2 and so on.
+pub fn every_run_keeps_the_promises()
+    ensures { (limits : Bounds) (steps : List Move) → IsRun limits steps }
 {}

@@ -1,6 +1,6 @@
 ghost use Rattle.std.specs.Prelude.{IfOk};
-ghost use Rattle.schedule_core.specs.Machine.{new_machine};
-ghost use Rattle.schedule_core.specs.Worlds.{PlaysAs, PlaysFrom};
+ghost use Rattle.schedule_core.specs.Facts.{IsPlayed};
+ghost use Rattle.schedule_core.specs.Worlds.{PlaysFrom};
 
 use crate::outcome::Outcome;
 use crate::step::Step;
@@ -8,14 +8,16 @@ use crate::world::World;
 use std::alloc::{AllocError, Global};
 use trace_model::Limits;
 
-/// The outcomes of the steps, in order, from a machine in which nothing has happened.
+/// The outcomes of the steps, in order, from a machine in which nothing has happened. What holds of every run holds
+/// of the steps up to the first that found no memory: the history only grows, each answer is the plain store's of a
+/// beginning of it, and accepted are the jobs taken and not refused, in order, each once.
 ///
 /// # Errors
 ///
 /// No memory was found for the list of outcomes. A step that finds none, and each later one, is refused by
 /// its outcome.
 pub fn play(alloc: Global, steps: Vec<Step>, limits: Limits) -> Result<Vec<Outcome>, AllocError>
-    ensures { IfOk result (λ outcomes. PlaysAs (new_machine limits) steps.items outcomes.items) }
+    ensures { IfOk result (λ outcomes. IsPlayed limits steps.items outcomes.items) }
 {
     let mut world = World::new(alloc, limits);
     let outcomes = outcomes_of(alloc, &mut world, steps);
