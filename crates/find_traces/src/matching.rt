@@ -1,45 +1,13 @@
-ghost use Rattle.std.specs.Prelude.{◌≡◌, [], flat_map, ◌||◌};
+ghost use Rattle.std.specs.Prelude.{◌≡◌, flat_map};
 ghost use Rattle.std.specs.List.{list_any, list_all};
 ghost use Rattle.jaeger_model.specs.declared.span.Log.{Log as Logged};
-ghost use Rattle.jaeger_model.specs.Texts.{same_text};
-ghost use Rattle.trace_model.specs.Searching.{at_least, at_most, bound, is_named, is_timed, matches, tells, has_tag};
+ghost use Rattle.trace_model.specs.Searching.{matches, tells, has_tag};
 ghost use Rattle.trace_model.specs.Seeing.{seen, seen_all};
 
 use crate::text::is_text_of;
 use jaeger_model::{Log, Seen, Tag, Text};
+use span_steps::{is_named, is_timed};
 use trace_model::Find;
-
-/// Whether the text is the asked one; an empty one asks for any.
-fn is_asked(asked: &Text, text: &Text) -> bool
-    ensures { result ≡ (same_text asked.now [] || same_text asked.now text.now) }
-{
-    asked.as_str() == "" || asked == text
-}
-
-fn is_at_least(low: Option<i64>, value: i64) -> bool
-    ensures { result ≡ at_least low value }
-{
-    match low {
-        None => true,
-        Some(low) => low <= value,
-    }
-}
-
-fn is_at_most(high: Option<i64>, value: i64) -> bool
-    ensures { result ≡ at_most high value }
-{
-    match high {
-        None => true,
-        Some(high) => value <= high,
-    }
-}
-
-/// A duration's bound; 0 is none.
-fn bound(duration: i64) -> Option<i64>
-    ensures { result ≡ bound duration }
-{
-    if duration == 0 { None } else { Some(duration) }
-}
 
 /// Whether the tag has the asked key and text.
 fn is_told(tag: &Tag, asked: &(Text, Text)) -> bool
@@ -75,23 +43,6 @@ fn has_tag(at: Seen, asked: &(Text, Text)) -> bool
     is_among(at.span.tags.as_slice(), asked)
         || is_among(at.process.tags.as_slice(), asked)
         || is_logged(at.span.logs.as_slice(), asked)
-}
-
-/// Whether service and operation are those that the search asks for.
-fn is_named(at: Seen, query: &Find) -> bool
-    ensures { result ≡ is_named query.now (seen at.entry) }
-{
-    query.service == at.process.service && is_asked(&query.operation, &at.span.operation)
-}
-
-/// Whether duration and start lie within the bounds of the search.
-fn is_timed(at: Seen, query: &Find) -> bool
-    ensures { result ≡ is_timed query.now (seen at.entry) }
-{
-    is_at_least(bound(query.duration_min), at.span.duration)
-        && is_at_most(bound(query.duration_max), at.span.duration)
-        && is_at_least(query.start_min, at.span.start)
-        && is_at_most(query.start_max, at.span.start)
 }
 
 /// Whether the span has each of the asked tags.

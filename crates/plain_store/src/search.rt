@@ -1,48 +1,17 @@
 //! Searches over the traces that are shown.
 
-ghost use Rattle.std.specs.Prelude.{◌≡◌, IfOk, List, [], filter, flat_map, ◌||◌};
+ghost use Rattle.std.specs.Prelude.{◌≡◌, IfOk, List, filter, flat_map};
 ghost use Rattle.std.specs.List.{list_any, list_all};
 ghost use Rattle.jaeger_model.specs.declared.span.Log.{Log as Logged};
 ghost use Rattle.jaeger_model.specs.Tags.{tag_text};
 ghost use Rattle.jaeger_model.specs.Texts.{same_text};
-ghost use Rattle.trace_model.specs.Searching.{at_least, at_most, bound, is_named, is_timed, matches, tells, has_tag, found_in, first_id, ids_of, cut};
+ghost use Rattle.trace_model.specs.Searching.{matches, tells, has_tag, found_in, first_id, ids_of, cut};
 
 use crate::ranks::rank;
-use jaeger_model::{Log, Placed, Seq, Tag, Text, TraceId, Value, tag_text};
+use jaeger_model::{Log, Placed, Seen, Seq, Tag, Text, TraceId, Value, tag_text};
+use span_steps::{is_named, is_timed};
 use std::alloc::{AllocError, Global};
 use trace_model::Find;
-
-/// Whether the text is the asked one; an empty one asks for any.
-fn is_asked(asked: &Text, text: &Text) -> bool
-    ensures { result ≡ (same_text asked.now [] || same_text asked.now text.now) }
-{
-    asked.as_str() == "" || asked == text
-}
-
-fn is_at_least(low: Option<i64>, value: i64) -> bool
-    ensures { result ≡ at_least low value }
-{
-    match low {
-        None => true,
-        Some(low) => low <= value,
-    }
-}
-
-fn is_at_most(high: Option<i64>, value: i64) -> bool
-    ensures { result ≡ at_most high value }
-{
-    match high {
-        None => true,
-        Some(high) => value <= high,
-    }
-}
-
-/// A duration's bound; 0 is none.
-fn bound(duration: i64) -> Option<i64>
-    ensures { result ≡ bound duration }
-{
-    if duration == 0 { None } else { Some(duration) }
-}
 
 /// Whether the tag's value reads as the asked text.
 fn is_text_of(alloc: Global, value: &Value, asked: &Text) -> Result<bool, AllocError>
@@ -99,31 +68,17 @@ fn has_all_tags(alloc: Global, placed: &Placed, tags: &[(Text, Text)]) -> Result
     Ok(true)
 }
 
-/// Whether service and operation are those that the search asks for.
-fn is_named(query: &Find, placed: &Placed) -> bool
-    ensures { result ≡ is_named query.now placed.now }
-{
-    query.service == placed.process.service && is_asked(&query.operation, &placed.span.operation)
-}
-
-/// Whether duration and start lie within the bounds of the search.
-fn is_timed(query: &Find, placed: &Placed) -> bool
-    ensures { result ≡ is_timed query.now placed.now }
-{
-    let span = &placed.span;
-    is_at_least(bound(query.duration_min), span.duration)
-        && is_at_most(bound(query.duration_max), span.duration)
-        && is_at_least(query.start_min, span.start)
-        && is_at_most(query.start_max, span.start)
-}
-
 /// Whether the span meets every condition of the search.
 fn is_match(alloc: Global, query: &Find, placed: &Placed) -> Result<bool, AllocError>
     ensures { IfOk result (λ b. b ≡ matches query.now placed.now) }
 {
+    let at = Seen {
+        process: &placed.process,
+        span: &placed.span,
+    };
     Ok(
-        is_named(query, placed)
-            && is_timed(query, placed)
+        is_named(at, query)
+            && is_timed(at, query)
             && has_all_tags(alloc, placed, query.tags.as_slice())?,
     )
 }

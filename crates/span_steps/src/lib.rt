@@ -3,14 +3,17 @@
 //! * `references`: which reference of a span names its parent.
 //! * `window`: whether a span starts in a window of time.
 //! * `clock`: the clock of a span, by that of its parent, and the span moved by it.
+//! * `conditions`: whether a span meets what a search asks of its service, operation, duration and start.
 //! * `skew`: arithmetic on times.
 #![tactic(auto)]
 
 mod clock;
+mod conditions;
 mod references;
 mod skew;
 mod window;
 
 pub use clock::{all_unadjusted, clock_below, root_clock, shifted, unadjusted};
+pub use conditions::{is_named, is_timed};
 pub use references::parent_place;
 pub use window::is_in_window;
