@@ -144,9 +144,10 @@ fn run_session<T, R: Input, W: Output, B: Backend<T>>(
     ensures fault { IfErr result (λ f. FailsAs B.submits B.reads (R.remaining input.old) (R.remaining input.new) (W.contents output.old) (W.contents output.new) backend.old backend.new (R.has_failed input.new) (W.has_failed output.new) f) }
 {
     let mut received = Received::new(alloc);
+    let mut message = Vec::new(alloc);
     let mut answered = 0u64;
     'requests: loop {
-        let request = match next_request(input, &mut received) {
+        let request = match next_request(input, &mut received, &mut message) {
             Err(why) => {
                 return Err(SessionFault {
                     answered,
@@ -171,7 +172,7 @@ fn run_session<T, R: Input, W: Output, B: Backend<T>>(
             }
             Ok(Next::One(request)) => request,
         };
-        let Ok(verdict) = judge(alloc, router, received.as_slice(), &request) else {
+        let Ok(verdict) = judge(alloc, router, message.as_slice(), &request) else {
             return Err(SessionFault {
                 answered,
                 written: 0,
@@ -192,7 +193,6 @@ fn run_session<T, R: Input, W: Output, B: Backend<T>>(
                 clean: false,
             });
         }
-        received.take(request.head_length + request.body_length);
     }
 }
 
