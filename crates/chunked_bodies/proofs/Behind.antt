@@ -1,9 +1,9 @@
 -- Where a part of a chunked body can't go on, the body can't.
-use Rattle.std.proofs.Common.{◌≡◌, ℕ, ◌+◌, ◌≤◌, ◌<◌, ◌⊎◌, List, [], ◌∷◌, ◌++◌, length, All, refl, sym, ap, ◌∙◌, subst, arith, inl, inr, append_assoc, length-append}
+use Rattle.std.proofs.Common.{◌≡◌, ℕ, ◌+◌, ◌≤◌, ◌<◌, List, [], ◌∷◌, ◌++◌, length, All, refl, sym, ap, ◌∙◌, subst, arith, inl, inr, append_assoc, length-append}
 use Rattle.std.proofs.lemmas.List.Elements.{All-head, All-tail}
 use Rattle.httparse.specs.Ascii.{crlf_bytes}
-use Rattle.chunked_bodies.specs.Chunks.{IsSizeLine, IsSomeSizeLine, Chunk, IsChunk, texts, contents, IsTrailer, IsBody, IsTooLarge, HasNone, NeverHas, Lacks, IsDecided, IsContent}
-use Rattle.chunked_bodies.proofs.Once.{size_line_once, same_cut, chunk_cut, chunk_once, chunk_is_not_last, first_chunk, body_cut, large_cut}
+use Rattle.chunked_bodies.specs.Chunks.{IsSizeLine, IsSomeSizeLine, Chunk, IsChunk, texts, contents, IsTrailer, IsBody, IsTooLarge, HasNone, Lacks, IsDecided, IsContent}
+use Rattle.chunked_bodies.proofs.Once.{size_line_once, chunk_cut, chunk_once, chunk_is_not_last, first_chunk, body_cut, large_cut}
 
 -- what is lacking behind a text is lacking at its front
 pub lacks_behind : (AtEnd : Type 0) (Is Has : List ℕ → Type 0) (text here : List ℕ) → ((h : List ℕ) → HasNone Is h → HasNone Has (text ++ h)) → Lacks AtEnd Is here → Lacks AtEnd Has (text ++ here)

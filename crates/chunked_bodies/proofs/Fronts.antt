@@ -1,9 +1,9 @@
 -- What stands at the front of the first bytes stands at the front of all bytes that begin so.
-use Rattle.std.proofs.Common.{◌≡◌, ℕ, ◌+◌, ◌≤◌, ◌<◌, List, ◌++◌, length, take, drop, map, sym, ap, ◌∙◌, subst, arith, append_assoc, length-append, All}
+use Rattle.std.proofs.Common.{◌≡◌, ℕ, ◌+◌, ◌≤◌, ◌<◌, List, ◌++◌, length, take, drop, sym, ap, ◌∙◌, arith, append_assoc, length-append}
 use Rattle.std.proofs.lemmas.List.{take-append-drop, take-append-le, take_all, length-take-le, length-take, length-map}
 use Rattle.std.proofs.Math.Seq.{take-append_seam}
-use Rattle.httparse.specs.Grammar.{ChunkLine, print_chunk_line, HasNoChunkLine, NeverHasChunkLine, Field, LineEnd, print_section, HasNoSection}
-use Rattle.httparse.specs.Spans.{IsChunkLineAt, IsSectionOf, IsSectionAt, IsSectionWithin, SectionOverflows, header_bytes, name_and_value}
+use Rattle.httparse.specs.Grammar.{ChunkLine, print_chunk_line, HasNoChunkLine, NeverHasChunkLine, print_section, HasNoSection}
+use Rattle.httparse.specs.Spans.{IsChunkLineAt, IsSectionOf, IsSectionWithin, SectionOverflows, header_bytes, name_and_value}
 use Rattle.httparse.specs.declared.spans.HeaderSpan.{HeaderSpan}
 use Rattle.chunked_bodies.specs.Chunks.{IsSizeLine, IsSomeSizeLine, IsTrailer, HasNone, NeverHas}
 
@@ -36,8 +36,7 @@ module _ (Is : List ℕ → Type 0) (n : ℕ) (bytes front : List ℕ) (f : fron
   first_of_front text rest len e is =
       let long : length front ≡ length text + length rest = ap length e ∙ length-append text rest in
       let cut : bytes ≡ text ++ (rest ++ drop n bytes) =
-      sym (take-append-drop n bytes) ∙ ap (λ l. l ++ drop n bytes) (sym f ∙ e) ∙ append_assoc text rest (drop n bytes) in
-      (
+      sym (take-append-drop n bytes) ∙ ap (λ l. l ++ drop n bytes) (sym f ∙ e) ∙ append_assoc text rest (drop n bytes) in (
         ap (take len) cut ∙ ap (λ k. take k (text ++ (rest ++ drop n bytes))) is ∙ take-append_seam text (rest ++ drop n bytes),
         omega (arith, is, long, ap length f, length-take n bytes),
         omega (arith, is, long, ap length f, length-take n bytes),
@@ -62,8 +61,7 @@ line_never bytes front f never = never_of_front IsSomeSizeLine 256 bytes front f
 
 pub line_whole : (bytes front : List ℕ) (len size : ℕ) → front ≡ take 256 bytes → (l : ChunkLine) × IsChunkLineAt front len size l → IsSizeLine (take len bytes) size × (len ≤ length bytes)
 line_whole bytes front len size f found =
-    let first = first_of_front IsSomeSizeLine 256 bytes front f (print_chunk_line found.0) (drop len front) len found.1.reads.1 found.1.len_is in
-    (
+    let first = first_of_front IsSomeSizeLine 256 bytes front f (print_chunk_line found.0) (drop len front) len found.1.reads.1 found.1.len_is in (
       record {
         line = found.0;
         is = found.1.reads.0;
@@ -101,8 +99,7 @@ trailer_whole bytes front headers len count f room found within =
     let long : len ≡ length (print_section found.0 found.1) = omega (arith, at.len_is) in
     let first = first_of_front IsTrailer 8192 bytes front f (print_section found.0 found.1) (drop len front) len at.reads.1 long in
     let many : length found.0 ≡ count =
-    sym (length-map found.0 name_and_value) ∙ ap length (sym at.fields_are) ∙ length-map (take count headers) (header_bytes front) ∙ length-take-le count headers within.count_fits in
-    (
+    sym (length-map found.0 name_and_value) ∙ ap length (sym at.fields_are) ∙ length-map (take count headers) (header_bytes front) ∙ length-take-le count headers within.count_fits in (
       record {
         fields = found.0;
         last = found.1;

@@ -1,12 +1,12 @@
 -- A chunked body at the front of bytes stands there in one way.
-use Rattle.std.proofs.Common.{◌≡◌, ◌≢◌, ℕ, ◌+◌, ◌≤◌, ◌<◌, List, [], ◌∷◌, ◌++◌, length, take, drop, All, refl, sym, ap, ◌∙◌, subst, arith, inl, inr, append_assoc, append-nil, length-append}
+use Rattle.std.proofs.Common.{◌≡◌, ◌≢◌, ℕ, ◌+◌, ◌≤◌, ◌<◌, List, [], ◌∷◌, ◌++◌, length, take, drop, All, refl, sym, ap, ◌∙◌, subst, arith, inl, inr, append_assoc, length-append}
 use Rattle.std.proofs.lemmas.List.{take_at, drop_at, append_cancel_left}
 use Rattle.std.proofs.lemmas.List.Elements.{All-head, All-tail}
 use Rattle.httparse.specs.Ascii.{crlf_bytes}
 use Rattle.httparse.specs.Grammar.{print_chunk_line, chunk_size, print_section}
 use Rattle.httparse.proofs.ChunkLemmas.{chunk_line_unique}
 use Rattle.httparse.proofs.GrammarLemmas.{section_unique}
-use Rattle.chunked_bodies.specs.Chunks.{IsSizeLine, IsSomeSizeLine, Chunk, IsChunk, texts, contents, IsTrailer, IsBody, IsTooLarge, HasNone, NeverHas, IsDecided, Reading, Reading.{whole, too_large, bad, not_yet}, Stands, MayHave, Reads}
+use Rattle.chunked_bodies.specs.Chunks.{IsSizeLine, Chunk, IsChunk, texts, contents, IsTrailer, IsBody, IsTooLarge, HasNone, NeverHas, IsDecided, Reading, Reading.{whole, too_large, bad, not_yet}, Stands, MayHave, Reads}
 
 pub same_cut : (a b r q : List ℕ) → length a ≡ length b → a ++ r ≡ b ++ q → (a ≡ b) × (r ≡ q)
 same_cut a b r q long e = (
@@ -71,8 +71,7 @@ body_cut most text body r b =
 pub body_once : (most : ℕ) (text other body more r q : List ℕ) → IsBody most text body → IsBody most other more → text ++ r ≡ other ++ q → (text ≡ other) × (body ≡ more) × (r ≡ q)
 body_once most text other body more r q b c e =
     let same = bodies_once b.chunks c.chunks b.last c.last b.trailer c.trailer r q b.each c.each b.last_is c.last_is b.trailer_is c.trailer_is
-    (sym (body_cut most text body r b) ∙ e ∙ body_cut most other more q c) in
-    (
+    (sym (body_cut most text body r b) ∙ e ∙ body_cut most other more q c) in (
       b.text_is ∙ (λ i. texts (same.0 i) ++ (same.1 i ++ same.2 i)) ∙ sym c.text_is,
       b.body_is ∙ ap contents same.0 ∙ sym c.body_is,
       same.3,

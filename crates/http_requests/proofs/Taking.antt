@@ -1,12 +1,12 @@
 -- How a body is taken, piece by piece.
-use Rattle.std.proofs.Common.{◌≡◌, ℕ, ◌+◌, ◌-◌, ◌==◌, ◌≤◌, ◌<◌, Bool, true, false, List, [], ◌∷◌, ◌++◌, length, take, drop, Option, All, Result, Ok, Err, IfOk, IfErr, refl, sym, ap, ◌∙◌, subst, arith, inl, inr, append_assoc, append-nil, length-append}
+use Rattle.std.proofs.Common.{◌≡◌, ℕ, ◌-◌, ◌≤◌, ◌<◌, Bool, true, false, List, [], ◌∷◌, ◌++◌, length, take, drop, Option, Result, Ok, Err, IfOk, IfErr, refl, sym, ap, ◌∙◌, subst, arith, inl, inr, append_assoc, append-nil, length-append}
 use Rattle.std.proofs.lemmas.Grind.{flat_map-append}
 use Rattle.std.proofs.lemmas.Bool.Decides.{nat_tests}
 use Rattle.std.proofs.lemmas.List.{take-append-drop, length-take-le, drop_all}
 use Rattle.std.proofs.lemmas.List.Elements.{All-append, All-cons, All-nil}
 use Rattle.std.specs.Io.KnownBytes.{IsAtEnd}
 use Rattle.httparse.specs.Ascii.{crlf_bytes}
-use Rattle.chunked_bodies.specs.Chunks.{IsSizeLine, IsSomeSizeLine, IsTrailer, IsContent, IsBody, IsTooLarge, IsDecided, Chunk, IsChunk, texts, contents, HasNone, NeverHas, Lacks}
+use Rattle.chunked_bodies.specs.Chunks.{IsSizeLine, IsSomeSizeLine, IsTrailer, IsContent, IsDecided, Chunk, IsChunk, texts, contents, HasNone, NeverHas, Lacks}
 use Rattle.chunked_bodies.proofs.Once.{same_cut}
 use Rattle.chunked_bodies.proofs.Behind.{lacks_behind, behind_chunks, no_line, no_content, no_trailer}
 use Rattle.http_requests.specs.Receiving.{KnowsItsEnd, Received, ReadsOn, Stops, put_back, Takes, Misses}

@@ -1,5 +1,5 @@
 -- A head at the front of bytes, and the body behind it.
-use Rattle.std.proofs.Common.{◌≡◌, ℕ, ◌+◌, ◌-◌, ◌==◌, ◌||◌, ◌≤◌, ◌<◌, Bool, true, false, List, ◌++◌, [], length, take, drop, map, slice_range, Option, refl, sym, ap, ◌∙◌, subst, arith, append_assoc}
+use Rattle.std.proofs.Common.{◌≡◌, ℕ, ◌-◌, ◌==◌, ◌||◌, ◌≤◌, ◌<◌, Bool, true, false, List, ◌++◌, [], length, take, drop, map, slice_range, Option, refl, sym, ap, ◌∙◌, subst, arith, append_assoc}
 use Rattle.std.specs.Io.KnownBytes.{IsAtEnd}
 use Rattle.std.proofs.lemmas.List.{drop-append-le, take-append-le, length-drop}
 use Rattle.std.proofs.Math.Seq.{take-append_seam}

@@ -98,10 +98,7 @@ fn size_when_due(bytes: &[u8], seen: usize, ended: bool) -> SizeLine
 }
 
 /// Takes a size line; the size, or none where there is no such line.
-fn take_size<R: Input>(
-    input: &mut R,
-    received: &mut Received,
-) -> Result<Option<u64>, Interrupted>
+fn take_size<R: Input>(input: &mut R, received: &mut Received) -> Result<Option<u64>, Interrupted>
     requires end { KnowsItsEnd received.old.ended (R.remaining input.old) }
     ensures takes { IfOk result (TakesSize (R.remaining input.old) (R.remaining input.new) received.old received.new) }
     ensures err { IfErr result (λ why. Stops (R.remaining input.old) (R.remaining input.new) (R.has_failed input.new) received.old why) }

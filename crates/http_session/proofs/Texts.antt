@@ -1,7 +1,7 @@
 -- The exchange of a request and its message.
-use Rattle.std.proofs.Common.{◌≡◌, ℕ, ◌+◌, ◌≤◌, ◌<◌, ◌||◌, List, [], ◌∷◌, ◌++◌, length, drop, slice_range, sym, ap, ◌∙◌, subst, arith, length-append}
+use Rattle.std.proofs.Common.{◌≡◌, ℕ, ◌≤◌, ◌||◌, List, ◌++◌, length, drop, slice_range, sym, ap, ◌∙◌, subst, arith}
 use Rattle.std.proofs.Math.Seq.{drop-append_seam}
-use Rattle.httparse.specs.Grammar.{RequestHead, print_request}
+use Rattle.httparse.specs.Grammar.{print_request}
 use Rattle.http_requests.specs.Asked.{Asked, asked_by}
 use Rattle.http_requests.specs.Requests.{IsWhole, Spells}
 use Rattle.http_requests.specs.declared.asked.Request.{Request}

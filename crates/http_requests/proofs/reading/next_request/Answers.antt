@@ -1,5 +1,5 @@
 use Rattle.std.proofs.lemmas.Result.{err_from_is_err_and}
-use Rattle.http_requests.proofs.Readings.{reads_then_stops, takes_then_stops}
+use Rattle.http_requests.proofs.Readings.{takes_then_stops}
 use Rattle.http_requests.proofs.Wholes.{head_taken, finds_one, finds_breach}
 use Rattle.http_requests.proofs.reading.next_request.Goals as goal
 

@@ -1,5 +1,4 @@
 use Rattle.std.proofs.Common.{◌∙◌}
-use Rattle.http_requests.specs.Receiving.{put_back}
 use Rattle.http_session.proofs.Turns.{begins, reads_on, ends_clean, ends_broken, fails_reading, fails_parting}
 use Rattle.http_session.proofs.Answering.{fewer_left, judged_not, answered_open, answered_last, answered_not}
 use Rattle.http_session.proofs.exchanges.run_session.Goals as goal
