@@ -144,9 +144,10 @@ fn run_session<T, R: Input, W: Output, B: Backend<T>>(
     ensures fault { IfErr result (λ f. FailsAs B.submits B.reads (R.remaining input.old) (R.remaining input.new) (W.contents output.old) (W.contents output.new) backend.old backend.new (R.has_failed input.new) (W.has_failed output.new) f) }
 {
     let mut received = Received::new(alloc);
-    let mut message = Vec::new(alloc);
     let mut answered = 0u64;
     'requests: loop {
+        // In each turn a new one, so that the room of a large body is given back.
+        let mut message = Vec::new(alloc);
         let request = match next_request(input, &mut received, &mut message) {
             Err(why) => {
                 return Err(SessionFault {
