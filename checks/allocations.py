@@ -6,7 +6,8 @@ it writes with ample memory; or nothing has changed.
 
 For `pipe` over a session of batches and queries: the run ends with status 5, and what it wrote are the
 first responses; or one request is answered 500, and everything else as in a session in which it was not
-made, so a batch that was refused is nowhere and a batch that was accepted is found.
+made, so a batch that was refused is nowhere and a batch that was accepted is found. The same for batches in chunks, which are
+answered as those by Content-Length.
 
     checks/allocations.py [--bin PATH] [--every N]
 
@@ -64,6 +65,13 @@ def sample(name):
 def post(body):
     head = f"POST /api/traces HTTP/1.1\r\nContent-Type: application/x-thrift\r\nContent-Length: {len(body)}\r\n\r\n"
     return head.encode() + body
+
+
+def post_chunked(body, size):
+    """The same body in chunks of so many bytes, with an extension and a trailer."""
+    head = b"POST /api/traces HTTP/1.1\r\nContent-Type: application/x-thrift\r\nTransfer-Encoding: chunked\r\n\r\n"
+    parts = [body[at : at + size] for at in range(0, len(body), size)]
+    return head + b"".join(b"%x;a=b\r\n%s\r\n" % (len(part), part) for part in parts) + b"0\r\nA: b\r\n\r\n"
 
 
 def get(target):
@@ -137,6 +145,10 @@ def cases(program):
     whole = program.run(["pipe"], b"".join(requests))
     assert whole[0] == 0 and len(responses(whole[1])) == len(requests), whole
     yield "pipe", whole[2], lambda n: pipe_ends(program, requests, whole, n)
+    chunked = [part for body in bodies for part in (post_chunked(body, 7), get("/api/traces/1"))]
+    answered = program.run(["pipe"], b"".join(chunked))
+    assert answered[:2] == program.run(["pipe"], b"".join(requests[: len(chunked)]))[:2], answered
+    yield "pipe in chunks", answered[2], lambda n: pipe_ends(program, chunked, answered, n)
 
 
 def main():

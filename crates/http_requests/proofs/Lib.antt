@@ -3,3 +3,4 @@ pub mod Cuts
 pub mod Readings
 pub mod Wholes
 pub mod Once
+pub mod Taking

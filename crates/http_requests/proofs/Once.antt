@@ -1,17 +1,20 @@
 -- What stands at the front of the bytes stands there in one way.
-use Rattle.std.proofs.Common.{◌≡◌, ℕ, ◌<◌, List, [], ◌++◌, length, take, drop, codes, IsTrue, refl, sym, ap, ◌∙◌, subst, arith, inl, inr, append_assoc, append-nil, length-append}
-use Rattle.std.proofs.lemmas.List.{take_at, drop_at}
+use Rattle.std.proofs.Common.{◌≡◌, ℕ, ◌<◌, List, [], ◌++◌, length, codes, IsTrue, refl, sym, ap, ◌∙◌, subst, arith, inl, inr, append_assoc, append-nil, length-append}
 use Rattle.std.proofs.lemmas.List.Elements.{All-nil, All-from_recursion}
 use Rattle.std.proofs.lemmas.Str.{IsUtf8-from_ascii}
 use Rattle.std.proofs.lemmas.Str.Ascii.{IsAscii-cons, IsAscii-nil}
 use Rattle.httparse.specs.Grammar.{LineEnd.{crlf}, RequestHead, IsRequestHead, is_token_byte, is_uri_byte, print_request}
 use Rattle.httparse.proofs.GrammarLemmas.{request_unique, ReadsRequest-append, print_request-append}
+use Rattle.chunked_bodies.specs.Chunks.{IsDecided, HasNone}
+use Rattle.chunked_bodies.proofs.Once.{same_cut, body_once, body_is_not_large, never_longer}
 use Rattle.http_requests.specs.Asked.{body_length}
 use Rattle.http_requests.specs.Heads.{TakesHead, HasNoHead}
-use Rattle.http_requests.specs.Requests.{Spells, IsBroken}
-use Rattle.http_requests.specs.declared.asked.BodyLength.TheVariants.{Bytes}
+use Rattle.http_requests.specs.Requests.{HasBody, Spells, IsUnreadable, PassesMost, BodyBreaks, BreaksBehind, IsBroken}
+use Rattle.http_requests.specs.declared.asked.BodyLength.{BodyLength}
+use Rattle.http_requests.specs.declared.asked.BodyLength.TheVariants.{Bytes, Chunked, Unreadable, TooLarge}
 use Rattle.http_requests.specs.declared.asked.Breach.{Breach}
-use Rattle.http_requests.specs.declared.asked.Breach.TheVariants.{Head, Body, TooLarge}
+use Rattle.http_requests.specs.declared.asked.Breach.TheVariants.{Head, Body}
+use Rattle.http_requests.specs.declared.asked.Breach.TheVariants as breach
 
 -- ---- heads
 
@@ -27,31 +30,30 @@ head_is_some bytes h rest takes =
 
 -- ---- requests
 
-same_cut : (a b r q : List ℕ) → length a ≡ length b → a ++ r ≡ b ++ q → (a ≡ b) × (r ≡ q)
-same_cut a b r q long e = (
-  sym (take_at a r (length b) long) ∙ ap (take (length b)) e ∙ take_at b q (length b) refl,
-  sym (drop_at a r (length b) long) ∙ ap (drop (length b)) e ∙ drop_at b q (length b) refl,
-)
+-- what a head tells of is one body, with one rest
+one_body : (size : BodyLength) (text other body more rest left : List ℕ) → HasBody size text body → HasBody size other more → text ++ rest ≡ other ++ left → (text ≡ other) × (body ≡ more) × (rest ≡ left)
+one_body (Bytes n) text other body more rest left one two e =
+    let same = same_cut text other rest left (ap length one.0 ∙ one.1 ∙ sym two.1 ∙ sym (ap length two.0)) e in
+    (same.0, sym one.0 ∙ same.0 ∙ two.0, same.1)
+one_body Chunked text other body more rest left one two e = body_once 4194304 text other body more rest left one two e
+one_body Unreadable text other body more rest left one two e = absurd one
+one_body TooLarge text other body more rest left one two e = absurd one
 
-same_size : (m n : ℕ) → Bytes m ≡ Bytes n → m ≡ n
-same_size m n e = cc
+pub request_stays : (text : List ℕ) (h : RequestHead) (body rest : List ℕ) (spells : Spells text h body) → TakesHead (text ++ rest) h (spells.after ++ rest)
+request_stays text h body rest spells = head_stays text h spells.after rest spells.takes
 
-pub request_stays : (text : List ℕ) (h : RequestHead) (body rest : List ℕ) → Spells text h body → TakesHead (text ++ rest) h (body ++ rest)
-request_stays text h body rest spells = head_stays text h body rest spells.takes
-
--- a head and a body tell the text
-one_text : (text other : List ℕ) (h k : RequestHead) (body more : List ℕ) → Spells text h body → Spells other k more → h ≡ k → body ≡ more → text ≡ other
-one_text text other h k body more one two heads bodies =
-    one.takes.reads.1 ∙ (λ i. print_request (heads i) ++ bodies i) ∙ sym two.takes.reads.1
+pub request_is_some : (text : List ℕ) (h : RequestHead) (body : List ℕ) → Spells text h body → 0 < length text
+request_is_some text h body spells = head_is_some text h spells.after spells.takes
 
 pub request_once : (text other : List ℕ) (h k : RequestHead) (body more rest left : List ℕ) → Spells text h body → Spells other k more → text ++ rest ≡ other ++ left
     → (text ≡ other) × (h ≡ k) × (body ≡ more) × (rest ≡ left)
 request_once text other h k body more rest left one two e =
-    let second : TakesHead (text ++ rest) k (more ++ left) = subst (λ (l : List ℕ). TakesHead l k (more ++ left)) (sym e) (request_stays other k more left two) in
-    let heads = head_once (text ++ rest) h k (body ++ rest) (more ++ left) (request_stays text h body rest one) second in
-    let long : length body ≡ length more = same_size (length body) (length more) (sym one.length_is ∙ ap body_length heads.0 ∙ two.length_is) in
-    let parts = same_cut body more rest left long heads.1 in
-    (one_text text other h k body more one two heads.0 parts.0, heads.0, parts.0, parts.1)
+    let second : TakesHead (text ++ rest) k (two.after ++ left) = subst (λ (l : List ℕ). TakesHead l k (two.after ++ left)) (sym e) (request_stays other k more left two) in
+    let heads = head_once (text ++ rest) h k (one.after ++ rest) (two.after ++ left) (request_stays text h body rest one) second in
+    let there : HasBody (body_length h) two.after more = subst (λ (x : RequestHead). HasBody (body_length x) two.after more) (sym heads.0) two.body_is in
+    let parts = one_body (body_length h) one.after two.after body more rest left one.body_is there heads.1 in
+    let texts : text ≡ other = one.takes.reads.1 ∙ (λ i. print_request (heads.0 i) ++ parts.0 i) ∙ sym two.takes.reads.1 in
+    (texts, heads.0, parts.1, parts.2)
 
 -- ---- breaches of all the bytes
 
@@ -62,62 +64,90 @@ Breaks bytes b = IsBroken (Unit {0}) bytes b
 nothing_more : (xs left : List ℕ) → left ≡ [] → xs ++ left ≡ xs
 nothing_more xs left none = ap (λ (l : List ℕ). xs ++ l) none ∙ append-nil xs
 
+body_breaks_all : (size : BodyLength) (after left : List ℕ) (b : Breach) → BodyBreaks (left ≡ []) b size after → BodyBreaks (Unit {0}) b size (after ++ left)
+body_breaks_all (Bytes n) after left Body broken = (subst (λ (l : List ℕ). length l < n) (sym (nothing_more after left broken.1)) broken.0, tt)
+body_breaks_all Chunked after left Body (inl never) = inl (never_longer (IsDecided 4194304) after left never)
+body_breaks_all Chunked after left Body (inr ended) = inr (tt, subst (HasNone (IsDecided 4194304)) (sym (nothing_more after left ended.0)) ended.1)
+body_breaks_all Unreadable after left Body broken = tt
+body_breaks_all TooLarge after left Body broken = absurd broken
+body_breaks_all (Bytes n) after left breach.TooLarge broken = absurd broken
+body_breaks_all Chunked after left breach.TooLarge b = record { text = b.text; rest = b.rest ++ left; is = b.is; cut = ap (λ l. l ++ left) b.cut ∙ append_assoc b.text b.rest left }
+body_breaks_all Unreadable after left breach.TooLarge broken = absurd broken
+body_breaks_all TooLarge after left breach.TooLarge broken = tt
+body_breaks_all size after left Head broken = absurd broken
+
+behind_all : (piece left : List ℕ) (b : Breach) → BreaksBehind (left ≡ []) piece b → BreaksBehind (Unit {0}) (piece ++ left) b
+behind_all piece left b told = record {
+  head = told.head;
+  after = told.after ++ left;
+  takes = head_stays piece told.head told.after left told.takes;
+  breaks = body_breaks_all (body_length told.head) told.after left b told.breaks;
+}
+
 -- what broke a piece breaks all bytes that begin with it, where the end was seen only with nothing left
 pub breaks_all : (piece left : List ℕ) (b : Breach) → IsBroken (left ≡ []) piece b → Breaks (piece ++ left) b
 breaks_all piece left Head (inl never) = inl (λ more. subst HasNoHead (sym (append_assoc piece left more)) (never (left ++ more)))
 breaks_all piece left Head (inr ended) =
     let same : piece ≡ piece ++ left = sym (nothing_more piece left ended.0) in
     inr (tt, subst (λ (l : List ℕ). 0 < length l) same ended.1, subst HasNoHead same ended.2)
-breaks_all piece left Body told = (
-  told.0,
-  told.1 ++ left,
-  head_stays piece told.0 told.1 left told.2,
-  elim told.3 [
-    | inl unreadable ↦ inl unreadable
-    | inr inside ↦ inr (record {
-      size = inside.size;
-      length_is = inside.length_is;
-      short = subst (λ (l : List ℕ). length l < inside.size) (sym (nothing_more told.1 left inside.at_end)) inside.short;
-      at_end = tt;
-    })
-  ],
-)
-breaks_all piece left TooLarge told = (told.0, told.1 ++ left, head_stays piece told.0 told.1 left told.2, told.3)
+breaks_all piece left Body told = behind_all piece left Body told
+breaks_all piece left breach.TooLarge told = behind_all piece left breach.TooLarge told
 
 -- where the head is broken there is none
 no_head : (bytes : List ℕ) → Breaks bytes Head → HasNoHead bytes
 no_head bytes (inl never) h rest takes = never [] h (rest ++ []) (head_stays bytes h rest [] takes)
 no_head bytes (inr ended) h rest takes = ended.2 h rest takes
 
+-- a body is none that is broken
+body_no_breach : (size : BodyLength) (text body rest : List ℕ) (b : Breach) → HasBody size text body → BodyBreaks (Unit {0}) b size (text ++ rest) → ⊥
+body_no_breach (Bytes n) text body rest Body is broken = absurd (omega (arith, broken.0, ap length is.0, is.1, length-append text rest))
+body_no_breach Chunked text body rest Body is (inl never) = never [] text (rest ++ []) (inl (body, is)) (append_assoc text rest [])
+body_no_breach Chunked text body rest Body is (inr ended) = ended.1 text rest (inl (body, is)) refl
+body_no_breach Unreadable text body rest b is broken = absurd is
+body_no_breach TooLarge text body rest b is broken = absurd is
+body_no_breach (Bytes n) text body rest breach.TooLarge is broken = absurd broken
+body_no_breach Chunked text body rest breach.TooLarge is broken = body_is_not_large 4194304 text broken.text body rest broken.rest is broken.is broken.cut
+body_no_breach (Bytes n) text body rest Head is broken = absurd broken
+body_no_breach Chunked text body rest Head is broken = absurd broken
+
+no_request_behind : (text rest : List ℕ) (h : RequestHead) (body : List ℕ) (b : Breach) → Spells text h body → BreaksBehind (Unit {0}) (text ++ rest) b → ⊥
+no_request_behind text rest h body b spells told =
+    let same = head_once (text ++ rest) told.head h told.after (spells.after ++ rest) told.takes (request_stays text h body rest spells) in
+    let broken : BodyBreaks (Unit {0}) b (body_length h) (spells.after ++ rest) =
+    subst (λ (x : RequestHead). BodyBreaks (Unit {0}) b (body_length x) (spells.after ++ rest)) same.0
+    (subst (λ (l : List ℕ). BodyBreaks (Unit {0}) b (body_length told.head) l) same.1 told.breaks) in
+    body_no_breach (body_length h) spells.after body rest b spells.body_is broken
+
 pub no_request : (text rest : List ℕ) (h : RequestHead) (body : List ℕ) (b : Breach) → Spells text h body → Breaks (text ++ rest) b → ⊥
-no_request text rest h body Head spells broken = no_head (text ++ rest) broken h (body ++ rest) (request_stays text h body rest spells)
-no_request text rest h body Body spells told =
-    let same = head_once (text ++ rest) told.0 h told.1 (body ++ rest) told.2 (request_stays text h body rest spells) in
-    let size = ap body_length same.0 ∙ spells.length_is in
-    elim told.3 [
-      | inl unreadable ↦ absurd (cc (unreadable, size))
-      | inr inside ↦ absurd (omega (arith, same_size inside.size (length body) (sym inside.length_is ∙ size), inside.short, ap length same.1, length-append body rest))
-    ]
-no_request text rest h body TooLarge spells told =
-    let same = head_once (text ++ rest) told.0 h told.1 (body ++ rest) told.2 (request_stays text h body rest spells) in
-    absurd (cc (told.3, ap body_length same.0, spells.length_is))
+no_request text rest h body Head spells broken = no_head (text ++ rest) broken h (spells.after ++ rest) (request_stays text h body rest spells)
+no_request text rest h body Body spells told = no_request_behind text rest h body Body spells told
+no_request text rest h body breach.TooLarge spells told = no_request_behind text rest h body breach.TooLarge spells told
 
 -- a body that can't be read isn't too large
-not_both : (bytes : List ℕ) → Breaks bytes Body → Breaks bytes TooLarge → ⊥
+body_not_both : (size : BodyLength) (after : List ℕ) → IsUnreadable (Unit {0}) size after → PassesMost size after → ⊥
+body_not_both (Bytes n) after one other = absurd other
+body_not_both Chunked after (inl never) other = never [] other.text (other.rest ++ []) (inr other.is) (ap (λ l. l ++ []) other.cut ∙ append_assoc other.text other.rest [])
+body_not_both Chunked after (inr ended) other = ended.1 other.text other.rest (inr other.is) other.cut
+body_not_both Unreadable after one other = absurd other
+body_not_both TooLarge after one other = absurd one
+
+not_both : (bytes : List ℕ) → Breaks bytes Body → Breaks bytes breach.TooLarge → ⊥
 not_both bytes one other =
-    let same = ap body_length (head_once bytes one.0 other.0 one.1 other.1 one.2 other.2).0 in
-    elim one.3 [ inl unreadable ↦ absurd (cc (unreadable, same, other.3)) | inr inside ↦ absurd (cc (inside.length_is, same, other.3)) ]
+    let same = head_once bytes one.head other.head one.after other.after one.takes other.takes in
+    let broken : IsUnreadable (Unit {0}) (body_length other.head) other.after =
+    subst (λ (x : RequestHead). IsUnreadable (Unit {0}) (body_length x) other.after) same.0 (subst (IsUnreadable (Unit {0}) (body_length one.head)) same.1 one.breaks) in
+    body_not_both (body_length other.head) other.after broken other.breaks
 
 pub one_breach : (bytes : List ℕ) (b c : Breach) → Breaks bytes b → Breaks bytes c → b ≡ c
 one_breach bytes Head Head one other = refl
-one_breach bytes Head Body one other = absurd (no_head bytes one other.0 other.1 other.2)
-one_breach bytes Head TooLarge one other = absurd (no_head bytes one other.0 other.1 other.2)
-one_breach bytes Body Head one other = absurd (no_head bytes other one.0 one.1 one.2)
+one_breach bytes Head Body one other = absurd (no_head bytes one other.head other.after other.takes)
+one_breach bytes Head breach.TooLarge one other = absurd (no_head bytes one other.head other.after other.takes)
+one_breach bytes Body Head one other = absurd (no_head bytes other one.head one.after one.takes)
 one_breach bytes Body Body one other = refl
-one_breach bytes Body TooLarge one other = absurd (not_both bytes one other)
-one_breach bytes TooLarge Head one other = absurd (no_head bytes other one.0 one.1 one.2)
-one_breach bytes TooLarge Body one other = absurd (not_both bytes other one)
-one_breach bytes TooLarge TooLarge one other = refl
+one_breach bytes Body breach.TooLarge one other = absurd (not_both bytes one other)
+one_breach bytes breach.TooLarge Head one other = absurd (no_head bytes other one.head one.after one.takes)
+one_breach bytes breach.TooLarge Body one other = absurd (not_both bytes other one)
+one_breach bytes breach.TooLarge breach.TooLarge one other = refl
 
 -- ---- no bytes
 
@@ -145,8 +175,8 @@ some_head_is_taken = record { reads = (some_head_is_one, sym (append-nil (print_
 pub nothing_is_no_breach : (b : Breach) → Breaks [] b → ⊥
 nothing_is_no_breach Head (inl never) = never (print_request some_head) some_head [] some_head_is_taken
 nothing_is_no_breach Head (inr ended) = absurd (omega (arith, ended.1))
-nothing_is_no_breach Body told = absurd (omega (arith, head_is_some [] told.0 told.1 told.2))
-nothing_is_no_breach TooLarge told = absurd (omega (arith, head_is_some [] told.0 told.1 told.2))
+nothing_is_no_breach Body told = absurd (omega (arith, head_is_some [] told.head told.after told.takes))
+nothing_is_no_breach breach.TooLarge told = absurd (omega (arith, head_is_some [] told.head told.after told.takes))
 
 -- ---- pieces
 

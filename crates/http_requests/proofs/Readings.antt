@@ -1,7 +1,7 @@
 -- How reads join.
 use Rattle.std.proofs.Common.{◌≡◌, ℕ, ◌+◌, Bool, List, [], ◌++◌, length, Option, sym, ap, ◌∙◌, arith, inl, inr, append_assoc, append-nil, length-append}
 use Rattle.std.proofs.KnownBytes.{Consumes-trans, Consumes-nil}
-use Rattle.http_requests.specs.Receiving.{Received, ReadsOn, Stops}
+use Rattle.http_requests.specs.Receiving.{Received, ReadsOn, Stops, put_back}
 use Rattle.http_requests.specs.declared.received.Interrupted.{Interrupted}
 
 pub nothing_read : (input : Option (List ℕ)) (r : Received) → ReadsOn input input r r
@@ -34,3 +34,63 @@ reads_then_stops in0 in1 in2 failed a b why first stop =
       read = Consumes-trans in0 in1 in2 first.more stop.more first.read stop.read;
       least = λ e. elim (stop.least e) [ inl f ↦ inl f | inr l ↦ inr (omega (arith, first.least, long)) ];
     }
+
+-- ---- with what was taken in front
+
+-- a text that stands in front is taken
+pub takes_front : (in0 in1 : Option (List ℕ)) (a b : Received) (text rest : List ℕ) → ReadsOn in0 in1 a b → b.held ≡ text ++ rest → ReadsOn in0 in1 a (put_back text (record b { held = rest }))
+takes_front in0 in1 a b text rest reads cut = record {
+  more = reads.more;
+  read = reads.read;
+  held = sym cut ∙ reads.held;
+  least = reads.least;
+  most = reads.most;
+  end = reads.end;
+}
+
+-- a text was taken, and then more was read
+pub takes_then_reads : (in0 in1 in2 : Option (List ℕ)) (a b c : Received) (text : List ℕ) → ReadsOn in0 in1 a (put_back text b) → ReadsOn in1 in2 b c → ReadsOn in0 in2 a (put_back text c)
+takes_then_reads in0 in1 in2 a b c text first second =
+    let long : length (first.more ++ second.more) ≡ length first.more + length second.more = length-append first.more second.more in
+    record {
+      more = first.more ++ second.more;
+      read = Consumes-trans in0 in1 in2 first.more second.more first.read second.read;
+      held = ap (λ l. text ++ l) second.held ∙ sym (append_assoc text b.held second.more) ∙ ap (λ l. l ++ second.more) first.held ∙ append_assoc a.held first.more second.more;
+      least = omega (arith, first.least, second.least, long);
+      most = omega (arith, first.most, second.most, long);
+      end = λ knows. second.end (first.end knows);
+    }
+
+regroup : (a b : Received) (text more : List ℕ) (in0 in1 : Option (List ℕ)) → ReadsOn in0 in1 a (put_back text (put_back more b)) → ReadsOn in0 in1 a (put_back (text ++ more) b)
+regroup a b text more in0 in1 reads = record {
+  more = reads.more;
+  read = reads.read;
+  held = append_assoc text more b.held ∙ reads.held;
+  least = reads.least;
+  most = reads.most;
+  end = reads.end;
+}
+
+-- a text was taken, and then another
+pub takes_join : (in0 in1 in2 : Option (List ℕ)) (a b c : Received) (text more : List ℕ) → ReadsOn in0 in1 a (put_back text b) → ReadsOn in1 in2 b (put_back more c) → ReadsOn in0 in2 a (put_back (text ++ more) c)
+takes_join in0 in1 in2 a b c text more first second = regroup a c text more in0 in2 (takes_then_reads in0 in1 in2 a b (put_back more c) text first second)
+
+pub takes_then_stops : (in0 in1 in2 : Option (List ℕ)) (failed : Bool) (a b : Received) (text : List ℕ) (why : Interrupted) → ReadsOn in0 in1 a (put_back text b) → Stops in1 in2 failed b why → Stops in0 in2 failed a why
+takes_then_stops in0 in1 in2 failed a b text why first stop =
+    let long : length (first.more ++ stop.more) ≡ length first.more + length stop.more = length-append first.more stop.more in
+    record {
+      more = first.more ++ stop.more;
+      read = Consumes-trans in0 in1 in2 first.more stop.more first.read stop.read;
+      least = λ e. elim (stop.least e) [ inl f ↦ inl f | inr l ↦ inr (omega (arith, first.least, long)) ];
+    }
+
+-- and one more from the front of what is there
+pub takes_more : (in0 in1 : Option (List ℕ)) (a b : Received) (text more rest : List ℕ) → ReadsOn in0 in1 a (put_back text b) → b.held ≡ more ++ rest → ReadsOn in0 in1 a (put_back (text ++ more) (record b { held = rest }))
+takes_more in0 in1 a b text more rest reads cut = record {
+  more = reads.more;
+  read = reads.read;
+  held = append_assoc text more rest ∙ ap (λ l. text ++ l) (sym cut) ∙ reads.held;
+  least = reads.least;
+  most = reads.most;
+  end = reads.end;
+}

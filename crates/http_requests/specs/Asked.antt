@@ -9,7 +9,7 @@ use Rattle.http_requests.specs.Fields.{Pairs, same_name, values_of, has_token}
 use Rattle.http_requests.specs.declared.asked.Method.{Method}
 use Rattle.http_requests.specs.declared.asked.Method.TheVariants.{Get, Post, Other}
 use Rattle.http_requests.specs.declared.asked.BodyLength.{BodyLength}
-use Rattle.http_requests.specs.declared.asked.BodyLength.TheVariants.{Bytes, Unreadable, TooLarge}
+use Rattle.http_requests.specs.declared.asked.BodyLength.TheVariants.{Bytes, Chunked, Unreadable, TooLarge}
 
 abbrev pub pairs_of : RequestHead → Pairs
 pairs_of h = map name_and_value h.fields
@@ -40,15 +40,22 @@ length_by [] = Bytes 0
 length_by (v ∷ []) = if is_number v then body_of_size (number_of v) else Unreadable
 length_by (v ∷ w ∷ more) = Unreadable
 
+-- the same by the values of Transfer-Encoding first: one that is `chunked`, in any ASCII case, and stands alone
+abbrev pub length_in : List (List ℕ) → List (List ℕ) → BodyLength
+length_in [] lengths = length_by lengths
+length_in (coding ∷ []) [] = if same_name coding (codes "chunked") then Chunked else Unreadable
+length_in (coding ∷ []) (v ∷ more) = Unreadable
+length_in (coding ∷ other ∷ more) lengths = Unreadable
+
 -- a body that is read is no larger
 abbrev pub IsBounded : BodyLength → Type 0
 IsBounded (Bytes n) = n ≤ 4194304
+IsBounded Chunked = Unit {0}
 IsBounded Unreadable = Unit {0}
 IsBounded TooLarge = Unit {0}
 
--- a body in a transfer coding isn't read
 abbrev pub body_by : Pairs → BodyLength
-body_by ps = if list_any (λ (p : List ℕ × List ℕ). same_name p.0 (codes "transfer-encoding")) ps then Unreadable else length_by (values_of (codes "content-length") ps)
+body_by ps = length_in (values_of (codes "transfer-encoding") ps) (values_of (codes "content-length") ps)
 
 -- some Connection field has the token `close`
 abbrev pub closes_by : Pairs → Bool

@@ -5,3 +5,4 @@ pub mod Requests
 pub mod Framing
 pub mod Receiving
 pub mod Searching
+pub mod Bodies

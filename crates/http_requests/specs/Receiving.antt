@@ -1,7 +1,10 @@
 -- What reading on does to the bytes received, and what one look for a request finds.
 use Rattle.std.specs.Prelude.{◌≡◌, ℕ, ◌+◌, ◌*◌, ◌≤◌, ◌⊎◌, Bool, true, if◌then◌else◌, List, [], ◌++◌, length, Option}
 use Rattle.std.specs.Io.KnownBytes.{Consumes, IsAtEnd}
-use Rattle.http_requests.specs.Requests.{IsWhole, IsBroken}
+use Rattle.chunked_bodies.specs.Chunks.{Lacks}
+use Rattle.http_requests.specs.Requests.{Spells, IsWhole, IsBroken}
+use Rattle.http_requests.specs.declared.asked.Breach.{Breach}
+use Rattle.http_requests.specs.declared.asked.Request.{Request}
 use Rattle.http_requests.specs.declared.received.Interrupted.{Interrupted}
 use Rattle.http_requests.specs.declared.received.Interrupted.TheVariants.{Reading}
 use Rattle.http_requests.specs.declared.reading.Next.{Next}
@@ -36,8 +39,42 @@ pub record Stops (in0 in1 : Option (List ℕ)) (failed : Bool) (old : Received) 
   pub read : Consumes in0 in1 more
   pub least : why ≡ Reading → (failed ≡ true) ⊎ (turns old ≤ length more)
 
+-- a text in front of the bytes again
+abbrev pub put_back : List ℕ → Received → Received
+put_back text r = record r { held = text ++ r.held }
+
+-- Some reads were made, and a text of this kind was taken from the front.
+pub record Takes (in0 in1 : Option (List ℕ)) (old new : Received) (Is : List ℕ → Type 0) : Type 0 where
+  pub text : List ℕ
+  pub is : Is text
+  pub reads : ReadsOn in0 in1 old (put_back text new)
+
+-- Some reads were made, and no text of this kind can be taken from the front.
+pub record Misses (in0 in1 : Option (List ℕ)) (old new : Received) (Is : List ℕ → Type 0) : Type 0 where
+  pub reads : ReadsOn in0 in1 old new
+  pub lacks : Lacks (IsAtEnd in1) Is new.held
+
+-- a request was taken from the front, and this is its message
+pub record FindsOne (in0 in1 : Option (List ℕ)) (old new : Received) (message : List ℕ) (r : Request) : Type 0 where
+  pub text : List ℕ
+  pub reads : ReadsOn in0 in1 old (put_back text new)
+  pub whole : IsWhole message r
+  pub spells : Spells text whole.head whole.body
+
+-- nothing is left
+pub record FindsEnd (in0 in1 : Option (List ℕ)) (old new : Received) : Type 0 where
+  pub reads : ReadsOn in0 in1 old new
+  pub at_end : IsAtEnd in1
+  pub nothing : new.held ≡ []
+
+-- what was taken and what is left begin with no request
+pub record FindsBreach (in0 in1 : Option (List ℕ)) (old new : Received) (breach : Breach) : Type 0 where
+  pub text : List ℕ
+  pub reads : ReadsOn in0 in1 old (put_back text new)
+  pub broken : IsBroken (IsAtEnd in1) (text ++ new.held) breach
+
 -- what one look for a request finds
-abbrev pub Finds : Option (List ℕ) → List ℕ → Next → Type 0
-Finds input held (One r) = IsWhole held r
-Finds input held Clean = IsAtEnd input × (held ≡ [])
-Finds input held (Broken breach) = IsBroken (IsAtEnd input) held breach
+abbrev pub Finds : Option (List ℕ) → Option (List ℕ) → Received → Received → List ℕ → Next → Type 0
+Finds in0 in1 old new message (One r) = FindsOne in0 in1 old new message r
+Finds in0 in1 old new message Clean = FindsEnd in0 in1 old new
+Finds in0 in1 old new message (Broken breach) = FindsBreach in0 in1 old new breach

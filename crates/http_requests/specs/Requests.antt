@@ -1,42 +1,71 @@
 -- A request as a text, and why there is none.
-use Rattle.std.specs.Prelude.{◌≡◌, ℕ, ◌+◌, ◌<◌, ◌≤◌, ◌⊎◌, List, length, drop, slice_range}
-use Rattle.httparse.specs.Grammar.{RequestHead, print_request}
+use Rattle.std.specs.Prelude.{◌≡◌, ℕ, ◌<◌, ◌≤◌, ◌⊎◌, List, ◌++◌, length, slice_range}
+use Rattle.httparse.specs.Grammar.{RequestHead, IsRequestHead, print_request}
+use Rattle.chunked_bodies.specs.Chunks.{IsBody, IsTooLarge, IsDecided, Begins, Lacks}
 use Rattle.http_requests.specs.Heads.{TakesHead, HasNoHead, NeverHasHead}
 use Rattle.http_requests.specs.Asked.{asked_by, body_length}
-use Rattle.http_requests.specs.declared.asked.BodyLength.TheVariants.{Bytes, Unreadable, TooLarge}
+use Rattle.http_requests.specs.declared.asked.BodyLength.{BodyLength}
+use Rattle.http_requests.specs.declared.asked.BodyLength.TheVariants.{Bytes, Chunked, Unreadable, TooLarge}
 use Rattle.http_requests.specs.declared.asked.Breach.{Breach}
 use Rattle.http_requests.specs.declared.asked.Breach.TheVariants as breach
 use Rattle.http_requests.specs.declared.asked.Request.{Request}
 
--- the text is a head that a session takes, and a body as long as the head says
-pub record Spells (text : List ℕ) (head : RequestHead) (body : List ℕ) : Type 0 where
-  pub takes : TakesHead text head body
-  pub length_is : body_length head ≡ Bytes (length body)
+-- the text behind a head that tells of such a body: the body itself, or its chunks
+abbrev pub HasBody : BodyLength → List ℕ → List ℕ → Type 0
+HasBody (Bytes n) text body = (text ≡ body) × (length body ≡ n)
+HasBody Chunked text body = IsBody 4194304 text body
+HasBody Unreadable text body = ⊥
+HasBody TooLarge text body = ⊥
 
--- the input ended inside a body of so many bytes
-pub record EndsInside (AtEnd : Type 0) (head : RequestHead) (after : List ℕ) : Type 0 where
-  pub size : ℕ
-  pub length_is : body_length head ≡ Bytes size
-  pub short : length after < size
-  pub at_end : AtEnd
+-- the text is a head that a session takes, and a body as the head tells
+pub record Spells (text : List ℕ) (head : RequestHead) (body : List ℕ) : Type 0 where
+  pub after : List ℕ
+  pub takes : TakesHead text head after
+  pub body_is : HasBody (body_length head) after body
+
+-- the head tells of no body that is read, the input ended inside it, or what follows is no chunked one
+abbrev pub IsUnreadable : Type 0 → BodyLength → List ℕ → Type 0
+IsUnreadable AtEnd (Bytes n) after = (length after < n) × AtEnd
+IsUnreadable AtEnd Chunked after = Lacks AtEnd (IsDecided 4194304) after
+IsUnreadable AtEnd Unreadable after = Unit {0}
+IsUnreadable AtEnd TooLarge after = ⊥
+
+-- the head says that the body is too large, or the size line of a chunk does
+abbrev pub PassesMost : BodyLength → List ℕ → Type 0
+PassesMost (Bytes n) after = ⊥
+PassesMost Chunked after = Begins (IsTooLarge 4194304) after
+PassesMost Unreadable after = ⊥
+PassesMost TooLarge after = Unit {0}
+
+abbrev pub BodyBreaks : Type 0 → Breach → BodyLength → List ℕ → Type 0
+BodyBreaks AtEnd breach.Head size after = ⊥
+BodyBreaks AtEnd breach.Body size after = IsUnreadable AtEnd size after
+BodyBreaks AtEnd breach.TooLarge size after = PassesMost size after
+
+-- there is a head, and behind it no body for that reason
+pub record BreaksBehind (AtEnd : Type 0) (rest : List ℕ) (why : Breach) : Type 0 where
+  pub head : RequestHead
+  pub after : List ℕ
+  pub takes : TakesHead rest head after
+  pub breaks : BodyBreaks AtEnd why (body_length head) after
 
 -- There is no request at the front of the bytes: no continuation has a head, or one whose body can be
 -- read, or the input ended inside.
 abbrev pub IsBroken : Type 0 → List ℕ → Breach → Type 0
 IsBroken AtEnd rest breach.Head = NeverHasHead rest ⊎ (AtEnd × (0 < length rest) × HasNoHead rest)
-IsBroken AtEnd rest breach.Body = (head : RequestHead) × (after : List ℕ) × TakesHead rest head after × ((body_length head ≡ Unreadable) ⊎ EndsInside AtEnd head after)
-IsBroken AtEnd rest breach.TooLarge = (head : RequestHead) × (after : List ℕ) × TakesHead rest head after × (body_length head ≡ TooLarge)
+IsBroken AtEnd rest breach.Body = BreaksBehind AtEnd rest breach.Body
+IsBroken AtEnd rest breach.TooLarge = BreaksBehind AtEnd rest breach.TooLarge
 
 -- what was told of a head; the target is a part of its text
 pub record Describes (head : RequestHead) (r : Request) : Type 0 where
   pub asked : asked_by head ≡ record { method = r.method; target = slice_range (print_request head) r.target.start r.target.end; has_batch_type = r.has_batch_type; closes = r.closes }
   pub within : (r.target.start ≤ r.target.end) × (r.target.end ≤ r.head_length)
   pub head_length : r.head_length ≡ length (print_request head)
-  pub body_length : body_length head ≡ Bytes r.body_length
 
--- a whole request stands at the front of the bytes
-pub record IsWhole (bytes : List ℕ) (r : Request) : Type 0 where
+-- the message of a request: its head, and its body behind it, however that came
+pub record IsWhole (message : List ℕ) (r : Request) : Type 0 where
   pub head : RequestHead
-  pub takes : TakesHead bytes head (drop r.head_length bytes)
+  pub body : List ℕ
+  pub is : IsRequestHead head
+  pub message_is : message ≡ print_request head ++ body
   pub describes : Describes head r
-  pub fits : r.head_length + r.body_length ≤ length bytes

@@ -1,7 +1,8 @@
-ghost use Rattle.std.specs.Prelude.{◌≡◌, ◌==◌, ◌||◌, ◌<◌, ◌≤◌, length};
+ghost use Rattle.std.specs.Prelude.{◌≡◌, ◌==◌, ◌||◌, ◌<◌, ◌≤◌, length, codes};
 ghost use Rattle.std.specs.List.{list_all};
 ghost use Rattle.std.specs.Char.{is_ascii_digit};
-ghost use Rattle.http_requests.specs.Asked.{method_of, digit, number_of, is_number, body_of_size, body_by, IsBounded, closes_by, media_type, is_thrift, has_batch_type};
+ghost use Rattle.http_requests.specs.Asked.{method_of, digit, number_of, is_number, body_of_size, length_by, body_by, IsBounded, closes_by, media_type, is_thrift, has_batch_type};
+ghost use Rattle.http_requests.specs.Fields.{values_of};
 ghost use Rattle.http_requests.specs.Framing.{Frames};
 ghost use Rattle.http_requests.specs.Heads.{IsWholeHead};
 
@@ -10,7 +11,7 @@ use crate::head::front_of;
 use httparse::spans::{HeaderSpan, RequestSpans, Span};
 
 /// The most bytes of a body.
-const MOST_BODY_BYTES: u64 = 4_194_304;
+pub(crate) const MOST_BODY_BYTES: u64 = 4_194_304;
 
 /// The methods that some path takes.
 #[derive(Clone, Copy, Debug, PartialEq, Eq)]
@@ -24,8 +25,10 @@ pub enum Method {
 #[derive(Clone, Copy, Debug, PartialEq, Eq)]
 pub enum BodyLength {
     Bytes(u64),
-    /// The head says it in no way that is read: a Transfer-Encoding, two Content-Lengths, or one that
-    /// isn't 1 to 19 digits.
+    /// As its chunks say (RFC 9112, section 7.1).
+    Chunked,
+    /// The head says it in no way that is read: a Transfer-Encoding that isn't `chunked`, two of them, or
+    /// one beside a Content-Length; two Content-Lengths, or one that isn't 1 to 19 digits.
     Unreadable,
     /// Above 4,194,304 bytes.
     TooLarge,
@@ -42,19 +45,18 @@ pub enum Breach {
     TooLarge,
 }
 
-/// A request at the front of the bytes received.
+/// A request, as its head tells. It goes with the message: the bytes of the head, and the body behind it.
 #[derive(Clone, Copy, Debug)]
 pub struct Request {
     pub method: Method,
-    /// Where the target is.
+    /// Where the target is in the message.
     pub target: Span,
     /// The body may be a batch: it is in no content coding, and of a type of Thrift's binary protocol.
     pub has_batch_type: bool,
     /// The session is to close behind the response.
     pub closes: bool,
-    /// How many bytes the head has; the body follows it.
+    /// How many bytes the head has; the body is the rest of the message.
     pub head_length: usize,
-    pub body_length: usize,
 }
 
 fn method_of(method: &[u8]) -> Method
@@ -114,18 +116,38 @@ fn body_of_size(size: u64) -> BodyLength
     }
 }
 
+/// How long the body is, by Content-Length alone.
+fn length_by(fields: &Fields<'_>) -> BodyLength
+    ensures length { result ≡ length_by (values_of (codes "content-length") fields.now) }
+    ensures bound { IsBounded result }
+{
+    match fields.values("content-length") {
+        Values::None => BodyLength::Bytes(0),
+        Values::One(value) if is_number(value) => body_of_size(value_of(value)),
+        Values::One(_) | Values::Many => BodyLength::Unreadable,
+    }
+}
+
 /// How long the body is, by the fields of the head.
 fn body_length(fields: &Fields<'_>) -> BodyLength
     ensures length { result ≡ body_by fields.now }
     ensures bound { IsBounded result }
 {
-    if fields.has("transfer-encoding") {
-        return BodyLength::Unreadable;
-    }
-    match fields.values("content-length") {
-        Values::None => BodyLength::Bytes(0),
-        Values::One(value) if is_number(value) => body_of_size(value_of(value)),
-        Values::One(_) | Values::Many => BodyLength::Unreadable,
+    match (
+        fields.values("transfer-encoding"),
+        fields.values("content-length"),
+    ) {
+        (Values::None, _) => length_by(fields),
+        (Values::One(coding), Values::None) => {
+            if is_named(coding, "chunked") {
+                BodyLength::Chunked
+            } else {
+                BodyLength::Unreadable
+            }
+        }
+        (Values::One(_), Values::One(_) | Values::Many) | (Values::Many, _) => {
+            BodyLength::Unreadable
+        }
     }
 }
 
@@ -167,33 +189,23 @@ fn closes(version: u8, fields: &Fields<'_>) -> bool
     version == 0 || fields.have_token("connection", "close")
 }
 
-/// What a session asks of the head that stands at the front of the bytes.
-///
-/// # Errors
-///
-/// The head's body can't be read, or is too large.
-
+/// What a session asks of the head that stands at the front of the bytes, and how long the body is.
 pub(crate) fn frame(
     bytes: &[u8],
     headers: &[HeaderSpan],
     spans: RequestSpans,
-) -> Result<Request, Breach>
+) -> (Request, BodyLength)
     requires { IsWholeHead bytes.now headers.now spans }
-    ensures { Frames bytes.now spans.len result }
+    ensures { Frames bytes.now spans.len result.0 result.1 }
 {
     let front = front_of(bytes);
     let fields = Fields::new(front, &headers[..spans.headers]);
-    let body_length = match body_length(&fields) {
-        BodyLength::Bytes(size) => size as usize,
-        BodyLength::Unreadable => return Err(Breach::Body),
-        BodyLength::TooLarge => return Err(Breach::TooLarge),
-    };
-    Ok(Request {
+    let request = Request {
         method: method_of(spans.method.of(front)),
         target: spans.path,
         has_batch_type: has_batch_type(&fields),
         closes: closes(spans.version, &fields),
         head_length: spans.len,
-        body_length,
-    })
+    };
+    (request, body_length(&fields))
 }

@@ -1,12 +1,14 @@
 //! The requests of an HTTP/1.x session, read one after the other (RFC 9112).
 //!
-//! A request is a head by `httparse`'s grammar, of at most 8,192 bytes and 64 fields, and a body whose
-//! length the head tells. What stands at the front of the bytes received is proved to be a request,
-//! or to be none for a stated reason: no continuation can begin with one, or the input ended inside.
+//! A request is a head by `httparse`'s grammar, of at most 8,192 bytes and 64 fields, and a body: as long as
+//! the head tells, or in chunks. What stood at the front of the bytes received is proved to be a request,
+//! or to be none for a stated reason: no continuation can begin with one, or the input ended inside. A
+//! request is handed on as its message, the head and the body behind it, however the body came.
 //!
 //! * `head`: looking for a head at the front of bytes.
 //! * `fields`: the fields of a head, by name.
 //! * `asked`: what a session asks of a head: method, target, how long the body is, whether it closes.
+//! * `bodies`: taking a body, by its length or in chunks.
 //! * `received`: the bytes that were read and are not taken yet.
 //! * `scan`: when it is worth looking for a head.
 //! * `reading`: the next request of an input.
@@ -14,6 +16,7 @@
 #![tactic(auto)]
 
 mod asked;
+mod bodies;
 mod fields;
 mod head;
 pub mod laws;

@@ -4,6 +4,7 @@ ghost use Rattle.http_requests.specs.Receiving.{KnowsItsEnd, ReadsOn, Stops, Fin
 ghost use Rattle.http_requests.specs.Searching.{FindsHead};
 
 use crate::asked::{Breach, Request, frame};
+use crate::bodies::read_body;
 use crate::head::{Look, MOST_BYTES, look_for_head};
 use crate::received::{Interrupted, Received};
 use crate::scan::Scan;
@@ -13,7 +14,7 @@ use session_devices::Input;
 /// Room for one field more than a head may have.
 const FIELD_ROOM: usize = 65;
 
-/// What stands at the front of the bytes received, after reading as far as it takes.
+/// What stood at the front of the bytes received, after reading as far as it takes.
 #[derive(Clone, Copy, Debug)]
 pub enum Next {
     /// A whole request.
@@ -66,36 +67,20 @@ fn find_head<R: Input>(
     }
 }
 
-/// Reads until so many bytes are there, or the input has ended.
-#[tactic(auto, using(crate::proofs::Readings::reads_then_stops))]
-fn read_up_to<R: Input>(
-    input: &mut R,
-    received: &mut Received,
-    count: usize,
-) -> Result<(), Interrupted>
-    requires end { KnowsItsEnd received.old.ended (R.remaining input.old) }
-    ensures reads { OnOk result (ReadsOn (R.remaining input.old) (R.remaining input.new) received.old received.new) }
-    ensures all { OnOk result ((received.new.ended ≡ false) → (count ≤ length received.new.held)) }
-    ensures err { IfErr result (λ why. Stops (R.remaining input.old) (R.remaining input.new) (R.has_failed input.new) received.old why) }
-    ensures same { OnOk result (R.has_failed input.new ≡ R.has_failed input.old) }
-{
-    while received.as_slice().len() < count && !received.has_ended() {
-        received.read_on(input)?;
-    }
-    Ok(())
-}
-
-/// Reads until a whole request stands at the front of the bytes received, or there is none: the input
-/// has ended, or no continuation begins with one. It reads nothing of an input that has ended.
+/// Reads until a whole request stood at the front of the bytes received, or there is none: the input
+/// has ended, or no continuation begins with one. The request is taken from the bytes, and the message is
+/// its head and behind it its body. It reads nothing of an input that has ended.
 ///
 /// # Errors
 ///
 /// The input failed, or want of memory.
-#[tactic(auto, using(crate::proofs::Readings::reads_then_stops, crate::proofs::Readings::reads_join, crate::proofs::Wholes::whole_behind, crate::proofs::Wholes::short_behind))]
-pub fn next_request<R: Input>(input: &mut R, received: &mut Received) -> Result<Next, Interrupted>
+pub fn next_request<R: Input>(
+    input: &mut R,
+    received: &mut Received,
+    message: &mut Vec<u8>,
+) -> Result<Next, Interrupted>
     requires end { KnowsItsEnd received.old.ended (R.remaining input.old) }
-    ensures reads { OnOk result (ReadsOn (R.remaining input.old) (R.remaining input.new) received.old received.new) }
-    ensures found { IfOk result (λ next. Finds (R.remaining input.new) received.new.held next) }
+    ensures found { IfOk result (λ next. Finds (R.remaining input.old) (R.remaining input.new) received.old received.new message.new.items next) }
     ensures err { IfErr result (λ why. Stops (R.remaining input.old) (R.remaining input.new) (R.has_failed input.new) received.old why) }
     ensures same { OnOk result (R.has_failed input.new ≡ R.has_failed input.old) }
 {
@@ -105,14 +90,12 @@ pub fn next_request<R: Input>(input: &mut R, received: &mut Received) -> Result<
         Found::End if received.as_slice().is_empty() => return Ok(Next::Clean),
         Found::End | Found::Never => return Ok(Next::Broken(Breach::Head)),
     };
-    let request = match frame(received.as_slice(), &headers, spans) {
-        Ok(request) => request,
-        Err(breach) => return Ok(Next::Broken(breach)),
-    };
-    let length = request.head_length + request.body_length;
-    read_up_to(input, received, length)?;
-    if received.as_slice().len() < length {
-        return Ok(Next::Broken(Breach::Body));
+    let (request, size) = frame(received.as_slice(), &headers, spans);
+    message.clear();
+    message.extend_from_slice(&received.as_slice()[..request.head_length])?;
+    received.take(request.head_length);
+    match read_body(input, received, message, size)? {
+        Ok(()) => Ok(Next::One(request)),
+        Err(breach) => Ok(Next::Broken(breach)),
     }
-    Ok(Next::One(request))
 }

@@ -41,6 +41,14 @@ impl Scan {
         }
     }
 
+    /// Behind the end of a line.
+    pub(crate) fn behind_a_line() -> Self {
+        Scan {
+            place: Place::LineEnd,
+            seen: 0,
+        }
+    }
+
     /// Goes on to the end of the bytes, of which it saw the front before. Whether an empty line ended
     /// in what is new.
     pub(crate) fn is_due(&mut self, bytes: &[u8]) -> bool {

@@ -2,7 +2,7 @@
 use Rattle.std.proofs.Common.{◌≡◌, ◌≢◌, ℕ, ◌+◌, ◌≤◌, ◌<◌, ◌⊎◌, Bool, true, false, List, [], ◌∷◌, ◌++◌, length, take, Option, Err, refl, sym, ap, ◌∙◌, subst, arith, inl, inr, append_assoc, append-nil, length-append, rules}
 use Rattle.std.specs.Io.KnownBytes.{Appends, IsAtEnd}
 use Rattle.std.proofs.KnownBytes.{Consumes-trans, Appends-trans, Consumes-nil, Appends-nil}
-use Rattle.std.proofs.lemmas.List.Elements.{All-append}
+use Rattle.std.proofs.lemmas.List.Elements.{All-append, All-cons, All-nil}
 use Rattle.http_requests.specs.Requests.{IsBroken}
 use Rattle.http_requests.specs.Receiving.{Received, ReadsOn, Stops, turns}
 use Rattle.http_requests.specs.declared.asked.Breach.{Breach}
@@ -82,7 +82,7 @@ module _ {S : Type 0} (submits : Submits S) (reads : Reads S) where
         opens = so.opens ++ x ∷ [];
         read = so.read;
         split = so.split ∙ ap (λ l. texts so.opens ++ l) cut ∙ sym (append_assoc (texts so.opens) x.text rest) ∙ ap (λ l. l ++ rest) (sym (texts_more so.opens x));
-        each = All-append IsOpen so.opens (x ∷ []) so.each (let o : IsOpen x = record { exchange = is; open_is = open_is } in search rules);
+        each = All-append IsOpen so.opens (x ∷ []) so.each (All-cons IsOpen x [] (record { exchange = is; open_is = open_is }) (All-nil IsOpen));
         run = run_more submits reads s t u so.opens x so.run step;
         written = subst (Appends out0 out2) (sym (responses_more so.opens x)) (Appends-trans out0 out1 out2 (responses so.opens) (response_to x) so.written wrote);
         count = ap (λ n. n + 1) so.count ∙ sym (length-append so.opens (x ∷ []));

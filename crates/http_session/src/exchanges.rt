@@ -146,7 +146,9 @@ fn run_session<T, R: Input, W: Output, B: Backend<T>>(
     let mut received = Received::new(alloc);
     let mut answered = 0u64;
     'requests: loop {
-        let request = match next_request(input, &mut received) {
+        // In each turn a new one, so that the room of a large body is given back.
+        let mut message = Vec::new(alloc);
+        let request = match next_request(input, &mut received, &mut message) {
             Err(why) => {
                 return Err(SessionFault {
                     answered,
@@ -171,7 +173,7 @@ fn run_session<T, R: Input, W: Output, B: Backend<T>>(
             }
             Ok(Next::One(request)) => request,
         };
-        let Ok(verdict) = judge(alloc, router, received.as_slice(), &request) else {
+        let Ok(verdict) = judge(alloc, router, message.as_slice(), &request) else {
             return Err(SessionFault {
                 answered,
                 written: 0,
@@ -192,7 +194,6 @@ fn run_session<T, R: Input, W: Output, B: Backend<T>>(
                 clean: false,
             });
         }
-        received.take(request.head_length + request.body_length);
     }
 }
 

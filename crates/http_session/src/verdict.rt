@@ -70,18 +70,18 @@ fn judge_batch(alloc: Global, has_batch_type: bool, body: &[u8]) -> Verdict
     }
 }
 
-/// The target of a request at the front of the bytes.
-fn target_of<'b>(bytes: &'b [u8], request: &Request) -> &'b str
-    requires { IsWhole bytes.now request.now }
-    ensures { result.now ≡ slice_range bytes.now request.now.target.start request.now.target.end }
+/// The target of the request of a message.
+fn target_of<'b>(message: &'b [u8], request: &Request) -> &'b str
+    requires { IsWhole message.now request.now }
+    ensures { result.now ≡ slice_range message.now request.now.target.start request.now.target.end }
 {
-    match str::from_utf8(request.target.of(bytes)) {
+    match str::from_utf8(request.target.of(message)) {
         Ok(target) => target,
         Err(_) => unreachable!(),
     }
 }
 
-/// What a request at the front of the bytes asks.
+/// What the request of a message asks.
 ///
 /// # Errors
 ///
@@ -89,21 +89,21 @@ fn target_of<'b>(bytes: &'b [u8], request: &Request) -> &'b str
 pub(crate) fn judge(
     alloc: Global,
     router: &Router<Endpoint>,
-    bytes: &[u8],
+    message: &[u8],
     request: &Request,
 ) -> Result<Verdict, AllocError>
     requires routes { router.now ≡ endpoint_rows }
-    requires whole { IsWhole bytes.now request.now }
-    ensures { IfOk result (Judges (asked_of bytes.now request.now) (body_of bytes.now request.now)) }
+    requires whole { IsWhole message.now request.now }
+    ensures { IfOk result (Judges (asked_of message.now request.now) (body_of message.now request.now)) }
 {
-    let (path, form) = path_and_form(target_of(bytes, request));
+    let (path, form) = path_and_form(target_of(message, request));
     let Some((endpoint, part)) = find_endpoint(router, path) else {
         return Ok(Verdict::Say(Remark::NoSuchPath));
     };
     match (request.method, endpoint) {
         (Method::Get, _) => judge_query(alloc, endpoint, part, form),
         (Method::Post, Endpoint::Traces) => {
-            let body = &bytes[request.head_length..request.head_length + request.body_length];
+            let body = &message[request.head_length..];
             Ok(judge_batch(alloc, request.has_batch_type, body))
         }
         _ => Ok(Verdict::Say(Remark::NotAllowed(endpoint))),

@@ -4,7 +4,7 @@ use Rattle.std.proofs.lemmas.List.Elements.{All-head, All-tail}
 use Rattle.trace_model.specs.Held.{Held}
 use Rattle.http_requests.specs.Asked.{asked_by}
 use Rattle.http_requests.specs.declared.asked.Breach.{Breach}
-use Rattle.http_requests.proofs.Once.{Breaks, breaks_all, head_is_some, request_once, no_request, one_breach, nothing_is_no_breach}
+use Rattle.http_requests.proofs.Once.{Breaks, breaks_all, request_is_some, request_once, no_request, one_breach, nothing_is_no_breach}
 use Rattle.http_session.specs.Sessions.{Exchange, IsExchange, IsOpen, texts, Ending, Ending.{clean, closing, broken}, last_of, IsEnding}
 use Rattle.http_session.specs.Replies.{closes}
 use Rattle.http_session.specs.Verdicts.{Judges}
@@ -46,7 +46,7 @@ ComesNext bytes s (broken b) rest = Breaks bytes b × (rest ≡ [])
 
 not_empty : (s : Held) (x : Exchange) (rest : List ℕ) → Asks [] s x rest → ⊥
 not_empty s x rest asks =
-    let some = head_is_some x.text x.head x.body asks.exchange.spells.takes in
+    let some = request_is_some x.text x.head x.body asks.exchange.spells in
     absurd (omega (arith, some, simp length-append at (ap length asks.front)))
 
 not_empty_at : (bytes : List ℕ) (s : Held) (x : Exchange) (rest : List ℕ) → bytes ≡ [] → Asks bytes s x rest → ⊥

@@ -9,15 +9,15 @@ use std::test::*;
 use trace_model::Limits;
 
 /// A batch of service `a` with one span, `op`, of trace 1.
-const BATCH: &[u8] =
+pub(crate) const BATCH: &[u8] =
     b"\x0c\x00\x01\x0b\x00\x01\x00\x00\x00\x01a\x00\x0f\x00\x02\x0c\x00\x00\x00\x01\x0a\x00\x01\x00\x00\x00\x00\x00\x00\x00\x01\x0a\x00\x02\x00\x00\x00\x00\x00\x00\x00\x00\x0a\x00\x03\x00\x00\x00\x00\x00\x00\x00\x02\x0a\x00\x04\x00\x00\x00\x00\x00\x00\x00\x00\x0b\x00\x05\x00\x00\x00\x02op\x08\x00\x07\x00\x00\x00\x01\x0a\x00\x08\x00\x00\x00\x00\x00\x00\x03\xe8\x0a\x00\x09\x00\x00\x00\x00\x00\x00\x002\x00\x00";
 
 const POST: &[u8] =
     b"POST /api/traces HTTP/1.1\r\nContent-Type: application/x-thrift\r\nContent-Length: 104\r\n\r\n";
 
-const SERVICES: &[u8] = b"GET /api/services HTTP/1.1\r\n\r\n";
+pub(crate) const SERVICES: &[u8] = b"GET /api/services HTTP/1.1\r\n\r\n";
 
-const ANSWERS: &[u8] =
+pub(crate) const ANSWERS: &[u8] =
     b"HTTP/1.1 202 Accepted\r\nContent-Length: 0\r\n\r\nHTTP/1.1 200 OK\r\nContent-Type: application/json\r\nContent-Length: 59\r\n\r\n{\"data\":[\"a\"],\"errors\":null,\"limit\":0,\"offset\":0,\"total\":1}";
 
 /// A batch that is handed in, and then a look at the services.
@@ -37,7 +37,7 @@ fn empty_store(rt: &impl Abort, alloc: Global) -> Direct {
 /// A session over a store that was empty: how it ended, what was written, and how many entries the store
 /// has. The reader gives so many bytes a call and fails at that call; the writer has that room and takes so
 /// many bytes a call.
-fn played(
+pub(crate) fn played(
     rt: &impl Abort,
     alloc: Global,
     bytes: &[u8],

@@ -23,14 +23,15 @@ fn head(alloc: Global, fields: usize, target: usize) -> Result<Vec<u8>, Fail> {
 fn look(alloc: Global, bytes: &[u8], step: usize) -> Result<Next, Interrupted> {
     let mut input = MemoryInput::new(bytes, step, 0);
     let mut received = Received::new(alloc);
-    next_request(&mut input, &mut received)
+    let mut message = Vec::new(alloc);
+    next_request(&mut input, &mut received, &mut message)
 }
 
 fn is_one(next: Result<Next, Interrupted>) -> bool {
     matches!(next, Ok(Next::One(_)))
 }
 
-fn is_broken(next: Result<Next, Interrupted>, breach: Breach) -> bool {
+pub(crate) fn is_broken(next: Result<Next, Interrupted>, breach: Breach) -> bool {
     matches!(next, Ok(Next::Broken(b)) if b == breach)
 }
 
@@ -55,7 +56,7 @@ fn heads_at_their_limits(rt: HostRuntime) -> Result<(), Fail> {
 #[test]
 fn each_end(rt: HostRuntime) -> Result<(), Fail> {
     let alloc = rt.alloc();
-    let rows: [(&[u8], Option<Breach>); 9] = [
+    let rows: [(&[u8], Option<Breach>); 8] = [
         (b"GET / HTTP/1.1\nContent-Length: 3\n\nabc", None),
         (
             b"\r\n\r\nGET / HTTP/1.0\r\nconnection: x, Close\r\n\r\n",
@@ -71,10 +72,6 @@ fn each_end(rt: HostRuntime) -> Result<(), Fail> {
         ),
         (
             b"GET / HTTP/1.1\r\nContent-Length: +3\r\n\r\nabc",
-            Some(Breach::Body),
-        ),
-        (
-            b"GET / HTTP/1.1\r\nTransfer-Encoding: chunked\r\n\r\n0\r\n\r\n",
             Some(Breach::Body),
         ),
         (
@@ -104,15 +101,16 @@ fn what_a_head_asks(rt: HostRuntime) -> Result<(), Fail> {
         b"POST /x HTTP/1.1\r\nCONTENT-TYPE: \tApplication/X-Thrift ; a=b\r\nConnection: keep-alive , close\r\ncontent-length: 0\r\n\r\n";
     let mut input = MemoryInput::new(bytes, 3, 0);
     let mut received = Received::new(rt.alloc());
-    let next = next_request(&mut input, &mut received);
+    let mut message = Vec::new(rt.alloc());
+    let next = next_request(&mut input, &mut received, &mut message);
     let Ok(Next::One(request)) = next else {
         return Err(std::alloc::AllocError.into());
     };
     assert!(rt; request.method == Method::Post);
     assert!(rt; request.has_batch_type && request.closes);
     assert_eq!(rt; request.head_length, bytes.len());
-    assert!(rt; request.target.of(received.as_slice()) == b"/x".as_slice());
-    received.take(request.head_length);
+    assert!(rt; message.as_slice() == bytes.as_slice());
+    assert!(rt; request.target.of(message.as_slice()) == b"/x".as_slice());
     assert!(rt; received.as_slice().is_empty() && !received.has_ended());
     Ok(())
 }

@@ -1,6 +1,6 @@
 use Rattle.std.proofs.Common.{◌∙◌}
-use Rattle.http_session.proofs.Turns.{begins, reads_on, ends_clean, ends_broken, fails_reading, fails_judging, fails_parting}
-use Rattle.http_session.proofs.Answering.{answered_open, answered_last, answered_not}
+use Rattle.http_session.proofs.Turns.{begins, reads_on, ends_clean, ends_broken, fails_reading, fails_parting}
+use Rattle.http_session.proofs.Answering.{fewer_left, judged_not, answered_open, answered_last, answered_not}
 use Rattle.http_session.proofs.exchanges.run_session.Goals as goal
 
 pub requests-init : goal.requests-init
@@ -12,45 +12,50 @@ returns-in-Err-clause-fault g c =
 
 pub returns-in-Ok-Clean-clause-ended : goal.returns-in-Ok-Clean-clause-ended
 returns-in-Ok-Clean-clause-ended g c =
-    let so = reads_on _ _ _ _ _ _ _ _ _ _ _ _ c.requests.invariant.0 c.in-Ok-Clean.ensures.reads in
-    ends_clean _ _ _ _ _ _ _ _ _ _ so (rw c.in-Ok-Clean.field-0-is at c.in-Ok-Clean.ensures.found)
+    let found = rw c.in-Ok-Clean.field-0-is at c.in-Ok-Clean.ensures.found in
+    let so = reads_on _ _ _ _ _ _ _ _ _ _ _ _ c.requests.invariant.0 found.reads in
+    ends_clean _ _ _ _ _ _ _ _ _ _ so (found.at_end, found.nothing)
 
 pub returns-in-Err-say-clause-fault : goal.returns-in-Err-say-clause-fault
 returns-in-Err-say-clause-fault g c =
-    let so = reads_on _ _ _ _ _ _ _ _ _ _ _ _ c.requests.invariant.0 c.in-Ok-Broken.ensures.reads in
-    rw c.after.ensures (fails_parting _ _ _ _ _ _ _ _ _ _ _ (g.W.Output.has_failed c.requests.output) _ _ _ _ so (rw c.in-Ok-Broken.field-0-is at c.in-Ok-Broken.ensures.found) c.in-Err-say.ensures.says)
+    let found = rw c.in-Ok-Broken.field-0-is at c.in-Ok-Broken.ensures.found in
+    let so = reads_on _ _ _ _ _ _ _ _ _ _ _ _ c.requests.invariant.0 found.reads in
+    rw c.after.ensures (fails_parting _ _ _ _ _ _ _ _ _ _ _ (g.W.Output.has_failed c.requests.output) _ _ _ _ so found.broken c.in-Err-say.ensures.says)
 
 pub returns-in-Ok-Broken-clause-ended : goal.returns-in-Ok-Broken-clause-ended
 returns-in-Ok-Broken-clause-ended g c =
-    let so = reads_on _ _ _ _ _ _ _ _ _ _ _ _ c.requests.invariant.0 c.in-Ok-Broken.ensures.reads in
-    ends_broken _ _ _ _ _ _ _ _ _ _ _ _ so (rw c.in-Ok-Broken.field-0-is at c.in-Ok-Broken.ensures.found) c.in_default.ensures.says.0
+    let found = rw c.in-Ok-Broken.field-0-is at c.in-Ok-Broken.ensures.found in
+    let so = reads_on _ _ _ _ _ _ _ _ _ _ _ _ c.requests.invariant.0 found.reads in
+    ends_broken _ _ _ _ _ _ _ _ _ _ _ _ so found.broken c.in_default.ensures.says.0
 
 pub returns-in_default-judge-clause-fault : goal.returns-in_default-judge-clause-fault
 returns-in_default-judge-clause-fault g c =
-    let so = reads_on _ _ _ _ _ _ _ _ _ _ _ _ c.requests.invariant.0 c.in-Ok-One.ensures.reads in
-    fails_judging _ _ _ _ _ _ _ _ _ _ _ _ so
+    let found = rw c.in-Ok-One.field-0-is at c.in-Ok-One.ensures.found in
+    judged_not _ _ _ _ _ _ _ _ _ _ _ _ _ _ c.requests.invariant.0 found _ _
 
 pub returns-in-Err-said-clause-fault : goal.returns-in-Err-said-clause-fault
 returns-in-Err-said-clause-fault g c =
-    let so = reads_on _ _ _ _ _ _ _ _ _ _ _ _ c.requests.invariant.0 c.in-Ok-One.ensures.reads in
-    let whole = rw c.in-Ok-One.field-0-is at c.in-Ok-One.ensures.found in
-    let judged = rw c.as_slice.ensures at c.in-Ok.ensures in
-    rw c.after-in-Err-said.ensures (answered_not _ _ _ _ _ _ _ _ _ _ _ _ _ _ _ _ so whole judged c.answer-reply.ensures c.closes_behind-close.ensures
+    let found = rw c.in-Ok-One.field-0-is at c.in-Ok-One.ensures.found in
+    let judged = rw c.as_slice.ensures.value at c.in-Ok.ensures in
+    rw c.after-in-Err-said.ensures (answered_not _ _ _ _ _ _ _ _ _ _ _ _ _ _ c.requests.invariant.0 found _ _ _ _ _ judged c.answer-reply.ensures c.closes_behind-close.ensures
     (g.W.Output.has_failed c.requests.output) _ _ _ c.in-Err-said.ensures.says c.in-Err-said.ensures.spared)
 
 pub returns-then-close-clause-ended : goal.returns-then-close-clause-ended
 returns-then-close-clause-ended g c =
-    let so = reads_on _ _ _ _ _ _ _ _ _ _ _ _ c.requests.invariant.0 c.in-Ok-One.ensures.reads in
-    let whole = rw c.in-Ok-One.field-0-is at c.in-Ok-One.ensures.found in
-    let judged = rw c.as_slice.ensures at c.in-Ok.ensures in
-    answered_last _ _ _ _ _ _ _ _ _ _ _ _ _ _ _ _ so whole judged c.answer-reply.ensures c.closes_behind-close.ensures c.in_default-said.ensures.says.0 c.if-close.true
+    let found = rw c.in-Ok-One.field-0-is at c.in-Ok-One.ensures.found in
+    let judged = rw c.as_slice.ensures.value at c.in-Ok.ensures in
+    answered_last _ _ _ _ _ _ _ _ _ _ _ _ _ _ c.requests.invariant.0 found _ _ _ _ _ judged c.answer-reply.ensures c.closes_behind-close.ensures c.in_default-said.ensures.says.0 c.if-close.true
+
+pub requests-smaller : goal.requests-smaller
+requests-smaller g c =
+    let found = rw c.in-Ok-One.field-0-is at c.in-Ok-One.ensures.found in
+    fewer_left _ _ _ _ _ _ found
 
 pub requests-preserved : goal.requests-preserved
 requests-preserved g c =
-    let so = reads_on _ _ _ _ _ _ _ _ _ _ _ _ c.requests.invariant.0 c.in-Ok-One.ensures.reads in
-    let whole = rw c.in-Ok-One.field-0-is at c.in-Ok-One.ensures.found in
-    let judged = rw c.as_slice.ensures at c.in-Ok.ensures in (
-      rw c.take.ensures (answered_open _ _ _ _ _ _ _ _ _ _ _ _ _ _ _ _ so whole judged c.answer-reply.ensures c.closes_behind-close.ensures c.in_default-said.ensures.says.0 c.if-close.false),
+    let found = rw c.in-Ok-One.field-0-is at c.in-Ok-One.ensures.found in
+    let judged = rw c.as_slice.ensures.value at c.in-Ok.ensures in (
+      answered_open _ _ _ _ _ _ _ _ _ _ _ _ _ _ c.requests.invariant.0 found _ _ _ _ _ judged c.answer-reply.ensures c.closes_behind-close.ensures c.in_default-said.ensures.says.0 c.if-close.false,
       c.in-Ok-One.ensures.same ∙ c.requests.invariant.1,
       c.in_default-said.ensures.says.1 ∙ c.requests.invariant.2,
     )

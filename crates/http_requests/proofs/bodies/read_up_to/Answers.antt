@@ -1,6 +1,6 @@
 use Rattle.std.proofs.lemmas.Result.{err_from_is_err_and}
 use Rattle.http_requests.proofs.Readings.{reads_then_stops}
-use Rattle.http_requests.proofs.reading.read_up_to.Goals as goal
+use Rattle.http_requests.proofs.bodies.read_up_to.Goals as goal
 
 pub returns-in_err-read_on-clause-err : goal.returns-in_err-read_on-clause-err
 returns-in_err-read_on-clause-err g c =

@@ -1,0 +1,112 @@
+-- What stands at the front of the first bytes stands at the front of all bytes that begin so.
+use Rattle.std.proofs.Common.{◌≡◌, ℕ, ◌+◌, ◌≤◌, ◌<◌, List, ◌++◌, length, take, drop, sym, ap, ◌∙◌, arith, append_assoc, length-append}
+use Rattle.std.proofs.lemmas.List.{take-append-drop, take-append-le, take_all, length-take-le, length-take, length-map}
+use Rattle.std.proofs.Math.Seq.{take-append_seam}
+use Rattle.httparse.specs.Grammar.{ChunkLine, print_chunk_line, HasNoChunkLine, NeverHasChunkLine, print_section, HasNoSection}
+use Rattle.httparse.specs.Spans.{IsChunkLineAt, IsSectionOf, IsSectionWithin, SectionOverflows, header_bytes, name_and_value}
+use Rattle.httparse.specs.declared.spans.HeaderSpan.{HeaderSpan}
+use Rattle.chunked_bodies.specs.Chunks.{IsSizeLine, IsSomeSizeLine, IsTrailer, HasNone, NeverHas}
+
+-- the bytes, and more, as the first n and the rest
+split_front : (n : ℕ) (bytes front more : List ℕ) → front ≡ take n bytes → bytes ++ more ≡ front ++ (drop n bytes ++ more)
+split_front n bytes front more f =
+    ap (λ l. l ++ more) (sym (take-append-drop n bytes)) ∙ append_assoc (take n bytes) (drop n bytes) more ∙ ap (λ l. l ++ (drop n bytes ++ more)) (sym f)
+
+-- a text that begins a longer one begins its front
+front_begins : (front more text rest : List ℕ) → front ++ more ≡ text ++ rest → length text ≤ length front → front ≡ text ++ drop (length text) front
+front_begins front more text rest e fits =
+    let same : take (length text) front ≡ text =
+    sym (take-append-le (length text) front more fits) ∙ ap (take (length text)) e ∙ take-append_seam text rest in
+    sym (take-append-drop (length text) front) ∙ ap (λ l. l ++ drop (length text) front) same
+
+module _ (Is : List ℕ → Type 0) (n : ℕ) (bytes front : List ℕ) (f : front ≡ take n bytes) where
+  never_when_full : ((text : List ℕ) → Is text → length text ≤ n) → n ≤ length bytes → HasNone Is front → NeverHas Is bytes
+  never_when_full short full none more text rest is e =
+      let size : length front ≡ n = ap length f ∙ length-take-le n bytes full in
+      none text (drop (length text) front) is (front_begins front (drop n bytes ++ more) text rest (sym (split_front n bytes front more f) ∙ e) (omega (arith, size, short text is)))
+
+  more_when_short : length bytes < n → HasNone Is front → HasNone Is bytes
+  more_when_short short none text rest is e = none text rest is (f ∙ take_all n bytes (omega (arith, short)) ∙ e)
+
+  never_of_front : NeverHas Is front → NeverHas Is bytes
+  never_of_front never more text rest is e = never (drop n bytes ++ more) text rest is (sym (split_front n bytes front more f) ∙ e)
+
+  -- a text of so many bytes at the front of the front is the first bytes
+  first_of_front : (text rest : List ℕ) (len : ℕ) → front ≡ text ++ rest → len ≡ length text → (take len bytes ≡ text) × (len ≤ length bytes) × (len ≤ n)
+  first_of_front text rest len e is =
+      let long : length front ≡ length text + length rest = ap length e ∙ length-append text rest in
+      let cut : bytes ≡ text ++ (rest ++ drop n bytes) =
+      sym (take-append-drop n bytes) ∙ ap (λ l. l ++ drop n bytes) (sym f ∙ e) ∙ append_assoc text rest (drop n bytes) in (
+        ap (take len) cut ∙ ap (λ k. take k (text ++ (rest ++ drop n bytes))) is ∙ take-append_seam text (rest ++ drop n bytes),
+        omega (arith, is, long, ap length f, length-take n bytes),
+        omega (arith, is, long, ap length f, length-take n bytes),
+      )
+
+-- ---- size lines
+
+line_is_short : (text : List ℕ) → IsSomeSizeLine text → length text ≤ 256
+line_is_short text is = is.1.short
+
+no_line : (buf : List ℕ) → HasNoChunkLine buf → HasNone IsSomeSizeLine buf
+no_line buf none text rest is e = none is.1.line rest (is.1.is, e ∙ ap (λ l. l ++ rest) is.1.text_is)
+
+pub line_when_full : (bytes front : List ℕ) → front ≡ take 256 bytes → 256 ≤ length bytes → HasNoChunkLine front → NeverHas IsSomeSizeLine bytes
+line_when_full bytes front f full none = never_when_full IsSomeSizeLine 256 bytes front f line_is_short full (no_line front none)
+
+pub line_when_short : (bytes front : List ℕ) → front ≡ take 256 bytes → length bytes < 256 → HasNoChunkLine front → HasNone IsSomeSizeLine bytes
+line_when_short bytes front f short none = more_when_short IsSomeSizeLine 256 bytes front f short (no_line front none)
+
+pub line_never : (bytes front : List ℕ) → front ≡ take 256 bytes → NeverHasChunkLine front → NeverHas IsSomeSizeLine bytes
+line_never bytes front f never = never_of_front IsSomeSizeLine 256 bytes front f (λ more. no_line (front ++ more) (never more))
+
+pub line_whole : (bytes front : List ℕ) (len size : ℕ) → front ≡ take 256 bytes → (l : ChunkLine) × IsChunkLineAt front len size l → IsSizeLine (take len bytes) size × (len ≤ length bytes)
+line_whole bytes front len size f found =
+    let first = first_of_front IsSomeSizeLine 256 bytes front f (print_chunk_line found.0) (drop len front) len found.1.reads.1 found.1.len_is in (
+      record {
+        line = found.0;
+        is = found.1.reads.0;
+        text_is = first.0;
+        short = omega (arith, ap length first.0, first.2, found.1.len_is);
+        size_is = found.1.size_is;
+      },
+      first.1,
+    )
+
+-- ---- trailers
+
+trailer_is_short : (text : List ℕ) → IsTrailer text → length text ≤ 8192
+trailer_is_short text is = is.short
+
+no_section : (buf : List ℕ) → HasNoSection buf → HasNone IsTrailer buf
+no_section buf none text rest is e = none is.fields is.last rest (is.are, e ∙ ap (λ l. l ++ rest) is.text_is)
+
+pub trailer_when_full : (bytes front : List ℕ) → front ≡ take 8192 bytes → 8192 ≤ length bytes → HasNoSection front → NeverHas IsTrailer bytes
+trailer_when_full bytes front f full none = never_when_full IsTrailer 8192 bytes front f trailer_is_short full (no_section front none)
+
+pub trailer_when_short : (bytes front : List ℕ) → front ≡ take 8192 bytes → length bytes < 8192 → HasNoSection front → HasNone IsTrailer bytes
+trailer_when_short bytes front f short none = more_when_short IsTrailer 8192 bytes front f short (no_section front none)
+
+-- a section with more fields than the room has isn't a trailer
+pub trailer_never : (bytes front : List ℕ) (room : ℕ) → front ≡ take 8192 bytes → 64 ≤ room → SectionOverflows room front → NeverHas IsTrailer bytes
+trailer_never bytes front room f wide over =
+    never_of_front IsTrailer 8192 bytes front f (λ more text rest is e.
+    absurd (omega (arith, is.few, wide, over more is.fields is.last rest (is.are, e ∙ ap (λ l. l ++ rest) is.text_is))))
+
+pub trailer_whole : (bytes front : List ℕ) (headers : List HeaderSpan) (len count : ℕ) → front ≡ take 8192 bytes → length headers ≤ 64
+    → IsSectionOf front 0 headers (len, count) → IsSectionWithin front headers len count → IsTrailer (take len bytes) × (len ≤ length bytes)
+trailer_whole bytes front headers len count f room found within =
+    let at = found.2 in
+    let long : len ≡ length (print_section found.0 found.1) = omega (arith, at.len_is) in
+    let first = first_of_front IsTrailer 8192 bytes front f (print_section found.0 found.1) (drop len front) len at.reads.1 long in
+    let many : length found.0 ≡ count =
+    sym (length-map found.0 name_and_value) ∙ ap length (sym at.fields_are) ∙ length-map (take count headers) (header_bytes front) ∙ length-take-le count headers within.count_fits in (
+      record {
+        fields = found.0;
+        last = found.1;
+        are = at.reads.0;
+        text_is = first.0;
+        short = omega (arith, ap length first.0, first.2, long);
+        few = omega (arith, many, room, within.count_fits);
+      },
+      first.1,
+    )

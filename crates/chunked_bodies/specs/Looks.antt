@@ -1,0 +1,17 @@
+-- What a look at the front of bytes finds.
+use Rattle.std.specs.Prelude.{ℕ, ◌<◌, ◌≤◌, List, length, take}
+use Rattle.chunked_bodies.specs.Chunks.{IsSizeLine, IsSomeSizeLine, IsTrailer, HasNone, NeverHas}
+use Rattle.chunked_bodies.specs.declared.line.SizeLine.{SizeLine}
+use Rattle.chunked_bodies.specs.declared.line.SizeLine.TheVariants as line
+use Rattle.chunked_bodies.specs.declared.trailer.Trailer.{Trailer}
+use Rattle.chunked_bodies.specs.declared.trailer.Trailer.TheVariants as trailer
+
+abbrev pub LooksAtLine : List ℕ → SizeLine → Type 0
+LooksAtLine bytes (line.Whole len size) = IsSizeLine (take len bytes) size × (len ≤ length bytes)
+LooksAtLine bytes line.More = HasNone IsSomeSizeLine bytes × (length bytes < 256)
+LooksAtLine bytes line.Never = NeverHas IsSomeSizeLine bytes
+
+abbrev pub LooksAtTrailer : List ℕ → Trailer → Type 0
+LooksAtTrailer bytes (trailer.Whole len) = IsTrailer (take len bytes) × (len ≤ length bytes)
+LooksAtTrailer bytes trailer.More = HasNone IsTrailer bytes × (length bytes < 8192)
+LooksAtTrailer bytes trailer.Never = NeverHas IsTrailer bytes

@@ -1,0 +1,18 @@
+//! A chunked body (RFC 9112, section 7.1): its size lines and its trailer at the front of bytes.
+//!
+//! What a chunked body is stands in `specs/Chunks.antt`, as a relation of a text and the data in it. At the
+//! front of bytes it has one answer, which what follows doesn't change ([`laws`]).
+//!
+//! * `line`: the line that tells a chunk's size.
+//! * `trailer`: the fields behind the last chunk, up to an empty line.
+//! * `front`: the first bytes of bytes.
+//! * `laws`: facts about the definition.
+#![tactic(auto)]
+
+mod front;
+pub mod laws;
+mod line;
+mod trailer;
+
+pub use line::{MOST_LINE_BYTES, SizeLine, look_for_size};
+pub use trailer::{MOST_TRAILER_BYTES, Trailer, look_for_trailer};

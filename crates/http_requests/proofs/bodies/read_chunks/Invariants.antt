@@ -1,0 +1,11 @@
+use Rattle.std.proofs.Common.{◌≡◌}
+use Rattle.http_requests.specs.Bodies.{ChunksSoFar}
+use Rattle.http_requests.proofs.bodies.read_chunks.Given as goal
+
+abbrev pub invariant-chunks : goal.invariant-chunks
+invariant-chunks g l =
+    ChunksSoFar (g.R.Input.remaining l.initial.input) (g.R.Input.remaining l.input) l.initial.received l.received l.initial.message.items l.message.items l.left
+    × (g.R.Input.has_failed l.input ≡ g.R.Input.has_failed l.initial.input)
+
+abbrev pub decreases-chunks : goal.decreases-chunks
+decreases-chunks g l = l.left

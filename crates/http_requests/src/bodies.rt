@@ -1,0 +1,240 @@
+ghost use Rattle.std.specs.Prelude.{◌≡◌, ◌≤◌, false, IfOk, IfErr, OnOk, length};
+ghost use Rattle.chunked_bodies.specs.Chunks.{IsTrailer};
+ghost use Rattle.http_requests.specs.Asked.{IsBounded};
+ghost use Rattle.http_requests.specs.Receiving.{KnowsItsEnd, ReadsOn, Stops};
+ghost use Rattle.http_requests.specs.Bodies.{LineWhenDue, TrailerWhenDue, TakesSize, TakesOrMisses, IsLineEnd, begins_line_end, Gathers, TakesContentOr, ReadsBody};
+ghost use Rattle.http_requests.specs.declared.asked.BodyLength.TheVariants.{Chunked};
+
+use crate::asked::{BodyLength, Breach, MOST_BODY_BYTES};
+use crate::received::{Interrupted, Received};
+use crate::scan::Scan;
+use chunked_bodies::{
+    MOST_LINE_BYTES, MOST_TRAILER_BYTES, SizeLine, Trailer, look_for_size, look_for_trailer,
+};
+use session_devices::Input;
+
+/// Takes so many bytes and puts them behind the message, or all up to the end of the input. Whether there
+/// were so many. Nothing is reserved but for bytes that have come.
+fn gather<R: Input>(
+    input: &mut R,
+    received: &mut Received,
+    message: &mut Vec<u8>,
+    size: usize,
+) -> Result<bool, Interrupted>
+    requires end { KnowsItsEnd received.old.ended (R.remaining input.old) }
+    ensures gathers { IfOk result (λ all. Gathers (R.remaining input.old) (R.remaining input.new) received.old received.new message.old.items message.new.items size all) }
+    ensures err { IfErr result (λ why. Stops (R.remaining input.old) (R.remaining input.new) (R.has_failed input.new) received.old why) }
+    ensures same { OnOk result (R.has_failed input.new ≡ R.has_failed input.old) }
+{
+    let mut left = size;
+    'pieces: loop {
+        let bytes = received.as_slice();
+        let count = bytes.len();
+        if count >= left {
+            message.extend_from_slice(&bytes[..left])?;
+            received.take(left);
+            return Ok(true);
+        }
+        message.extend_from_slice(bytes)?;
+        received.take(count);
+        left -= count;
+        if received.has_ended() {
+            return Ok(false);
+        }
+        received.read_on(input)?;
+    }
+}
+
+/// Reads until so many bytes are there, or the input has ended.
+fn read_up_to<R: Input>(
+    input: &mut R,
+    received: &mut Received,
+    count: usize,
+) -> Result<(), Interrupted>
+    requires end { KnowsItsEnd received.old.ended (R.remaining input.old) }
+    ensures reads { OnOk result (ReadsOn (R.remaining input.old) (R.remaining input.new) received.old received.new) }
+    ensures all { OnOk result ((received.new.ended ≡ false) → (count ≤ length received.new.held)) }
+    ensures err { IfErr result (λ why. Stops (R.remaining input.old) (R.remaining input.new) (R.has_failed input.new) received.old why) }
+    ensures same { OnOk result (R.has_failed input.new ≡ R.has_failed input.old) }
+{
+    while received.as_slice().len() < count && !received.has_ended() {
+        received.read_on(input)?;
+    }
+    Ok(())
+}
+
+/// Whether the bytes begin with CR LF.
+fn begins_line_end(bytes: &[u8]) -> bool
+    ensures { result ≡ begins_line_end bytes.now }
+{
+    matches!(bytes, [b'\r', b'\n', ..])
+}
+
+/// Takes CR LF; whether it was there.
+fn take_line_end<R: Input>(input: &mut R, received: &mut Received) -> Result<bool, Interrupted>
+    requires end { KnowsItsEnd received.old.ended (R.remaining input.old) }
+    ensures takes { IfOk result (TakesOrMisses (R.remaining input.old) (R.remaining input.new) received.old received.new IsLineEnd) }
+    ensures err { IfErr result (λ why. Stops (R.remaining input.old) (R.remaining input.new) (R.has_failed input.new) received.old why) }
+    ensures same { OnOk result (R.has_failed input.new ≡ R.has_failed input.old) }
+{
+    read_up_to(input, received, 2)?;
+    if !begins_line_end(received.as_slice()) {
+        return Ok(false);
+    }
+    received.take(2);
+    Ok(true)
+}
+
+/// Looks for a size line where one may have ended in what wasn't seen, or none can end later.
+fn size_when_due(bytes: &[u8], seen: usize, ended: bool) -> SizeLine
+    requires { seen ≤ length bytes.now }
+    ensures { LineWhenDue bytes.now ended result }
+{
+    if ended || bytes.len() >= MOST_LINE_BYTES || bytes[seen..].contains(&b'\n') {
+        look_for_size(bytes)
+    } else {
+        SizeLine::More
+    }
+}
+
+/// Takes a size line; the size, or none where there is no such line.
+fn take_size<R: Input>(input: &mut R, received: &mut Received) -> Result<Option<u64>, Interrupted>
+    requires end { KnowsItsEnd received.old.ended (R.remaining input.old) }
+    ensures takes { IfOk result (TakesSize (R.remaining input.old) (R.remaining input.new) received.old received.new) }
+    ensures err { IfErr result (λ why. Stops (R.remaining input.old) (R.remaining input.new) (R.has_failed input.new) received.old why) }
+    ensures same { OnOk result (R.has_failed input.new ≡ R.has_failed input.old) }
+{
+    let mut seen = 0;
+    'looks: loop {
+        let bytes = received.as_slice();
+        let ended = received.has_ended();
+        match size_when_due(bytes, seen, ended) {
+            SizeLine::Whole(length, size) => {
+                received.take(length);
+                return Ok(Some(size));
+            }
+            SizeLine::Never => return Ok(None),
+            SizeLine::More => {}
+        }
+        if ended {
+            return Ok(None);
+        }
+        seen = bytes.len();
+        received.read_on(input)?;
+    }
+}
+
+/// Looks for a trailer where one may have ended in what the scan didn't see, or none can end later.
+fn trailer_when_due(bytes: &[u8], scan: &mut Scan, ended: bool) -> Trailer
+    ensures { TrailerWhenDue bytes.now ended result }
+{
+    if scan.is_due(bytes) || ended || bytes.len() >= MOST_TRAILER_BYTES {
+        look_for_trailer(bytes)
+    } else {
+        Trailer::More
+    }
+}
+
+/// Takes a trailer; whether there was one.
+fn take_trailer<R: Input>(input: &mut R, received: &mut Received) -> Result<bool, Interrupted>
+    requires end { KnowsItsEnd received.old.ended (R.remaining input.old) }
+    ensures takes { IfOk result (TakesOrMisses (R.remaining input.old) (R.remaining input.new) received.old received.new IsTrailer) }
+    ensures err { IfErr result (λ why. Stops (R.remaining input.old) (R.remaining input.new) (R.has_failed input.new) received.old why) }
+    ensures same { OnOk result (R.has_failed input.new ≡ R.has_failed input.old) }
+{
+    let mut scan = Scan::behind_a_line();
+    'looks: loop {
+        let bytes = received.as_slice();
+        let ended = received.has_ended();
+        match trailer_when_due(bytes, &mut scan, ended) {
+            Trailer::Whole(length) => {
+                received.take(length);
+                return Ok(true);
+            }
+            Trailer::Never => return Ok(false),
+            Trailer::More => {}
+        }
+        if ended {
+            return Ok(false);
+        }
+        received.read_on(input)?;
+    }
+}
+
+/// Takes the data of a chunk, and CR LF behind them, and puts the data behind the message; whether they
+/// were there.
+fn take_content<R: Input>(
+    input: &mut R,
+    received: &mut Received,
+    message: &mut Vec<u8>,
+    size: usize,
+) -> Result<bool, Interrupted>
+    requires end { KnowsItsEnd received.old.ended (R.remaining input.old) }
+    ensures takes { IfOk result (TakesContentOr (R.remaining input.old) (R.remaining input.new) received.old received.new message.old.items message.new.items size) }
+    ensures err { IfErr result (λ why. Stops (R.remaining input.old) (R.remaining input.new) (R.has_failed input.new) received.old why) }
+    ensures same { OnOk result (R.has_failed input.new ≡ R.has_failed input.old) }
+{
+    if gather(input, received, message, size)? {
+        take_line_end(input, received)
+    } else {
+        Ok(false)
+    }
+}
+
+/// Takes a chunked body, and puts its data behind the message.
+fn read_chunks<R: Input>(
+    input: &mut R,
+    received: &mut Received,
+    message: &mut Vec<u8>,
+) -> Result<Result<(), Breach>, Interrupted>
+    requires end { KnowsItsEnd received.old.ended (R.remaining input.old) }
+    ensures body { IfOk result (ReadsBody (R.remaining input.old) (R.remaining input.new) received.old received.new message.old.items message.new.items Chunked) }
+    ensures err { IfErr result (λ why. Stops (R.remaining input.old) (R.remaining input.new) (R.has_failed input.new) received.old why) }
+    ensures same { OnOk result (R.has_failed input.new ≡ R.has_failed input.old) }
+{
+    let mut left = MOST_BODY_BYTES;
+    'chunks: loop {
+        let Some(size) = take_size(input, received)? else {
+            return Ok(Err(Breach::Body));
+        };
+        if size == 0 {
+            if take_trailer(input, received)? {
+                return Ok(Ok(()));
+            }
+            return Ok(Err(Breach::Body));
+        }
+        if size > left {
+            return Ok(Err(Breach::TooLarge));
+        }
+        if !take_content(input, received, message, size as usize)? {
+            return Ok(Err(Breach::Body));
+        }
+        left -= size;
+    }
+}
+
+/// Takes the body that the head tells of, and puts it behind the message.
+pub(crate) fn read_body<R: Input>(
+    input: &mut R,
+    received: &mut Received,
+    message: &mut Vec<u8>,
+    size: BodyLength,
+) -> Result<Result<(), Breach>, Interrupted>
+    requires end { KnowsItsEnd received.old.ended (R.remaining input.old) }
+    ensures body { IfOk result (ReadsBody (R.remaining input.old) (R.remaining input.new) received.old received.new message.old.items message.new.items size) }
+    ensures err { IfErr result (λ why. Stops (R.remaining input.old) (R.remaining input.new) (R.has_failed input.new) received.old why) }
+    ensures same { OnOk result (R.has_failed input.new ≡ R.has_failed input.old) }
+{
+    match size {
+        BodyLength::Bytes(count) => {
+            if gather(input, received, message, count as usize)? {
+                Ok(Ok(()))
+            } else {
+                Ok(Err(Breach::Body))
+            }
+        }
+        BodyLength::Chunked => read_chunks(input, received, message),
+        BodyLength::Unreadable => Ok(Err(Breach::Body)),
+        BodyLength::TooLarge => Ok(Err(Breach::TooLarge)),
+    }
+}
