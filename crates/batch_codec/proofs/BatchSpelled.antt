@@ -15,6 +15,7 @@ use Rattle.batch_codec.specs.Decoding.{Gives}
 use Rattle.batch_codec.specs.Gathered.{no_batch}
 use Rattle.batch_codec.specs.BatchReading.{take_batch, batch_from, batch_at, at_end, decoded}
 use Rattle.batch_codec.specs.Batches.{BatchField, whole_batch, IsBatch, Answers}
+use Rattle.batch_codec.specs.SpelledBatches.{DecodesWhatIsSpelled}
 use Rattle.batch_codec.proofs.ValuesSpelled.{Agrees, is_i64}
 use Rattle.batch_codec.proofs.Structs.{known_found, known_again, known_coded, skipped_found, skipped_again, skipped_coded, struct_found, struct_again, required_found, is_list}
 use Rattle.batch_codec.proofs.ProcessSpelled.{is_process}
@@ -90,6 +91,9 @@ unfolding decoded
 batch_again w b is =
     let here : batch_at w ≡ Ok (b, []) = ap batch_at (sym (append-nil w)) ∙ is_batch.again w [] b is in
     rw here refl
+
+pub decodes_what_is_spelled : DecodesWhatIsSpelled
+decodes_what_is_spelled w b = (batch_found w b, batch_again w b)
 
 pub decoded_found : (w : List ℕ) (result : Result Batch DecodeError) → Gives result (decoded w) → IfOk result (λ b. IsBatch w b)
 decoded_found w (Ok b) e = batch_found w b e

@@ -2,7 +2,14 @@
 
 ghost use Rattle.batch_codec.specs.Cuts.{FaultsHavePlaces, TrailingHasAPlace, TruncatedBeginsTruncated, BatchesEnd};
 ghost use Rattle.batch_codec.specs.Proper.{CanonSpells, CanonDecodes};
+ghost use Rattle.batch_codec.specs.SpelledBatches.{DecodesWhatIsSpelled};
 ghost use Rattle.batch_codec.specs.LastCounts.{TagLast, LogLast, ReferenceLast, ProcessLast, SpanLast, BatchLast};
+
+/// Decoding gives a batch exactly where all of the bytes spell it. So they spell one batch at most, and
+/// those that spell none are refused.
+pub fn decoding_is_spelling()
+    ensures same { DecodesWhatIsSpelled }
+{}
 
 /// Where the faults of a batch stand. A fault has one place, which is a fact about the bytes alone: so a
 /// batch that comes in pieces is refused as soon as that place has come and never before, however it is
