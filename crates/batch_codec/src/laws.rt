@@ -32,9 +32,10 @@ pub fn last_of_repeated_fields()
     ensures batch { BatchLast }
 {}
 
-/// The one spelling that [`encode`](crate::encode) writes of a batch spells that batch, so that decoding
-/// it gives the batch again: for every batch whose texts are UTF-8, whose numbers are in the ranges of
-/// their types and whose lengths are at most 2,147,483,647.
+/// The one spelling of a batch spells that batch, so that decoding it gives the batch again: for every
+/// batch whose texts are UTF-8, whose numbers are in the ranges of their types and whose lengths are at
+/// most 2,147,483,647. [`encode`](crate::encode) says the same of each batch that it is given, with no
+/// such premise: a program's batch has these texts and numbers by its types, and its lengths are looked at.
 #[tactic(auto, using(crate::proofs::CanonSpelled::batch_spelled, crate::proofs::CanonSpelled::canon_decodes))]
 pub fn one_spelling_decodes()
     ensures spells { CanonSpells }
