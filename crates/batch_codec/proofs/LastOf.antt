@@ -1,5 +1,5 @@
 -- Of several fields with one id and the declared type the last counts.
-use Rattle.std.proofs.Common.{◌≡◌, ℕ, ℤ, pos, Bool, true, false, eqb, ◌&&◌, ◌||◌, List, [], ◌∷◌, Option, Some, None, refl, ap, subst, ◌∙◌}
+use Rattle.std.proofs.Common.{◌≡◌, ℕ, ℤ, pos, Bool, true, false, eqb, ◌&&◌, ◌||◌, List, [], ◌∷◌, Option, Some, None, refl, subst, ◌∙◌}
 use Rattle.std.specs.Prelude.{MatchBool}
 use Rattle.std.specs.Ordering.{int_eq}
 use Rattle.std.proofs.lemmas.Bool.{eqb-true}
@@ -24,6 +24,19 @@ use Rattle.batch_codec.specs.Gathered.{no_tag, no_log, no_reference, no_process,
 use Rattle.batch_codec.specs.Batches.{Gathers, IsText, IsId, IsTagType, IsRefKind, IsStructList, TagField, LogField, ReferenceField, ProcessField, SpanField, BatchField, whole_log, whole_reference, whole_process, whole_span, whole_batch, IsTag, IsLog, IsReference, IsProcess, IsSpan, IsBatch}
 use Rattle.batch_codec.specs.LastCounts.{is_known, OthersAreValues, LastCounts, known_of_tag, known_of_log, known_of_reference, known_of_process, known_of_span, known_of_batch, LastOfTag, LastOfLog, LastOfReference, LastOfProcess, LastOfSpan, LastOfBatch, TagLast, LogLast, ReferenceLast, ProcessLast, SpanLast, BatchLast}
 use Rattle.batch_codec.proofs.Structs.{path_gathers}
+use Rattle.batch_codec.proofs.OneDivision.{the_same, one_division, one_value}
+use Rattle.batch_codec.proofs.TagSpelled.{is_tag, tag_field_coded, tag_field_again}
+use Rattle.batch_codec.specs.TagReading.{take_tag}
+use Rattle.batch_codec.proofs.LogSpelled.{is_log, log_field_coded, log_field_again}
+use Rattle.batch_codec.specs.LogReading.{take_log}
+use Rattle.batch_codec.proofs.ReferenceSpelled.{is_reference, reference_field_coded, reference_field_again}
+use Rattle.batch_codec.specs.ReferenceReading.{take_reference}
+use Rattle.batch_codec.proofs.ProcessSpelled.{is_process, process_field_coded, process_field_again}
+use Rattle.batch_codec.specs.ProcessReading.{take_process}
+use Rattle.batch_codec.proofs.SpanSpelled.{is_span, span_field_coded, span_field_again}
+use Rattle.batch_codec.specs.SpanReading.{take_span}
+use Rattle.batch_codec.proofs.BatchSpelled.{is_batch, batch_field_coded, batch_field_again}
+use Rattle.batch_codec.specs.BatchReading.{take_batch}
 
 -- a field of this type and id, or another
 split : {G : Type 0} (A Others : Type 0) (d : ℕ) (j : ℤ) (f : Field) → MatchBool (has d j f) A Others → (f.code ≡ d → f.id ≡ j → A → G) → (has d j f ≡ false → Others → G) → G
@@ -70,13 +83,6 @@ decide {G = G} c d i j this others = by (eqb c d) refl (int_eq i j) refl others
     by true p true q others = this (eqb-true c d p) ((Decides-int_eq i j).0 q)
     by true p false q others = others refl
     by false p b q others = others refl
-
-the_same : {A : Type 0} {x y : A} → Some x ≡ Some y → x ≡ y
-the_same {A = A} {x = x} e = ap (λ (o : Option A). or_first o) e
-  where
-    or_first : Option A → A
-    or_first (Some y) = y
-    or_first None = x
 
 -- Lasts s fs t: from s on, the last fields of fs leave t
 gathers_back : {S : Type 0} (Does : S → Field → S → Type 0) (known : List (ℕ × ℤ)) (Lasts : S → List Field → S → Type 0)
@@ -182,6 +188,10 @@ same_value key types.Bool kind s = refl
 same_value key types.Long kind s = refl
 same_value key types.Binary kind s = refl
 
+tag_gathers : (w : List ℕ) (x : Tag) (a : LastCounts known_of_tag LastOfTag w x) → Gathers TagField no_tag a.fields (with_key x.key a.last.kind a.last.left)
+unfolding with_key
+tag_gathers w x a = gathers_back TagField known_of_tag TagLasts tag_none tag_step a.fields no_tag (with_key x.key a.last.kind a.last.left) (a.last.key_last, a.last.kind_last, a.last.text_last, a.last.double_last, a.last.bool_last, a.last.long_last, a.last.binary_last) a.others
+
 tag_back : (w : List ℕ) (x : Tag) → LastCounts known_of_tag LastOfTag w x → IsTag w x
 unfolding IsTag with_key
 tag_back w x a =
@@ -190,12 +200,18 @@ tag_back w x a =
       fields = a.fields;
       spelled = a.spelled;
       gathered = t;
-      gathers = gathers_back TagField known_of_tag TagLasts tag_none tag_step a.fields no_tag t (a.last.key_last, a.last.kind_last, a.last.text_last, a.last.double_last, a.last.bool_last, a.last.long_last, a.last.binary_last) a.others;
+      gathers = tag_gathers w x a;
       makes = record { key = refl; kind = a.last.kind; named = refl; value = a.last.value ∙ same_value x.key a.last.kind a.last.kind a.last.left };
     }
 
+tag_one : (w : List ℕ) (x y : Tag) (a : LastCounts known_of_tag LastOfTag w x) (b : LastCounts known_of_tag LastOfTag w y) → (a.fields ≡ b.fields) × (x ≡ y)
+tag_one w x y a b = (
+  one_division take_tag TagField tag_field_coded tag_field_again a.fields b.fields w no_tag _ _ a.spelled b.spelled (tag_gathers w x a) (tag_gathers w y b),
+  one_value is_tag w x y (tag_back w x a) (tag_back w y b),
+)
+
 pub tag_last : TagLast
-tag_last w x = (tag_leaves w x, tag_back w x)
+tag_last = record { same = λ w x. (tag_leaves w x, tag_back w x); one = tag_one }
 
 -- ---- Log
 
@@ -248,18 +264,27 @@ log_leaves w x is = record {
   others = others_of LogField known_of_log log_other is.fields no_log is.gathered is.gathers;
 }
 
+log_gathers : (w : List ℕ) (x : Log) (a : LastCounts known_of_log LastOfLog w x) → Gathers LogField no_log a.fields (whole_log x)
+log_gathers w x a = gathers_back LogField known_of_log LogLasts log_none log_step a.fields no_log (whole_log x) (a.last.at, a.last.fields) a.others
+
 log_back : (w : List ℕ) (x : Log) → LastCounts known_of_log LastOfLog w x → IsLog w x
 unfolding IsLog
 log_back w x a = record {
   fields = a.fields;
   spelled = a.spelled;
   gathered = whole_log x;
-  gathers = gathers_back LogField known_of_log LogLasts log_none log_step a.fields no_log (whole_log x) (a.last.at, a.last.fields) a.others;
+  gathers = log_gathers w x a;
   makes = refl;
 }
 
+log_one : (w : List ℕ) (x y : Log) (a : LastCounts known_of_log LastOfLog w x) (b : LastCounts known_of_log LastOfLog w y) → (a.fields ≡ b.fields) × (x ≡ y)
+log_one w x y a b = (
+  one_division take_log LogField log_field_coded log_field_again a.fields b.fields w no_log _ _ a.spelled b.spelled (log_gathers w x a) (log_gathers w y b),
+  one_value is_log w x y (log_back w x a) (log_back w y b),
+)
+
 pub log_last : LogLast
-log_last w x = (log_leaves w x, log_back w x)
+log_last = record { same = λ w x. (log_leaves w x, log_back w x); one = log_one }
 
 -- ---- SpanRef
 
@@ -324,18 +349,27 @@ reference_leaves w x is = record {
   others = others_of ReferenceField known_of_reference reference_other is.fields no_reference is.gathered is.gathers;
 }
 
+reference_gathers : (w : List ℕ) (x : SpanRef) (a : LastCounts known_of_reference LastOfReference w x) → Gathers ReferenceField no_reference a.fields (whole_reference x)
+reference_gathers w x a = gathers_back ReferenceField known_of_reference ReferenceLasts reference_none reference_step a.fields no_reference (whole_reference x) (a.last.kind, a.last.low, a.last.high, a.last.id) a.others
+
 reference_back : (w : List ℕ) (x : SpanRef) → LastCounts known_of_reference LastOfReference w x → IsReference w x
 unfolding IsReference
 reference_back w x a = record {
   fields = a.fields;
   spelled = a.spelled;
   gathered = whole_reference x;
-  gathers = gathers_back ReferenceField known_of_reference ReferenceLasts reference_none reference_step a.fields no_reference (whole_reference x) (a.last.kind, a.last.low, a.last.high, a.last.id) a.others;
+  gathers = reference_gathers w x a;
   makes = refl;
 }
 
+reference_one : (w : List ℕ) (x y : SpanRef) (a : LastCounts known_of_reference LastOfReference w x) (b : LastCounts known_of_reference LastOfReference w y) → (a.fields ≡ b.fields) × (x ≡ y)
+reference_one w x y a b = (
+  one_division take_reference ReferenceField reference_field_coded reference_field_again a.fields b.fields w no_reference _ _ a.spelled b.spelled (reference_gathers w x a) (reference_gathers w y b),
+  one_value is_reference w x y (reference_back w x a) (reference_back w y b),
+)
+
 pub reference_last : ReferenceLast
-reference_last w x = (reference_leaves w x, reference_back w x)
+reference_last = record { same = λ w x. (reference_leaves w x, reference_back w x); one = reference_one }
 
 -- ---- Process
 
@@ -388,18 +422,27 @@ process_leaves w x is = record {
   others = others_of ProcessField known_of_process process_other is.fields no_process is.gathered is.gathers;
 }
 
+process_gathers : (w : List ℕ) (x : Process) (a : LastCounts known_of_process LastOfProcess w x) → Gathers ProcessField no_process a.fields (whole_process x)
+process_gathers w x a = gathers_back ProcessField known_of_process ProcessLasts process_none process_step a.fields no_process (whole_process x) (a.last.service, a.last.tags) a.others
+
 process_back : (w : List ℕ) (x : Process) → LastCounts known_of_process LastOfProcess w x → IsProcess w x
 unfolding IsProcess
 process_back w x a = record {
   fields = a.fields;
   spelled = a.spelled;
   gathered = whole_process x;
-  gathers = gathers_back ProcessField known_of_process ProcessLasts process_none process_step a.fields no_process (whole_process x) (a.last.service, a.last.tags) a.others;
+  gathers = process_gathers w x a;
   makes = refl;
 }
 
+process_one : (w : List ℕ) (x y : Process) (a : LastCounts known_of_process LastOfProcess w x) (b : LastCounts known_of_process LastOfProcess w y) → (a.fields ≡ b.fields) × (x ≡ y)
+process_one w x y a b = (
+  one_division take_process ProcessField process_field_coded process_field_again a.fields b.fields w no_process _ _ a.spelled b.spelled (process_gathers w x a) (process_gathers w y b),
+  one_value is_process w x y (process_back w x a) (process_back w y b),
+)
+
 pub process_last : ProcessLast
-process_last w x = (process_leaves w x, process_back w x)
+process_last = record { same = λ w x. (process_leaves w x, process_back w x); one = process_one }
 
 -- ---- Span
 
@@ -506,18 +549,27 @@ span_leaves w x is = record {
   others = others_of SpanField known_of_span span_other is.fields no_span is.gathered is.gathers;
 }
 
+span_gathers : (w : List ℕ) (x : Span) (a : LastCounts known_of_span LastOfSpan w x) → Gathers SpanField no_span a.fields (whole_span x)
+span_gathers w x a = gathers_back SpanField known_of_span SpanLasts span_none span_step a.fields no_span (whole_span x) (a.last.low, a.last.high, a.last.id, a.last.parent, a.last.operation, a.last.references, a.last.flags, a.last.start, a.last.duration, a.last.tags, a.last.logs) a.others
+
 span_back : (w : List ℕ) (x : Span) → LastCounts known_of_span LastOfSpan w x → IsSpan w x
 unfolding IsSpan
 span_back w x a = record {
   fields = a.fields;
   spelled = a.spelled;
   gathered = whole_span x;
-  gathers = gathers_back SpanField known_of_span SpanLasts span_none span_step a.fields no_span (whole_span x) (a.last.low, a.last.high, a.last.id, a.last.parent, a.last.operation, a.last.references, a.last.flags, a.last.start, a.last.duration, a.last.tags, a.last.logs) a.others;
+  gathers = span_gathers w x a;
   makes = refl;
 }
 
+span_one : (w : List ℕ) (x y : Span) (a : LastCounts known_of_span LastOfSpan w x) (b : LastCounts known_of_span LastOfSpan w y) → (a.fields ≡ b.fields) × (x ≡ y)
+span_one w x y a b = (
+  one_division take_span SpanField span_field_coded span_field_again a.fields b.fields w no_span _ _ a.spelled b.spelled (span_gathers w x a) (span_gathers w y b),
+  one_value is_span w x y (span_back w x a) (span_back w y b),
+)
+
 pub span_last : SpanLast
-span_last w x = (span_leaves w x, span_back w x)
+span_last = record { same = λ w x. (span_leaves w x, span_back w x); one = span_one }
 
 -- ---- Batch
 
@@ -576,15 +628,24 @@ batch_leaves w x is = record {
   others = others_of BatchField known_of_batch batch_other is.fields no_batch is.gathered is.gathers;
 }
 
+batch_gathers : (w : List ℕ) (x : Batch) (a : LastCounts known_of_batch LastOfBatch w x) → Gathers BatchField no_batch a.fields (whole_batch x)
+batch_gathers w x a = gathers_back BatchField known_of_batch BatchLasts batch_none batch_step a.fields no_batch (whole_batch x) (a.last.process, a.last.spans, a.last.seq_no) a.others
+
 batch_back : (w : List ℕ) (x : Batch) → LastCounts known_of_batch LastOfBatch w x → IsBatch w x
 unfolding IsBatch
 batch_back w x a = record {
   fields = a.fields;
   spelled = a.spelled;
   gathered = whole_batch x;
-  gathers = gathers_back BatchField known_of_batch BatchLasts batch_none batch_step a.fields no_batch (whole_batch x) (a.last.process, a.last.spans, a.last.seq_no) a.others;
+  gathers = batch_gathers w x a;
   makes = refl;
 }
 
+batch_one : (w : List ℕ) (x y : Batch) (a : LastCounts known_of_batch LastOfBatch w x) (b : LastCounts known_of_batch LastOfBatch w y) → (a.fields ≡ b.fields) × (x ≡ y)
+batch_one w x y a b = (
+  one_division take_batch BatchField batch_field_coded batch_field_again a.fields b.fields w no_batch _ _ a.spelled b.spelled (batch_gathers w x a) (batch_gathers w y b),
+  one_value is_batch w x y (batch_back w x a) (batch_back w y b),
+)
+
 pub batch_last : BatchLast
-batch_last w x = (batch_leaves w x, batch_back w x)
+batch_last = record { same = λ w x. (batch_leaves w x, batch_back w x); one = batch_one }

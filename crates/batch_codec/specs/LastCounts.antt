@@ -30,9 +30,10 @@ pub record LastCounts {X : Type 0} (known : List (ℕ × ℤ)) (LastOf : List Fi
   pub last : LastOf fields x
   pub others : OthersAreValues known fields
 
--- the bytes that spell a value are those that divide so
-abbrev pub IsByLast : {X : Type 0} → (List ℕ → X → Type 0) → List (ℕ × ℤ) → (List Field → X → Type 0) → Type 0
-IsByLast {X = X} Spells known LastOf = (w : List ℕ) (x : X) → Spells w x ↔ LastCounts known LastOf w x
+-- The bytes that spell a value are those that divide so; and they divide so in one way, with one value.
+pub record IsByLast {X : Type 0} (Spells : List ℕ → X → Type 0) (known : List (ℕ × ℤ)) (LastOf : List Field → X → Type 0) : Type 0 where
+  pub same : (w : List ℕ) (x : X) → Spells w x ↔ LastCounts known LastOf w x
+  pub one : (w : List ℕ) (x y : X) (a : LastCounts known LastOf w x) (b : LastCounts known LastOf w y) → (a.fields ≡ b.fields) × (x ≡ y)
 
 -- ---- the types and the ids of the known fields
 

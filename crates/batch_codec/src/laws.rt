@@ -21,8 +21,10 @@ pub fn cuts_of_batches()
     ensures whole { BatchesEnd }
 {}
 
-/// Of the fields of a struct with one id and its declared type the last counts, and each of them spells
-/// a value of that type.
+/// The fields of a struct, and which of them count. The bytes that spell a struct are just those that
+/// divide into fields and a stop byte so that each field of a known id and its declared type spells a
+/// value of that type, the last of these is the value that the struct has, and every other field is a
+/// value of its own type. They divide so in one way, and have one value.
 pub fn last_of_repeated_fields()
     ensures tag { TagLast }
     ensures log { LogLast }
