@@ -15,6 +15,7 @@ use Rattle.batch_codec.specs.Decoding.{Gives}
 use Rattle.batch_codec.specs.Gathered.{no_batch}
 use Rattle.batch_codec.specs.BatchReading.{take_batch, batch_from, batch_at, at_end, decoded}
 use Rattle.batch_codec.specs.Batches.{BatchField, whole_batch, IsBatch, Answers}
+use Rattle.batch_codec.specs.SpelledBatches.{DecodesWhatIsSpelled}
 use Rattle.batch_codec.proofs.ValuesSpelled.{Agrees, is_i64}
 use Rattle.batch_codec.proofs.Structs.{known_found, known_again, known_coded, skipped_found, skipped_again, skipped_coded, struct_found, struct_again, required_found, is_list}
 use Rattle.batch_codec.proofs.ProcessSpelled.{is_process}
@@ -28,17 +29,17 @@ takes s c i w t r =
     known_found is_i64 (λ x. record s { seq_no = Some x }) c 10 i (pos 3) w t r _ _ (
     skipped_found s c w t r)))
 
-again : (s : BatchSlots) (f : Field) (t : BatchSlots) (r : List ℕ) → BatchField s f t → take_batch s f.code f.id (f.text ++ r) ≡ Ok (t, r)
+pub batch_field_again : (s : BatchSlots) (f : Field) (t : BatchSlots) (r : List ℕ) → BatchField s f t → take_batch s f.code f.id (f.text ++ r) ≡ Ok (t, r)
 unfolding take_batch BatchField
-again s f t r =
+batch_field_again s f t r =
     known_again is_process (λ x. record s { process = Some x }) f.code 12 f.id (pos 1) f.text t r _ _ (
     known_again (is_list is_span) (λ x. record s { spans = Some x }) f.code 15 f.id (pos 2) f.text t r _ _ (
     known_again is_i64 (λ x. record s { seq_no = Some x }) f.code 10 f.id (pos 3) f.text t r _ _ (
     skipped_again s f.code f.text t r)))
 
-coded : (s : BatchSlots) (f : Field) (t : BatchSlots) → BatchField s f t → is_code f.code ≡ true
+pub batch_field_coded : (s : BatchSlots) (f : Field) (t : BatchSlots) → BatchField s f t → is_code f.code ≡ true
 unfolding BatchField
-coded s f t =
+batch_field_coded s f t =
     known_coded _ f.code 12 f.id (pos 1) _ refl (
     known_coded _ f.code 15 f.id (pos 2) _ refl (
     known_coded _ f.code 10 f.id (pos 3) _ refl (
@@ -65,7 +66,7 @@ pub is_batch : Agrees batch_at IsBatch
 unfolding batch_at IsBatch
 is_batch = record {
   found = struct_found take_batch BatchField no_batch batch_from (λ s x. s ≡ whole_batch x) takes made;
-  again = struct_again take_batch BatchField no_batch batch_from (λ s x. s ≡ whole_batch x) coded again makes;
+  again = struct_again take_batch BatchField no_batch batch_from (λ s x. s ≡ whole_batch x) batch_field_coded batch_field_again makes;
 }
 
 -- ---- all of the bytes
@@ -90,6 +91,9 @@ unfolding decoded
 batch_again w b is =
     let here : batch_at w ≡ Ok (b, []) = ap batch_at (sym (append-nil w)) ∙ is_batch.again w [] b is in
     rw here refl
+
+pub decodes_what_is_spelled : DecodesWhatIsSpelled
+decodes_what_is_spelled w b = (batch_found w b, batch_again w b)
 
 pub decoded_found : (w : List ℕ) (result : Result Batch DecodeError) → Gives result (decoded w) → IfOk result (λ b. IsBatch w b)
 decoded_found w (Ok b) e = batch_found w b e

@@ -23,7 +23,7 @@ use Rattle.batch_codec.specs.declared.batch.BatchSlots.{BatchSlots}
 use Rattle.batch_codec.specs.Gathered.{no_tag, no_log, no_reference, no_process, no_span, no_batch, value_named}
 use Rattle.batch_codec.specs.Batches.{IsId, type_number, kind_number, IsTagType, IsRefKind, Gathers, IsStructList, TagField, IsTag, LogField, IsLog, ReferenceField, IsReference, ProcessField, IsProcess, SpanField, IsSpan, BatchField, IsBatch, whole_log, whole_reference, whole_process, whole_span, whole_batch}
 use Rattle.batch_codec.specs.Canon.{list_field, list_if_any, number_if_any, value_type, value_field, tag_fields, canon_tag, log_fields, canon_log, reference_fields, canon_reference, process_fields, canon_process, span_front, span_middle, span_fields, canon_span, batch_fields, canon}
-use Rattle.batch_codec.specs.Proper.{AreProper, IsProperValue, IsProperTag, IsProperLog, IsProperReference, IsProperProcess, IsProperSpan, IsProperNumber, IsProper}
+use Rattle.batch_codec.specs.Proper.{AreProper, IsProperValue, IsProperTag, IsProperLog, IsProperReference, IsProperProcess, IsProperFront, IsProperMiddle, IsProperSpan, IsProperNumber, IsProper}
 use Rattle.std.proofs.Math.Facts.{sfits_lit, sfits_to_z}
 use Rattle.std.proofs.lemmas.Int.{of_z-to_z}
 use Rattle.std.proofs.Common.{Fits}
@@ -195,7 +195,7 @@ middle_slots s xs = record no_span { trace_low = Some s.trace.low; trace_high = 
 last_slots : Span → List Log → SpanSlots
 last_slots s xs = record (whole_span s) { logs = xs }
 
-front_gathers : (s : Span) → IsProperSpan s → Gathers SpanField no_span (span_front s) (front_slots s [])
+front_gathers : (s : Span) → IsProperFront s → Gathers SpanField no_span (span_front s) (front_slots s [])
 unfolding SpanField front_slots
 front_gathers s p = (
   record no_span { trace_low = Some s.trace.low },
@@ -215,7 +215,7 @@ front_gathers s p = (
   ),
 )
 
-middle_gathers : (s : Span) → IsProperSpan s → Gathers SpanField (front_slots s s.references) (span_middle s) (middle_slots s [])
+middle_gathers : (s : Span) → IsProperMiddle s → Gathers SpanField (front_slots s s.references) (span_middle s) (middle_slots s [])
 unfolding SpanField front_slots middle_slots
 middle_gathers s p = (
   record (front_slots s s.references) { flags = Some s.flags },
@@ -249,9 +249,9 @@ span_gathers s p =
     let t = list_if_any (pos 10) canon_tag s.tags in
     let l = list_if_any (pos 11) canon_log s.logs in
     let four = gathers-append SpanField (middle_slots s []) (middle_slots s s.tags) (whole_span s) t l (tags_gather s p) (logs_gather s p) in
-    let three = gathers-append SpanField (front_slots s s.references) (middle_slots s []) (whole_span s) (span_middle s) (t ++ l) (middle_gathers s p) four in
+    let three = gathers-append SpanField (front_slots s s.references) (middle_slots s []) (whole_span s) (span_middle s) (t ++ l) (middle_gathers s p.middle) four in
     let two = gathers-append SpanField (front_slots s []) (front_slots s s.references) (whole_span s) r (span_middle s ++ (t ++ l)) (references_gather s p) three in
-    gathers-append SpanField no_span (front_slots s []) (whole_span s) (span_front s) (r ++ (span_middle s ++ (t ++ l))) (front_gathers s p) two
+    gathers-append SpanField no_span (front_slots s []) (whole_span s) (span_front s) (r ++ (span_middle s ++ (t ++ l))) (front_gathers s p.front) two
 
 span_ids : (s : Span) → AllIds (span_fields s)
 span_ids s =

@@ -1,21 +1,42 @@
 -- Of several fields with one id and the declared type the last counts.
-use Rattle.std.proofs.Common.{◌≡◌, ℕ, ℤ, pos, Bool, true, false, eqb, ◌&&◌, List, Option, Some, None, refl, subst}
+use Rattle.std.proofs.Common.{◌≡◌, ℕ, ℤ, pos, Bool, true, false, eqb, ◌&&◌, ◌||◌, List, [], ◌∷◌, Option, Some, None, refl, subst, ◌∙◌}
 use Rattle.std.specs.Prelude.{MatchBool}
 use Rattle.std.specs.Ordering.{int_eq}
 use Rattle.std.proofs.lemmas.Bool.{eqb-true}
 use Rattle.std.proofs.lemmas.Bool.Decides.{Decides-int_eq}
-use Rattle.thrift_binary.specs.Spelling.{Field, IsLast, IsString, IsBool, IsDouble, IsI32, IsI64, has}
+use Rattle.thrift_binary.specs.Spelling.{Field, IsLast, IsString, IsBool, IsDouble, IsI32, IsI64, IsValue, has}
 use Rattle.thrift_binary.proofs.Found.{path_last}
+use Rattle.jaeger_model.specs.declared.tag.Tag.{Tag}
+use Rattle.jaeger_model.specs.declared.span.Log.{Log}
+use Rattle.jaeger_model.specs.declared.span.SpanRef.{SpanRef}
+use Rattle.jaeger_model.specs.declared.span.Span.{Span}
+use Rattle.jaeger_model.specs.declared.batch.Process.{Process}
+use Rattle.jaeger_model.specs.declared.batch.Batch.{Batch}
+use Rattle.batch_codec.specs.declared.tag.TagType.{TagType}
+use Rattle.batch_codec.specs.declared.tag.TagType.TheVariants as types
 use Rattle.batch_codec.specs.declared.tag.TagSlots.{TagSlots}
 use Rattle.batch_codec.specs.declared.log.LogSlots.{LogSlots}
 use Rattle.batch_codec.specs.declared.reference.ReferenceSlots.{ReferenceSlots}
 use Rattle.batch_codec.specs.declared.process.ProcessSlots.{ProcessSlots}
 use Rattle.batch_codec.specs.declared.span.SpanSlots.{SpanSlots}
 use Rattle.batch_codec.specs.declared.batch.BatchSlots.{BatchSlots}
-use Rattle.batch_codec.specs.Gathered.{no_tag, no_log, no_reference, no_process, no_span, no_batch}
+use Rattle.batch_codec.specs.Gathered.{no_tag, no_log, no_reference, no_process, no_span, no_batch, value_named}
 use Rattle.batch_codec.specs.Batches.{Gathers, IsText, IsId, IsTagType, IsRefKind, IsStructList, TagField, LogField, ReferenceField, ProcessField, SpanField, BatchField, whole_log, whole_reference, whole_process, whole_span, whole_batch, IsTag, IsLog, IsReference, IsProcess, IsSpan, IsBatch}
-use Rattle.batch_codec.specs.LastCounts.{TagLast, LogLast, ReferenceLast, ProcessLast, SpanLast, BatchLast}
+use Rattle.batch_codec.specs.LastCounts.{is_known, OthersAreValues, LastCounts, known_of_tag, known_of_log, known_of_reference, known_of_process, known_of_span, known_of_batch, LastOfTag, LastOfLog, LastOfReference, LastOfProcess, LastOfSpan, LastOfBatch, TagLast, LogLast, ReferenceLast, ProcessLast, SpanLast, BatchLast}
 use Rattle.batch_codec.proofs.Structs.{path_gathers}
+use Rattle.batch_codec.proofs.OneDivision.{the_same, one_division, one_value}
+use Rattle.batch_codec.proofs.TagSpelled.{is_tag, tag_field_coded, tag_field_again}
+use Rattle.batch_codec.specs.TagReading.{take_tag}
+use Rattle.batch_codec.proofs.LogSpelled.{is_log, log_field_coded, log_field_again}
+use Rattle.batch_codec.specs.LogReading.{take_log}
+use Rattle.batch_codec.proofs.ReferenceSpelled.{is_reference, reference_field_coded, reference_field_again}
+use Rattle.batch_codec.specs.ReferenceReading.{take_reference}
+use Rattle.batch_codec.proofs.ProcessSpelled.{is_process, process_field_coded, process_field_again}
+use Rattle.batch_codec.specs.ProcessReading.{take_process}
+use Rattle.batch_codec.proofs.SpanSpelled.{is_span, span_field_coded, span_field_again}
+use Rattle.batch_codec.specs.SpanReading.{take_span}
+use Rattle.batch_codec.proofs.BatchSpelled.{is_batch, batch_field_coded, batch_field_again}
+use Rattle.batch_codec.specs.BatchReading.{take_batch}
 
 -- a field of this type and id, or another
 split : {G : Type 0} (A Others : Type 0) (d : ℕ) (j : ℤ) (f : Field) → MatchBool (has d j f) A Others → (f.code ≡ d → f.id ≡ j → A → G) → (has d j f ≡ false → Others → G) → G
@@ -35,6 +56,41 @@ slot_last : {S A : Type 0} (Does : S → Field → S → Type 0) (none : S) (fs 
     → IsLast c i Spells (place none) fs (place whole)
 slot_last {S = S} Does none fs g whole gathers same place c i Spells one =
     subst (λ (u : S). IsLast c i Spells (place none) fs (place u)) same (path_last Does place c i Spells one fs none g (path_gathers Does fs none g gathers))
+
+-- ---- the other fields
+
+-- a field that isn't this one, nor one of the others that are known
+pass : {Others G : Type 0} (A : Type 0) (f : Field) (d : ℕ) (j : ℤ) (rest : Bool) → (Others → rest ≡ false → G) → MatchBool (has d j f) A Others → (has d j f || rest) ≡ false → G
+pass {Others = Others} {G = G} A f d j rest go = by (has d j f)
+  where
+    by : (b : Bool) → MatchBool b A Others → (b || rest) ≡ false → G
+    by true m e = absurd cc
+    by false m e = go m e
+
+others_of : {S : Type 0} (Does : S → Field → S → Type 0) (known : List (ℕ × ℤ)) → ((s : S) (f : Field) (t : S) → Does s f t → is_known known f ≡ false → IsValue 64 f.code f.text) → (fs : List Field) (s t : S) → Gathers Does s fs t → OthersAreValues known fs
+others_of Does known each [] s t g = tt
+others_of Does known each (f ∷ fs) s t (u, d, g) = (each s f u d, others_of Does known each fs u t g)
+
+-- ---- from the last fields back to all of them
+
+abbrev field : ℕ → ℤ → List ℕ → Field
+field c i v = record { code = c; id = i; text = v }
+
+decide : {G : Type 0} (c d : ℕ) (i j : ℤ) → (c ≡ d → i ≡ j → G) → ((eqb c d && int_eq i j) ≡ false → G) → G
+decide {G = G} c d i j this others = by (eqb c d) refl (int_eq i j) refl others
+  where
+    by : (a : Bool) → eqb c d ≡ a → (b : Bool) → int_eq i j ≡ b → ((a && b) ≡ false → G) → G
+    by true p true q others = this (eqb-true c d p) ((Decides-int_eq i j).0 q)
+    by true p false q others = others refl
+    by false p b q others = others refl
+
+-- Lasts s fs t: from s on, the last fields of fs leave t
+gathers_back : {S : Type 0} (Does : S → Field → S → Type 0) (known : List (ℕ × ℤ)) (Lasts : S → List Field → S → Type 0)
+    → ((s t : S) → Lasts s [] t → t ≡ s)
+    → ((s t : S) (c : ℕ) (i : ℤ) (v : List ℕ) (fs : List Field) → Lasts s (field c i v ∷ fs) t → (is_known known (field c i v) ≡ false → IsValue 64 c v) → (u : S) × Does s (field c i v) u × Lasts u fs t)
+    → (fs : List Field) (s t : S) → Lasts s fs t → OthersAreValues known fs → Gathers Does s fs t
+gathers_back Does known Lasts none step [] s t l o = none s t l
+gathers_back Does known Lasts none step (f ∷ fs) s t l o = let m = step s t f.code f.id f.text fs l o.0 in (m.0, m.1, gathers_back Does known Lasts none step fs m.0 t m.2 o.1)
 
 -- ---- Tag
 
@@ -60,12 +116,52 @@ tag_keeps s f t m0 =
     split _ _ 11 (pos 7) f m6 (λ c i v. rw (c, i, v.2) (refl, refl, refl, refl, refl, refl, (v.0, v.1, refl))) (λ h7 m7.
     rw (h1, h2, h3, h4, h5, h6, h7, m7.1) (refl, refl, refl, refl, refl, refl, refl))))))))
 
-pub tag_last : TagLast
+tag_other : (s : TagSlots) (f : Field) (t : TagSlots) → TagField s f t → is_known known_of_tag f ≡ false → IsValue 64 f.code f.text
+unfolding TagField
+tag_other s f t =
+    pass _ f 11 (pos 1) _ (
+    pass _ f 8 (pos 2) _ (
+    pass _ f 11 (pos 3) _ (
+    pass _ f 4 (pos 4) _ (
+    pass _ f 2 (pos 5) _ (
+    pass _ f 10 (pos 6) _ (
+    pass _ f 11 (pos 7) _ (
+    λ m e. m.0)))))))
+
+abbrev TagLasts : TagSlots → List Field → TagSlots → Type 0
+TagLasts s fs t =
+    IsLast 11 (pos 1) IsText s.key fs t.key
+    × IsLast 8 (pos 2) IsTagType s.kind fs t.kind
+    × IsLast 11 (pos 3) IsText (Some s.text) fs (Some t.text)
+    × IsLast 4 (pos 4) IsDouble (Some s.double) fs (Some t.double)
+    × IsLast 2 (pos 5) IsBool (Some s.boolean) fs (Some t.boolean)
+    × IsLast 10 (pos 6) IsI64 (Some s.long) fs (Some t.long)
+    × IsLast 11 (pos 7) IsString (Some s.binary) fs (Some t.binary)
+
+tag_none : (s t : TagSlots) → TagLasts s [] t → t ≡ s
+tag_none s t l = tag_slots s t l.0 l.1 (the_same l.2) (the_same l.3) (the_same l.4) (the_same l.5) (the_same l.6)
+  where
+    tag_slots : (s t : TagSlots) → t.key ≡ s.key → t.kind ≡ s.kind → t.text ≡ s.text → t.double ≡ s.double → t.boolean ≡ s.boolean → t.long ≡ s.long → t.binary ≡ s.binary → t ≡ s
+    tag_slots s t a b c d e f g = rw (a, b, c, d, e, f, g) refl
+
+tag_step : (s t : TagSlots) (c : ℕ) (i : ℤ) (v : List ℕ) (fs : List Field) → TagLasts s (field c i v ∷ fs) t → (is_known known_of_tag (field c i v) ≡ false → IsValue 64 c v) → (u : TagSlots) × TagField s (field c i v) u × TagLasts u fs t
+unfolding TagField
+tag_step s t c i v fs =
+    decide c 11 i (pos 1) (λ p q. rw (p, q) (λ l o. (record s { key = Some l.0.0 }, (l.0.0, l.0.1, refl), (l.0.2, l.1, l.2, l.3, l.4, l.5, l.6)))) (λ h1.
+    decide c 8 i (pos 2) (λ p q. rw (p, q) (λ l o. (record s { kind = Some l.1.0 }, (l.1.0, l.1.1, refl), (l.0, l.1.2, l.2, l.3, l.4, l.5, l.6)))) (λ h2.
+    decide c 11 i (pos 3) (λ p q. rw (p, q) (λ l o. (record s { text = l.2.0 }, (l.2.0, l.2.1, refl), (l.0, l.1, l.2.2, l.3, l.4, l.5, l.6)))) (λ h3.
+    decide c 4 i (pos 4) (λ p q. rw (p, q) (λ l o. (record s { double = l.3.0 }, (l.3.0, l.3.1, refl), (l.0, l.1, l.2, l.3.2, l.4, l.5, l.6)))) (λ h4.
+    decide c 2 i (pos 5) (λ p q. rw (p, q) (λ l o. (record s { boolean = l.4.0 }, (l.4.0, l.4.1, refl), (l.0, l.1, l.2, l.3, l.4.2, l.5, l.6)))) (λ h5.
+    decide c 10 i (pos 6) (λ p q. rw (p, q) (λ l o. (record s { long = l.5.0 }, (l.5.0, l.5.1, refl), (l.0, l.1, l.2, l.3, l.4, l.5.2, l.6)))) (λ h6.
+    decide c 11 i (pos 7) (λ p q. rw (p, q) (λ l o. (record s { binary = l.6.0 }, (l.6.0, l.6.1, refl), (l.0, l.1, l.2, l.3, l.4, l.5, l.6.2)))) (λ h7.
+    rw (h1, h2, h3, h4, h5, h6, h7) (λ l o. (s, (o refl, refl), l)))))))))
+
+tag_leaves : (w : List ℕ) (x : Tag) → (is : IsTag w x) → LastCounts known_of_tag LastOfTag w x
 unfolding IsTag
-tag_last w x is = (
-  is.fields,
-  is.spelled,
-  record {
+tag_leaves w x is = record {
+  fields = is.fields;
+  spelled = is.spelled;
+  last = record {
     kind = is.makes.kind;
     left = is.gathered;
     value = is.makes.value;
@@ -76,8 +172,46 @@ tag_last w x is = (
     bool_last = slot_last TagField no_tag is.fields is.gathered is.gathered is.gathers refl (λ u. Some u.boolean) 2 (pos 5) IsBool (λ s f t m. (tag_keeps s f t m).4);
     long_last = slot_last TagField no_tag is.fields is.gathered is.gathered is.gathers refl (λ u. Some u.long) 10 (pos 6) IsI64 (λ s f t m. (tag_keeps s f t m).5);
     binary_last = slot_last TagField no_tag is.fields is.gathered is.gathered is.gathers refl (λ u. Some u.binary) 11 (pos 7) IsString (λ s f t m. (tag_keeps s f t m).6);
-  },
+  };
+  others = others_of TagField known_of_tag tag_other is.fields no_tag is.gathered is.gathers;
+}
+
+-- the key and the type, whatever else is left
+with_key : List ℕ → TagType → TagSlots → TagSlots
+with_key key kind s = record s { key = Some key; kind = Some kind }
+
+same_value : (key : List ℕ) (k kind : TagType) (s : TagSlots) → value_named k s ≡ value_named k (with_key key kind s)
+unfolding with_key
+same_value key types.Text kind s = refl
+same_value key types.Double kind s = refl
+same_value key types.Bool kind s = refl
+same_value key types.Long kind s = refl
+same_value key types.Binary kind s = refl
+
+tag_gathers : (w : List ℕ) (x : Tag) (a : LastCounts known_of_tag LastOfTag w x) → Gathers TagField no_tag a.fields (with_key x.key a.last.kind a.last.left)
+unfolding with_key
+tag_gathers w x a = gathers_back TagField known_of_tag TagLasts tag_none tag_step a.fields no_tag (with_key x.key a.last.kind a.last.left) (a.last.key_last, a.last.kind_last, a.last.text_last, a.last.double_last, a.last.bool_last, a.last.long_last, a.last.binary_last) a.others
+
+tag_back : (w : List ℕ) (x : Tag) → LastCounts known_of_tag LastOfTag w x → IsTag w x
+unfolding IsTag with_key
+tag_back w x a =
+    let t = with_key x.key a.last.kind a.last.left in
+    record {
+      fields = a.fields;
+      spelled = a.spelled;
+      gathered = t;
+      gathers = tag_gathers w x a;
+      makes = record { key = refl; kind = a.last.kind; named = refl; value = a.last.value ∙ same_value x.key a.last.kind a.last.kind a.last.left };
+    }
+
+tag_one : (w : List ℕ) (x y : Tag) (a : LastCounts known_of_tag LastOfTag w x) (b : LastCounts known_of_tag LastOfTag w y) → (a.fields ≡ b.fields) × (x ≡ y)
+tag_one w x y a b = (
+  one_division take_tag TagField tag_field_coded tag_field_again a.fields b.fields w no_tag _ _ a.spelled b.spelled (tag_gathers w x a) (tag_gathers w y b),
+  one_value is_tag w x y (tag_back w x a) (tag_back w y b),
 )
+
+pub tag_last : TagLast
+tag_last = record { same = λ w x. (tag_leaves w x, tag_back w x); one = tag_one }
 
 -- ---- Log
 
@@ -93,16 +227,64 @@ log_keeps s f t m0 =
     split _ _ 15 (pos 2) f m1 (λ c i v. rw (c, i, v.2) (refl, (v.0, v.1, refl))) (λ h2 m2.
     rw (h1, h2, m2.1) (refl, refl)))
 
-pub log_last : LogLast
+log_other : (s : LogSlots) (f : Field) (t : LogSlots) → LogField s f t → is_known known_of_log f ≡ false → IsValue 64 f.code f.text
+unfolding LogField
+log_other s f t =
+    pass _ f 10 (pos 1) _ (
+    pass _ f 15 (pos 2) _ (
+    λ m e. m.0))
+
+abbrev LogLasts : LogSlots → List Field → LogSlots → Type 0
+LogLasts s fs t =
+    IsLast 10 (pos 1) IsI64 s.at fs t.at
+    × IsLast 15 (pos 2) (IsStructList IsTag) s.fields fs t.fields
+
+log_none : (s t : LogSlots) → LogLasts s [] t → t ≡ s
+log_none s t l = log_slots s t l.0 l.1
+  where
+    log_slots : (s t : LogSlots) → t.at ≡ s.at → t.fields ≡ s.fields → t ≡ s
+    log_slots s t a b = rw (a, b) refl
+
+log_step : (s t : LogSlots) (c : ℕ) (i : ℤ) (v : List ℕ) (fs : List Field) → LogLasts s (field c i v ∷ fs) t → (is_known known_of_log (field c i v) ≡ false → IsValue 64 c v) → (u : LogSlots) × LogField s (field c i v) u × LogLasts u fs t
+unfolding LogField
+log_step s t c i v fs =
+    decide c 10 i (pos 1) (λ p q. rw (p, q) (λ l o. (record s { at = Some l.0.0 }, (l.0.0, l.0.1, refl), (l.0.2, l.1)))) (λ h1.
+    decide c 15 i (pos 2) (λ p q. rw (p, q) (λ l o. (record s { fields = Some l.1.0 }, (l.1.0, l.1.1, refl), (l.0, l.1.2)))) (λ h2.
+    rw (h1, h2) (λ l o. (s, (o refl, refl), l))))
+
+log_leaves : (w : List ℕ) (x : Log) → (is : IsLog w x) → LastCounts known_of_log LastOfLog w x
 unfolding IsLog
-log_last w x is = (
-  is.fields,
-  is.spelled,
-  record {
+log_leaves w x is = record {
+  fields = is.fields;
+  spelled = is.spelled;
+  last = record {
     at = slot_last LogField no_log is.fields is.gathered (whole_log x) is.gathers is.makes (λ u. u.at) 10 (pos 1) IsI64 (λ s f t m. (log_keeps s f t m).0);
     fields = slot_last LogField no_log is.fields is.gathered (whole_log x) is.gathers is.makes (λ u. u.fields) 15 (pos 2) (IsStructList IsTag) (λ s f t m. (log_keeps s f t m).1);
-  },
+  };
+  others = others_of LogField known_of_log log_other is.fields no_log is.gathered is.gathers;
+}
+
+log_gathers : (w : List ℕ) (x : Log) (a : LastCounts known_of_log LastOfLog w x) → Gathers LogField no_log a.fields (whole_log x)
+log_gathers w x a = gathers_back LogField known_of_log LogLasts log_none log_step a.fields no_log (whole_log x) (a.last.at, a.last.fields) a.others
+
+log_back : (w : List ℕ) (x : Log) → LastCounts known_of_log LastOfLog w x → IsLog w x
+unfolding IsLog
+log_back w x a = record {
+  fields = a.fields;
+  spelled = a.spelled;
+  gathered = whole_log x;
+  gathers = log_gathers w x a;
+  makes = refl;
+}
+
+log_one : (w : List ℕ) (x y : Log) (a : LastCounts known_of_log LastOfLog w x) (b : LastCounts known_of_log LastOfLog w y) → (a.fields ≡ b.fields) × (x ≡ y)
+log_one w x y a b = (
+  one_division take_log LogField log_field_coded log_field_again a.fields b.fields w no_log _ _ a.spelled b.spelled (log_gathers w x a) (log_gathers w y b),
+  one_value is_log w x y (log_back w x a) (log_back w y b),
 )
+
+pub log_last : LogLast
+log_last = record { same = λ w x. (log_leaves w x, log_back w x); one = log_one }
 
 -- ---- SpanRef
 
@@ -122,18 +304,72 @@ reference_keeps s f t m0 =
     split _ _ 10 (pos 4) f m3 (λ c i v. rw (c, i, v.2) (refl, refl, refl, (v.0, v.1, refl))) (λ h4 m4.
     rw (h1, h2, h3, h4, m4.1) (refl, refl, refl, refl)))))
 
-pub reference_last : ReferenceLast
+reference_other : (s : ReferenceSlots) (f : Field) (t : ReferenceSlots) → ReferenceField s f t → is_known known_of_reference f ≡ false → IsValue 64 f.code f.text
+unfolding ReferenceField
+reference_other s f t =
+    pass _ f 8 (pos 1) _ (
+    pass _ f 10 (pos 2) _ (
+    pass _ f 10 (pos 3) _ (
+    pass _ f 10 (pos 4) _ (
+    λ m e. m.0))))
+
+abbrev ReferenceLasts : ReferenceSlots → List Field → ReferenceSlots → Type 0
+ReferenceLasts s fs t =
+    IsLast 8 (pos 1) IsRefKind s.kind fs t.kind
+    × IsLast 10 (pos 2) IsId s.trace_low fs t.trace_low
+    × IsLast 10 (pos 3) IsId s.trace_high fs t.trace_high
+    × IsLast 10 (pos 4) IsId s.id fs t.id
+
+reference_none : (s t : ReferenceSlots) → ReferenceLasts s [] t → t ≡ s
+reference_none s t l = reference_slots s t l.0 l.1 l.2 l.3
+  where
+    reference_slots : (s t : ReferenceSlots) → t.kind ≡ s.kind → t.trace_low ≡ s.trace_low → t.trace_high ≡ s.trace_high → t.id ≡ s.id → t ≡ s
+    reference_slots s t a b c d = rw (a, b, c, d) refl
+
+reference_step : (s t : ReferenceSlots) (c : ℕ) (i : ℤ) (v : List ℕ) (fs : List Field) → ReferenceLasts s (field c i v ∷ fs) t → (is_known known_of_reference (field c i v) ≡ false → IsValue 64 c v) → (u : ReferenceSlots) × ReferenceField s (field c i v) u × ReferenceLasts u fs t
+unfolding ReferenceField
+reference_step s t c i v fs =
+    decide c 8 i (pos 1) (λ p q. rw (p, q) (λ l o. (record s { kind = Some l.0.0 }, (l.0.0, l.0.1, refl), (l.0.2, l.1, l.2, l.3)))) (λ h1.
+    decide c 10 i (pos 2) (λ p q. rw (p, q) (λ l o. (record s { trace_low = Some l.1.0 }, (l.1.0, l.1.1, refl), (l.0, l.1.2, l.2, l.3)))) (λ h2.
+    decide c 10 i (pos 3) (λ p q. rw (p, q) (λ l o. (record s { trace_high = Some l.2.0 }, (l.2.0, l.2.1, refl), (l.0, l.1, l.2.2, l.3)))) (λ h3.
+    decide c 10 i (pos 4) (λ p q. rw (p, q) (λ l o. (record s { id = Some l.3.0 }, (l.3.0, l.3.1, refl), (l.0, l.1, l.2, l.3.2)))) (λ h4.
+    rw (h1, h2, h3, h4) (λ l o. (s, (o refl, refl), l))))))
+
+reference_leaves : (w : List ℕ) (x : SpanRef) → (is : IsReference w x) → LastCounts known_of_reference LastOfReference w x
 unfolding IsReference
-reference_last w x is = (
-  is.fields,
-  is.spelled,
-  record {
+reference_leaves w x is = record {
+  fields = is.fields;
+  spelled = is.spelled;
+  last = record {
     kind = slot_last ReferenceField no_reference is.fields is.gathered (whole_reference x) is.gathers is.makes (λ u. u.kind) 8 (pos 1) IsRefKind (λ s f t m. (reference_keeps s f t m).0);
     low = slot_last ReferenceField no_reference is.fields is.gathered (whole_reference x) is.gathers is.makes (λ u. u.trace_low) 10 (pos 2) IsId (λ s f t m. (reference_keeps s f t m).1);
     high = slot_last ReferenceField no_reference is.fields is.gathered (whole_reference x) is.gathers is.makes (λ u. u.trace_high) 10 (pos 3) IsId (λ s f t m. (reference_keeps s f t m).2);
     id = slot_last ReferenceField no_reference is.fields is.gathered (whole_reference x) is.gathers is.makes (λ u. u.id) 10 (pos 4) IsId (λ s f t m. (reference_keeps s f t m).3);
-  },
+  };
+  others = others_of ReferenceField known_of_reference reference_other is.fields no_reference is.gathered is.gathers;
+}
+
+reference_gathers : (w : List ℕ) (x : SpanRef) (a : LastCounts known_of_reference LastOfReference w x) → Gathers ReferenceField no_reference a.fields (whole_reference x)
+reference_gathers w x a = gathers_back ReferenceField known_of_reference ReferenceLasts reference_none reference_step a.fields no_reference (whole_reference x) (a.last.kind, a.last.low, a.last.high, a.last.id) a.others
+
+reference_back : (w : List ℕ) (x : SpanRef) → LastCounts known_of_reference LastOfReference w x → IsReference w x
+unfolding IsReference
+reference_back w x a = record {
+  fields = a.fields;
+  spelled = a.spelled;
+  gathered = whole_reference x;
+  gathers = reference_gathers w x a;
+  makes = refl;
+}
+
+reference_one : (w : List ℕ) (x y : SpanRef) (a : LastCounts known_of_reference LastOfReference w x) (b : LastCounts known_of_reference LastOfReference w y) → (a.fields ≡ b.fields) × (x ≡ y)
+reference_one w x y a b = (
+  one_division take_reference ReferenceField reference_field_coded reference_field_again a.fields b.fields w no_reference _ _ a.spelled b.spelled (reference_gathers w x a) (reference_gathers w y b),
+  one_value is_reference w x y (reference_back w x a) (reference_back w y b),
 )
+
+pub reference_last : ReferenceLast
+reference_last = record { same = λ w x. (reference_leaves w x, reference_back w x); one = reference_one }
 
 -- ---- Process
 
@@ -149,16 +385,64 @@ process_keeps s f t m0 =
     split _ _ 15 (pos 2) f m1 (λ c i v. rw (c, i, v.2) (refl, (v.0, v.1, refl))) (λ h2 m2.
     rw (h1, h2, m2.1) (refl, refl)))
 
-pub process_last : ProcessLast
+process_other : (s : ProcessSlots) (f : Field) (t : ProcessSlots) → ProcessField s f t → is_known known_of_process f ≡ false → IsValue 64 f.code f.text
+unfolding ProcessField
+process_other s f t =
+    pass _ f 11 (pos 1) _ (
+    pass _ f 15 (pos 2) _ (
+    λ m e. m.0))
+
+abbrev ProcessLasts : ProcessSlots → List Field → ProcessSlots → Type 0
+ProcessLasts s fs t =
+    IsLast 11 (pos 1) IsText s.service fs t.service
+    × IsLast 15 (pos 2) (IsStructList IsTag) (Some s.tags) fs (Some t.tags)
+
+process_none : (s t : ProcessSlots) → ProcessLasts s [] t → t ≡ s
+process_none s t l = process_slots s t l.0 (the_same l.1)
+  where
+    process_slots : (s t : ProcessSlots) → t.service ≡ s.service → t.tags ≡ s.tags → t ≡ s
+    process_slots s t a b = rw (a, b) refl
+
+process_step : (s t : ProcessSlots) (c : ℕ) (i : ℤ) (v : List ℕ) (fs : List Field) → ProcessLasts s (field c i v ∷ fs) t → (is_known known_of_process (field c i v) ≡ false → IsValue 64 c v) → (u : ProcessSlots) × ProcessField s (field c i v) u × ProcessLasts u fs t
+unfolding ProcessField
+process_step s t c i v fs =
+    decide c 11 i (pos 1) (λ p q. rw (p, q) (λ l o. (record s { service = Some l.0.0 }, (l.0.0, l.0.1, refl), (l.0.2, l.1)))) (λ h1.
+    decide c 15 i (pos 2) (λ p q. rw (p, q) (λ l o. (record s { tags = l.1.0 }, (l.1.0, l.1.1, refl), (l.0, l.1.2)))) (λ h2.
+    rw (h1, h2) (λ l o. (s, (o refl, refl), l))))
+
+process_leaves : (w : List ℕ) (x : Process) → (is : IsProcess w x) → LastCounts known_of_process LastOfProcess w x
 unfolding IsProcess
-process_last w x is = (
-  is.fields,
-  is.spelled,
-  record {
+process_leaves w x is = record {
+  fields = is.fields;
+  spelled = is.spelled;
+  last = record {
     service = slot_last ProcessField no_process is.fields is.gathered (whole_process x) is.gathers is.makes (λ u. u.service) 11 (pos 1) IsText (λ s f t m. (process_keeps s f t m).0);
     tags = slot_last ProcessField no_process is.fields is.gathered (whole_process x) is.gathers is.makes (λ u. Some u.tags) 15 (pos 2) (IsStructList IsTag) (λ s f t m. (process_keeps s f t m).1);
-  },
+  };
+  others = others_of ProcessField known_of_process process_other is.fields no_process is.gathered is.gathers;
+}
+
+process_gathers : (w : List ℕ) (x : Process) (a : LastCounts known_of_process LastOfProcess w x) → Gathers ProcessField no_process a.fields (whole_process x)
+process_gathers w x a = gathers_back ProcessField known_of_process ProcessLasts process_none process_step a.fields no_process (whole_process x) (a.last.service, a.last.tags) a.others
+
+process_back : (w : List ℕ) (x : Process) → LastCounts known_of_process LastOfProcess w x → IsProcess w x
+unfolding IsProcess
+process_back w x a = record {
+  fields = a.fields;
+  spelled = a.spelled;
+  gathered = whole_process x;
+  gathers = process_gathers w x a;
+  makes = refl;
+}
+
+process_one : (w : List ℕ) (x y : Process) (a : LastCounts known_of_process LastOfProcess w x) (b : LastCounts known_of_process LastOfProcess w y) → (a.fields ≡ b.fields) × (x ≡ y)
+process_one w x y a b = (
+  one_division take_process ProcessField process_field_coded process_field_again a.fields b.fields w no_process _ _ a.spelled b.spelled (process_gathers w x a) (process_gathers w y b),
+  one_value is_process w x y (process_back w x a) (process_back w y b),
 )
+
+pub process_last : ProcessLast
+process_last = record { same = λ w x. (process_leaves w x, process_back w x); one = process_one }
 
 -- ---- Span
 
@@ -192,12 +476,64 @@ span_keeps s f t m0 =
     split _ _ 15 (pos 11) f m10 (λ c i v. rw (c, i, v.2) (refl, refl, refl, refl, refl, refl, refl, refl, refl, refl, (v.0, v.1, refl))) (λ h11 m11.
     rw (h1, h2, h3, h4, h5, h6, h7, h8, h9, h10, h11, m11.1) (refl, refl, refl, refl, refl, refl, refl, refl, refl, refl, refl))))))))))))
 
-pub span_last : SpanLast
+span_other : (s : SpanSlots) (f : Field) (t : SpanSlots) → SpanField s f t → is_known known_of_span f ≡ false → IsValue 64 f.code f.text
+unfolding SpanField
+span_other s f t =
+    pass _ f 10 (pos 1) _ (
+    pass _ f 10 (pos 2) _ (
+    pass _ f 10 (pos 3) _ (
+    pass _ f 10 (pos 4) _ (
+    pass _ f 11 (pos 5) _ (
+    pass _ f 15 (pos 6) _ (
+    pass _ f 8 (pos 7) _ (
+    pass _ f 10 (pos 8) _ (
+    pass _ f 10 (pos 9) _ (
+    pass _ f 15 (pos 10) _ (
+    pass _ f 15 (pos 11) _ (
+    λ m e. m.0)))))))))))
+
+abbrev SpanLasts : SpanSlots → List Field → SpanSlots → Type 0
+SpanLasts s fs t =
+    IsLast 10 (pos 1) IsId s.trace_low fs t.trace_low
+    × IsLast 10 (pos 2) IsId s.trace_high fs t.trace_high
+    × IsLast 10 (pos 3) IsId s.id fs t.id
+    × IsLast 10 (pos 4) IsId s.parent fs t.parent
+    × IsLast 11 (pos 5) IsText s.operation fs t.operation
+    × IsLast 15 (pos 6) (IsStructList IsReference) (Some s.references) fs (Some t.references)
+    × IsLast 8 (pos 7) IsI32 s.flags fs t.flags
+    × IsLast 10 (pos 8) IsI64 s.start fs t.start
+    × IsLast 10 (pos 9) IsI64 s.duration fs t.duration
+    × IsLast 15 (pos 10) (IsStructList IsTag) (Some s.tags) fs (Some t.tags)
+    × IsLast 15 (pos 11) (IsStructList IsLog) (Some s.logs) fs (Some t.logs)
+
+span_none : (s t : SpanSlots) → SpanLasts s [] t → t ≡ s
+span_none s t l = span_slots s t l.0 l.1 l.2 l.3 l.4 (the_same l.5) l.6 l.7 l.8 (the_same l.9) (the_same l.10)
+  where
+    span_slots : (s t : SpanSlots) → t.trace_low ≡ s.trace_low → t.trace_high ≡ s.trace_high → t.id ≡ s.id → t.parent ≡ s.parent → t.operation ≡ s.operation → t.references ≡ s.references → t.flags ≡ s.flags → t.start ≡ s.start → t.duration ≡ s.duration → t.tags ≡ s.tags → t.logs ≡ s.logs → t ≡ s
+    span_slots s t a b c d e f g h i j k = rw (a, b, c, d, e, f, g, h, i, j, k) refl
+
+span_step : (s t : SpanSlots) (c : ℕ) (i : ℤ) (v : List ℕ) (fs : List Field) → SpanLasts s (field c i v ∷ fs) t → (is_known known_of_span (field c i v) ≡ false → IsValue 64 c v) → (u : SpanSlots) × SpanField s (field c i v) u × SpanLasts u fs t
+unfolding SpanField
+span_step s t c i v fs =
+    decide c 10 i (pos 1) (λ p q. rw (p, q) (λ l o. (record s { trace_low = Some l.0.0 }, (l.0.0, l.0.1, refl), (l.0.2, l.1, l.2, l.3, l.4, l.5, l.6, l.7, l.8, l.9, l.10)))) (λ h1.
+    decide c 10 i (pos 2) (λ p q. rw (p, q) (λ l o. (record s { trace_high = Some l.1.0 }, (l.1.0, l.1.1, refl), (l.0, l.1.2, l.2, l.3, l.4, l.5, l.6, l.7, l.8, l.9, l.10)))) (λ h2.
+    decide c 10 i (pos 3) (λ p q. rw (p, q) (λ l o. (record s { id = Some l.2.0 }, (l.2.0, l.2.1, refl), (l.0, l.1, l.2.2, l.3, l.4, l.5, l.6, l.7, l.8, l.9, l.10)))) (λ h3.
+    decide c 10 i (pos 4) (λ p q. rw (p, q) (λ l o. (record s { parent = Some l.3.0 }, (l.3.0, l.3.1, refl), (l.0, l.1, l.2, l.3.2, l.4, l.5, l.6, l.7, l.8, l.9, l.10)))) (λ h4.
+    decide c 11 i (pos 5) (λ p q. rw (p, q) (λ l o. (record s { operation = Some l.4.0 }, (l.4.0, l.4.1, refl), (l.0, l.1, l.2, l.3, l.4.2, l.5, l.6, l.7, l.8, l.9, l.10)))) (λ h5.
+    decide c 15 i (pos 6) (λ p q. rw (p, q) (λ l o. (record s { references = l.5.0 }, (l.5.0, l.5.1, refl), (l.0, l.1, l.2, l.3, l.4, l.5.2, l.6, l.7, l.8, l.9, l.10)))) (λ h6.
+    decide c 8 i (pos 7) (λ p q. rw (p, q) (λ l o. (record s { flags = Some l.6.0 }, (l.6.0, l.6.1, refl), (l.0, l.1, l.2, l.3, l.4, l.5, l.6.2, l.7, l.8, l.9, l.10)))) (λ h7.
+    decide c 10 i (pos 8) (λ p q. rw (p, q) (λ l o. (record s { start = Some l.7.0 }, (l.7.0, l.7.1, refl), (l.0, l.1, l.2, l.3, l.4, l.5, l.6, l.7.2, l.8, l.9, l.10)))) (λ h8.
+    decide c 10 i (pos 9) (λ p q. rw (p, q) (λ l o. (record s { duration = Some l.8.0 }, (l.8.0, l.8.1, refl), (l.0, l.1, l.2, l.3, l.4, l.5, l.6, l.7, l.8.2, l.9, l.10)))) (λ h9.
+    decide c 15 i (pos 10) (λ p q. rw (p, q) (λ l o. (record s { tags = l.9.0 }, (l.9.0, l.9.1, refl), (l.0, l.1, l.2, l.3, l.4, l.5, l.6, l.7, l.8, l.9.2, l.10)))) (λ h10.
+    decide c 15 i (pos 11) (λ p q. rw (p, q) (λ l o. (record s { logs = l.10.0 }, (l.10.0, l.10.1, refl), (l.0, l.1, l.2, l.3, l.4, l.5, l.6, l.7, l.8, l.9, l.10.2)))) (λ h11.
+    rw (h1, h2, h3, h4, h5, h6, h7, h8, h9, h10, h11) (λ l o. (s, (o refl, refl), l)))))))))))))
+
+span_leaves : (w : List ℕ) (x : Span) → (is : IsSpan w x) → LastCounts known_of_span LastOfSpan w x
 unfolding IsSpan
-span_last w x is = (
-  is.fields,
-  is.spelled,
-  record {
+span_leaves w x is = record {
+  fields = is.fields;
+  spelled = is.spelled;
+  last = record {
     low = slot_last SpanField no_span is.fields is.gathered (whole_span x) is.gathers is.makes (λ u. u.trace_low) 10 (pos 1) IsId (λ s f t m. (span_keeps s f t m).0);
     high = slot_last SpanField no_span is.fields is.gathered (whole_span x) is.gathers is.makes (λ u. u.trace_high) 10 (pos 2) IsId (λ s f t m. (span_keeps s f t m).1);
     id = slot_last SpanField no_span is.fields is.gathered (whole_span x) is.gathers is.makes (λ u. u.id) 10 (pos 3) IsId (λ s f t m. (span_keeps s f t m).2);
@@ -209,8 +545,31 @@ span_last w x is = (
     duration = slot_last SpanField no_span is.fields is.gathered (whole_span x) is.gathers is.makes (λ u. u.duration) 10 (pos 9) IsI64 (λ s f t m. (span_keeps s f t m).8);
     tags = slot_last SpanField no_span is.fields is.gathered (whole_span x) is.gathers is.makes (λ u. Some u.tags) 15 (pos 10) (IsStructList IsTag) (λ s f t m. (span_keeps s f t m).9);
     logs = slot_last SpanField no_span is.fields is.gathered (whole_span x) is.gathers is.makes (λ u. Some u.logs) 15 (pos 11) (IsStructList IsLog) (λ s f t m. (span_keeps s f t m).10);
-  },
+  };
+  others = others_of SpanField known_of_span span_other is.fields no_span is.gathered is.gathers;
+}
+
+span_gathers : (w : List ℕ) (x : Span) (a : LastCounts known_of_span LastOfSpan w x) → Gathers SpanField no_span a.fields (whole_span x)
+span_gathers w x a = gathers_back SpanField known_of_span SpanLasts span_none span_step a.fields no_span (whole_span x) (a.last.low, a.last.high, a.last.id, a.last.parent, a.last.operation, a.last.references, a.last.flags, a.last.start, a.last.duration, a.last.tags, a.last.logs) a.others
+
+span_back : (w : List ℕ) (x : Span) → LastCounts known_of_span LastOfSpan w x → IsSpan w x
+unfolding IsSpan
+span_back w x a = record {
+  fields = a.fields;
+  spelled = a.spelled;
+  gathered = whole_span x;
+  gathers = span_gathers w x a;
+  makes = refl;
+}
+
+span_one : (w : List ℕ) (x y : Span) (a : LastCounts known_of_span LastOfSpan w x) (b : LastCounts known_of_span LastOfSpan w y) → (a.fields ≡ b.fields) × (x ≡ y)
+span_one w x y a b = (
+  one_division take_span SpanField span_field_coded span_field_again a.fields b.fields w no_span _ _ a.spelled b.spelled (span_gathers w x a) (span_gathers w y b),
+  one_value is_span w x y (span_back w x a) (span_back w y b),
 )
+
+pub span_last : SpanLast
+span_last = record { same = λ w x. (span_leaves w x, span_back w x); one = span_one }
 
 -- ---- Batch
 
@@ -228,14 +587,65 @@ batch_keeps s f t m0 =
     split _ _ 10 (pos 3) f m2 (λ c i v. rw (c, i, v.2) (refl, refl, (v.0, v.1, refl))) (λ h3 m3.
     rw (h1, h2, h3, m3.1) (refl, refl, refl))))
 
-pub batch_last : BatchLast
+batch_other : (s : BatchSlots) (f : Field) (t : BatchSlots) → BatchField s f t → is_known known_of_batch f ≡ false → IsValue 64 f.code f.text
+unfolding BatchField
+batch_other s f t =
+    pass _ f 12 (pos 1) _ (
+    pass _ f 15 (pos 2) _ (
+    pass _ f 10 (pos 3) _ (
+    λ m e. m.0)))
+
+abbrev BatchLasts : BatchSlots → List Field → BatchSlots → Type 0
+BatchLasts s fs t =
+    IsLast 12 (pos 1) IsProcess s.process fs t.process
+    × IsLast 15 (pos 2) (IsStructList IsSpan) s.spans fs t.spans
+    × IsLast 10 (pos 3) IsI64 s.seq_no fs t.seq_no
+
+batch_none : (s t : BatchSlots) → BatchLasts s [] t → t ≡ s
+batch_none s t l = batch_slots s t l.0 l.1 l.2
+  where
+    batch_slots : (s t : BatchSlots) → t.process ≡ s.process → t.spans ≡ s.spans → t.seq_no ≡ s.seq_no → t ≡ s
+    batch_slots s t a b c = rw (a, b, c) refl
+
+batch_step : (s t : BatchSlots) (c : ℕ) (i : ℤ) (v : List ℕ) (fs : List Field) → BatchLasts s (field c i v ∷ fs) t → (is_known known_of_batch (field c i v) ≡ false → IsValue 64 c v) → (u : BatchSlots) × BatchField s (field c i v) u × BatchLasts u fs t
+unfolding BatchField
+batch_step s t c i v fs =
+    decide c 12 i (pos 1) (λ p q. rw (p, q) (λ l o. (record s { process = Some l.0.0 }, (l.0.0, l.0.1, refl), (l.0.2, l.1, l.2)))) (λ h1.
+    decide c 15 i (pos 2) (λ p q. rw (p, q) (λ l o. (record s { spans = Some l.1.0 }, (l.1.0, l.1.1, refl), (l.0, l.1.2, l.2)))) (λ h2.
+    decide c 10 i (pos 3) (λ p q. rw (p, q) (λ l o. (record s { seq_no = Some l.2.0 }, (l.2.0, l.2.1, refl), (l.0, l.1, l.2.2)))) (λ h3.
+    rw (h1, h2, h3) (λ l o. (s, (o refl, refl), l)))))
+
+batch_leaves : (w : List ℕ) (x : Batch) → (is : IsBatch w x) → LastCounts known_of_batch LastOfBatch w x
 unfolding IsBatch
-batch_last w x is = (
-  is.fields,
-  is.spelled,
-  record {
+batch_leaves w x is = record {
+  fields = is.fields;
+  spelled = is.spelled;
+  last = record {
     process = slot_last BatchField no_batch is.fields is.gathered (whole_batch x) is.gathers is.makes (λ u. u.process) 12 (pos 1) IsProcess (λ s f t m. (batch_keeps s f t m).0);
     spans = slot_last BatchField no_batch is.fields is.gathered (whole_batch x) is.gathers is.makes (λ u. u.spans) 15 (pos 2) (IsStructList IsSpan) (λ s f t m. (batch_keeps s f t m).1);
     seq_no = slot_last BatchField no_batch is.fields is.gathered (whole_batch x) is.gathers is.makes (λ u. u.seq_no) 10 (pos 3) IsI64 (λ s f t m. (batch_keeps s f t m).2);
-  },
+  };
+  others = others_of BatchField known_of_batch batch_other is.fields no_batch is.gathered is.gathers;
+}
+
+batch_gathers : (w : List ℕ) (x : Batch) (a : LastCounts known_of_batch LastOfBatch w x) → Gathers BatchField no_batch a.fields (whole_batch x)
+batch_gathers w x a = gathers_back BatchField known_of_batch BatchLasts batch_none batch_step a.fields no_batch (whole_batch x) (a.last.process, a.last.spans, a.last.seq_no) a.others
+
+batch_back : (w : List ℕ) (x : Batch) → LastCounts known_of_batch LastOfBatch w x → IsBatch w x
+unfolding IsBatch
+batch_back w x a = record {
+  fields = a.fields;
+  spelled = a.spelled;
+  gathered = whole_batch x;
+  gathers = batch_gathers w x a;
+  makes = refl;
+}
+
+batch_one : (w : List ℕ) (x y : Batch) (a : LastCounts known_of_batch LastOfBatch w x) (b : LastCounts known_of_batch LastOfBatch w y) → (a.fields ≡ b.fields) × (x ≡ y)
+batch_one w x y a b = (
+  one_division take_batch BatchField batch_field_coded batch_field_again a.fields b.fields w no_batch _ _ a.spelled b.spelled (batch_gathers w x a) (batch_gathers w y b),
+  one_value is_batch w x y (batch_back w x a) (batch_back w y b),
 )
+
+pub batch_last : BatchLast
+batch_last = record { same = λ w x. (batch_leaves w x, batch_back w x); one = batch_one }

@@ -13,6 +13,7 @@ pub mod CutStructs
 pub mod CutBatches
 pub mod NeverTrailing
 pub mod CutLaws
+pub mod OneDivision
 pub mod LastOf
 pub mod Rows
 pub mod CanonTexts

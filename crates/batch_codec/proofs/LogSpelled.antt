@@ -20,16 +20,16 @@ takes s c i w t r =
     known_found (is_list is_tag) (λ x. record s { fields = Some x }) c 15 i (pos 2) w t r _ _ (
     skipped_found s c w t r))
 
-again : (s : LogSlots) (f : Field) (t : LogSlots) (r : List ℕ) → LogField s f t → take_log s f.code f.id (f.text ++ r) ≡ Ok (t, r)
+pub log_field_again : (s : LogSlots) (f : Field) (t : LogSlots) (r : List ℕ) → LogField s f t → take_log s f.code f.id (f.text ++ r) ≡ Ok (t, r)
 unfolding take_log LogField
-again s f t r =
+log_field_again s f t r =
     known_again is_i64 (λ x. record s { at = Some x }) f.code 10 f.id (pos 1) f.text t r _ _ (
     known_again (is_list is_tag) (λ x. record s { fields = Some x }) f.code 15 f.id (pos 2) f.text t r _ _ (
     skipped_again s f.code f.text t r))
 
-coded : (s : LogSlots) (f : Field) (t : LogSlots) → LogField s f t → is_code f.code ≡ true
+pub log_field_coded : (s : LogSlots) (f : Field) (t : LogSlots) → LogField s f t → is_code f.code ≡ true
 unfolding LogField
-coded s f t =
+log_field_coded s f t =
     known_coded _ f.code 10 f.id (pos 1) _ refl (
     known_coded _ f.code 15 f.id (pos 2) _ refl (
     λ m. skipped_coded f.code f.text m.0))
@@ -55,5 +55,5 @@ pub is_log : Agrees log_at IsLog
 unfolding log_at IsLog
 is_log = record {
   found = struct_found take_log LogField no_log log_from (λ s x. s ≡ whole_log x) takes made;
-  again = struct_again take_log LogField no_log log_from (λ s x. s ≡ whole_log x) coded again makes;
+  again = struct_again take_log LogField no_log log_from (λ s x. s ≡ whole_log x) log_field_coded log_field_again makes;
 }

@@ -20,16 +20,16 @@ takes s c i w t r =
     known_found (is_list is_tag) (λ x. record s { tags = x }) c 15 i (pos 2) w t r _ _ (
     skipped_found s c w t r))
 
-again : (s : ProcessSlots) (f : Field) (t : ProcessSlots) (r : List ℕ) → ProcessField s f t → take_process s f.code f.id (f.text ++ r) ≡ Ok (t, r)
+pub process_field_again : (s : ProcessSlots) (f : Field) (t : ProcessSlots) (r : List ℕ) → ProcessField s f t → take_process s f.code f.id (f.text ++ r) ≡ Ok (t, r)
 unfolding take_process ProcessField
-again s f t r =
+process_field_again s f t r =
     known_again is_text (λ x. record s { service = Some x }) f.code 11 f.id (pos 1) f.text t r _ _ (
     known_again (is_list is_tag) (λ x. record s { tags = x }) f.code 15 f.id (pos 2) f.text t r _ _ (
     skipped_again s f.code f.text t r))
 
-coded : (s : ProcessSlots) (f : Field) (t : ProcessSlots) → ProcessField s f t → is_code f.code ≡ true
+pub process_field_coded : (s : ProcessSlots) (f : Field) (t : ProcessSlots) → ProcessField s f t → is_code f.code ≡ true
 unfolding ProcessField
-coded s f t =
+process_field_coded s f t =
     known_coded _ f.code 11 f.id (pos 1) _ refl (
     known_coded _ f.code 15 f.id (pos 2) _ refl (
     λ m. skipped_coded f.code f.text m.0))
@@ -54,5 +54,5 @@ pub is_process : Agrees process_at IsProcess
 unfolding process_at IsProcess
 is_process = record {
   found = struct_found take_process ProcessField no_process process_from (λ s x. s ≡ whole_process x) takes made;
-  again = struct_again take_process ProcessField no_process process_from (λ s x. s ≡ whole_process x) coded again makes;
+  again = struct_again take_process ProcessField no_process process_from (λ s x. s ≡ whole_process x) process_field_coded process_field_again makes;
 }

@@ -21,18 +21,18 @@ takes s c i w t r =
     known_found is_id (λ x. record s { id = Some x }) c 10 i (pos 4) w t r _ _ (
     skipped_found s c w t r))))
 
-again : (s : ReferenceSlots) (f : Field) (t : ReferenceSlots) (r : List ℕ) → ReferenceField s f t → take_reference s f.code f.id (f.text ++ r) ≡ Ok (t, r)
+pub reference_field_again : (s : ReferenceSlots) (f : Field) (t : ReferenceSlots) (r : List ℕ) → ReferenceField s f t → take_reference s f.code f.id (f.text ++ r) ≡ Ok (t, r)
 unfolding take_reference ReferenceField
-again s f t r =
+reference_field_again s f t r =
     known_again is_kind (λ x. record s { kind = Some x }) f.code 8 f.id (pos 1) f.text t r _ _ (
     known_again is_id (λ x. record s { trace_low = Some x }) f.code 10 f.id (pos 2) f.text t r _ _ (
     known_again is_id (λ x. record s { trace_high = Some x }) f.code 10 f.id (pos 3) f.text t r _ _ (
     known_again is_id (λ x. record s { id = Some x }) f.code 10 f.id (pos 4) f.text t r _ _ (
     skipped_again s f.code f.text t r))))
 
-coded : (s : ReferenceSlots) (f : Field) (t : ReferenceSlots) → ReferenceField s f t → is_code f.code ≡ true
+pub reference_field_coded : (s : ReferenceSlots) (f : Field) (t : ReferenceSlots) → ReferenceField s f t → is_code f.code ≡ true
 unfolding ReferenceField
-coded s f t =
+reference_field_coded s f t =
     known_coded _ f.code 8 f.id (pos 1) _ refl (
     known_coded _ f.code 10 f.id (pos 2) _ refl (
     known_coded _ f.code 10 f.id (pos 3) _ refl (
@@ -62,5 +62,5 @@ pub is_reference : Agrees reference_at IsReference
 unfolding reference_at IsReference
 is_reference = record {
   found = struct_found take_reference ReferenceField no_reference reference_from (λ s x. s ≡ whole_reference x) takes made;
-  again = struct_again take_reference ReferenceField no_reference reference_from (λ s x. s ≡ whole_reference x) coded again makes;
+  again = struct_again take_reference ReferenceField no_reference reference_from (λ s x. s ≡ whole_reference x) reference_field_coded reference_field_again makes;
 }

@@ -31,9 +31,9 @@ takes s c i w t r =
     known_found (is_list is_log) (λ x. record s { logs = x }) c 15 i (pos 11) w t r _ _ (
     skipped_found s c w t r)))))))))))
 
-again : (s : SpanSlots) (f : Field) (t : SpanSlots) (r : List ℕ) → SpanField s f t → take_span s f.code f.id (f.text ++ r) ≡ Ok (t, r)
+pub span_field_again : (s : SpanSlots) (f : Field) (t : SpanSlots) (r : List ℕ) → SpanField s f t → take_span s f.code f.id (f.text ++ r) ≡ Ok (t, r)
 unfolding take_span SpanField
-again s f t r =
+span_field_again s f t r =
     known_again is_id (λ x. record s { trace_low = Some x }) f.code 10 f.id (pos 1) f.text t r _ _ (
     known_again is_id (λ x. record s { trace_high = Some x }) f.code 10 f.id (pos 2) f.text t r _ _ (
     known_again is_id (λ x. record s { id = Some x }) f.code 10 f.id (pos 3) f.text t r _ _ (
@@ -47,9 +47,9 @@ again s f t r =
     known_again (is_list is_log) (λ x. record s { logs = x }) f.code 15 f.id (pos 11) f.text t r _ _ (
     skipped_again s f.code f.text t r)))))))))))
 
-coded : (s : SpanSlots) (f : Field) (t : SpanSlots) → SpanField s f t → is_code f.code ≡ true
+pub span_field_coded : (s : SpanSlots) (f : Field) (t : SpanSlots) → SpanField s f t → is_code f.code ≡ true
 unfolding SpanField
-coded s f t =
+span_field_coded s f t =
     known_coded _ f.code 10 f.id (pos 1) _ refl (
     known_coded _ f.code 10 f.id (pos 2) _ refl (
     known_coded _ f.code 10 f.id (pos 3) _ refl (
@@ -90,5 +90,5 @@ pub is_span : Agrees span_at IsSpan
 unfolding span_at IsSpan
 is_span = record {
   found = struct_found take_span SpanField no_span span_from (λ s x. s ≡ whole_span x) takes made;
-  again = struct_again take_span SpanField no_span span_from (λ s x. s ≡ whole_span x) coded again makes;
+  again = struct_again take_span SpanField no_span span_from (λ s x. s ≡ whole_span x) span_field_coded span_field_again makes;
 }

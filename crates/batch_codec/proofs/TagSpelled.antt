@@ -25,9 +25,9 @@ takes s c i w t r =
     known_found is_binary (λ x. record s { binary = x }) c 11 i (pos 7) w t r _ _ (
     skipped_found s c w t r)))))))
 
-again : (s : TagSlots) (f : Field) (t : TagSlots) (r : List ℕ) → TagField s f t → take_tag s f.code f.id (f.text ++ r) ≡ Ok (t, r)
+pub tag_field_again : (s : TagSlots) (f : Field) (t : TagSlots) (r : List ℕ) → TagField s f t → take_tag s f.code f.id (f.text ++ r) ≡ Ok (t, r)
 unfolding take_tag TagField
-again s f t r =
+tag_field_again s f t r =
     known_again is_text (λ x. record s { key = Some x }) f.code 11 f.id (pos 1) f.text t r _ _ (
     known_again is_type (λ x. record s { kind = Some x }) f.code 8 f.id (pos 2) f.text t r _ _ (
     known_again is_text (λ x. record s { text = x }) f.code 11 f.id (pos 3) f.text t r _ _ (
@@ -37,9 +37,9 @@ again s f t r =
     known_again is_binary (λ x. record s { binary = x }) f.code 11 f.id (pos 7) f.text t r _ _ (
     skipped_again s f.code f.text t r)))))))
 
-coded : (s : TagSlots) (f : Field) (t : TagSlots) → TagField s f t → is_code f.code ≡ true
+pub tag_field_coded : (s : TagSlots) (f : Field) (t : TagSlots) → TagField s f t → is_code f.code ≡ true
 unfolding TagField
-coded s f t =
+tag_field_coded s f t =
     known_coded _ f.code 11 f.id (pos 1) _ refl (
     known_coded _ f.code 8 f.id (pos 2) _ refl (
     known_coded _ f.code 11 f.id (pos 3) _ refl (
@@ -73,5 +73,5 @@ pub is_tag : Agrees tag_at IsTag
 unfolding tag_at IsTag
 is_tag = record {
   found = struct_found take_tag TagField no_tag tag_from MakesTag takes made;
-  again = struct_again take_tag TagField no_tag tag_from MakesTag coded again makes;
+  again = struct_again take_tag TagField no_tag tag_from MakesTag tag_field_coded tag_field_again makes;
 }

@@ -35,6 +35,9 @@ i64_field i z = record { code = 10; id = i; text = i64_text z }
 abbrev pub id_field : ℤ → ℕ → Field
 id_field i n = i64_field i (cast_signed w64 n)
 
+abbrev pub double_field : ℤ → List ℕ → Field
+double_field i bytes = record { code = 4; id = i; text = bytes }
+
 -- a list of structs
 abbrev pub list_field : {A : Type 0} → ℤ → (A → List ℕ) → List A → Field
 list_field i one xs = record { code = 15; id = i; text = list_text 12 one xs }
@@ -60,7 +63,7 @@ value_type (values.Bytes bs) = types.Binary
 
 abbrev pub value_field : Value → Field
 value_field (values.Text t) = text_field (pos 3) t
-value_field (values.Double d) = record { code = 4; id = pos 4; text = d }
+value_field (values.Double d) = double_field (pos 4) d
 value_field (values.Bool b) = record { code = 2; id = pos 5; text = bool_text b }
 value_field (values.Long z) = i64_field (pos 6) z
 value_field (values.Bytes bs) = text_field (pos 7) bs

@@ -9,6 +9,7 @@ pub mod SpanReading
 pub mod SpanNumbers
 pub mod BatchReading
 pub mod Batches
+pub mod SpelledBatches
 pub mod Cuts
 pub mod LastCounts
 pub mod Canon

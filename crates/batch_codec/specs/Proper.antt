@@ -48,16 +48,24 @@ pub record IsProperProcess (p : Process) : Type 0 where
   pub service : IsProperText p.service
   pub tags : AreProper IsProperTag p.tags
 
-pub record IsProperSpan (s : Span) : Type 0 where
+-- the ids and the operation of a span
+pub record IsProperFront (s : Span) : Type 0 where
   pub low : s.trace.low < 2 ^ 64
   pub high : s.trace.high < 2 ^ 64
   pub id : s.id.0 < 2 ^ 64
   pub parent : s.parent.0 < 2 ^ 64
   pub operation : IsProperText s.operation
-  pub references : AreProper IsProperReference s.references
+
+-- the flags and the times of a span
+pub record IsProperMiddle (s : Span) : Type 0 where
   pub flags : SFits w32 s.flags
   pub start : SFits w64 s.start
   pub duration : SFits w64 s.duration
+
+pub record IsProperSpan (s : Span) : Type 0 where
+  pub front : IsProperFront s
+  pub references : AreProper IsProperReference s.references
+  pub middle : IsProperMiddle s
   pub tags : AreProper IsProperTag s.tags
   pub logs : AreProper IsProperLog s.logs
 

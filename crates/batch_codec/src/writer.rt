@@ -1,8 +1,12 @@
-ghost use Rattle.std.specs.Prelude.{◌≡◌, ◌∷◌, [], ℕ, List, Bool, length, true};
-ghost use Rattle.std.specs.List.{flat_map, list_all};
-ghost use Rattle.batch_codec.specs.Batches.{type_number, kind_number};
+ghost use Rattle.std.specs.Prelude.{◌≡◌, ◌<◌, ◌^◌, ◌∷◌, [], ℕ, List, Bool, length, true, Ok, OnOk, IfOk};
+ghost use Rattle.std.specs.List.{AllByRecursion, flat_map, list_all};
+ghost use Rattle.std.specs.Int.{w32, w64};
+ghost use Rattle.std.proofs.Common.{SFits};
+ghost use Rattle.batch_codec.specs.BatchReading.{decoded};
+ghost use Rattle.batch_codec.specs.Batches.{IsBatch, type_number, kind_number};
 ghost use Rattle.batch_codec.specs.CanonBatches.{WritesBatch};
-ghost use Rattle.batch_codec.specs.Canon.{Encodes, fits_length, front_text, text_field, i32_field, i64_field, id_field, list_field, list_fits, list_if_any, value_type, value_field, value_fits, span_front, span_middle, span_fields, span_fits, canon_process, process_fits, number_if_any, canon, batch_fits};
+ghost use Rattle.batch_codec.specs.Canon.{Encodes, fits_length, front_text, text_field, i32_field, i64_field, id_field, double_field, list_field, list_fits, list_if_any, value_type, value_field, value_fits, span_front, span_middle, span_fields, span_fits, canon_process, process_fits, number_if_any, canon, batch_fits};
+ghost use Rattle.batch_codec.specs.Proper.{AreProper, IsProperValue, IsProperFront, IsProperMiddle, IsProperSpan, IsProperProcess, IsProperNumber, IsProper};
 
 use crate::fault::DecodeError;
 use jaeger_model::{Batch, Log, Process, RefKind, Span, SpanRef, Tag, Value};
@@ -11,7 +15,8 @@ use thrift_binary::{Out, WireError, WriteError, types};
 
 /// A field that is a text or binary.
 fn write_text(out: &mut Out, id: i16, text: &[u8]) -> Result<(), WriteError>
-    ensures { Encodes (front_text (text_field id text.now ∷ [])) (fits_length (length text.now)) out.old result out.new }
+    ensures writes { Encodes (front_text (text_field id text.now ∷ [])) (fits_length (length text.now)) out.old result out.new }
+    ensures proper { OnOk result (length text.now < 2 ^ 31) }
 {
     out.field(types::STRING, id)?;
     out.bytes(text)
@@ -19,7 +24,8 @@ fn write_text(out: &mut Out, id: i16, text: &[u8]) -> Result<(), WriteError>
 
 /// A field that is a number of 32 bits.
 fn write_i32(out: &mut Out, id: i16, number: i32) -> Result<(), WriteError>
-    ensures { Encodes (front_text (i32_field id number ∷ [])) true out.old result out.new }
+    ensures writes { Encodes (front_text (i32_field id number ∷ [])) true out.old result out.new }
+    ensures proper { OnOk result (SFits w32 number) }
 {
     out.field(types::I32, id)?;
     out.i32(number)
@@ -27,7 +33,8 @@ fn write_i32(out: &mut Out, id: i16, number: i32) -> Result<(), WriteError>
 
 /// A field that is a number of 64 bits.
 fn write_i64(out: &mut Out, id: i16, number: i64) -> Result<(), WriteError>
-    ensures { Encodes (front_text (i64_field id number ∷ [])) true out.old result out.new }
+    ensures writes { Encodes (front_text (i64_field id number ∷ [])) true out.old result out.new }
+    ensures proper { OnOk result (SFits w64 number) }
 {
     out.field(types::I64, id)?;
     out.i64(number)
@@ -35,24 +42,38 @@ fn write_i64(out: &mut Out, id: i16, number: i64) -> Result<(), WriteError>
 
 /// A field that is an id, of which the wire has the bits as a signed number.
 fn write_id(out: &mut Out, id: i16, bits: u64) -> Result<(), WriteError>
-    ensures { Encodes (front_text (id_field id bits ∷ [])) true out.old result out.new }
+    ensures writes { Encodes (front_text (id_field id bits ∷ [])) true out.old result out.new }
+    ensures proper { OnOk result (bits < 2 ^ 64) }
 {
     write_i64(out, id, bits.cast_signed())
 }
 
-/// An element of a list, with its one spelling.
+/// A field that is a double.
+fn write_double(out: &mut Out, id: i16, bytes: [u8; 8]) -> Result<(), WriteError>
+    ensures writes { Encodes (front_text (double_field id bytes ∷ [])) true out.old result out.new }
+    ensures proper { OnOk result (length bytes ≡ 8) }
+{
+    out.field(types::DOUBLE, id)?;
+    out.double(bytes)
+}
+
+/// An element of a list: its one spelling, whether each length in it fits, and what its type says of it.
 trait Spelled {
     ghost spelling: { Self → List ℕ };
 
     ghost fits: { Self → Bool };
 
+    ghost proper: { Self → Type 0 };
+
     fn write(&self, out: &mut Out) -> Result<(), WriteError>
-        ensures { Encodes (spelling self.now) (fits self.now) out.old result out.new };
+        ensures writes { Encodes (spelling self.now) (fits self.now) out.old result out.new }
+        ensures proper { OnOk result (proper self.now) };
 }
 
 /// The elements one after the other.
 fn write_items<T: Spelled>(out: &mut Out, items: &[T]) -> Result<(), WriteError>
-    ensures { Encodes (flat_map T.spelling items.now) (list_all T.fits items.now) out.old result out.new }
+    ensures writes { Encodes (flat_map T.spelling items.now) (list_all T.fits items.now) out.old result out.new }
+    ensures proper { OnOk result (AllByRecursion T.proper items.now) }
 {
     for item in items {
         item.write(out)?;
@@ -62,7 +83,8 @@ fn write_items<T: Spelled>(out: &mut Out, items: &[T]) -> Result<(), WriteError>
 
 /// A field that is a list of structs.
 fn write_list<T: Spelled>(out: &mut Out, id: i16, items: &[T]) -> Result<(), WriteError>
-    ensures { Encodes (front_text (list_field id T.spelling items.now ∷ [])) (list_fits T.fits items.now) out.old result out.new }
+    ensures writes { Encodes (front_text (list_field id T.spelling items.now ∷ [])) (list_fits T.fits items.now) out.old result out.new }
+    ensures proper { OnOk result (AreProper T.proper items.now) }
 {
     out.field(types::LIST, id)?;
     out.list_head(types::STRUCT, items.len())?;
@@ -71,7 +93,8 @@ fn write_list<T: Spelled>(out: &mut Out, id: i16, items: &[T]) -> Result<(), Wri
 
 /// The same, left out where the list is empty.
 fn write_if_any<T: Spelled>(out: &mut Out, id: i16, items: &[T]) -> Result<(), WriteError>
-    ensures { Encodes (front_text (list_if_any id T.spelling items.now)) (list_fits T.fits items.now) out.old result out.new }
+    ensures writes { Encodes (front_text (list_if_any id T.spelling items.now)) (list_fits T.fits items.now) out.old result out.new }
+    ensures proper { OnOk result (AreProper T.proper items.now) }
 {
     if items.is_empty() {
         return Ok(());
@@ -94,14 +117,12 @@ fn type_number(value: &Value) -> i32
 
 /// The one value of a tag.
 fn write_value(out: &mut Out, value: &Value) -> Result<(), WriteError>
-    ensures { Encodes (front_text (value_field value.now ∷ [])) (value_fits value.now) out.old result out.new }
+    ensures writes { Encodes (front_text (value_field value.now ∷ [])) (value_fits value.now) out.old result out.new }
+    ensures proper { OnOk result (IsProperValue value.now) }
 {
     match value {
         Value::Text(text) => write_text(out, 3, text.as_str().as_bytes()),
-        Value::Double(bytes) => {
-            out.field(types::DOUBLE, 4)?;
-            out.double(*bytes)
-        }
+        Value::Double(bytes) => write_double(out, 4, *bytes),
         Value::Bool(flag) => {
             out.field(types::BOOL, 5)?;
             out.bool(*flag)
@@ -113,10 +134,13 @@ fn write_value(out: &mut Out, value: &Value) -> Result<(), WriteError>
 
 impl Spelled for Tag {
     ghost use Rattle.batch_codec.specs.Canon.{canon_tag, tag_fits};
+    ghost use Rattle.batch_codec.specs.Proper.{IsProperTag};
 
     ghost spelling = { canon_tag };
 
     ghost fits = { tag_fits };
+
+    ghost proper = { IsProperTag };
 
     #[tactic(auto, unfolding(crate::specs::Canon::canon_tag, crate::specs::Canon::tag_fits))]
     fn write(&self, out: &mut Out) -> Result<(), WriteError> {
@@ -129,10 +153,13 @@ impl Spelled for Tag {
 
 impl Spelled for Log {
     ghost use Rattle.batch_codec.specs.Canon.{canon_log, log_fits};
+    ghost use Rattle.batch_codec.specs.Proper.{IsProperLog};
 
     ghost spelling = { canon_log };
 
     ghost fits = { log_fits };
+
+    ghost proper = { IsProperLog };
 
     #[tactic(auto, unfolding(crate::specs::Canon::canon_log, crate::specs::Canon::log_fits))]
     fn write(&self, out: &mut Out) -> Result<(), WriteError> {
@@ -154,10 +181,13 @@ fn kind_number(kind: RefKind) -> i32
 
 impl Spelled for SpanRef {
     ghost use Rattle.batch_codec.specs.Canon.{canon_reference, reference_fits};
+    ghost use Rattle.batch_codec.specs.Proper.{IsProperReference};
 
     ghost spelling = { canon_reference };
 
     ghost fits = { reference_fits };
+
+    ghost proper = { IsProperReference };
 
     #[tactic(auto, unfolding(crate::specs::Canon::canon_reference, crate::specs::Canon::reference_fits))]
     fn write(&self, out: &mut Out) -> Result<(), WriteError> {
@@ -171,7 +201,8 @@ impl Spelled for SpanRef {
 
 /// The ids and the operation of a span.
 fn write_front(out: &mut Out, span: &Span) -> Result<(), WriteError>
-    ensures { Encodes (front_text (span_front span.now)) (fits_length (length span.now.operation)) out.old result out.new }
+    ensures writes { Encodes (front_text (span_front span.now)) (fits_length (length span.now.operation)) out.old result out.new }
+    ensures proper { OnOk result (IsProperFront span.now) }
 {
     write_id(out, 1, span.trace.low)?;
     write_id(out, 2, span.trace.high)?;
@@ -182,7 +213,8 @@ fn write_front(out: &mut Out, span: &Span) -> Result<(), WriteError>
 
 /// The flags and the times of a span.
 fn write_middle(out: &mut Out, span: &Span) -> Result<(), WriteError>
-    ensures { Encodes (front_text (span_middle span.now)) true out.old result out.new }
+    ensures writes { Encodes (front_text (span_middle span.now)) true out.old result out.new }
+    ensures proper { OnOk result (IsProperMiddle span.now) }
 {
     write_i32(out, 7, span.flags)?;
     write_i64(out, 8, span.start)?;
@@ -192,7 +224,8 @@ fn write_middle(out: &mut Out, span: &Span) -> Result<(), WriteError>
 /// All fields of a span.
 #[tactic(auto, unfolding(crate::specs::Canon::span_fits), using(crate::proofs::CanonTexts::span_front_parts))]
 fn write_fields(out: &mut Out, span: &Span) -> Result<(), WriteError>
-    ensures { Encodes (front_text (span_fields span.now)) (span_fits span.now) out.old result out.new }
+    ensures writes { Encodes (front_text (span_fields span.now)) (span_fits span.now) out.old result out.new }
+    ensures proper { OnOk result (IsProperSpan span.now) }
 {
     write_front(out, span)?;
     write_if_any(out, 6, span.references.as_slice())?;
@@ -204,10 +237,13 @@ fn write_fields(out: &mut Out, span: &Span) -> Result<(), WriteError>
 
 impl Spelled for Span {
     ghost use Rattle.batch_codec.specs.Canon.{canon_span, span_fits};
+    ghost use Rattle.batch_codec.specs.Proper.{IsProperSpan};
 
     ghost spelling = { canon_span };
 
     ghost fits = { span_fits };
+
+    ghost proper = { IsProperSpan };
 
     #[tactic(auto, unfolding(crate::specs::Canon::canon_span), using(crate::proofs::CanonTexts::span_stop))]
     fn write(&self, out: &mut Out) -> Result<(), WriteError> {
@@ -219,7 +255,8 @@ impl Spelled for Span {
 /// A process.
 #[tactic(auto, unfolding(crate::specs::Canon::canon_process, crate::specs::Canon::process_fits), using(crate::proofs::CanonTexts::process_text_parts))]
 fn write_process(out: &mut Out, process: &Process) -> Result<(), WriteError>
-    ensures { Encodes (canon_process process.now) (process_fits process.now) out.old result out.new }
+    ensures writes { Encodes (canon_process process.now) (process_fits process.now) out.old result out.new }
+    ensures proper { OnOk result (IsProperProcess process.now) }
 {
     write_text(out, 1, process.service.as_str().as_bytes())?;
     write_if_any(out, 2, process.tags.as_slice())?;
@@ -228,7 +265,8 @@ fn write_process(out: &mut Out, process: &Process) -> Result<(), WriteError>
 
 /// A field that is a number of 64 bits, left out where there is none.
 fn write_number_if_any(out: &mut Out, id: i16, number: Option<i64>) -> Result<(), WriteError>
-    ensures { Encodes (front_text (number_if_any id number)) true out.old result out.new }
+    ensures writes { Encodes (front_text (number_if_any id number)) true out.old result out.new }
+    ensures proper { OnOk result (IsProperNumber number) }
 {
     match number {
         Some(number) => write_i64(out, id, number),
@@ -239,7 +277,8 @@ fn write_number_if_any(out: &mut Out, id: i16, number: Option<i64>) -> Result<()
 /// A whole batch.
 #[tactic(auto, unfolding(crate::specs::Canon::canon, crate::specs::Canon::batch_fits), using(crate::proofs::CanonTexts::batch_text_parts))]
 fn write_batch(out: &mut Out, batch: &Batch) -> Result<(), WriteError>
-    ensures { Encodes (canon batch.now) (batch_fits batch.now) out.old result out.new }
+    ensures writes { Encodes (canon batch.now) (batch_fits batch.now) out.old result out.new }
+    ensures proper { OnOk result (IsProper batch.now) }
 {
     out.field(types::STRUCT, 1)?;
     write_process(out, &batch.process)?;
@@ -255,7 +294,11 @@ fn write_batch(out: &mut Out, batch: &Batch) -> Result<(), WriteError>
 /// [`WireError::BadLength`] where a length or a size is above 2,147,483,647, and only there; else want of
 /// memory alone. The output is given up then.
 pub fn encode(alloc: Global, batch: &Batch) -> Result<Vec<u8>, DecodeError>
-    ensures { WritesBatch batch.now result }
+    ensures writes { WritesBatch batch.now result }
+
+    // What is written spells the batch, all of the bytes, so that decoding them gives it again.
+    ensures spells { IfOk result (λ bytes. IsBatch bytes.items batch.now) }
+    ensures decodes { IfOk result (λ bytes. decoded bytes.items ≡ Ok batch.now) }
 {
     let mut out = Out::new(alloc);
     match write_batch(&mut out, batch) {
