@@ -5,6 +5,7 @@ use http_session::{Cause, Ended};
 use session_devices::MemoryInput;
 use std::alloc::Global;
 use std::process::Abort;
+use std::random::RandomSource;
 use std::test::*;
 
 const HEAD: &[u8] = b"POST /api/traces HTTP/1.1\r\nTransfer-Encoding: chunked\r\n\r\n";
@@ -257,7 +258,7 @@ fn nothing_is_reserved_by_a_size(rt: HostRuntime) -> Result<(), Fail> {
 /// A session over a store that was empty, and what it wrote: whether it ended with so many responses, so, and
 /// wrote these.
 fn says(
-    rt: &impl Abort,
+    rt: &(impl Abort + RandomSource),
     alloc: Global,
     parts: &[&[u8]],
     step: usize,
