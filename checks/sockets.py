@@ -178,11 +178,11 @@ class Server:
             raise Failed("it does not end") from None
         return status, (self.output + self.run.stdout.read()).decode()
 
-    def served(self, count):
-        """It ends with status 0 after so many sessions."""
+    def served(self, count, acknowledged, refused=0):
+        """It ends with status 0 after so many sessions, in which so many batches were acknowledged and refused."""
         status, output = self.ends()
         check(status == 0, f"the status is {status}, and it printed {output!r}")
-        check(output.splitlines()[1:] == [f"served {count}"], f"it printed {output!r}")
+        check(output.splitlines()[1:] == [f"served {count}", f"books {acknowledged} {refused} 0"], f"it printed {output!r}")
 
     def is_well(self, trace=0xE11):
         """A new client hands in a batch and finds it, in little time."""
@@ -345,13 +345,14 @@ def sessions_end():
             with server.client() as client:
                 client.ask(post(trace), 202)
                 found(client, 1)
-        server.served(3)
+        server.served(3, 3)
 
 
 def sessions_end_at_once():
     with Server("--port", 0, "--workers", 2, "--sessions", 8) as server:
-        all_at_once([lambda n=n: own_traces(server, n, 5, []) for n in range(1, 9)])
-        server.served(8)
+        accepted = []
+        all_at_once([lambda n=n: own_traces(server, n, 5, accepted) for n in range(1, 9)])
+        server.served(8, len(accepted))
 
 
 def last_session_is_whole():
@@ -363,14 +364,22 @@ def last_session_is_whole():
             time.sleep(0.5)
             first.ask(post(2), 202)
             found(first, 2)
-        server.served(2)
+        server.served(2, 2)
 
 
 def one_session():
     with Server("--port", 0, "--workers", 1, "--sessions", 1) as server:
         with server.client() as client:
             client.ask(post(1), 202)
-        server.served(1)
+        server.served(1, 1)
+
+
+def full_store():
+    with Server("--port", 0, "--workers", 1, "--sessions", 1, "--batches", 2) as server:
+        with server.client() as client:
+            for trace, status in ((1, 202), (2, 202), (3, 503), (4, 503), (5, 503)):
+                client.ask(post(trace), status)
+        server.served(1, 2, 3)
 
 
 def port_in_use():
@@ -517,7 +526,7 @@ def reset_at_once():
             found(client, 1)
         with server.client() as client:
             found(client, 1)
-        server.served(12)
+        server.served(12, 1)
 
 
 def closed_at_once():
@@ -526,7 +535,7 @@ def closed_at_once():
             server.client().socket.close()
         with server.client() as client:
             client.ask(post(1), 202)
-        server.served(11)
+        server.served(11, 1)
 
 
 def stop(server, seconds):
@@ -558,7 +567,7 @@ def stopped_and_continued(idle):
         stop(server, 0.2)
         with server.client() as client:
             found(client, 2)
-        server.served(2)
+        server.served(2, 2)
 
 
 CASES = {
@@ -577,6 +586,7 @@ CASES = {
     "--sessions, at once": sessions_end_at_once,
     "--sessions, the first ends last": last_session_is_whole,
     "--sessions 1": one_session,
+    "books of a full store": full_store,
     "a port in use": port_in_use,
     "closing: body too large": body_too_large,
     "closing: bad head": bad_head,

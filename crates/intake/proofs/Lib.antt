@@ -5,3 +5,4 @@ pub mod Ends
 pub mod Runs
 pub mod Seating
 pub mod Places
+pub mod Taking

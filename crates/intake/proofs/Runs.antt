@@ -10,7 +10,8 @@ use Rattle.read_side.specs.Keepers.{Lists, accepted}
 use Rattle.intake.specs.declared.account.Account.{Account}
 use Rattle.intake.specs.declared.clerk.Turn.{Turn}
 use Rattle.intake.specs.declared.clerk.Turn.TheVariants.{Idle, Served, Ended}
-use Rattle.intake.specs.Turns.{ClerkValue, Accounted, Judged, Serves, IfServed, IfNotServed, account_of}
+use Rattle.intake.specs.declared.queue.EndedSeat.{EndedSeat}
+use Rattle.intake.specs.Turns.{ClerkValue, Accounted, Judged, Serves, IfServed, IfNotServed, IfNoJob, WasEmpty, account_of}
 use Rattle.intake.specs.Books.{JudgedInTurn, is_accepted, accepted_jobs, AllStand, Ran}
 use Rattle.intake.proofs.Accounts.{accounted-snoc}
 use Rattle.intake.proofs.Judging.{judged-accepted, judged-shown, judged-stands}
@@ -95,3 +96,12 @@ ran-on limits before accounts start c d m end (Ok (Served seat number)) h s u = 
 ran-on limits before accounts start c d m end (Ok Idle) h s u = ran-unchanged limits before accounts start c d m end h u.0 u.1
 ran-on limits before accounts start c d m end (Ok Ended) h s u = ran-unchanged limits before accounts start c d m end h u.0 u.1
 ran-on limits before accounts start c d m end (Err why) h s u = ran-unchanged limits before accounts start c d m end h u.0 u.1
+
+pub still-empty : (ended ended' : List EndedSeat) (taken taken' : List Entry) → ended' ≡ ended → taken' ≡ taken → WasEmpty ended taken → WasEmpty ended' taken'
+still-empty ended ended' taken taken' e t h =
+    let P : List EndedSeat → Type 0 = λ z. WasEmpty z taken' in
+    let Q : List Entry → Type 0 = λ z. WasEmpty ended z in
+    subst P (sym e) (subst Q (sym t) h)
+
+pub no-job-left : (r : Result Turn Refusal) (P : Type 0) → r ≡ Ok Ended → IfNoJob r P → P
+no-job-left r P is h = subst (λ (z : Result Turn Refusal). IfNoJob z P) is h

@@ -1,5 +1,6 @@
 -- What the clerk leaves.
-use Rattle.std.specs.Prelude.{◌≡◌, ℕ, ◌⊎◌, Bool, true, false, if◌then◌else◌, List, [], ◌∷◌, ◌++◌, Result, Ok, Err, count_by, is_ok}
+use Rattle.std.specs.Prelude.{◌≡◌, ℕ, ◌⊎◌, ◌==◌, ◌&&◌, Bool, true, false, if◌then◌else◌, List, [], ◌∷◌, ◌++◌, Result, Ok, Err, count_by, is_ok, is_err}
+use Rattle.std.specs.List.{list_any}
 use Rattle.trace_model.specs.declared.entry.Entry.{Entry}
 use Rattle.trace_model.specs.declared.limits.Limits.{Limits}
 use Rattle.trace_model.specs.declared.refusal.Refusal.{Refusal}
@@ -45,6 +46,10 @@ AllStand list _ _ = ⊥
 abbrev pub acknowledged : List Account → ℕ
 acknowledged accounts = count_by (λ (a : Account). is_ok a.answer) accounts
 
+-- how many were refused
+abbrev pub refused : List Account → ℕ
+refused accounts = count_by (λ (a : Account). is_err a.answer) accounts
+
 -- what the clerk took in this run was judged in turn; each job that it ever took has its account
 pub record Ran (limits : Limits) (before : List Entry) (accounts : List Account) (start : Lists) (taken : List Entry) (after : List Account) (end : Lists) : Type 0 where
   pub jobs : List Entry
@@ -70,3 +75,42 @@ HasEnded (k ∷ ks) seat jobs = ((k.seat ≡ seat) × (k.jobs ≡ jobs)) ⊎ Has
 -- all that the seat handed in was taken, whole, in order, each job once, numbered from 1 on
 abbrev pub AllTaken : ℕ → List Entry → List Entry → Type 0
 AllTaken seat jobs taken = (jobs_of seat taken ≡ jobs) × CountUp 1 jobs
+
+-- ---- taking a seat in
+
+-- the seat's job with this number
+abbrev pub is_job : ℕ → ℕ → Entry → Bool
+is_job seat number j = (j.seat == seat) && (j.number == number)
+
+-- it is one of these
+abbrev pub has_job : ℕ → ℕ → List Entry → Bool
+has_job seat number jobs = list_any (is_job seat number) jobs
+
+-- one of these is of the seat's job with this number
+abbrev pub has_account : ℕ → ℕ → List Account → Bool
+has_account seat number accounts =
+    list_any (λ (a : Account). (a.seat == seat) && (a.number == number)) accounts
+
+-- each of these was taken while some job of the seat was not
+abbrev pub EachNeeded : ℕ → List Entry → List Entry → List Entry → Type 0
+EachNeeded seat jobs taken [] = Unit {0}
+EachNeeded seat jobs taken (j ∷ js) =
+    (AllTaken seat jobs taken → ⊥) × EachNeeded seat jobs (taken ++ j ∷ []) js
+
+-- these jobs were moved from the queue to those that are left, since the seat had jobs there
+pub record MovesFor (seat : ℕ) (jobs : List Entry) (taken left taken' left' : List Entry) : Type 0 where
+  pub moved : List Entry
+  pub taken_is : taken' ≡ taken ++ moved
+  pub left_is : left' ≡ left ++ moved
+  pub needed : EachNeeded seat jobs taken moved
+
+-- the seats that had ended are among those that have
+abbrev pub StillEnded : List EndedSeat → List EndedSeat → Type 0
+StillEnded ended ended' =
+    (seat : ℕ) (jobs : List Entry) → HasEnded ended seat jobs → HasEnded ended' seat jobs
+
+-- an ended seat whose jobs had all been taken has no other job among those taken since
+abbrev pub StaysTaken : List EndedSeat → List Entry → List Entry → Type 0
+StaysTaken ended taken taken' =
+    (seat : ℕ) (jobs : List Entry) → HasEnded ended seat jobs → AllTaken seat jobs taken
+    → AllTaken seat jobs taken'

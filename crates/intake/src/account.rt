@@ -1,7 +1,7 @@
 //! What became of a job.
 
 ghost use Rattle.std.specs.Prelude.{◌≡◌, ◌≤◌, length};
-ghost use Rattle.intake.specs.Books.{acknowledged};
+ghost use Rattle.intake.specs.Books.{acknowledged, has_account};
 
 use trace_model::Refusal;
 
@@ -25,4 +25,13 @@ pub(crate) fn acknowledged(accounts: &[Account]) -> u64
         }
     }
     count
+}
+
+/// Whether one of the accounts is of the seat's job with this number.
+pub(crate) fn has_account(accounts: &[Account], seat: u16, number: u64) -> bool
+    ensures { result ≡ has_account seat number accounts.now }
+{
+    accounts
+        .iter()
+        .any(|account| account.seat == seat && account.number == number)
 }

@@ -1,11 +1,12 @@
 //! What the clerk leaves.
 
-ghost use Rattle.std.specs.Prelude.{◌≡◌, ◌⊎◌, true, false, map, IfErr, OnOk};
+ghost use Rattle.std.specs.Prelude.{◌≡◌, ◌⊎◌, ◌==◌, ◌||◌, true, false, map, IfErr, OnOk};
 ghost use Rattle.std.specs.Arc.{arc_value};
+ghost use Rattle.std.specs.List.{list_any};
 ghost use Rattle.trace_model.specs.declared.refusal.Refusal.TheVariants.{NoMemory};
-ghost use Rattle.intake.specs.Books.{Balances, HasEnded, AllTaken};
+ghost use Rattle.intake.specs.Books.{Balances, HasEnded, AllTaken, MovesFor, StillEnded, StaysTaken, is_job, has_job};
 
-use crate::account::Account;
+use crate::account::{Account, has_account};
 use crate::inbox::Inbox;
 use crate::seat::Seat;
 use read_side::{Keeper, StoreName};
@@ -29,9 +30,27 @@ pub struct Books<N: StoreName> {
     pub inbox: Inbox<N>,
 }
 
+/// Whether the entry is the seat's job with this number.
+fn is_job(entry: &Entry, seat: u16, number: u64) -> bool
+    ensures { result ≡ is_job seat number entry.now }
+{
+    entry.seat == seat && entry.number == number
+}
+
+/// Whether the seat's job with this number is among those that are left.
+fn has_job(left: &[Arc<Entry>], seat: u16, number: u64) -> bool
+    ensures { result ≡ list_any (λ j. is_job seat number (arc_value j)) left.now }
+{
+    left.iter().any(|job| is_job(job, seat, number))
+}
+
 impl<N: StoreName> Books<N> {
     /// Ends a seat of this desk, and moves jobs from the queue to `left` until the seat's last one was
-    /// taken or the queue is empty. After an error a further call goes on.
+    /// taken. Where it was taken before, judged or left, none is moved. After an error a further call goes
+    /// on; after `Ok` a further call changes nothing.
+    ///
+    /// The seat's jobs among those judged, followed by those in `left`, are then all that it handed in, in
+    /// order, each once, with the numbers 1, 2 and so on.
     ///
     /// # Errors
     ///
@@ -44,13 +63,27 @@ impl<N: StoreName> Books<N> {
         ensures seat { seat.new ≡ record seat.old { hands_in = false } }
         ensures desk { self.new.inbox.desk ≡ self.old.inbox.desk }
         ensures accounts { self.new.accounts.items ≡ self.old.accounts.items }
+        ensures counts { (self.new.acknowledged ≡ self.old.acknowledged) × (self.new.refused ≡ self.old.refused) }
+        ensures keeper { self.new.keeper ≡ self.old.keeper }
+
+        ensures moved { MovesFor seat.old.seat seat.old.jobs
+            self.old.inbox.taken (map arc_value self.old.left.items)
+            self.new.inbox.taken (map arc_value self.new.left.items) }
         ensures books { Balances self.new.inbox.taken self.new.accounts.items (map arc_value self.new.left.items) }
+
         ensures ended { HasEnded self.new.inbox.ended seat.old.seat seat.old.jobs }
+        ensures others_ended { StillEnded self.old.inbox.ended self.new.inbox.ended }
+
         ensures whole { OnOk result (AllTaken seat.old.seat seat.old.jobs self.new.inbox.taken) }
+        ensures others_whole { OnOk result (StaysTaken self.old.inbox.ended self.old.inbox.taken self.new.inbox.taken) }
         ensures reason { IfErr result (λ why. why ≡ NoMemory) }
     {
         self.inbox.end(seat);
         let (number, last) = (seat.number(), seat.handed());
+        if self.has_taken(number, last) {
+            self.inbox.look();
+            return Ok(());
+        }
         for _ in rt.forever() {
             if self.left.reserve(1).is_err() {
                 return Err(Refusal::NoMemory);
@@ -59,7 +92,7 @@ impl<N: StoreName> Books<N> {
                 return Ok(());
             };
             let (entry, _named, _cell) = job.split();
-            let is_last = entry.seat == number && entry.number == last;
+            let is_last = is_job(&entry, number, last);
             self.left.push_reserved(entry);
             if is_last {
                 self.inbox.look();
@@ -67,5 +100,19 @@ impl<N: StoreName> Books<N> {
             }
         }
         unreachable!()
+    }
+
+    /// Whether the seat's job with this number was judged or is left. There is no job with the number 0.
+    fn has_taken(&self, seat: u16, number: u64) -> bool
+        requires { Balances self.now.inbox.taken self.now.accounts.items (map arc_value self.now.left.items) }
+        ensures { result ≡ ((number == 0) || has_job seat number self.now.inbox.taken) }
+    {
+        if number == 0 {
+            return true;
+        }
+        if has_account(self.accounts.as_slice(), seat, number) {
+            return true;
+        }
+        has_job(self.left.as_slice(), seat, number)
     }
 }

@@ -1,12 +1,12 @@
 //! The one that takes the jobs and has them judged.
 
-ghost use Rattle.std.specs.Prelude.{◌≡◌, ◌+◌, length, map, [], IfOk, IfErr};
+ghost use Rattle.std.specs.Prelude.{◌≡◌, map, [], IfOk, IfErr};
 ghost use Rattle.std.specs.Arc.{arc_value};
 ghost use Rattle.trace_model.specs.declared.refusal.Refusal.TheVariants.{NoMemory};
 ghost use Rattle.read_side.specs.Receipts.{StandsAt};
 ghost use Rattle.intake.specs.Seats.{IsUnacknowledged};
 ghost use Rattle.intake.specs.Turns.{IsNewInbox, IsNewClerk, Accounted, Judged, place_or_refusal, Serves, IfServed, IfNotServed, IfNoJob, WasEmpty};
-ghost use Rattle.intake.specs.Books.{Ran, Balances, acknowledged};
+ghost use Rattle.intake.specs.Books.{Ran, Balances, acknowledged, refused};
 
 use crate::account::{Account, acknowledged};
 use crate::books::Books;
@@ -178,8 +178,9 @@ impl<N: StoreName> Clerk<N> {
         ensures judged { Ran N.limits self.taken self.accounts keeper
             result.inbox.taken result.accounts.items result.keeper }
         ensures acknowledged { result.acknowledged ≡ acknowledged result.accounts.items }
-        ensures refused { result.acknowledged + result.refused ≡ length result.accounts.items }
+        ensures refused { result.refused ≡ refused result.accounts.items }
         ensures left { result.left.items ≡ [] }
+        ensures empty { WasEmpty result.inbox.ended result.inbox.taken }
         ensures desk { (result.inbox.desk ≡ self.desk) × (result.inbox.ended ≡ self.ended) }
         ensures books { Balances result.inbox.taken result.accounts.items (map arc_value result.left.items) }
     {
@@ -189,13 +190,13 @@ impl<N: StoreName> Clerk<N> {
         for _ in rt.forever() {
             let rings = clerk.ending.shared.jobs.rings();
             match clerk.turn(rt, &mut keeper) {
-                Ok(Turn::Ended) => break,
+                Ok(Turn::Ended) => return clerk.close(keeper),
                 Ok(Turn::Served { .. }) => {}
                 Ok(Turn::Idle) => clerk.ending.shared.jobs.sleep(rt, rings),
                 Err(_) => yield_now(),
             }
         }
-        clerk.close(keeper)
+        unreachable!()
     }
 
     /// Ends, and counts the answers.
@@ -205,7 +206,7 @@ impl<N: StoreName> Clerk<N> {
         ensures keeper { result.keeper ≡ keeper }
         ensures each { Accounted self.taken self.accounts }
         ensures acknowledged { result.acknowledged ≡ acknowledged result.accounts.items }
-        ensures refused { result.acknowledged + result.refused ≡ length result.accounts.items }
+        ensures refused { result.refused ≡ refused result.accounts.items }
         ensures left { result.left.items ≡ [] }
         ensures desk { (result.inbox.desk ≡ self.desk) × (result.inbox.ended ≡ self.ended) }
     {

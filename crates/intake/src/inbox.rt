@@ -6,7 +6,7 @@ ghost use Rattle.crossbeam_queue.specs.Passes.{view, IsPassOf};
 ghost use Rattle.trace_model.specs.declared.entry.Entry.{Entry};
 ghost use Rattle.intake.specs.Queues.{AreWhole, ended_seat};
 ghost use Rattle.intake.specs.Turns.{inbox_value, WasEmpty};
-ghost use Rattle.intake.specs.Books.{HasEnded};
+ghost use Rattle.intake.specs.Books.{HasEnded, StillEnded};
 
 use crate::job::Job;
 use crate::queue::{QueueEnd, TakeIn, TakeJob};
@@ -74,6 +74,7 @@ impl<N: StoreName> Inbox<N> {
         ensures seat { seat.new ≡ record seat.old { hands_in = false } }
         ensures same { (self.new.desk ≡ self.old.desk) × (self.new.taken ≡ self.old.taken) }
         ensures ended { HasEnded self.new.ended seat.old.seat seat.old.jobs }
+        ensures others { StillEnded self.old.ended self.new.ended }
     {
         if let Some(end) = seat.retire() {
             self.absorb(end);

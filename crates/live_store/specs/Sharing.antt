@@ -22,6 +22,13 @@ pub record LiveValue : Type 0 where
   pub seat : SeatValue
   pub known : List Entry
 
+-- desk, number and the right to hand in stay, and the list of the jobs handed in grows
+pub record GoesOn (s t : SeatValue) : Type 0 where
+  pub desk_is : t.desk ≡ s.desk
+  pub seat_is : t.seat ≡ s.seat
+  pub hands_in_is : t.hands_in ≡ s.hands_in
+  pub more : IsPrefix s.jobs t.jobs
+
 abbrev pub LiveKnows : LiveValue → History → Type 0
 LiveKnows s h = IsPrefix h s.known
 

@@ -1,12 +1,17 @@
 -- What `serve` writes.
-use Rattle.std.specs.Prelude.{◌≡◌, ℕ, ◌⊎◌, Bool, List, Option}
-use Rattle.text_lines.specs.Halting.{WritesSome}
-use Rattle.trace_server.specs.Serving.{Serves}
+use Rattle.std.specs.Prelude.{◌≡◌, ℕ, ◌⊎◌, Bool, false, List, Option}
+use Rattle.std.specs.Io.KnownBytes.{Appends}
+use Rattle.trace_model.specs.declared.limits.Limits.{Limits}
+use Rattle.trace_server.specs.Serving.{Serves, StopsIn}
 
--- the port can't be used, which is said in a line of its own, or a beginning of it
-abbrev pub TurnsDown : Option (List ℕ) → Option (List ℕ) → ℕ → Type 0
-TurnsDown out0 out1 status = ((status ≡ 4) ⊎ (status ≡ 5)) × ((line : List ℕ) × WritesSome out0 out1 line)
+-- the port can't be used, which is said in a line of its own (4); or a beginning of the line is written: 4
+-- where the output failed, 5 for want of memory
+abbrev pub TurnsDown : Option (List ℕ) → Option (List ℕ) → Bool → ℕ → Type 0
+TurnsDown out0 out1 out_failed status =
+    (line : List ℕ)
+    × (((status ≡ 4) × Appends out0 out1 line × (out_failed ≡ false)) ⊎ StopsIn out0 out1 out_failed line status)
 
 -- it serves, or the port can't be used
-abbrev pub ServesOrNot : Option (List ℕ) → Option (List ℕ) → Bool → ℕ → Type 0
-ServesOrNot out0 out1 out_failed status = Serves out0 out1 out_failed status ⊎ TurnsDown out0 out1 status
+abbrev pub ServesOrNot : Limits → ℕ → Option (List ℕ) → Option (List ℕ) → Bool → ℕ → Type 0
+ServesOrNot limits workers out0 out1 out_failed status =
+    Serves limits workers out0 out1 out_failed status ⊎ TurnsDown out0 out1 out_failed status

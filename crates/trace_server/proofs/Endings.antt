@@ -1,39 +1,75 @@
 -- How a server ends, from how its lines were written.
-use Rattle.std.proofs.Common.{◌≡◌, ℕ, ◌++◌, ◌⊎◌, inl, inr, Bool, List, Option, refl}
+use Rattle.std.proofs.Common.{◌≡◌, ℕ, ◌++◌, ◌⊎◌, inl, inr, ⊎_elim, Bool, true, false, List, [], Option, Result, Ok, Err, refl, sym, ◌∙◌, append_assoc, subst}
+use Rattle.std.proofs.lemmas.List.{append-nil}
+use mathlib.Core.List.{IsPrefix}
 use Rattle.std.specs.Io.KnownBytes.{Appends}
 use Rattle.std.proofs.KnownBytes.{Appends-trans}
-use Rattle.text_lines.specs.Halting.{WritesSome, status_by}
+use Rattle.trace_model.specs.declared.limits.Limits.{Limits}
+use Rattle.text_lines.specs.Halting.{WritesSome, IsWhyOf, Says, status_by}
 use Rattle.text_lines.specs.declared.halt.Halt.{Halt}
 use Rattle.text_lines.specs.declared.halt.Halt.TheVariants.{Device, Memory}
 use Rattle.text_lines.proofs.Pages.{moves_nothing, some_written}
 use Rattle.text_lines.proofs.Wholes.{some_after, some_more}
-use Rattle.trace_server.specs.Serving.{Ends, Reports, Serves, listening_line, served_line}
+use Rattle.trace_server.specs.Serving.{StopsIn, Ends, StopsEarly, Closes, Completes, Reports, Serves, listening_line, served_line, last_lines}
+
+none_written : (a : Option (List ℕ)) (text : List ℕ) → WritesSome a a text
+none_written a text = some_written a a text text (moves_nothing a text)
+
+all_written : (a b : Option (List ℕ)) (text : List ℕ) → Appends a b text → WritesSome a b text
+all_written a b text all = (text, all, ([], append-nil text))
+
+-- the second of two lines was said, or was not
+pub said_both : (a b c : Option (List ℕ)) (failed : Bool) (first second : List ℕ) (r : Result (Unit {0}) Halt) → Appends a b first → Says b c failed second r → Says a c failed (first ++ second) r
+said_both a b c failed first second (Ok u) said s = (Appends-trans a b c first second said s.0, s.1)
+said_both a b c failed first second (Err h) said s = (some_after a b c first second said s.0, s.1)
+
+-- the first of two lines was not said whole
+pub said_some : (a b : Option (List ℕ)) (failed : Bool) (first second : List ℕ) (h : Halt) → WritesSome a b first → IsWhyOf h failed → WritesSome a b (first ++ second) × IsWhyOf h failed
+said_some a b failed first second h some why = (some_more a b first second (first ++ second) refl some, why)
 
 -- a text was not written whole
-pub halted : (a b : Option (List ℕ)) (failed : Bool) (text : List ℕ) (h : Halt) (status : ℕ) → status ≡ status_by h → WritesSome a b text → Ends a b failed text status
-halted a b failed text Device status is w = inr (inl is, w)
-halted a b failed text Memory status is w = inr (inr is, w)
+pub halted : (a b : Option (List ℕ)) (failed : Bool) (text : List ℕ) (h : Halt) (status : ℕ) → status ≡ status_by h → WritesSome a b text × IsWhyOf h failed → StopsIn a b failed text status
+halted a b failed text h status is w = (h, is, w.0, w.1)
 
--- nothing was written
-pub silent : (a : Option (List ℕ)) (failed : Bool) (status : ℕ) → ((status ≡ 4) ⊎ (status ≡ 5)) → Serves a a failed status
-silent a failed status is =
-    let text = listening_line 0 ++ served_line 0 in
-    (0, 0, inr (is, some_written a a text text (moves_nothing a text)))
+-- all of it was written, and then memory was wanting
+pub wanting : (a b : Option (List ℕ)) (failed : Bool) (text : List ℕ) (status : ℕ) → status ≡ 5 → Appends a b text → failed ≡ false → StopsIn a b failed text status
+wanting a b failed text status is all works = (Memory, is, all_written a b text all, works)
+
+-- nothing was written, for want of memory or of threads
+pub broken_off : (a : Option (List ℕ)) (failed : Bool) (text : List ℕ) → failed ≡ false → StopsIn a a failed text 5
+broken_off a failed text works = (Memory, refl, none_written a text, works)
 
 -- the first line was not written whole
-pub unheard : (a b : Option (List ℕ)) (failed : Bool) (port : ℕ) (h : Halt) (status : ℕ) → status ≡ status_by h → WritesSome a b (listening_line port) → Serves a b failed status
-unheard a b failed port h status is w =
-    (port, 0, halted a b failed (listening_line port ++ served_line 0) h status is (some_more a b (listening_line port) (served_line 0) _ refl w))
+pub unheard : (a b : Option (List ℕ)) (failed : Bool) (port : ℕ) (h : Halt) (status : ℕ) → status ≡ status_by h → WritesSome a b (listening_line port) × IsWhyOf h failed → StopsEarly a b failed status
+unheard a b failed port h status is w = record {
+  port = port;
+  served = 0;
+  stops = (h, is, some_more a b (listening_line port) (served_line 0) (listening_line port ++ served_line 0) refl w.0, w.1);
+}
 
--- it listened, and could not go on
-pub broken_off : (a b : Option (List ℕ)) (failed : Bool) (port : ℕ) → Appends a b (listening_line port) → Serves a b failed 5
-broken_off a b failed port said =
-    let none : WritesSome b b (served_line 0) = some_written b b (served_line 0) (served_line 0) (moves_nothing b (served_line 0)) in
-    (port, 0, inr (inr refl, some_after a b b (listening_line port) (served_line 0) said none))
+stopped_behind : (a b c : Option (List ℕ)) (failed : Bool) (first text : List ℕ) (status : ℕ) → Appends a b first → StopsIn b c failed text status → StopsIn a c failed (first ++ text) status
+stopped_behind a b c failed first text status said s = (s.0, s.1, some_after a b c first text said s.2, s.3)
+
+ended_behind : (a b c : Option (List ℕ)) (failed : Bool) (first text : List ℕ) (lost : Bool) (status : ℕ) → Appends a b first → Ends b c failed text lost status → Ends a c failed (first ++ text) lost status
+ended_behind a b c failed first text lost status said (inl all) = inl (all.0, Appends-trans a b c first text said all.1, all.2)
+ended_behind a b c failed first text lost status said (inr some) = inr (stopped_behind a b c failed first text status said some)
 
 -- it listened, and then reported
-pub reported : (a b c : Option (List ℕ)) (failed : Bool) (port status : ℕ) → Appends a b (listening_line port) → Reports b c failed status → Serves a c failed status
-reported a b c failed port status said (served, inl (is, all, works)) =
-    (port, served, inl (is, Appends-trans a b c (listening_line port) (served_line served) said all, works))
-reported a b c failed port status said (served, inr (is, some)) =
-    (port, served, inr (is, some_after a b c (listening_line port) (served_line served) said some))
+pub reported : (limits : Limits) (workers : ℕ) (a b c : Option (List ℕ)) (failed : Bool) (port status : ℕ) → Appends a b (listening_line port) → Reports limits workers b c failed status → Serves limits workers a c failed status
+reported limits workers a b c failed port status said (inl early) = inr (inl (record {
+  port = port;
+  served = early.0;
+  stops = stopped_behind a b c failed (listening_line port) (served_line early.0) status said early.1;
+}))
+reported limits workers a b c failed port status said (inr closes) = inr (inr (record {
+  port = port;
+  served = closes.served;
+  failed = closes.failed;
+  acknowledged = closes.acknowledged;
+  refused = closes.refused;
+  left = closes.left;
+  seats = closes.seats;
+  one_for_each = closes.one_for_each;
+  books = closes.books;
+  ends = ended_behind a b c failed (listening_line port) (last_lines closes.served closes.acknowledged closes.refused closes.left) closes.failed status said closes.ends;
+}))

@@ -1,8 +1,17 @@
 -- What a server says of itself, and how it ends.
-use Rattle.std.specs.Prelude.{◌≡◌, ℕ, ◌⊎◌, ◌++◌, Bool, false, List, Option, codes}
+use Rattle.std.specs.Prelude.{◌≡◌, ℕ, ◌⊎◌, ◌++◌, Bool, false, if◌then◌else◌, List, [], Option, codes, length, map, All}
+use Rattle.std.specs.List.{range_with_len}
 use Rattle.std.specs.Fmt.{decimal}
 use Rattle.std.specs.Io.KnownBytes.{Appends}
-use Rattle.text_lines.specs.Halting.{WritesSome}
+use Rattle.trace_model.specs.declared.entry.Entry.{Entry}
+use Rattle.trace_model.specs.declared.limits.Limits.{Limits}
+use Rattle.read_side.specs.Keepers.{Lists, no_entries}
+use Rattle.intake.specs.declared.account.Account.{Account}
+use Rattle.intake.specs.Seats.{SeatValue}
+use Rattle.intake.specs.Books.{Ran, AllTaken}
+use Rattle.intake.specs.Books.{acknowledged as acknowledged_of, refused as refused_of}
+use Rattle.text_lines.specs.declared.halt.Halt.{Halt}
+use Rattle.text_lines.specs.Halting.{WritesSome, IsWhyOf, status_by}
 
 abbrev pub listening_line : ℕ → List ℕ
 listening_line port = codes "listening 127.0.0.1:" ++ decimal port ++ codes "\n"
@@ -10,18 +19,96 @@ listening_line port = codes "listening 127.0.0.1:" ++ decimal port ++ codes "\n"
 abbrev pub served_line : ℕ → List ℕ
 served_line served = codes "served " ++ decimal served ++ codes "\n"
 
--- 0: all of the text was written. 4 and 5: a beginning of it
-abbrev pub Ends : Option (List ℕ) → Option (List ℕ) → Bool → List ℕ → ℕ → Type 0
-Ends out0 out1 out_failed text status =
-    ((status ≡ 0) × Appends out0 out1 text × (out_failed ≡ false))
-    ⊎ (((status ≡ 4) ⊎ (status ≡ 5)) × WritesSome out0 out1 text)
+abbrev pub books_line : ℕ → ℕ → ℕ → List ℕ
+books_line acknowledged refused left =
+    codes "books " ++ decimal acknowledged ++ codes " " ++ decimal refused ++ codes " " ++ decimal left
+    ++ codes "\n"
 
--- how many connections were taken is said
-abbrev pub Reports : Option (List ℕ) → Option (List ℕ) → Bool → ℕ → Type 0
-Reports out0 out1 out_failed status =
-    (served : ℕ) × Ends out0 out1 out_failed (served_line served) status
+abbrev pub last_lines : ℕ → ℕ → ℕ → ℕ → List ℕ
+last_lines served acknowledged refused left =
+    served_line served ++ books_line acknowledged refused left
 
--- where it listens is said, and at the end how many connections were taken
-abbrev pub Serves : Option (List ℕ) → Option (List ℕ) → Bool → ℕ → Type 0
-Serves out0 out1 out_failed status =
-    (port : ℕ) × (served : ℕ) × Ends out0 out1 out_failed (listening_line port ++ served_line served) status
+-- ---- what became of the batches
+
+-- A clerk of an empty store judged some jobs, and some are left. All that these seats handed in is among
+-- them, for each seat whole and in order. The counts are those of the answers, and of what is left.
+pub record ClosesBooks (limits : Limits) (seats : List SeatValue) (acknowledged refused left : ℕ) : Type 0 where
+  pub judged : List Entry
+  pub accounts : List Account
+  pub lists : Lists
+  pub unjudged : List Entry
+  pub ran : Ran limits [] [] no_entries judged accounts lists
+  pub whole : All (λ (s : SeatValue). AllTaken s.seat s.jobs (judged ++ unjudged)) seats
+  pub acknowledged_is : acknowledged ≡ acknowledged_of accounts
+  pub refused_is : refused ≡ refused_of accounts
+  pub left_is : left ≡ length unjudged
+
+-- each worker has one of these seats, the one with its number
+abbrev pub OneForEach : ℕ → List SeatValue → Type 0
+OneForEach workers seats = map (λ (s : SeatValue). s.seat) seats ≡ range_with_len 0 workers
+
+-- ---- how it ends
+
+-- 4 where a worker could accept no more
+abbrev pub status_if : Bool → ℕ
+status_if failed = if failed then 4 else 0
+
+-- a beginning of the text was written: 4 where the output failed, 5 for want of memory or of threads
+abbrev pub StopsIn : Option (List ℕ) → Option (List ℕ) → Bool → List ℕ → ℕ → Type 0
+StopsIn out0 out1 out_failed text status =
+    (halt : Halt) × (status ≡ status_by halt) × WritesSome out0 out1 text × IsWhyOf halt out_failed
+
+-- all of the text was written, or it stopped
+abbrev pub Ends : Option (List ℕ) → Option (List ℕ) → Bool → List ℕ → Bool → ℕ → Type 0
+Ends out0 out1 out_failed text failed status =
+    ((status ≡ status_if failed) × Appends out0 out1 text × (out_failed ≡ false))
+    ⊎ StopsIn out0 out1 out_failed text status
+
+-- it said nothing: the socket has no address (4), or memory or threads were wanting (5)
+abbrev pub IsSilent : Option (List ℕ) → Option (List ℕ) → Bool → ℕ → Type 0
+IsSilent out0 out1 out_failed status =
+    ((status ≡ 4) ⊎ (status ≡ 5)) × (out1 ≡ out0) × (out_failed ≡ false)
+
+-- it stopped before its books were closed
+pub record StopsEarly (out0 out1 : Option (List ℕ)) (out_failed : Bool) (status : ℕ) : Type 0 where
+  pub port : ℕ
+  pub served : ℕ
+  pub stops : StopsIn out0 out1 out_failed (listening_line port ++ served_line served) status
+
+-- behind the first line: it stopped before its books were closed, or it closed them and said how many
+-- connections were taken and what became of the batches
+pub record Closes (limits : Limits) (workers : ℕ) (out0 out1 : Option (List ℕ)) (out_failed : Bool) (status : ℕ) : Type 0 where
+  pub served : ℕ
+  pub failed : Bool
+  pub acknowledged : ℕ
+  pub refused : ℕ
+  pub left : ℕ
+  pub seats : List SeatValue
+  pub one_for_each : OneForEach workers seats
+  pub books : ClosesBooks limits seats acknowledged refused left
+  pub ends : Ends out0 out1 out_failed (last_lines served acknowledged refused left) failed status
+
+abbrev pub Reports : Limits → ℕ → Option (List ℕ) → Option (List ℕ) → Bool → ℕ → Type 0
+Reports limits workers out0 out1 out_failed status =
+    ((served : ℕ) × StopsIn out0 out1 out_failed (served_line served) status)
+    ⊎ Closes limits workers out0 out1 out_failed status
+
+-- it closed its books: where it listens is said, and at the end how many connections were taken and what
+-- became of the batches
+pub record Completes (limits : Limits) (workers : ℕ) (out0 out1 : Option (List ℕ)) (out_failed : Bool) (status : ℕ) : Type 0 where
+  pub port : ℕ
+  pub served : ℕ
+  pub failed : Bool
+  pub acknowledged : ℕ
+  pub refused : ℕ
+  pub left : ℕ
+  pub seats : List SeatValue
+  pub one_for_each : OneForEach workers seats
+  pub books : ClosesBooks limits seats acknowledged refused left
+  pub ends : Ends out0 out1 out_failed (listening_line port ++ last_lines served acknowledged refused left) failed status
+
+abbrev pub Serves : Limits → ℕ → Option (List ℕ) → Option (List ℕ) → Bool → ℕ → Type 0
+Serves limits workers out0 out1 out_failed status =
+    IsSilent out0 out1 out_failed status
+    ⊎ StopsEarly out0 out1 out_failed status
+    ⊎ Completes limits workers out0 out1 out_failed status

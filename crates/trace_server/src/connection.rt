@@ -1,5 +1,7 @@
 //! One connection, from its first byte to its last.
 
+ghost use Rattle.live_store.specs.Sharing.{GoesOn};
+
 use crate::gate::Gate;
 use crate::gated::Gated;
 use http_session::session;
@@ -50,22 +52,27 @@ fn part<R: Clock>(rt: &R, stream: &TcpStream) -> io::Result<()> {
     Ok(())
 }
 
-/// Serves a connection. A fault of it ends it, and nothing else.
+/// Serves a connection. A fault of it ends it, and nothing else: the store's seat stays, and knows what was
+/// handed in.
 pub(crate) fn attend<N: StoreName, G: Gate, R: Wait + Clock>(
     rt: &R,
     alloc: Global,
     stream: &TcpStream,
     idle: u32,
     store: &mut Gated<'_, N, G, R>,
-) {
+)
+    ensures { GoesOn store.old.seat store.new.seat }
+{
     if prepare(stream, idle).is_err() {
         return;
     }
     let mut input = Watched::new(stream);
     let mut output = Watched::new(stream);
-    if let Ok(ended) = session(rt, alloc, &mut input, &mut output, store) {
-        if !ended.clean {
+    match session(rt, alloc, &mut input, &mut output, store) {
+        Ok(ended) if !ended.clean => {
             let _parted = part(rt, stream);
         }
+        Ok(_) => {}
+        Err(_) => {}
     }
 }

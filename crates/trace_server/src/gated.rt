@@ -45,6 +45,20 @@ impl<'a, N: StoreName, G, R> Gated<'a, N, G, R> {
         }
     }
 
+    /// The worker's ends of the store.
+    pub(crate) fn into_live(self) -> Live<N>
+        ensures { result ≡ self.entry }
+    {
+        let Gated {
+            rt: _,
+            gate: _,
+            worker: _,
+            calls: _,
+            live,
+        } = self;
+        live
+    }
+
     /// Takes in the list of a receipt, which it knows from then on.
     pub(crate) fn learn(&mut self, receipt: &Receipt<N>)
         ensures seat { self.new.seat ≡ self.old.seat }

@@ -1,6 +1,10 @@
 //! A store with its desk and its clerk.
 
-ghost use Rattle.std.specs.Prelude.{◌≡◌, ◌≤◌};
+ghost use Rattle.std.specs.Prelude.{◌≡◌, ◌≤◌, length, map, IfOk};
+ghost use Rattle.read_side.specs.Keepers.{no_entries};
+ghost use Rattle.intake.specs.Turns.{IsNewClerk};
+ghost use Rattle.trace_server.specs.Serving.{OneForEach};
+ghost use Rattle.trace_server.specs.Staffing.{AreOpen};
 
 use crate::options::Options;
 use intake::{Clerk, Desk, desk};
@@ -25,12 +29,17 @@ fn pairs<N: StoreName>(
     alloc: Global,
     seats: Vec<intake::Seat<N>>,
     passes: Vec<read_side::Pass<N>>,
-) -> Result<Vec<(u32, Live<N>)>, AllocError> {
+) -> Result<Vec<(u32, Live<N>)>, AllocError>
+    requires { length passes.items ≡ length seats.items }
+    ensures { IfOk result (λ v. map (λ p. p.1.seat) v.items ≡ seats.items) }
+{
+    let mut passes = passes;
     let mut lives = Vec::with_capacity(alloc, seats.len())?;
-    let mut worker = 0u32;
-    for (seat, pass) in seats.into_iter().zip(passes) {
-        lives.push((worker, Live::new(seat, pass)))?;
-        worker = worker.saturating_add(1);
+    for seat in seats {
+        let Some(pass) = passes.pop() else {
+            unreachable!()
+        };
+        lives.push((seat.number() as u32, Live::new(seat, pass)))?;
     }
     Ok(lives)
 }
@@ -46,6 +55,11 @@ fn front<N: StoreName>(
 ) -> Result<Front<N>, Refusal>
     requires workers { (1 ≤ options.now.workers) × (options.now.workers ≤ 64) }
     requires queue { (1 ≤ options.now.queue) × (options.now.queue ≤ 4096) }
+    requires passes { length passes.items ≡ options.now.workers }
+    ensures keeper { keeper.new ≡ keeper.old }
+    ensures clerk { IfOk result (λ f. IsNewClerk f.1) }
+    ensures open { IfOk result (λ f. AreOpen f.1.desk (map (λ p. p.1.seat) f.2.items)) }
+    ensures numbers { IfOk result (λ f. OneForEach options.now.workers (map (λ p. p.1.seat) f.2.items)) }
 {
     let first = keeper.receipt();
     let (desk, seats, clerk) = desk(alloc, first, options.queue as usize, options.workers)?;
@@ -70,6 +84,10 @@ impl<N: StoreName> House<N> {
         requires limits { limits ≡ N.limits }
         requires workers { (1 ≤ options.now.workers) × (options.now.workers ≤ 64) }
         requires queue { (1 ≤ options.now.queue) × (options.now.queue ≤ 4096) }
+        ensures keeper { IfOk result (λ h. h.keeper ≡ no_entries) }
+        ensures clerk { IfOk result (λ h. IsNewClerk h.clerk) }
+        ensures open { IfOk result (λ h. AreOpen h.clerk.desk (map (λ p. p.1.seat) h.lives.items)) }
+        ensures numbers { IfOk result (λ h. OneForEach options.now.workers (map (λ p. p.1.seat) h.lives.items)) }
     {
         let workers = options.workers as usize;
         let (mut keeper, passes) = open::<N>(alloc, options.keys, name, limits, workers)?;

@@ -10,12 +10,15 @@
 //! * `gate`: what is told of each call that a worker makes of the store.
 //! * `gated`: a store whose calls a gate is told of.
 //! * `connection`: one connection, from its first byte to its last.
-//! * `worker`: a worker, who serves one connection after the other.
+//! * `worker`: a worker, who serves one connection after the other. `crew`: work among threads.
 //! * `house`: a store with its desk and its clerk.
-//! * `telling`: what it says of itself. `serving`: [`serve_with`].
+//! * `ending`: how every seat is taken in at the end. `telling`: what it says of itself.
+//! * `serving`: [`serve_with`].
 #![tactic(auto)]
 
 mod connection;
+mod crew;
+mod ending;
 mod gate;
 mod gated;
 mod house;

@@ -1,43 +1,116 @@
 //! Serving on a socket.
 
-ghost use Rattle.std.specs.Prelude.{◌≡◌, ◌≤◌, false};
-ghost use Rattle.trace_server.specs.Serving.{Serves};
+ghost use Rattle.std.specs.Prelude.{◌≡◌, ◌≤◌, [], false, map, IfOk, IfSome};
+ghost use Rattle.read_side.specs.Keepers.{no_entries};
+ghost use Rattle.intake.specs.Turns.{IsNewClerk};
+ghost use Rattle.trace_server.specs.Serving.{OneForEach, Reports, Serves};
+ghost use Rattle.trace_server.specs.Staffing.{AreOpen, GoOn, HasJudged};
 
+use crate::crew::each_done;
+use crate::ending::{close_books, close_store};
 use crate::gate::Gate;
 use crate::house::House;
 use crate::options::Options;
-use crate::telling::{report, say_listening};
+use crate::telling::{report, report_unclosed, say_listening, together};
 use crate::worker::{Shift, Stage};
-use intake::{Books, Clerk};
+use intake::{Account, Books, Clerk, Inbox};
+use live_store::Live;
 use read_side::{Keeper, Opened, StoreName};
 use session_devices::Output;
 use std::alloc::{AllocError, Global};
 use std::marker::Brand;
 use std::net::TcpListener;
-use std::sync::Wait;
+use std::sync::{Arc, Wait};
 use std::sync::atomic::AtomicU64;
-use std::thread::{Threads, join, map_vec, spawn};
+use std::thread::{Threads, join, spawn};
 use std::time::Clock;
-use trace_model::Limits;
+use trace_model::{Entry, Limits};
 
-/// Has the clerk serve until the desk is closed. The keeper waits in the slot, before and afterwards.
-fn keep<N: StoreName, R: Wait>(rt: &R, clerk: Clerk<N>, slot: &mut Option<Keeper<N>>) {
-    if let Some(keeper) = slot.take() {
-        let Books {
+/// What the clerk leaves, but for the keeper.
+#[derive(Drop)]
+struct Ledger<N: StoreName> {
+    accounts: Vec<Account>,
+    acknowledged: u64,
+    refused: u64,
+    left: Vec<Arc<Entry>>,
+    inbox: Inbox<N>,
+}
+
+/// Has the clerk serve until the desk is closed. The keeper of an empty store waits in the slot, before and
+/// afterwards.
+fn keep<N: StoreName, R: Wait>(
+    rt: &R,
+    clerk: Clerk<N>,
+    slot: &mut Option<Keeper<N>>,
+) -> Option<Ledger<N>>
+    requires keeper { IfSome slot.old (λ k. k ≡ no_entries) }
+    requires clerk { IsNewClerk clerk }
+    ensures judged { IfSome result (λ l. HasJudged N.limits l.inbox.taken l.accounts.items l.acknowledged l.refused) }
+    ensures left { IfSome result (λ l. l.left.items ≡ []) }
+    ensures desk { IfSome result (λ l. l.inbox.desk ≡ clerk.desk) }
+{
+    let keeper = slot.take()?;
+    let Books {
+        keeper,
+        accounts,
+        acknowledged,
+        refused,
+        left,
+        inbox,
+    } = clerk.run(rt, keeper);
+    if let Some(other) = slot.replace(keeper) {
+        other.close(rt);
+    }
+    Some(Ledger {
+        accounts,
+        acknowledged,
+        refused,
+        left,
+        inbox,
+    })
+}
+
+impl<N: StoreName> Ledger<N> {
+    /// The books, which have the keeper too.
+    fn with(self, keeper: Keeper<N>) -> Books<N>
+        ensures accounts { result.accounts.items ≡ self.accounts.items }
+        ensures counts { (result.acknowledged ≡ self.acknowledged) × (result.refused ≡ self.refused) }
+        ensures left { result.left.items ≡ self.left.items }
+        ensures inbox { result.inbox ≡ self.inbox }
+    {
+        let Ledger {
+            accounts,
+            acknowledged,
+            refused,
+            left,
+            inbox,
+        } = self;
+        Books {
             keeper,
-            accounts: _,
-            acknowledged: _,
-            refused: _,
-            left: _,
-            inbox: _,
-        } = clerk.run(rt, keeper);
-        if let Some(other) = slot.replace(keeper) {
-            other.close(rt);
+            accounts,
+            acknowledged,
+            refused,
+            left,
+            inbox,
         }
     }
 }
 
-/// Has the workers serve beside the clerk until all sessions are over, and closes the store.
+/// What the clerk leaves, and what the workers did, each with its ends of the store.
+type Left<N> = (Option<Books<N>>, Result<Vec<(Shift, Live<N>)>, AllocError>);
+
+/// Has each worker serve until all sessions are over.
+fn work_all<N: StoreName + Send + Sync, G: Gate + Sync, R: Threads + Wait + Clock + Sync>(
+    rt: &R,
+    stage: &Stage<'_, N, G>,
+    lives: Vec<(u32, Live<N>)>,
+) -> Result<Vec<(Shift, Live<N>)>, AllocError>
+    ensures { IfOk result (λ v. GoOn (map (λ p. p.1.seat) lives.items) (map (λ w. w.1.seat) v.items)) }
+{
+    each_done(rt, stage, lives)
+}
+
+/// Has the workers serve beside the clerk until all sessions are over.
 fn staff<N: StoreName + Send + Sync, G: Gate + Sync, R: Threads + Wait + Clock + Sync>(
     rt: &R,
     alloc: Global,
@@ -45,7 +118,14 @@ fn staff<N: StoreName + Send + Sync, G: Gate + Sync, R: Threads + Wait + Clock +
     listener: &TcpListener,
     options: &Options,
     gate: &G,
-) -> Result<Vec<Shift>, AllocError> {
+) -> Left<N>
+    requires keeper { house.keeper ≡ no_entries }
+    requires clerk { IsNewClerk house.clerk }
+    ensures judged { IfSome result.0 (λ b. HasJudged N.limits b.inbox.taken b.accounts.items b.acknowledged b.refused) }
+    ensures left { IfSome result.0 (λ b. b.left.items ≡ []) }
+    ensures desk { IfSome result.0 (λ b. b.inbox.desk ≡ house.clerk.desk) }
+    ensures seats { IfOk result.1 (λ v. GoOn (map (λ p. p.1.seat) house.lives.items) (map (λ w. w.1.seat) v.items)) }
+{
     let House {
         keeper,
         desk,
@@ -55,6 +135,7 @@ fn staff<N: StoreName + Send + Sync, G: Gate + Sync, R: Threads + Wait + Clock +
     let mut slot = Some(keeper);
     let claimed = AtomicU64::new(0);
     let stage = Stage {
+        alloc,
         listener,
         desk: &desk,
         gate,
@@ -62,23 +143,62 @@ fn staff<N: StoreName + Send + Sync, G: Gate + Sync, R: Threads + Wait + Clock +
         claimed: &claimed,
         idle: options.idle,
     };
-    let (_, shifts) = join(
+    let (ledger, workers) = join(
         rt,
         || keep(rt, clerk, &mut slot),
-        || -> Result<Vec<Shift>, AllocError> {
-            let shifts = map_vec(
-                rt,
-                lives,
-                &|(worker, live)| { stage.work(rt, alloc, worker, live) },
-            );
+        || {
+            let workers = work_all(rt, &stage, lives);
             desk.close(rt);
-            shifts
+            workers
         },
     );
-    if let Some(keeper) = slot {
-        keeper.close(rt);
+    // Both are there; `join` doesn't tell what is left in the slot.
+    let books = match (slot, ledger) {
+        (Some(keeper), Some(ledger)) => Some(ledger.with(keeper)),
+        (Some(keeper), None) => {
+            keeper.close(rt);
+            None
+        }
+        (None, _) => None,
+    };
+    (books, workers)
+}
+
+/// Has the store served, closes its books and the store, reports, and gives the exit status.
+fn serve_house<
+    N: StoreName + Send + Sync,
+    G: Gate + Sync,
+    W: Output,
+    R: Threads + Wait + Clock + Sync,
+>(
+    rt: &R,
+    alloc: Global,
+    house: House<N>,
+    listener: &TcpListener,
+    options: &Options,
+    gate: &G,
+    output: &mut W,
+) -> u8
+    requires keeper { house.keeper ≡ no_entries }
+    requires clerk { IsNewClerk house.clerk }
+    requires open { AreOpen house.clerk.desk (map (λ p. p.1.seat) house.lives.items) }
+    requires numbers { OneForEach options.now.workers (map (λ p. p.1.seat) house.lives.items) }
+    requires output_works { W.has_failed output.old ≡ false }
+    ensures { Reports N.limits options.now.workers (W.contents output.old) (W.contents output.new) (W.has_failed output.new) result }
+{
+    let (books, workers) = staff(rt, alloc, house, listener, options, gate);
+    let Some(books) = books else {
+        return 5;
+    };
+    let Ok(workers) = workers else {
+        close_store(rt, books);
+        return 5;
+    };
+    let all = together(workers.as_slice());
+    match close_books(rt, books, workers) {
+        Ok(totals) => report(alloc, output, all, totals),
+        Err(_) => report_unclosed(alloc, output, all),
     }
-    shifts
 }
 
 /// Whether a thread can be made at all.
@@ -113,7 +233,7 @@ fn serve_named<
     requires workers { (1 ≤ options.now.workers) × (options.now.workers ≤ 64) }
     requires queue { (1 ≤ options.now.queue) × (options.now.queue ≤ 4096) }
     requires output_works { W.has_failed output.old ≡ false }
-    ensures { Serves (W.contents output.old) (W.contents output.new) (W.has_failed output.new) result }
+    ensures { Serves limits options.now.workers (W.contents output.old) (W.contents output.new) (W.has_failed output.new) result }
 {
     let Ok(address) = listener.local_addr() else {
         return 4;
@@ -125,10 +245,7 @@ fn serve_named<
         house.close(rt);
         return halt.status();
     }
-    match staff(rt, alloc, house, listener, options, gate) {
-        Ok(shifts) => report(alloc, output, shifts.as_slice()),
-        Err(_) => 5,
-    }
+    serve_house(rt, alloc, house, listener, options, gate, output)
 }
 
 /// Serves the connections of a socket that listens on this machine's own address, over an empty store,
@@ -136,7 +253,8 @@ fn serve_named<
 /// could accept no more or the output failed, and 5 for want of memory or of threads.
 ///
 /// The output gets a line that says on which port it listens, once connections are accepted, and at the end
-/// one that says how many came. A worker serves one connection at a time; a fault of a connection ends it
+/// one that says how many came and one that says what became of the batches that were handed in: how many
+/// were acknowledged, refused by the store, and left unanswered. A worker serves one connection at a time; a fault of a connection ends it
 /// alone. Every call of the store stands between two calls of the gate.
 pub fn serve_with<G: Gate + Sync, W: Output, R: Threads + Wait + Clock + Sync>(
     rt: &R,
@@ -149,7 +267,7 @@ pub fn serve_with<G: Gate + Sync, W: Output, R: Threads + Wait + Clock + Sync>(
     requires workers { (1 ≤ options.now.workers) × (options.now.workers ≤ 64) }
     requires queue { (1 ≤ options.now.queue) × (options.now.queue ≤ 4096) }
     requires output_works { W.has_failed output.old ≡ false }
-    ensures { Serves (W.contents output.old) (W.contents output.new) (W.has_failed output.new) result }
+    ensures { Serves options.now.limits options.now.workers (W.contents output.old) (W.contents output.new) (W.has_failed output.new) result }
 {
     if !can_start(rt) {
         return 5;

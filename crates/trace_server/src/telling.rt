@@ -1,10 +1,14 @@
 //! What a server says of itself.
 
-ghost use Rattle.std.specs.Prelude.{◌≡◌, false, IfOk};
+ghost use Rattle.std.specs.Prelude.{◌≡◌, false, min, sum_by, IfOk};
+ghost use Rattle.std.specs.List.{list_any};
 ghost use Rattle.text_lines.specs.Halting.{Says};
-ghost use Rattle.trace_server.specs.Serving.{listening_line, served_line, Reports};
+ghost use Rattle.trace_server.specs.Serving.{listening_line, served_line, books_line, last_lines, Ends, StopsIn};
 
+use crate::ending::Totals;
 use crate::worker::Shift;
+use live_store::Live;
+use read_side::StoreName;
 use session_devices::Output;
 use std::alloc::{AllocError, Global};
 use std::io::Write;
@@ -32,6 +36,22 @@ fn served_line(alloc: Global, served: u64) -> Result<Vec<u8>, AllocError>
     }
 }
 
+/// The line that says what became of the batches.
+fn books_line(alloc: Global, totals: Totals) -> Result<Vec<u8>, AllocError>
+    ensures { IfOk result (λ line. line.items ≡ books_line totals.acknowledged totals.refused totals.left) }
+{
+    let Totals {
+        acknowledged,
+        refused,
+        left,
+    } = totals;
+    let mut line = Vec::new(alloc);
+    match writeln!(line, "books {acknowledged} {refused} {left}") {
+        Ok(()) => Ok(line),
+        Err(_) => Err(AllocError),
+    }
+}
+
 /// Says where the server listens.
 pub(crate) fn say_listening<W: Output>(alloc: Global, output: &mut W, port: u16) -> Result<(), Halt>
     requires { W.has_failed output.old ≡ false }
@@ -50,28 +70,65 @@ fn say_served<W: Output>(alloc: Global, output: &mut W, served: u64) -> Result<(
     say(alloc, output, line.as_slice())
 }
 
-/// What all workers did together.
-fn together(shifts: &[Shift]) -> Shift {
+/// Says what became of the batches.
+fn say_books<W: Output>(alloc: Global, output: &mut W, totals: Totals) -> Result<(), Halt>
+    requires { W.has_failed output.old ≡ false }
+    ensures { Says (W.contents output.old) (W.contents output.new) (W.has_failed output.new)
+        (books_line totals.acknowledged totals.refused totals.left) result }
+{
+    let line = books_line(alloc, totals)?;
+    say(alloc, output, line.as_slice())
+}
+
+/// What all workers did together. A count that has come to its end stays there.
+pub(crate) fn together<N: StoreName>(workers: &[(Shift, Live<N>)]) -> Shift
+    ensures served { result.served ≡ min (sum_by (λ w. w.0.served) workers.now) 18446744073709551615 }
+    ensures failed { result.failed ≡ list_any (λ w. w.0.failed) workers.now }
+{
     let mut all = Shift {
         served: 0,
         failed: false,
     };
-    for shift in shifts {
+    for (shift, _) in workers {
         all.served = all.served.saturating_add(shift.served);
         all.failed = all.failed || shift.failed;
     }
     all
 }
 
-/// Says how many connections the workers took, and gives the exit status.
-pub(crate) fn report<W: Output>(alloc: Global, output: &mut W, shifts: &[Shift]) -> u8
+/// Says how many connections were taken, and then what became of the batches.
+fn say_end<W: Output>(alloc: Global, output: &mut W, served: u64, totals: Totals) -> Result<(), Halt>
     requires { W.has_failed output.old ≡ false }
-    ensures { Reports (W.contents output.old) (W.contents output.new) (W.has_failed output.new) result }
+    ensures { Says (W.contents output.old) (W.contents output.new) (W.has_failed output.new)
+        (last_lines served totals.acknowledged totals.refused totals.left) result }
 {
-    let all = together(shifts);
-    match say_served(alloc, output, all.served) {
+    match say_served(alloc, output, served) {
+        Ok(()) => say_books(alloc, output, totals),
+        Err(halt) => Err(halt),
+    }
+}
+
+/// Says how many connections were taken and what became of the batches, and gives the exit status.
+pub(crate) fn report<W: Output>(alloc: Global, output: &mut W, all: Shift, totals: Totals) -> u8
+    requires { W.has_failed output.old ≡ false }
+    ensures { Ends (W.contents output.old) (W.contents output.new) (W.has_failed output.new)
+        (last_lines all.served totals.acknowledged totals.refused totals.left) all.failed result }
+{
+    match say_end(alloc, output, all.served, totals) {
         Ok(()) if all.failed => 4,
         Ok(()) => 0,
+        Err(halt) => halt.status(),
+    }
+}
+
+/// Says how many connections were taken, where memory was wanting to close the books.
+pub(crate) fn report_unclosed<W: Output>(alloc: Global, output: &mut W, all: Shift) -> u8
+    requires { W.has_failed output.old ≡ false }
+    ensures { StopsIn (W.contents output.old) (W.contents output.new) (W.has_failed output.new)
+        (served_line all.served) result }
+{
+    match say_served(alloc, output, all.served) {
+        Ok(()) => Halt::Memory.status(),
         Err(halt) => halt.status(),
     }
 }

@@ -1,6 +1,9 @@
 //! A worker, who serves one connection after the other.
 
+ghost use Rattle.live_store.specs.Sharing.{GoesOn};
+
 use crate::connection::attend;
+use crate::crew::Task;
 use crate::gate::Gate;
 use crate::gated::Gated;
 use intake::Desk;
@@ -16,6 +19,7 @@ use std::time::Clock;
 /// What all workers share.
 #[derive(Drop)]
 pub(crate) struct Stage<'a, N: StoreName, G> {
+    pub(crate) alloc: Global,
     pub(crate) listener: &'a TcpListener,
     pub(crate) desk: &'a Desk<N>,
     pub(crate) gate: &'a G,
@@ -59,42 +63,51 @@ impl<'a, N: StoreName, G: Gate> Stage<'a, N, G> {
     fn serve<R: Wait + Clock>(
         &self,
         rt: &R,
-        alloc: Global,
         stream: &TcpStream,
         store: &mut Gated<'_, N, G, R>,
-    ) {
+    )
+        ensures { GoesOn store.old.seat store.new.seat }
+    {
         if let Ok(receipt) = self.desk.vouch(rt) {
             store.learn(&receipt);
-            attend(rt, alloc, stream, self.idle, store);
+            attend(rt, self.alloc, stream, self.idle, store);
         }
     }
 
-    /// Serves connections until all sessions are claimed or none can be accepted.
-    pub(crate) fn work<R: Wait + Clock>(
-        &self,
-        rt: &R,
-        alloc: Global,
-        worker: u32,
-        live: Live<N>,
-    ) -> Shift {
+    /// Serves connections until all sessions are claimed or none can be accepted, as the worker with this
+    /// number and by these ends of the store, and gives the ends back.
+    fn work<R: Wait + Clock>(&self, rt: &R, post: (u32, Live<N>)) -> (Shift, Live<N>)
+        ensures { GoesOn post.1.seat result.1.seat }
+    {
+        let (worker, live) = post;
         let mut store = Gated::new(rt, self.gate, worker, live);
-        let mut served = 0u64;
+        let mut shift = Shift {
+            served: 0,
+            failed: false,
+        };
         for _ in rt.forever() {
             if !self.claim() {
                 break;
             }
             let Some(stream) = self.accept(rt) else {
-                return Shift {
-                    served,
-                    failed: true,
-                };
+                shift.failed = true;
+                break;
             };
-            served = served.saturating_add(1);
-            self.serve(rt, alloc, &stream, &mut store);
+            shift.served = shift.served.saturating_add(1);
+            self.serve(rt, &stream, &mut store);
         }
-        Shift {
-            served,
-            failed: false,
-        }
+        (shift, store.into_live())
+    }
+}
+
+impl<'a, N: StoreName, G: Gate, R: Wait + Clock> Task<R, (u32, Live<N>), (Shift, Live<N>)>
+    for Stage<'a, N, G>
+{
+    ghost use Rattle.live_store.specs.Sharing.{GoesOn};
+
+    ghost gives = { λ job end. GoesOn job.1.seat end.1.seat };
+
+    fn done(&self, rt: &R, job: (u32, Live<N>)) -> (Shift, Live<N>) {
+        self.work(rt, job)
     }
 }

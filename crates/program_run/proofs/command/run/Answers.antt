@@ -51,7 +51,7 @@ returns-in-Ok-Serve g c =
     let options = c.in-Ok-Serve.options in
     let asks : Command → Type 0 = λ k. Asks (map g.S.AsStr.text c.args.words.now) k in
     let does : Option (List ℕ) → Type 0 = λ w.
-    ServesOrNot w (g.W.Output.contents c.run_serve.new.output) (g.W.Output.has_failed c.run_serve.new.output) c.run_serve.result in
+    ServesOrNot options.limits options.workers w (g.W.Output.contents c.run_serve.new.output) (g.W.Output.has_failed c.run_serve.new.output) c.run_serve.result in
     inl (Serve options, subst asks c.in-Ok-Serve.field-0-is c.in-Ok-Serve.ensures.asked, (refl, c.requires.input_works, subst does c.in-Ok-Serve.ensures.silent c.run_serve.ensures))
 
 pub returns-in-Err : goal.returns-in-Err

@@ -1,17 +1,17 @@
-use Rattle.trace_server.proofs.Endings.{broken_off, reported, unheard}
+use Rattle.std.proofs.Common.{inl, inr, subst, sym}
+use Rattle.trace_model.specs.declared.limits.Limits.{Limits}
+use Rattle.trace_server.specs.Serving.{Serves}
+use Rattle.trace_server.proofs.Endings.{reported, unheard}
 use Rattle.trace_server.proofs.serving.serve_named.Goals as goal
 
 pub returns-in-Err : goal.returns-in-Err
-returns-in-Err g c =
-    let failed = g.W.Output.has_failed c.say_listening.new.output in
-    unheard _ _ failed _ c.in-Err.halt _ c.status.ensures c.in-Err.ensures.0
+returns-in-Err g c = inr (inl (unheard _ _ (g.W.Output.has_failed c.say_listening.new.output) _ c.in-Err.halt _ c.status.ensures c.in-Err.ensures))
 
-pub returns-in-Ok-staff : goal.returns-in-Ok-staff
-returns-in-Ok-staff g c =
-    let failed = g.W.Output.has_failed c.report.new.output in
-    reported _ _ _ failed _ _ c.in_default-say_listening.ensures.0 c.report.ensures
-
-pub returns-in-Err-staff : goal.returns-in-Err-staff
-returns-in-Err-staff g c =
-    let failed = g.W.Output.has_failed c.say_listening.new.output in
-    broken_off _ _ failed _ c.in_default-say_listening.ensures.0
+pub returns : goal.returns
+returns g c =
+    let failed = g.W.Output.has_failed c.serve_house.new.output in
+    let workers = c.args.options.now.workers in
+    let old = g.W.Output.contents c.args.output.now in
+    let new = g.W.Output.contents c.serve_house.new.output in
+    subst (λ (l : Limits). Serves l workers old new failed c.serve_house.result) (sym c.requires.limits)
+    (reported g.N.StoreName.limits workers old _ new failed _ c.serve_house.result c.in_default-say_listening.ensures.0 c.serve_house.ensures)

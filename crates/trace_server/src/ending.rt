@@ -1,0 +1,88 @@
+//! The end: every seat is taken in, and the store is closed.
+
+ghost use Rattle.std.specs.Prelude.{◌≡◌, [], map, length, IfOk, OnOk};
+ghost use Rattle.std.specs.Arc.{arc_value};
+ghost use Rattle.intake.specs.Books.{Balances};
+ghost use Rattle.trace_server.specs.Serving.{ClosesBooks};
+ghost use Rattle.trace_server.specs.Staffing.{AreOpen, AreTaken, HasJudged, Moves};
+
+use crate::worker::Shift;
+use intake::Books;
+use live_store::Live;
+use read_side::StoreName;
+use std::sync::Wait;
+use trace_model::Refusal;
+
+/// What became of the batches that were handed in.
+#[derive(Clone, Copy, Debug)]
+pub(crate) struct Totals {
+    pub(crate) acknowledged: u64,
+    pub(crate) refused: u64,
+    /// How many were neither acknowledged nor refused.
+    pub(crate) left: u64,
+}
+
+/// Takes the workers' seats in, until one finds no memory.
+fn take_all_in<N: StoreName, R: Wait>(
+    rt: &R,
+    books: &mut Books<N>,
+    workers: Vec<(Shift, Live<N>)>,
+) -> Result<(), Refusal>
+    requires open { AreOpen books.old.inbox.desk (map (λ w. w.1.seat) workers.items) }
+    requires books { Balances books.old.inbox.taken books.old.accounts.items (map arc_value books.old.left.items) }
+    ensures accounts { books.new.accounts.items ≡ books.old.accounts.items }
+    ensures counts { (books.new.acknowledged ≡ books.old.acknowledged) × (books.new.refused ≡ books.old.refused) }
+    ensures moved { Moves books.old.inbox.taken (map arc_value books.old.left.items)
+        books.new.inbox.taken (map arc_value books.new.left.items) }
+    ensures whole { OnOk result (AreTaken books.new.inbox.taken (map (λ w. w.1.seat) workers.items)) }
+{
+    let mut workers = workers;
+    while let Some((_, live)) = workers.pop() {
+        let (mut seat, _pass) = live.into_parts();
+        books.take_in(rt, &mut seat)?;
+    }
+    Ok(())
+}
+
+/// Closes the store, and gives how many jobs are left.
+pub(crate) fn close_store<N: StoreName, R: Wait>(rt: &R, books: Books<N>) -> u64
+    ensures { result ≡ length (map arc_value books.left.items) }
+{
+    let Books {
+        keeper,
+        accounts: _,
+        acknowledged: _,
+        refused: _,
+        left,
+        inbox: _,
+    } = books;
+    keeper.close(rt);
+    left.len() as u64
+}
+
+/// Takes the workers' seats in, closes the store, and counts what became of the batches.
+///
+/// # Errors
+///
+/// Want of memory, for jobs that are left. The store is closed then too.
+pub(crate) fn close_books<N: StoreName, R: Wait>(
+    rt: &R,
+    books: Books<N>,
+    workers: Vec<(Shift, Live<N>)>,
+) -> Result<Totals, Refusal>
+    requires open { AreOpen books.inbox.desk (map (λ w. w.1.seat) workers.items) }
+    requires judged { HasJudged N.limits books.inbox.taken books.accounts.items books.acknowledged books.refused }
+    requires left { books.left.items ≡ [] }
+    ensures { IfOk result (λ t. ClosesBooks N.limits (map (λ w. w.1.seat) workers.items) t.acknowledged t.refused t.left) }
+{
+    let mut books = books;
+    let taken_in = take_all_in(rt, &mut books, workers);
+    let (acknowledged, refused) = (books.acknowledged, books.refused);
+    let left = close_store(rt, books);
+    taken_in?;
+    Ok(Totals {
+        acknowledged,
+        refused,
+        left,
+    })
+}
