@@ -51,6 +51,7 @@ use jaeger_model::TraceId;
 use read_side::{Keeper, Opened, Pass, StoreName, open};
 use span_store::SpanStore;
 use std::alloc::Global;
+use std::hash::RandomState;
 use std::io::Read;
 use std::marker::Brand;
 use std::sync::atomic::{AtomicU64, Ordering};
@@ -200,11 +201,12 @@ fn answer_timed<R: Clock>(
 fn timed_one<R: Clock>(
     rt: &R,
     alloc: Global,
+    keys: RandomState,
     limits: Limits,
     load: Load,
 ) -> Result<Times, Refusal> {
     let Load { first, timed, ids } = load;
-    let mut store = SpanStore::open(alloc, limits);
+    let mut store = SpanStore::open(alloc, keys, limits)?;
     let _untimed = apply_timed(rt, alloc, &mut store, first)?;
     let admits = apply_timed(rt, alloc, &mut store, timed)?;
     let mut reads = Vec::new(alloc);
@@ -325,6 +327,7 @@ fn write_and_read<N: StoreName + Send + Sync, R: Threads + Wait + Clock + Sync>(
 fn timed_named<N: StoreName + Send + Sync, R: Threads + Wait + Clock + Sync>(
     rt: &R,
     alloc: Global,
+    keys: RandomState,
     name: Opened,
     limits: Limits,
     readers: bool,
@@ -333,7 +336,7 @@ fn timed_named<N: StoreName + Send + Sync, R: Threads + Wait + Clock + Sync>(
     requires book { name.seen.book ≡ N.book }
     requires limits { limits ≡ N.limits }
 {
-    let (mut keeper, mut passes) = open::<N>(alloc, name, limits, 3)?;
+    let (mut keeper, mut passes) = open::<N>(alloc, keys, name, limits, 3)?;
     if !readers {
         passes.clear();
     }
@@ -346,11 +349,12 @@ fn timed_named<N: StoreName + Send + Sync, R: Threads + Wait + Clock + Sync>(
 fn timed_copies<R: Threads + Wait + Clock + Sync>(
     rt: &R,
     alloc: Global,
+    keys: RandomState,
     limits: Limits,
     readers: bool,
     load: Load,
 ) -> Result<Times, Refusal> {
-    timed_named::<Brand, R>(rt, alloc, Opened::new(), limits, readers, load)
+    timed_named::<Brand, R>(rt, alloc, keys, Opened::new(), limits, readers, load)
 }
 
 fn main(rt: HostRuntime) -> Result<()> {
@@ -361,6 +365,7 @@ fn main(rt: HostRuntime) -> Result<()> {
         return Ok(());
     }
     let timed: usize = words.get(2).and_then(|word| word.parse().ok()).unwrap_or(0);
+    let keys = RandomState::new(&rt)?;
     let mut input = Vec::new(alloc);
     rt.stdin().read_to_end(&mut input)?;
     let mut load = split_load(alloc, &input, timed)?;
@@ -371,9 +376,9 @@ fn main(rt: HostRuntime) -> Result<()> {
         load.timed.clear();
     }
     let times = if kind == "one" {
-        timed_one(&rt, alloc, limits, load)
+        timed_one(&rt, alloc, keys, limits, load)
     } else {
-        timed_copies(&rt, alloc, limits, kind != "copies", load)
+        timed_copies(&rt, alloc, keys, limits, kind != "copies", load)
     };
     let times = match times {
         Ok(times) => times,
