@@ -3,3 +3,4 @@ pub mod Asked
 pub mod Runs
 pub mod Arrivals
 pub mod Known
+pub mod Probing

@@ -10,5 +10,8 @@
 
 mod index;
 pub mod laws;
+mod name_table;
+mod texts;
 
 pub use index::ServiceIndex;
+pub use texts::Texts;
