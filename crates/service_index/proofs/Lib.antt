@@ -4,3 +4,5 @@ pub mod Runs
 pub mod Arrivals
 pub mod Known
 pub mod Probing
+pub mod Linking
+pub mod Extending

@@ -52,13 +52,7 @@ fn first_place(keys: &RandomState, places: usize, name: Name<'_>) -> usize
 }
 
 /// Walks over the places, each at most once, to the row of the name or to a free place.
-fn walk<T: Texts>(
-    slots: &[u32],
-    numbers: &[u32],
-    start: usize,
-    texts: &T,
-    name: Name<'_>,
-) -> Probe
+fn walk<T: Texts>(slots: &[u32], numbers: &[u32], start: usize, texts: &T, name: Name<'_>) -> Probe
     requires start { start < length slots.now }
     requires marked { (k : ℕ) → get_or slots.now k 0 ≤ length numbers.now }
     requires numbers { AreNumbers (T.names texts.now) numbers.now }
@@ -84,11 +78,7 @@ fn walk<T: Texts>(
 
 impl NameTable {
     /// A table with no number and room for so many.
-    pub(crate) fn with_room(
-        alloc: Global,
-        keys: RandomState,
-        room: u32,
-    ) -> Result<Self, AllocError>
+    pub(crate) fn with_room(alloc: Global, keys: RandomState, room: u32) -> Result<Self, AllocError>
         ensures numbers { IfOk result (λ table. table.numbers ≡ []) }
         ensures room { IfOk result (λ table. table.room ≡ room) }
         ensures leads { IfOk result (λ table. (names : Names) → IsNamed names table) }

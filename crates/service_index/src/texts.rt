@@ -49,6 +49,7 @@ pub(crate) fn is_named<T: Texts>(texts: &T, n: u32, name: Name<'_>) -> bool
 }
 
 /// The services of the names, each without its operation.
+#[derive(Drop)]
 pub(crate) struct ServiceTexts<'a, T> {
     pub(crate) texts: &'a T,
 }

@@ -1,6 +1,5 @@
 use Rattle.std.proofs.Common.{◌≡◌, ◌∙◌, ℕ, ◌+◌, ◌<◌, List, [], ◌∷◌, ◌++◌, refl, ap, sym, subst, arith, length}
 use Rattle.std.proofs.Math.ListN.{set}
-use Rattle.service_index.specs.Naming.{named}
 use Rattle.service_index.specs.Probes.{Table, IsNamed, Probed, start_of}
 use Rattle.service_index.proofs.Probing.{row_in, row_is, numbers_in, numbers_are, IsNotFull, has_place, named_more, walked}
 use Rattle.service_index.proofs.name_table.NameTable.add.Goals as goal

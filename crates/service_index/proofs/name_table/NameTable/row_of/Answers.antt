@@ -1,8 +1,7 @@
-use Rattle.std.proofs.Common.{◌≡◌, ◌∙◌, ℕ, ◌+◌, List, ◌∷◌, ◌++◌, refl, ap, sym, subst, arith, length}
-use Rattle.std.proofs.Math.ListN.{set}
+use Rattle.std.proofs.Common.{◌≡◌, ◌∙◌, refl, ap, sym, arith, length}
 use Rattle.service_index.specs.Naming.{named}
-use Rattle.service_index.specs.Probes.{Table, IsNamed, Probed, start_of}
-use Rattle.service_index.proofs.Probing.{row_in, row_is, numbers_in, numbers_are, IsNotFull, has_place, named_more, walked}
+use Rattle.service_index.specs.Probes.{Table}
+use Rattle.service_index.proofs.Probing.{row_in, row_is, walked}
 use Rattle.service_index.proofs.name_table.NameTable.row_of.Goals as goal
 
 pub returns-in-Row : goal.returns-in-Row
