@@ -2,8 +2,10 @@
 -- another.
 use Rattle.std.specs.Prelude.{◌≡◌, ℕ, ◌-◌, ◌^◌, ◌<◌, ◌≤◌, Bool, List, [], map, length, get_or}
 use Rattle.std.specs.List.{list_any}
-use Rattle.jaeger_model.specs.Texts.{same_text, sorted_set}
-use Rattle.service_index.specs.Listing.{Listed, listed_cmp}
+use Rattle.trace_model.specs.declared.answer.Operation.{Operation}
+use Rattle.trace_model.specs.Names.{operation_cmp}
+use Rattle.jaeger_model.specs.Texts.{same_text, sorted_set, insert_once}
+use Rattle.service_index.specs.Listing.{Listed, listed_cmp, same_listed, operations_of}
 use Rattle.service_index.specs.Naming.{Names, service_alone, services_of}
 use Rattle.service_index.specs.Probes.{Table, IsNamed, row_of}
 
@@ -22,6 +24,10 @@ pub record Index : Type 0 where
 abbrev pub listing_by : Names → Index → List Listed
 listing_by names index = sorted_set listed_cmp (map names.at index.operations.numbers)
 
+-- the same with what one more number reports
+abbrev pub listing_with : Names → Index → ℕ → List Listed
+listing_with names index n = insert_once listed_cmp (listing_by names index) (names.at n)
+
 -- the row of a service, or how many rows there are
 abbrev pub service_row : Names → Index → List ℕ → ℕ
 service_row names index service = row_of (services_of names) index.services.numbers (service_alone service)
@@ -30,7 +36,15 @@ service_row names index service = row_of (services_of names) index.services.numb
 abbrev pub has_service : List ℕ → List Listed → Bool
 has_service service ls = list_any (λ (l : Listed). same_text service l.service) ls
 
+-- one of these is this operation of the service, with this kind
+abbrev pub has_operation : List ℕ → List ℕ → List ℕ → List Listed → Bool
+has_operation service name kind ls = list_any (same_listed (record { service = service; operation = record { name = name; kind = kind } })) ls
+
 -- ---- the operations of a service
+-- those of the service, in order
+abbrev pub own_operations : List ℕ → List Listed → List Operation
+own_operations service ls = sorted_set operation_cmp (operations_of service ls)
+
 -- the services of numbers
 abbrev pub owners : Names → List ℕ → List (List ℕ)
 owners names numbers = map (λ n. (names.at n).service) numbers
@@ -46,6 +60,10 @@ pub record IsChain (rows : List (List ℕ)) (earlier : List ℕ) : Type 0 where
   pub as_many : length earlier ≡ length rows
   pub before : (k : ℕ) → k < length rows → IsNewest rows (get_or rows k []) (get_or earlier k 0) k
 
+-- these are the operations of each service whose newest row this is
+abbrev pub AreFrom : Names → List ℕ → ℕ → List Operation → Type 0
+AreFrom names numbers newest os = (service : List ℕ) → IsNewest (owners names numbers) service newest (length numbers) → os ≡ own_operations service (map names.at numbers)
+
 pub record IsLinked (rows services : List (List ℕ)) (newest earlier : List ℕ) : Type 0 where
   pub as_many : length newest ≡ length services
   pub chain : IsChain rows earlier
@@ -54,15 +72,15 @@ pub record IsLinked (rows services : List (List ℕ)) (newest earlier : List ℕ
 
 -- ---- the index
 -- how many of each there are, whatever the names
-pub record IsSized (index : Index) : Type 0 where
-  pub fits : index.room < 2 ^ 32
-  pub used : index.used ≤ index.room
-  pub few : length index.operations.numbers ≤ index.used
-  pub fewer : length index.services.numbers ≤ length index.operations.numbers
-  pub operations : index.operations.room ≡ index.room
-  pub services : index.services.room ≡ index.room
-  pub newest : length index.newest ≡ length index.services.numbers
-  pub earlier : length index.earlier ≡ length index.operations.numbers
+pub record IsSized (used room : ℕ) (operations services : Table) (newest earlier : List ℕ) : Type 0 where
+  pub fits : room < 2 ^ 32
+  pub within : used ≤ room
+  pub few : length operations.numbers ≤ used
+  pub fewer : length services.numbers ≤ length operations.numbers
+  pub operations_room : operations.room ≡ room
+  pub services_room : services.room ≡ room
+  pub newest_rows : length newest ≡ length services.numbers
+  pub earlier_rows : length earlier ≡ length operations.numbers
 
 -- the index leads to its numbers by these names
 pub record IsIndexed (names : Names) (index : Index) : Type 0 where

@@ -1,11 +1,10 @@
-ghost use Rattle.std.specs.Prelude.{◌≡◌, ℕ, ◌+◌, ◌<◌, ◌≤◌, ◌↔◌, List, [], map, length, IfOk, IsTrue};
-ghost use Rattle.std.specs.List.{list_any};
-ghost use Rattle.jaeger_model.specs.Texts.{insert_once, sorted_set, text_cmp};
-ghost use Rattle.trace_model.specs.Names.{operation_cmp};
-ghost use Rattle.service_index.specs.Listing.{listed_cmp, same_listed, services_in, names_in, operations_in, operations_of};
+ghost use Rattle.std.specs.Prelude.{◌≡◌, ℕ, ◌+◌, ◌<◌, ◌≤◌, ◌↔◌, [], length, IfOk, IsTrue};
+ghost use Rattle.jaeger_model.specs.Texts.{sorted_set, text_cmp};
+ghost use Rattle.service_index.specs.Listing.{services_in, names_in, operations_in};
 ghost use Rattle.service_index.specs.Naming.{Names};
 ghost use Rattle.service_index.specs.Probes.{AreNumbers};
-ghost use Rattle.service_index.specs.Indexes.{listing_by, service_row, has_service, owners, IsNewest, IsChain, IsIndexed};
+ghost use Rattle.service_index.specs.Indexes.{listing_by, listing_with, service_row, has_service, has_operation, own_operations};
+ghost use Rattle.service_index.specs.Indexes.{owners, AreFrom, IsChain, IsIndexed};
 
 use crate::name_table::NameTable;
 use crate::operation_sets::{distinct_names, in_order, of_kind};
@@ -46,7 +45,7 @@ impl Model for NameIndex {
 
     ghost view = { λ i. record { operations = i.operations; services = i.services; newest = i.newest.items; earlier = i.earlier.items; used = i.used; room = i.room } };
 
-    ghost invariant = { λ i. (i.room ≤ vec_capacity i.newest) × (i.room ≤ vec_capacity i.earlier) × IsSized (record { operations = i.operations; services = i.services; newest = i.newest.items; earlier = i.earlier.items; used = i.used; room = i.room }) };
+    ghost invariant = { λ i. (i.room ≤ vec_capacity i.newest) × (i.room ≤ vec_capacity i.earlier) × IsSized i.used i.room i.operations i.services i.newest.items i.earlier.items };
 }
 
 impl NameIndex {
@@ -98,7 +97,7 @@ impl NameIndex {
         requires held { n < (T.names texts.now).count }
         requires room { self.old.used < self.old.room }
 
-        ensures listed { listing_by (T.names texts.now) self.new ≡ insert_once listed_cmp (listing_by (T.names texts.now) self.old) ((T.names texts.now).at n) }
+        ensures listed { listing_by (T.names texts.now) self.new ≡ listing_with (T.names texts.now) self.old n }
         ensures used { self.new.used ≡ self.old.used + 1 }
         ensures room { self.new.room ≡ self.old.room }
         ensures indexed { IsIndexed (T.names texts.now) self.new }
@@ -129,7 +128,7 @@ impl NameIndex {
     /// Whether a span of the service with this operation and kind was added.
     pub fn knows<T: Texts>(&self, texts: &T, service: &str, operation: &str, kind: &str) -> bool
         requires { IsIndexed (T.names texts.now) self.now }
-        ensures { result ≡ list_any (same_listed (record { service = service.now; operation = record { name = operation.now; kind = kind.now } })) (listing_by (T.names texts.now) self.now) }
+        ensures { result ≡ has_operation service.now operation.now kind.now (listing_by (T.names texts.now) self.now) }
     {
         let name = Name {
             service,
@@ -204,7 +203,7 @@ impl NameIndex {
         service: &str,
     ) -> Result<BTreeSet<Operation>, AllocError>
         requires { IsIndexed (T.names texts.now) self.now }
-        ensures { IfOk result (λ known. known.keys ≡ sorted_set operation_cmp (operations_of service.now (listing_by (T.names texts.now) self.now))) }
+        ensures { IfOk result (λ known. known.keys ≡ own_operations service.now (listing_by (T.names texts.now) self.now)) }
     {
         let row = self.service_row(texts, service) as usize;
         if row >= self.newest.len() {
@@ -256,7 +255,7 @@ fn operations_along<T: Texts>(
     requires numbers { AreNumbers (T.names texts.now) numbers.now }
     requires chain { IsChain (owners (T.names texts.now) numbers.now) earlier.now }
     requires within { newest ≤ length numbers.now }
-    ensures { IfOk result (λ known. (service : List ℕ) → IsNewest (owners (T.names texts.now) numbers.now) service newest (length numbers.now) → known.keys ≡ sorted_set operation_cmp (operations_of service (map (T.names texts.now).at numbers.now))) }
+    ensures { IfOk result (λ known. AreFrom (T.names texts.now) numbers.now newest known.keys) }
 {
     let mut known = BTreeSet::new(alloc);
     let mut at = newest;

@@ -12,7 +12,7 @@ pub returns-then-row-len-clause-listed : goal.returns-then-row-len-clause-listed
 returns-then-row-len-clause-listed g c =
     let names = g.T.Texts.names c.args.texts.now in
     let numbers = c.self.inside.operations.numbers in
-    let rows = c.self.invariant.2.earlier in
+    let rows = c.self.invariant.2.earlier_rows in
     let row = c.add-row.ensures.row in
     let below : row_of names numbers (names.at c.args.n) < length numbers = omega (arith, c.if-row-len.true) in
     ap (λ xs. sorted_set listed_cmp (map names.at xs)) (c.add-row.ensures.numbers ∙ number_known names numbers c.args.n below)
@@ -47,8 +47,8 @@ returns-then-service-len-clause-indexed g c =
     let old : Index = record { operations = inside.operations; services = inside.services; newest = inside.newest.items; earlier = inside.earlier.items; used = inside.used; room = inside.room } in
     let indexed : IsIndexed names old = subst (IsIndexed names) (sym c.self.view_is) c.requires.indexed in
     let sized = c.self.invariant.2 in
-    let rows = sized.earlier in
-    let others = sized.newest in
+    let rows = sized.earlier_rows in
+    let others = sized.newest_rows in
     let past : length old.operations.numbers ≤ c.add-row.result = omega (arith, c.if-row-len.false) in
     let below : c.add-service.result < length old.services.numbers = omega (arith, c.if-service-len.true) in
     indexed_own names old c.add-row.new.self c.add-service.new.self (set old.newest c.add-service.result (c.add-row.result + 1)) _ c.args.n c.add-service.result c.add-row.result _ _ indexed c.add-row.ensures.leads c.add-service.ensures.leads
@@ -61,8 +61,8 @@ returns-else-service-len-clause-indexed g c =
     let old : Index = record { operations = inside.operations; services = inside.services; newest = inside.newest.items; earlier = inside.earlier.items; used = inside.used; room = inside.room } in
     let indexed : IsIndexed names old = subst (IsIndexed names) (sym c.self.view_is) c.requires.indexed in
     let sized = c.self.invariant.2 in
-    let rows = sized.earlier in
-    let others = sized.newest in
+    let rows = sized.earlier_rows in
+    let others = sized.newest_rows in
     let past : length old.operations.numbers ≤ c.add-row.result = omega (arith, c.if-row-len.false) in
     let beyond : length old.services.numbers ≤ c.add-service.result = omega (arith, c.if-service-len.false) in
     indexed_new names old c.add-row.new.self c.add-service.new.self _ _ c.args.n c.add-service.result c.add-row.result _ _ indexed c.add-row.ensures.leads c.add-service.ensures.leads

@@ -14,7 +14,7 @@ pub returns-then-row-len : goal.returns-then-row-len
 returns-then-row-len g c =
     let names = g.T.Texts.names c.args.texts.now in
     let index = c.args.self.now in
-    let rows : c.len.result ≡ length index.services.numbers = (omega arith) ∙ c.self.invariant.2.newest ∙ ap (λ (i : Index). length i.services.numbers) c.self.view_is in
+    let rows : c.len.result ≡ length index.services.numbers = (omega arith) ∙ c.self.invariant.2.newest_rows ∙ ap (λ (i : Index). length i.services.numbers) c.self.view_is in
     let row = c.service_row-row.ensures in
     let none = sym (service_known names index c.args.service.now c.requires) ∙ ap (λ r. nat_lt r (length index.services.numbers)) (sym row) ∙ not_lt c.service_row-row.result (length index.services.numbers) (omega (arith, c.if-row-len.true)) in
     c.new.ensures.empty ∙ operations_none c.args.service.now (listing_by names index) none
@@ -24,7 +24,7 @@ returns g c =
     let names = g.T.Texts.names c.args.texts.now in
     let index = c.args.self.now in
     let s = c.args.service.now in
-    let rows : c.len.result ≡ length index.services.numbers = (omega arith) ∙ c.self.invariant.2.newest ∙ ap (λ (i : Index). length i.services.numbers) c.self.view_is in
+    let rows : c.len.result ≡ length index.services.numbers = (omega arith) ∙ c.self.invariant.2.newest_rows ∙ ap (λ (i : Index). length i.services.numbers) c.self.view_is in
     let below : c.service_row-row.result < length index.services.numbers = omega (arith, c.if-row-len.false) in
     let numbers = c.numbers-numbers.ensures ∙ ap (λ (i : Index). i.operations.numbers) c.self.view_is in
     let newest = get_or_read c.self.inside.newest.items c.service_row-row.result _ (omega (arith, c.if-row-len.false)) c.index.ensures 0 ∙ ap (λ (i : Index). get_or i.newest c.service_row-row.result 0) c.self.view_is in
