@@ -6,3 +6,4 @@ pub mod Known
 pub mod Probing
 pub mod Linking
 pub mod Extending
+pub mod Ordering

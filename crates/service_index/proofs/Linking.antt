@@ -5,7 +5,6 @@ use Rattle.std.specs.List.{list_any, position_or_len}
 use Rattle.std.specs.Ordering.{is_eq}
 use Rattle.std.specs.Cmp.{tied_itself}
 use Rattle.std.specs.Cmp.Lexicographic.{texts_ties}
-use Rattle.std.specs.BTreeSet.{insert_key}
 use Rattle.std.proofs.Math.ListN.{set}
 use Rattle.std.proofs.Math.Seq.{drop-cons}
 use Rattle.std.proofs.lemmas.Bool.{false≢true, ltb-true, lt-ltb, cases_eq, cases_lt}
@@ -22,7 +21,7 @@ use Rattle.service_index.specs.Naming.{Names, service_alone, services_of}
 use Rattle.service_index.specs.Probes.{Table, name_at, IsNamed, row_of, with_number}
 use Rattle.service_index.specs.Indexes.{Index, listing_by, service_row, has_service, owners, IsNewest, IsChain, IsLinked, IsIndexed}
 use Rattle.service_index.proofs.Known.{any_agree, known_again}
-use Rattle.service_index.proofs.Tree.{same_set, set_more, insert_key_is, listed_total, listed_exact}
+use Rattle.service_index.proofs.Tree.{same_set, set_more, listed_total, listed_exact}
 use Rattle.service_index.proofs.Probing.{same_is, is_equal}
 
 -- ---- rows and tests
@@ -377,8 +376,8 @@ walk_start names numbers s newest h =
     ∙ ap (sorted_set operation_cmp) (sym (skip names numbers s (length numbers - newest) newest (length numbers) (omega arith) (omega arith) h.none))
 
 pub walk_step : (names : Names) (numbers : List ℕ) (s : List ℕ) (at row next : ℕ) (known : List Operation) → row + 1 ≡ at → at ≤ length numbers → get_or (owners names numbers) row [] ≡ s
-    → IsNewest (owners names numbers) (get_or (owners names numbers) row []) next row → known ≡ sorted_set operation_cmp (operations_of s (map names.at (drop at numbers)))
-    → insert_key operation_cmp known (names.at (get_or numbers row 0)).operation ≡ sorted_set operation_cmp (operations_of s (map names.at (drop next numbers)))
+    → IsNewest (owners names numbers) (get_or (owners names numbers) row []) next row → sorted_set operation_cmp known ≡ sorted_set operation_cmp (operations_of s (map names.at (drop at numbers)))
+    → sorted_set operation_cmp (known ++ (names.at (get_or numbers row 0)).operation ∷ []) ≡ sorted_set operation_cmp (operations_of s (map names.at (drop next numbers)))
 walk_step names numbers s at row next known e within own h is =
     let w = h.within in
     let o = (names.at (get_or numbers row 0)).operation in
@@ -386,4 +385,4 @@ walk_step names numbers s at row next known e within own h is =
     let here : operations_of s (map names.at (drop next numbers)) ≡ o ∷ rest =
     skip names numbers s (row - next) next row (omega arith) (omega arith) (λ j low below is. h.none j low below (is ∙ sym own))
     ∙ from_own names numbers s row (omega arith) own ∙ ap (λ k. o ∷ operations_of s (map names.at (drop k numbers))) (let a : suc row ≡ at = omega arith in a) in
-    insert_key_is operation_cmp known o ∙ ap (λ ks. insert_once operation_cmp ks o) is ∙ sym (set_more operation_total operation_exact rest (o ∷ rest) o (λ p. refl)) ∙ ap (sorted_set operation_cmp) (sym here)
+    fold_push (insert_once operation_cmp) [] known o ∙ ap (λ ks. insert_once operation_cmp ks o) is ∙ sym (set_more operation_total operation_exact rest (o ∷ rest) o (λ p. refl)) ∙ ap (sorted_set operation_cmp) (sym here)

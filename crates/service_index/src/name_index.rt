@@ -1,5 +1,6 @@
 ghost use Rattle.std.specs.Prelude.{◌≡◌, ℕ, ◌+◌, ◌<◌, ◌≤◌, ◌↔◌, [], length, IfOk, IsTrue};
-ghost use Rattle.jaeger_model.specs.Texts.{sorted_set, text_cmp};
+ghost use Rattle.jaeger_model.specs.Texts.{sorted_set};
+ghost use Rattle.trace_model.specs.Names.{operation_cmp};
 ghost use Rattle.service_index.specs.Listing.{services_in, names_in, operations_in};
 ghost use Rattle.service_index.specs.Naming.{Names};
 ghost use Rattle.service_index.specs.Probes.{AreNumbers};
@@ -7,11 +8,10 @@ ghost use Rattle.service_index.specs.Indexes.{listing_by, listing_with, service_
 ghost use Rattle.service_index.specs.Indexes.{owners, AreFrom, IsChain, IsIndexed};
 
 use crate::name_table::NameTable;
-use crate::operation_sets::{distinct_names, in_order, of_kind};
+use crate::operation_sets::{names_alone, operations_in_order, texts_in_order, with_kind};
 use crate::texts::{Name, ServiceTexts, Texts};
 use jaeger_model::Text;
 use std::alloc::{AllocError, Global};
-use std::collections::BTreeSet;
 use std::hash::RandomState;
 use std::marker::Model;
 use trace_model::Operation;
@@ -148,7 +148,7 @@ impl NameIndex {
         ensures { IfOk result (λ names. names.items ≡ services_in (listing_by (T.names texts.now) self.now)) }
     {
         let names = services_along(self.alloc, texts, self.services.numbers())?;
-        in_order(self.alloc, names)
+        texts_in_order(names)
     }
 
     /// The pairs of operation and kind of a service, each once, in order of operation and then of
@@ -166,8 +166,9 @@ impl NameIndex {
         requires { IsIndexed (T.names texts.now) self.now }
         ensures { IfOk result (λ found. found.items ≡ operations_in service.now kind.now (listing_by (T.names texts.now) self.now)) }
     {
-        let known = self.operations_of(texts, service.as_str())?;
-        of_kind(self.alloc, &known, kind)
+        let operations = self.operations_of(texts, service.as_str())?;
+        let known = operations_in_order(operations)?;
+        with_kind(self.alloc, known, kind)
     }
 
     /// The operations of a service, each once, in the order of their bytes.
@@ -179,8 +180,9 @@ impl NameIndex {
         requires { IsIndexed (T.names texts.now) self.now }
         ensures { IfOk result (λ names. names.items ≡ names_in service.now (listing_by (T.names texts.now) self.now)) }
     {
-        let known = self.operations_of(texts, service.as_str())?;
-        distinct_names(self.alloc, &known)
+        let operations = self.operations_of(texts, service.as_str())?;
+        let names = names_alone(self.alloc, operations)?;
+        texts_in_order(names)
     }
 
     /// The row of a service, or how many services there are where it is not known.
@@ -196,18 +198,18 @@ impl NameIndex {
         self.services.row_of(&ServiceTexts { texts }, name)
     }
 
-    /// The operations of a service.
+    /// The operations of a service, the newest first.
     fn operations_of<T: Texts>(
         &self,
         texts: &T,
         service: &str,
-    ) -> Result<BTreeSet<Operation>, AllocError>
+    ) -> Result<Vec<Operation>, AllocError>
         requires { IsIndexed (T.names texts.now) self.now }
-        ensures { IfOk result (λ known. known.keys ≡ own_operations service.now (listing_by (T.names texts.now) self.now)) }
+        ensures { IfOk result (λ v. sorted_set operation_cmp v.items ≡ own_operations service.now (listing_by (T.names texts.now) self.now)) }
     {
         let row = self.service_row(texts, service) as usize;
         if row >= self.newest.len() {
-            return Ok(BTreeSet::new(self.alloc));
+            return Ok(Vec::new(self.alloc));
         }
         let numbers = self.operations.numbers();
         operations_along(self.alloc, texts, numbers, &self.earlier, self.newest[row])
@@ -219,14 +221,14 @@ fn services_along<T: Texts>(
     alloc: Global,
     texts: &T,
     numbers: &[u32],
-) -> Result<BTreeSet<Text>, AllocError>
+) -> Result<Vec<Text>, AllocError>
     requires { AreNumbers (T.names texts.now) numbers.now }
-    ensures { IfOk result (λ names. names.keys ≡ sorted_set text_cmp (owners (T.names texts.now) numbers.now)) }
+    ensures { IfOk result (λ names. names.items ≡ owners (T.names texts.now) numbers.now) }
 {
-    let mut names = BTreeSet::new(alloc);
+    let mut names = Vec::new(alloc);
     for n in numbers {
         let (service, _, _) = texts.name_at(*n);
-        names.insert(Text::from_str(alloc, service)?)?;
+        names.push(Text::from_str(alloc, service)?)?;
     }
     Ok(names)
 }
@@ -251,17 +253,17 @@ fn operations_along<T: Texts>(
     numbers: &[u32],
     earlier: &[u32],
     newest: u32,
-) -> Result<BTreeSet<Operation>, AllocError>
+) -> Result<Vec<Operation>, AllocError>
     requires numbers { AreNumbers (T.names texts.now) numbers.now }
     requires chain { IsChain (owners (T.names texts.now) numbers.now) earlier.now }
     requires within { newest ≤ length numbers.now }
-    ensures { IfOk result (λ known. AreFrom (T.names texts.now) numbers.now newest known.keys) }
+    ensures { IfOk result (λ known. AreFrom (T.names texts.now) numbers.now newest known.items) }
 {
-    let mut known = BTreeSet::new(alloc);
+    let mut known = Vec::new(alloc);
     let mut at = newest;
     while at > 0 {
         let row = (at - 1) as usize;
-        known.insert(operation_at(alloc, texts, numbers[row])?)?;
+        known.push(operation_at(alloc, texts, numbers[row])?)?;
         at = earlier[row];
     }
     Ok(known)

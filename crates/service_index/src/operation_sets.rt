@@ -1,6 +1,8 @@
 //! The operations of one service, as a set in order.
 
-ghost use Rattle.std.specs.Prelude.{◌≡◌, IfOk, filter};
+ghost use Rattle.std.specs.Prelude.{◌≡◌, IfOk, filter, map};
+ghost use Rattle.jaeger_model.specs.Texts.{text_cmp, sorted_set};
+ghost use Rattle.trace_model.specs.declared.answer.Operation.{Operation as OperationValue};
 ghost use Rattle.std.specs.List.Sorted.{IsStrictlySortedBy};
 ghost use Rattle.trace_model.specs.Names.{is_asked_kind, operation_cmp};
 ghost use Rattle.service_index.specs.Listing.{names_of, ends_in};
@@ -71,12 +73,53 @@ pub(crate) fn distinct_names(
     Ok(names)
 }
 
-/// The names of a set, in order.
-pub(crate) fn in_order(alloc: Global, set: BTreeSet<Text>) -> Result<Vec<Text>, AllocError>
-    ensures { IfOk result (λ names. names.items ≡ set.keys) }
+/// The texts in order, each once.
+pub(crate) fn texts_in_order(texts: Vec<Text>) -> Result<Vec<Text>, AllocError>
+    ensures { IfOk result (λ v. v.items ≡ sorted_set text_cmp texts.items) }
+{
+    let mut texts = texts;
+    texts.sort()?;
+    texts.dedup();
+    Ok(texts)
+}
+
+/// The operations in order, each once.
+pub(crate) fn operations_in_order(operations: Vec<Operation>) -> Result<Vec<Operation>, AllocError>
+    ensures { IfOk result (λ v. v.items ≡ sorted_set operation_cmp operations.items) }
+{
+    let mut operations = operations;
+    operations.sort()?;
+    operations.dedup();
+    Ok(operations)
+}
+
+/// Those of the operations that have the asked kind.
+pub(crate) fn with_kind(
+    alloc: Global,
+    operations: Vec<Operation>,
+    kind: &Text,
+) -> Result<Vec<Operation>, AllocError>
+    ensures { IfOk result (λ v. v.items ≡ filter (is_asked_kind kind.now) operations.items) }
+{
+    let mut found = Vec::new(alloc);
+    for operation in operations {
+        if has_kind(&operation, kind) {
+            found.push(operation)?;
+        }
+    }
+    Ok(found)
+}
+
+/// The names of the operations.
+pub(crate) fn names_alone(
+    alloc: Global,
+    operations: Vec<Operation>,
+) -> Result<Vec<Text>, AllocError>
+    ensures { IfOk result (λ v. v.items ≡ map (λ (o : OperationValue). o.name) operations.items) }
 {
     let mut names = Vec::new(alloc);
-    for name in set {
+    for operation in operations {
+        let Operation { name, kind: _ } = operation;
         names.push(name)?;
     }
     Ok(names)

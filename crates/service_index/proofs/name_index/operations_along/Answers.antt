@@ -1,5 +1,5 @@
-use Rattle.std.proofs.Common.{◌∙◌, ◌-◌, ◌<◌, get_or, ap, arith}
-use Rattle.std.specs.BTreeSet.{insert_key}
+use Rattle.std.proofs.Common.{◌∙◌, ◌-◌, ◌<◌, [], ◌∷◌, ◌++◌, get_or, ap, arith}
+use Rattle.jaeger_model.specs.Texts.{sorted_set}
 use Rattle.std.proofs.lemmas.List.{length-map}
 use Rattle.trace_model.specs.Names.{operation_cmp}
 use Rattle.service_index.proofs.Linking.{walk_start, walk_step}
@@ -8,7 +8,7 @@ use Rattle.service_index.proofs.name_index.operations_along.Goals as goal
 pub loop-at-init : goal.loop-at-init
 loop-at-init g c =
     let names = g.T.Texts.names c.args.texts.now in
-    (c.requires.within, λ s h. (h.own, c.new-known.ensures.empty ∙ walk_start names c.args.numbers.now s c.args.newest h))
+    (c.requires.within, λ s h. (h.own, ap (sorted_set operation_cmp) c.new-known.ensures.items ∙ walk_start names c.args.numbers.now s c.args.newest h))
 
 pub loop-at-preserved : goal.loop-at-preserved
 loop-at-preserved g c =
@@ -27,7 +27,7 @@ loop-at-preserved g c =
           let kept = c.loop-at.invariant.1 s h in
           let own = kept.0 pos in (
             λ more. before.own more ∙ own,
-            c.in_ok-insert.ensures.keys ∙ ap (insert_key operation_cmp c.loop-at.known.keys) c.in_ok-operation_at.ensures
-                ∙ walk_step names numbers s at row next c.loop-at.known.keys (omega arith) within own before kept.1,
+            ap (sorted_set operation_cmp) (c.in_ok-push.ensures.items ∙ ap (λ o. c.loop-at.known.items ++ o ∷ []) c.in_ok-operation_at.ensures)
+                ∙ walk_step names numbers s at row next c.loop-at.known.items (omega arith) within own before kept.1,
           ),
     )

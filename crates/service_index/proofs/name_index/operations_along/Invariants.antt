@@ -10,7 +10,7 @@ invariant-loop-at g l =
     (l.at ≤ length l.numbers)
     × ((service : List ℕ) → IsNewest (owners (g.T.Texts.names l.texts) l.numbers) service l.newest (length l.numbers)
     → (0 < l.at → get_or (owners (g.T.Texts.names l.texts) l.numbers) (l.at - 1) [] ≡ service)
-    × (l.known.keys ≡ sorted_set operation_cmp (operations_of service (map (g.T.Texts.names l.texts).at (drop l.at l.numbers)))))
+    × (sorted_set operation_cmp l.known.items ≡ sorted_set operation_cmp (operations_of service (map (g.T.Texts.names l.texts).at (drop l.at l.numbers)))))
 
 -- proposed from the loop's first test
 abbrev pub decreases-loop-at : goal.decreases-loop-at

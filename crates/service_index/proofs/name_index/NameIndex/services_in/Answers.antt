@@ -7,5 +7,5 @@ use Rattle.service_index.proofs.name_index.NameIndex.services_in.Goals as goal
 pub returns : goal.returns
 returns g c =
     let names = g.T.Texts.names c.args.texts.now in
-    let all = c.in_ok-names.ensures ∙ ap (λ ns. sorted_set text_cmp (owners names ns)) (c.numbers.ensures ∙ ap (λ (i : Index). i.services.numbers) c.self.view_is) ∙ services_are names c.args.self.now c.requires in
-    subst (λ (ns : List (List ℕ)). IfOk c.in_order.result (λ v. v.items ≡ ns)) all c.in_order.ensures
+    let all = ap (sorted_set text_cmp) (c.in_ok-names.ensures ∙ ap (owners names) (c.numbers.ensures ∙ ap (λ (i : Index). i.services.numbers) c.self.view_is)) ∙ services_are names c.args.self.now c.requires in
+    subst (λ (ns : List (List ℕ)). IfOk c.texts_in_order.result (λ v. v.items ≡ ns)) all c.texts_in_order.ensures
