@@ -8,8 +8,10 @@
 //!
 //! * `numbers`: which span has which arrival number.
 //! * `names`: the services and operations.
+//! * `laws`: facts about the definitions of `specs/`.
 #![tactic(auto)]
 
+pub mod laws;
 mod names;
 mod numbers;
 
