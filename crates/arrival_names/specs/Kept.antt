@@ -1,5 +1,5 @@
 -- What an index keeps of the arrivals of a list of entries.
-use Rattle.std.specs.Prelude.{◌≡◌, ℕ, Bool, List, [], map, length, get_or}
+use Rattle.std.specs.Prelude.{◌≡◌, ℕ, Bool, ◌&&◌, List, [], map, length, get_or}
 use Rattle.std.specs.List.{list_any}
 use Rattle.jaeger_model.specs.declared.placed.Placed.{Placed}
 use Rattle.jaeger_model.specs.Texts.{same_text}
@@ -33,3 +33,7 @@ pub record IsKept (h : List Entry) (kept : Kept) : Type 0 where
 -- an arrival is of the service
 abbrev pub reports_service : List ℕ → List Placed → Bool
 reports_service service ps = list_any (λ (p : Placed). same_text service p.process.service) ps
+
+-- an arrival is of the service and of this operation
+abbrev pub reports_operation : List ℕ → List ℕ → List Placed → Bool
+reports_operation service name ps = list_any (λ (p : Placed). same_text service p.process.service && same_text name p.span.operation) ps

@@ -6,7 +6,7 @@ ghost use Rattle.trace_model.specs.Names.{services, operation_names, operations}
 ghost use Rattle.service_index.specs.Listing.{listed_cmp};
 ghost use Rattle.service_index.specs.Indexes.{listing_by, IsIndexed};
 ghost use Rattle.arrival_names.specs.Numbers.{before_last};
-ghost use Rattle.arrival_names.specs.Kept.{IsKept, names_of, reports, reports_service};
+ghost use Rattle.arrival_names.specs.Kept.{IsKept, names_of, reports, reports_service, reports_operation};
 
 use crate::numbers::{ArrivalNumbers, Arrivals};
 use jaeger_model::Text;
@@ -128,6 +128,21 @@ impl ArrivalNames {
     {
         self.index
             .knows_service(&self.numbers.arrivals(entries), service)
+    }
+
+    /// Whether an arrival is of the service and of this operation, of whatever kind.
+    pub fn knows_operation(&self, entries: &[Arc<Entry>], service: &str, operation: &str) -> bool
+        requires { IsKept (map arc_value entries.now) self.now }
+        ensures { result ≡ reports_operation service.now operation.now (arrivals (map arc_value entries.now)) }
+    {
+        let arrivals = self.numbers.arrivals(entries);
+        let plain = self.index.knows(&arrivals, service, operation, "");
+        let client = self.index.knows(&arrivals, service, operation, "client");
+        let server = self.index.knows(&arrivals, service, operation, "server");
+        let producer = self.index.knows(&arrivals, service, operation, "producer");
+        let consumer = self.index.knows(&arrivals, service, operation, "consumer");
+        let internal = self.index.knows(&arrivals, service, operation, "internal");
+        plain | client | server | producer | consumer | internal
     }
 }
 
