@@ -25,7 +25,7 @@ then_eq Greater b = refl
 pub same_operation_by_cmp : (a b : Operation) → same_operation a b ≡ is_eq (operation_cmp a b)
 same_operation_by_cmp a b = (λ i. texts_ties a.name b.name i && texts_ties a.kind b.kind i) ∙ sym (then_eq (text_cmp a.name b.name) (text_cmp a.kind b.kind))
 
-same_listed_by_cmp : (a b : Listed) → same_listed a b ≡ is_eq (listed_cmp a b)
+pub same_listed_by_cmp : (a b : Listed) → same_listed a b ≡ is_eq (listed_cmp a b)
 same_listed_by_cmp a b =
     (λ i. texts_ties a.service b.service i && same_operation_by_cmp a.operation b.operation i)
     ∙ sym (then_eq (text_cmp a.service b.service) (operation_cmp a.operation b.operation))

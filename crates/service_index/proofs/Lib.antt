@@ -3,3 +3,7 @@ pub mod Asked
 pub mod Runs
 pub mod Arrivals
 pub mod Known
+pub mod Probing
+pub mod Linking
+pub mod Extending
+pub mod Ordering

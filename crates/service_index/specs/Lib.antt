@@ -1,1 +1,4 @@
 pub mod Listing
+pub mod Naming
+pub mod Probes
+pub mod Indexes

@@ -6,6 +6,8 @@ ghost use Rattle.std.specs.Prelude.{◌≡◌, true, ℕ, List, [], ◌∷◌, �
 ghost use Rattle.jaeger_model.specs.declared.placed.Placed.{Placed as Span};
 ghost use Rattle.jaeger_model.specs.Texts.{insert_once};
 ghost use Rattle.trace_model.specs.Names.{services, operation_names, operations};
+ghost use Rattle.service_index.specs.Naming.{Names};
+ghost use Rattle.service_index.specs.Indexes.{Index, listing_by, IsIndexed, Extends};
 ghost use Rattle.service_index.specs.Listing.{Listed, same_listed, listed, listed_cmp, listed_in, services_in, names_in, operations_in};
 
 /// What is listed of all arrivals answers as the plain store does.
@@ -25,4 +27,10 @@ pub fn listed_once_more()
 #[tactic(auto, using(crate::proofs::Known::known_again))]
 pub fn listed_already()
     ensures { (ls : List Listed) (l : Listed) → IsStrictlySortedBy listed_cmp ls → list_any (same_listed l) ls ≡ true → insert_once listed_cmp ls l ≡ ls }
+{}
+
+/// More numbers with names leave an index what it was, and what it lists.
+pub fn more_names()
+    ensures indexed { (names more : Names) (index : Index) → Extends names more → IsIndexed names index → IsIndexed more index }
+    ensures listed { (names more : Names) (index : Index) → Extends names more → IsIndexed names index → listing_by more index ≡ listing_by names index }
 {}

@@ -1,14 +1,31 @@
-//! The index of services and operations: what was ever reported, kept in order as spans arrive.
+//! The index of services and operations: what was ever reported.
 //!
 //! Contracts see a [`ServiceIndex`] as the set of what it lists, each service with an operation and
 //! its kind, in order. Each answer equals that of a filter over this set, and `laws` says that it
 //! is the plain store's answer where the set is that of all arrivals.
 //!
-//! * `index`: the index itself.
+//! A [`NameIndex`] lists the same and answers the same in room that is taken once. It holds numbers
+//! of spans alone, and reads their names where the spans stand ([`Texts`]): adding a number takes no
+//! memory, hashes its name once under keys drawn at the start, and looks at the few places of a table at
+//! most half full that the hash leads to. That it leads to its numbers by the names is a clause of each
+//! call (`IsIndexed`), which every call keeps and which stays true when more spans arrive
+//! (`laws::more_names`).
+//!
+//! * `index`: the index that holds its names.
+//! * `name_index`: the index that reads them where they stand.
+//! * `texts`: where names stand.
+//! * `name_table`: numbers by names, open-addressed.
+//! * `operation_sets`: the operations of one service, as a set in order.
 //! * `laws`: facts about the definitions of `specs/`.
 #![tactic(auto)]
 
 mod index;
 pub mod laws;
+mod name_index;
+mod name_table;
+mod operation_sets;
+mod texts;
 
 pub use index::ServiceIndex;
+pub use name_index::NameIndex;
+pub use texts::Texts;

@@ -1,7 +1,7 @@
 use Rattle.std.proofs.Common.{◌∙◌, ap, sym}
 use Rattle.jaeger_model.specs.Texts.{same_text}
 use Rattle.service_index.proofs.Runs.{ends_last}
-use Rattle.service_index.proofs.index.ends_in.Goals as goal
+use Rattle.service_index.proofs.operation_sets.ends_in.Goals as goal
 
 pub returns-in-Some : goal.returns-in-Some
 returns-in-Some c =

@@ -4,7 +4,7 @@ use Rattle.trace_model.specs.declared.answer.Operation.{Operation}
 use Rattle.trace_model.specs.Names.{operation_cmp}
 use Rattle.service_index.specs.Listing.{ends_in, names_of}
 use Rattle.service_index.proofs.Runs.{names_new, names_again}
-use Rattle.service_index.proofs.index.distinct_names.Goals as goal
+use Rattle.service_index.proofs.operation_sets.distinct_names.Goals as goal
 
 pub loop-operation-preserved-in_ok-push : goal.loop-operation-preserved-in_ok-push
 loop-operation-preserved-in_ok-push c =

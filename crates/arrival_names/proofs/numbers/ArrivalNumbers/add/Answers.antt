@@ -1,0 +1,39 @@
+use Rattle.std.proofs.Common.{◌≡◌, ◌∙◌, ℕ, ◌-◌, List, [], ◌∷◌, ◌++◌, length, map, get_or, ap, sym, subst, arith}
+use Rattle.std.specs.Prelude.{Vec}
+use Rattle.std.specs.Arc.{arc_value}
+use Rattle.std.specs.Global.{Global}
+use Rattle.std.proofs.lemmas.List.{length-map, length-take-le}
+use Rattle.jaeger_model.specs.declared.span.Span.{Span}
+use Rattle.trace_model.specs.declared.entry.Entry.{Entry}
+use Rattle.arrival_names.specs.Numbers.{Numbered, AreOf, before_last}
+use Rattle.arrival_names.proofs.Numbering.{Filled, numbers_more}
+use Rattle.arrival_names.proofs.Naming.{entry_is, last_is}
+use Rattle.arrival_names.proofs.numbers.ArrivalNumbers.add.Goals as goal
+
+pub overflow_cast-len : goal.overflow_cast-len
+overflow_cast-len c = let within = c.self.invariant.2 in omega arith
+
+pub returns-clause-numbers : goal.returns-clause-numbers
+returns-clause-numbers c =
+    let entries = c.args.entries.now in
+    let h : List Entry = map (arc_value {X = Entry} {Z = Global}) entries in
+    let before = before_last h in
+    let a = c.index-entries-before.result in
+    let e = arc_value a in
+    let l : length h ≡ length entries = length-map entries (arc_value {X = Entry} {Z = Global}) in
+    let last : length before ≡ length h - 1 = length-take-le (length h - 1) h (omega arith) in
+    let there = entry_is entries (length entries - 1) a (omega arith) c.index-entries-before.is in
+    let whole : before ++ e ∷ [] ≡ h = last_is h e (omega arith) (there ∙ ap (λ n. get_or h (n - 1) e) (sym l)) in
+    let old = c.self.inside in
+    let numbers : AreOf before old.entry_of.items old.firsts.items = subst (λ (v : Numbered). AreOf before v.entry_of v.firsts) (sym c.self.view_is) c.requires.numbers in
+    let items = ap (λ (ss : List Span). length ss) (c.as_slice-span-items.ensures ∙ ap (λ (x : Entry). x.batch.spans) c.deref.ensures) in
+    let spans : c.loop-span._span-index ≡ length e.batch.spans = omega (arith, c.loop-span-test.false, c.loop-span.auto._span-index-end) in
+    let place : length entries - 1 ≡ length before = omega arith in
+    let now = c.loop-span.self-inside.entry_of.items in
+    let filled : Filled old.entry_of.items (length before) (length e.batch.spans) now =
+    subst (λ (n : ℕ). Filled old.entry_of.items n (length e.batch.spans) now) place (subst (λ (k : ℕ). Filled old.entry_of.items (length entries - 1) k now) spans c.loop-span.invariant.0) in
+    let first : c.len.result ≡ length old.entry_of.items = omega arith in
+    let firsts : c.loop-span.self-inside.firsts.items ≡ old.firsts.items ++ length old.entry_of.items ∷ [] =
+    ap (λ (v : Vec ℕ Global). v.items) c.loop-span.invariant.2 ∙ c.push_reserved.ensures.items ∙ ap (λ n. old.firsts.items ++ n ∷ []) first in
+    subst (λ (x : List Entry). AreOf x now c.loop-span.self-inside.firsts.items) whole
+    (subst (λ (fs : List ℕ). AreOf (before ++ e ∷ []) now fs) (sym firsts) (numbers_more before e old.entry_of.items old.firsts.items now numbers filled))

@@ -1,0 +1,39 @@
+-- What an index keeps of the arrivals of a list of entries.
+use Rattle.std.specs.Prelude.{◌≡◌, ℕ, Bool, ◌&&◌, List, [], map, length, get_or}
+use Rattle.std.specs.List.{list_any}
+use Rattle.jaeger_model.specs.declared.placed.Placed.{Placed}
+use Rattle.jaeger_model.specs.Texts.{same_text}
+use Rattle.trace_model.specs.declared.entry.Entry.{Entry}
+use Rattle.trace_model.specs.Histories.{arrivals}
+use Rattle.service_index.specs.Listing.{Listed, listed, listed_in}
+use Rattle.service_index.specs.Naming.{Names, service_alone}
+use Rattle.service_index.specs.Indexes.{Index, IsIndexed, listing_by}
+use Rattle.arrival_names.specs.Numbers.{Numbered, AreOf}
+
+-- what the arrivals report, one after the other
+abbrev pub reports : List Entry → List Listed
+reports h = map listed (arrivals h)
+
+-- the names of the arrivals, each under its arrival number
+abbrev pub names_of : List Entry → Names
+names_of h = record { count = length (arrivals h); at = λ n. get_or (reports h) n (service_alone []) }
+
+-- what is seen of the names that are kept
+pub record Kept : Type 0 where
+  pub numbers : Numbered
+  pub index : Index
+
+-- they are those of the arrivals of these entries
+pub record IsKept (h : List Entry) (kept : Kept) : Type 0 where
+  pub numbers : AreOf h kept.numbers.entry_of kept.numbers.firsts
+  pub indexed : IsIndexed (names_of h) kept.index
+  pub listed : listing_by (names_of h) kept.index ≡ listed_in (arrivals h)
+  pub used : kept.index.used ≡ length (arrivals h)
+
+-- an arrival is of the service
+abbrev pub reports_service : List ℕ → List Placed → Bool
+reports_service service ps = list_any (λ (p : Placed). same_text service p.process.service) ps
+
+-- an arrival is of the service and of this operation
+abbrev pub reports_operation : List ℕ → List ℕ → List Placed → Bool
+reports_operation service name ps = list_any (λ (p : Placed). same_text service p.process.service && same_text name p.span.operation) ps

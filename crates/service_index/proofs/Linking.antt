@@ -1,0 +1,388 @@
+-- How the operations of a service lead to one another, and what the index answers from them.
+use Rattle.std.proofs.Common.{◌≡◌, ℕ, suc, zero, ◌+◌, ◌-◌, ◌<◌, ◌≤◌, Bool, true, false, ◌||◌, ◌&&◌, not, cond, nat_lt, List, [], ◌∷◌, ◌++◌, map, length, get_or, drop, refl, sym, ap, subst, ◌∙◌, inl, inr, arith, length-append}
+use Rattle.std.specs.Prelude.{filter}
+use Rattle.std.specs.List.{list_any, position_or_len}
+use Rattle.std.specs.Ordering.{is_eq}
+use Rattle.std.specs.Cmp.{tied_itself}
+use Rattle.std.specs.Cmp.Lexicographic.{texts_ties}
+use Rattle.std.proofs.Math.ListN.{set}
+use Rattle.std.proofs.Math.Seq.{drop-cons}
+use Rattle.std.proofs.lemmas.Bool.{false≢true, ltb-true, lt-ltb, cases_eq, cases_lt}
+use Rattle.std.proofs.lemmas.List.{length-set, length-map, map_push, drop_all, get_or-map, get_or-set_same, get_or-set_other, get_or_append_left, get_or_push}
+use Rattle.std.proofs.lemmas.List.Sums.{fold_push, passes_at_first, fails_before_first, prefix_len-le-length}
+use Rattle.std.proofs.lemmas.List.Folds.{list_any-append, list_any_at}
+use Rattle.jaeger_model.specs.Texts.{same_text, text_cmp, sorted_set, insert_once}
+use Rattle.trace_model.specs.declared.answer.Operation.{Operation}
+use Rattle.trace_model.specs.Names.{operation_cmp}
+use Rattle.trace_model.proofs.Rising.{any_set, sorted_set-rises}
+use Rattle.trace_model.proofs.NameLaws.{text_total, text_exact, operation_total, operation_exact, any_map, any_filter}
+use Rattle.service_index.specs.Listing.{Listed, listed_cmp, same_listed, services_in, operations_of, names_of}
+use Rattle.service_index.specs.Naming.{Names, service_alone, services_of}
+use Rattle.service_index.specs.Probes.{Table, name_at, IsNamed, row_of, with_number}
+use Rattle.service_index.specs.Indexes.{Index, listing_by, service_row, has_service, owners, IsNewest, IsChain, IsLinked, IsIndexed}
+use Rattle.service_index.proofs.Known.{any_agree, known_again}
+use Rattle.service_index.proofs.Tree.{same_set, set_more, listed_total, listed_exact}
+use Rattle.service_index.proofs.Probing.{same_is, is_equal}
+
+-- ---- rows and tests
+pub not_lt : (a n : ℕ) → n ≤ a → nat_lt a n ≡ false
+not_lt a n past = elim (nat_lt a n) as (λ b. nat_lt a n ≡ b → b ≡ false) [
+  | true ↦ λ t. let below = ltb-true a n t in absurd (omega arith)
+  | false ↦ λ _. refl
+] refl
+
+none_is : {X : Type 0} (p : X → Bool) (xs : List X) (d : X) → ((k : ℕ) → k < length xs → p (get_or xs k d) ≡ false) → list_any p xs ≡ false
+none_is p [] d none = refl
+none_is p (x ∷ xs) d none = ap (λ b. b || list_any p xs) (none 0 (omega arith)) ∙ none_is p xs d (λ k below. none (suc k) (omega arith))
+
+-- the first place that passes is one of the places where one passes
+is_position : {X : Type 0} (p : X → Bool) (xs : List X) (d : X) → nat_lt (position_or_len p xs) (length xs) ≡ list_any p xs
+is_position p xs d = elim (cases_lt (position_or_len p xs) (length xs)) [
+  | inl below ↦ lt-ltb (position_or_len p xs) (length xs) below ∙ sym (list_any_at p xs (position_or_len p xs) d below (passes_at_first p xs d below))
+  | inr past ↦ not_lt (position_or_len p xs) (length xs) past ∙ sym (none_is p xs d (λ k within. fails_before_first p xs k d (omega arith)))
+]
+
+pub is_row : (names : Names) (numbers : List ℕ) (name : Listed) → nat_lt (row_of names numbers name) (length numbers) ≡ list_any (same_listed name) (map names.at numbers)
+is_row names numbers name =
+    ap (nat_lt (row_of names numbers name)) (sym (length-map numbers names.at)) ∙ is_position (same_listed name) (map names.at numbers) (service_alone [])
+
+pub row_own : (names : Names) (numbers : List ℕ) (name : Listed) → row_of names numbers name < length numbers → name ≡ name_at (map names.at numbers) (row_of names numbers name)
+row_own names numbers name below =
+    let l = length-map numbers names.at in
+    same_is name (name_at (map names.at numbers) (row_of names numbers name)) (passes_at_first (same_listed name) (map names.at numbers) (service_alone []) (omega arith))
+
+-- a number of a known name is not kept, another is
+pub number_known : (names : Names) (numbers : List ℕ) (n : ℕ) → row_of names numbers (names.at n) < length numbers → with_number names numbers n ≡ numbers
+number_known names numbers n below = ap (λ b. cond b numbers (numbers ++ n ∷ [])) (lt-ltb (row_of names numbers (names.at n)) (length numbers) below)
+
+pub number_new : (names : Names) (numbers : List ℕ) (n : ℕ) → length numbers ≤ row_of names numbers (names.at n) → with_number names numbers n ≡ numbers ++ n ∷ []
+number_new names numbers n past = elim (nat_lt (row_of names numbers (names.at n)) (length numbers)) as (λ b. nat_lt (row_of names numbers (names.at n)) (length numbers) ≡ b → cond b numbers (numbers ++ n ∷ []) ≡ numbers ++ n ∷ []) [
+  | true ↦ λ t. let below = ltb-true (row_of names numbers (names.at n)) (length numbers) t in absurd (omega arith)
+  | false ↦ λ _. refl
+] refl
+
+-- ---- services
+same_self : (s : List ℕ) → same_text s s ≡ true
+same_self s = texts_ties s s ∙ ap is_eq (tied_itself text_total s)
+
+and_true : (b : Bool) → (b && true) ≡ b
+and_true true = refl
+and_true false = refl
+
+same_alone : (names : Names) (numbers : List ℕ) (s : List ℕ) → list_any (same_listed (service_alone s)) (map (services_of names).at numbers) ≡ list_any (same_text s) (owners names numbers)
+same_alone names numbers s =
+    any_map (same_listed (service_alone s)) (services_of names).at numbers
+    ∙ any_agree (λ n. same_listed (service_alone s) (service_alone (names.at n).service)) (λ n. same_text s (names.at n).service) (λ n. and_true (same_text s (names.at n).service)) numbers
+    ∙ sym (any_map (same_text s) (λ n. (names.at n).service) numbers)
+
+alone_at : (names : Names) (numbers : List ℕ) (r : ℕ) → r < length numbers → name_at (map (services_of names).at numbers) r ≡ service_alone (get_or (owners names numbers) r [])
+alone_at names numbers r below =
+    get_or-map (services_of names).at numbers r 0 (service_alone []) below ∙ sym (ap service_alone (get_or-map (λ n. (names.at n).service) numbers r 0 [] below))
+
+pub service_own : (names : Names) (numbers : List ℕ) (s : List ℕ) (r : ℕ) → r ≡ row_of (services_of names) numbers (service_alone s) → r < length numbers → get_or (owners names numbers) r [] ≡ s
+service_own names numbers s r is below =
+    let own = row_own (services_of names) numbers (service_alone s) (omega arith) in
+    sym (ap (λ (l : Listed). l.service) (own ∙ ap (name_at (map (services_of names).at numbers)) (sym is) ∙ alone_at names numbers r below))
+
+pub service_new : (names : Names) (numbers : List ℕ) (s : List ℕ) (r : ℕ) → r ≡ row_of (services_of names) numbers (service_alone s) → length numbers ≤ r → list_any (same_text s) (owners names numbers) ≡ false
+service_new names numbers s r is past =
+    sym (same_alone names numbers s) ∙ sym (is_row (services_of names) numbers (service_alone s)) ∙ not_lt (row_of (services_of names) numbers (service_alone s)) (length numbers) (omega arith)
+
+abbrev pub Distinct : List (List ℕ) → Type 0
+Distinct services = (i j : ℕ) → i < j → j < length services → get_or services i [] ≡ get_or services j [] → ⊥
+
+distinct : (names : Names) (t : Table) → IsNamed (services_of names) t → Distinct (owners names t.numbers)
+distinct names t h i j below within same =
+    let l = length-map t.numbers (services_of names).at in
+    let m = length-map t.numbers (λ n. (names.at n).service) in
+    h.leads.once i j below (omega arith) (alone_at names t.numbers i (omega arith) ∙ ap service_alone same ∙ sym (alone_at names t.numbers j (omega arith)))
+
+-- ---- one more row
+newest_more : (rows : List (List ℕ)) (new service : List ℕ) (at below : ℕ) → below ≤ length rows → IsNewest rows service at below → IsNewest (rows ++ new ∷ []) service at below
+newest_more rows new service at below within h = record {
+  within = h.within;
+  own = λ pos. let w = h.within in get_or_append_left rows (new ∷ []) [] (at - 1) (omega arith) ∙ h.own pos;
+  none = λ k low under is. h.none k low under (sym (get_or_append_left rows (new ∷ []) [] k (omega arith)) ∙ is);
+}
+
+newest_past : (rows : List (List ℕ)) (new service : List ℕ) (at : ℕ) → (new ≡ service → ⊥) → IsNewest rows service at (length rows) → IsNewest (rows ++ new ∷ []) service at (length (rows ++ new ∷ []))
+newest_past rows new service at other h =
+    let l : length (rows ++ new ∷ []) ≡ length rows + 1 = length-append rows (new ∷ []) in
+    let m = newest_more rows new service at (length rows) (omega arith) h in
+    record {
+      within = let w = h.within in omega arith;
+      own = m.own;
+      none = λ k low under is. elim (cases_eq k (length rows)) [
+        | inl e ↦ other (sym (get_or_push rows new [] k (sym e)) ∙ is)
+        | inr old ↦ m.none k low (omega arith) is
+      ];
+    }
+
+newest_new : (rows : List (List ℕ)) (new : List ℕ) → IsNewest (rows ++ new ∷ []) new (length rows + 1) (length (rows ++ new ∷ []))
+newest_new rows new =
+    let l : length (rows ++ new ∷ []) ≡ length rows + 1 = length-append rows (new ∷ []) in
+    record {
+      within = omega arith;
+      own = λ pos. get_or_push rows new [] (length rows + 1 - 1) (omega arith);
+      none = λ k low under is. absurd (omega arith);
+    }
+
+chain_more : (rows : List (List ℕ)) (earlier : List ℕ) (new : List ℕ) (at : ℕ) → IsChain rows earlier → IsNewest rows new at (length rows) → IsChain (rows ++ new ∷ []) (earlier ++ at ∷ [])
+chain_more rows earlier new at h n =
+    let a = h.as_many in
+    let l : length (rows ++ new ∷ []) ≡ length rows + 1 = length-append rows (new ∷ []) in
+    let m : length (earlier ++ at ∷ []) ≡ length earlier + 1 = length-append earlier (at ∷ []) in
+    record {
+      as_many = omega arith;
+      before = λ k below. elim (cases_eq k (length rows)) [
+        | inl e ↦
+            subst (λ (x : ℕ). IsNewest (rows ++ new ∷ []) (get_or (rows ++ new ∷ []) k []) x k) (sym (get_or_push earlier at 0 k (omega arith)))
+            (subst (λ (s : List ℕ). IsNewest (rows ++ new ∷ []) s at k) (sym (get_or_push rows new [] k (sym e)))
+            (subst (λ (j : ℕ). IsNewest (rows ++ new ∷ []) new at j) (sym e) (newest_more rows new new at (length rows) (omega arith) n)))
+        | inr other ↦ let old : k < length rows = omega arith in
+            subst (λ (x : ℕ). IsNewest (rows ++ new ∷ []) (get_or (rows ++ new ∷ []) k []) x k) (sym (get_or_append_left earlier (at ∷ []) 0 k (omega arith)))
+            (subst (λ (s : List ℕ). IsNewest (rows ++ new ∷ []) s (get_or earlier k 0) k) (sym (get_or_append_left rows (new ∷ []) [] k old))
+            (newest_more rows new (get_or rows k []) (get_or earlier k 0) k (omega arith) (h.before k old)))
+      ];
+    }
+
+or_known : (a b : Bool) → (b ≡ true → a ≡ true) → a ≡ (a || (b || false))
+or_known true b h = refl
+or_known false true h = h refl
+or_known false false h = refl
+
+linked_known : (rows services : List (List ℕ)) (newest earlier : List ℕ) (s : ℕ) (new : List ℕ) → IsLinked rows services newest earlier → Distinct services → s < length services → get_or services s [] ≡ new
+    → IsLinked (rows ++ new ∷ []) services (set newest s (length rows + 1)) (earlier ++ get_or newest s 0 ∷ [])
+linked_known rows services newest earlier s new h apart within own =
+    let a = h.as_many in
+    record {
+      as_many = length-set newest s (length rows + 1) ∙ a;
+      chain = chain_more rows earlier new (get_or newest s 0) h.chain (subst (λ (x : List ℕ). IsNewest rows x (get_or newest s 0) (length rows)) own (h.last s within));
+      same = λ p.
+          or_known (list_any p services) (p new) (λ t. list_any_at p services s [] within (ap p own ∙ t))
+          ∙ ap (λ b. b || (p new || false)) (h.same p) ∙ sym (list_any-append p rows (new ∷ []));
+      last = λ r below. elim (cases_eq r s) [
+        | inl e ↦
+            subst (λ (x : ℕ). IsNewest (rows ++ new ∷ []) (get_or services x []) (get_or (set newest s (length rows + 1)) x 0) (length (rows ++ new ∷ []))) (sym e)
+            (subst (λ (x : ℕ). IsNewest (rows ++ new ∷ []) (get_or services s []) x (length (rows ++ new ∷ []))) (sym (get_or-set_same newest s (length rows + 1) 0 (omega arith)))
+            (subst (λ (x : List ℕ). IsNewest (rows ++ new ∷ []) x (length rows + 1) (length (rows ++ new ∷ []))) (sym own) (newest_new rows new)))
+        | inr other ↦
+            subst (λ (x : ℕ). IsNewest (rows ++ new ∷ []) (get_or services r []) x (length (rows ++ new ∷ []))) (sym (get_or-set_other newest s r (length rows + 1) 0 other))
+            (newest_past rows new (get_or services r []) (get_or newest r 0) (λ e. two_rows services apart r s below within other (sym e ∙ sym own)) (h.last r below))
+      ];
+    }
+  where
+    two_rows : (services : List (List ℕ)) → Distinct services → (r s : ℕ) → r < length services → s < length services → (r ≡ s → ⊥) → get_or services r [] ≡ get_or services s [] → ⊥
+    two_rows services apart r s rn sn other same = elim (cases_lt r s) [
+      | inl below ↦ apart r s below sn same
+      | inr past ↦ apart s r (omega arith) rn (sym same)
+    ]
+
+none_of : (xs : List (List ℕ)) (s : List ℕ) → list_any (same_text s) xs ≡ false → (k : ℕ) → k < length xs → s ≡ get_or xs k [] → ⊥
+none_of xs s none k below is = false≢true (sym none ∙ list_any_at (same_text s) xs k [] below (ap (same_text s) (sym is) ∙ same_self s))
+
+linked_new : (rows services : List (List ℕ)) (newest earlier : List ℕ) (new : List ℕ) → IsLinked rows services newest earlier → list_any (same_text new) services ≡ false
+    → IsLinked (rows ++ new ∷ []) (services ++ new ∷ []) (newest ++ (length rows + 1) ∷ []) (earlier ++ 0 ∷ [])
+linked_new rows services newest earlier new h absent =
+    let a = h.as_many in
+    let l : length (services ++ new ∷ []) ≡ length services + 1 = length-append services (new ∷ []) in
+    let m : length (newest ++ (length rows + 1) ∷ []) ≡ length newest + 1 = length-append newest ((length rows + 1) ∷ []) in
+    let nowhere = none_of rows new (sym (h.same (same_text new)) ∙ absent) in
+    record {
+      as_many = omega arith;
+      chain = chain_more rows earlier new 0 h.chain (record {
+        within = omega arith;
+        own = λ pos. absurd (omega arith);
+        none = λ k low under is. nowhere k under (sym is);
+      });
+      same = λ p. list_any-append p services (new ∷ []) ∙ ap (λ b. b || (p new || false)) (h.same p) ∙ sym (list_any-append p rows (new ∷ []));
+      last = λ r below. elim (cases_eq r (length services)) [
+        | inl e ↦
+            subst (λ (x : ℕ). IsNewest (rows ++ new ∷ []) (get_or (services ++ new ∷ []) r []) x (length (rows ++ new ∷ []))) (sym (get_or_push newest (length rows + 1) 0 r (omega arith)))
+            (subst (λ (x : List ℕ). IsNewest (rows ++ new ∷ []) x (length rows + 1) (length (rows ++ new ∷ []))) (sym (get_or_push services new [] r (sym e))) (newest_new rows new))
+        | inr other ↦ let old : r < length services = omega arith in
+            subst (λ (x : ℕ). IsNewest (rows ++ new ∷ []) (get_or (services ++ new ∷ []) r []) x (length (rows ++ new ∷ []))) (sym (get_or_append_left newest ((length rows + 1) ∷ []) 0 r (omega arith)))
+            (subst (λ (x : List ℕ). IsNewest (rows ++ new ∷ []) x (get_or newest r 0) (length (rows ++ new ∷ []))) (sym (get_or_append_left services (new ∷ []) [] r old))
+            (newest_past rows new (get_or services r []) (get_or newest r 0) (none_of services new absent r old) (h.last r old)))
+      ];
+    }
+
+pub linked_empty : IsLinked [] [] [] []
+linked_empty = record {
+  as_many = refl;
+  chain = record { as_many = refl; before = λ k below. absurd (omega arith) };
+  same = λ p. refl;
+  last = λ s below. absurd (omega arith);
+}
+
+-- ---- one more number
+abbrev alone : Names → ℕ → List ℕ
+alone names n = (names.at n).service
+
+pub row_within : (names : Names) (numbers : List ℕ) (name : Listed) → row_of names numbers name ≤ length numbers
+row_within names numbers name = let l = length-map numbers names.at in let w = prefix_len-le-length (λ x. not (same_listed name x)) (map names.at numbers) in omega arith
+
+pub listed_again : (names : Names) (numbers : List ℕ) (n : ℕ) → row_of names numbers (names.at n) < length numbers
+    → sorted_set listed_cmp (map names.at numbers) ≡ insert_once listed_cmp (sorted_set listed_cmp (map names.at numbers)) (names.at n)
+listed_again names numbers n below =
+    sym (known_again (sorted_set listed_cmp (map names.at numbers)) (names.at n) (sorted_set-rises listed_total (map names.at numbers))
+    (any_set listed_exact (same_listed (names.at n)) (map names.at numbers) ∙ sym (is_row names numbers (names.at n)) ∙ lt-ltb (row_of names numbers (names.at n)) (length numbers) below))
+
+pub listed_new : (names : Names) (numbers : List ℕ) (n : ℕ) → sorted_set listed_cmp (map names.at (numbers ++ n ∷ [])) ≡ insert_once listed_cmp (sorted_set listed_cmp (map names.at numbers)) (names.at n)
+listed_new names numbers n = ap (sorted_set listed_cmp) (map_push names.at numbers n) ∙ fold_push (insert_once listed_cmp) [] (map names.at numbers) (names.at n)
+
+pub indexed_own : (names : Names) (old : Index) (operations services : Table) (newest earlier : List ℕ) (n s row used room : ℕ) → IsIndexed names old → IsNamed names operations → IsNamed (services_of names) services
+    → operations.numbers ≡ with_number names old.operations.numbers n → row ≡ row_of names old.operations.numbers (names.at n) → length old.operations.numbers ≤ row
+    → services.numbers ≡ with_number (services_of names) old.services.numbers n → s ≡ row_of (services_of names) old.services.numbers (service_alone (alone names n)) → s < length old.services.numbers
+    → newest ≡ set old.newest s (row + 1) → earlier ≡ old.earlier ++ get_or old.newest s 0 ∷ []
+    → IsIndexed names (record { operations = operations; services = services; newest = newest; earlier = earlier; used = used; room = room })
+indexed_own names old operations services newest earlier n s row used room h named alone_named more is past less at below e f =
+    let numbers = old.operations.numbers in
+    let others = old.services.numbers in
+    let l = length-map numbers (λ k. (names.at k).service) in
+    let m = length-map others (λ k. (names.at k).service) in
+    let w = row_within names numbers (names.at n) in
+    let new : row ≡ length (owners names numbers) = omega arith in
+    let own = service_own names others (alone names n) s at below in
+    let linked = linked_known (owners names numbers) (owners names others) old.newest old.earlier s (alone names n) h.linked (distinct names old.services h.services) (omega arith) own in
+    let rows : operations.numbers ≡ numbers ++ n ∷ [] = more ∙ number_new names numbers n (omega arith) in
+    let same : services.numbers ≡ others = less ∙ number_known (services_of names) others n (omega arith) in
+    record {
+      operations = named;
+      services = alone_named;
+      linked =
+          subst (λ (x : List ℕ). IsLinked (owners names x) (owners names services.numbers) newest earlier) (sym rows)
+          (subst (λ (x : List ℕ). IsLinked (owners names (numbers ++ n ∷ [])) (owners names x) newest earlier) (sym same)
+          (subst (λ (x : List (List ℕ)). IsLinked x (owners names others) newest earlier) (sym (map_push (λ k. (names.at k).service) numbers n))
+          (subst (λ (x : List ℕ). IsLinked (owners names numbers ++ alone names n ∷ []) (owners names others) x earlier) (sym (e ∙ ap (λ k. set old.newest s (k + 1)) new))
+          (subst (λ (x : List ℕ). IsLinked (owners names numbers ++ alone names n ∷ []) (owners names others) (set old.newest s (length (owners names numbers) + 1)) x) (sym f) linked))));
+    }
+
+pub indexed_new : (names : Names) (old : Index) (operations services : Table) (newest earlier : List ℕ) (n s row used room : ℕ) → IsIndexed names old → IsNamed names operations → IsNamed (services_of names) services
+    → operations.numbers ≡ with_number names old.operations.numbers n → row ≡ row_of names old.operations.numbers (names.at n) → length old.operations.numbers ≤ row
+    → services.numbers ≡ with_number (services_of names) old.services.numbers n → s ≡ row_of (services_of names) old.services.numbers (service_alone (alone names n)) → length old.services.numbers ≤ s
+    → newest ≡ old.newest ++ (row + 1) ∷ [] → earlier ≡ old.earlier ++ 0 ∷ []
+    → IsIndexed names (record { operations = operations; services = services; newest = newest; earlier = earlier; used = used; room = room })
+indexed_new names old operations services newest earlier n s row used room h named alone_named more is past less at beyond e f =
+    let numbers = old.operations.numbers in
+    let others = old.services.numbers in
+    let l = length-map numbers (λ k. (names.at k).service) in
+    let w = row_within names numbers (names.at n) in
+    let new : row ≡ length (owners names numbers) = omega arith in
+    let absent = service_new names others (alone names n) s at beyond in
+    let linked = linked_new (owners names numbers) (owners names others) old.newest old.earlier (alone names n) h.linked absent in
+    let rows : operations.numbers ≡ numbers ++ n ∷ [] = more ∙ number_new names numbers n (omega arith) in
+    let fresh : services.numbers ≡ others ++ n ∷ [] = less ∙ number_new (services_of names) others n (omega arith) in
+    record {
+      operations = named;
+      services = alone_named;
+      linked =
+          subst (λ (x : List ℕ). IsLinked (owners names x) (owners names services.numbers) newest earlier) (sym rows)
+          (subst (λ (x : List ℕ). IsLinked (owners names (numbers ++ n ∷ [])) (owners names x) newest earlier) (sym fresh)
+          (subst (λ (x : List (List ℕ)). IsLinked x (owners names (others ++ n ∷ [])) newest earlier) (sym (map_push (λ k. (names.at k).service) numbers n))
+          (subst (λ (x : List (List ℕ)). IsLinked (owners names numbers ++ alone names n ∷ []) x newest earlier) (sym (map_push (λ k. (names.at k).service) others n))
+          (subst (λ (x : List ℕ). IsLinked (owners names numbers ++ alone names n ∷ []) (owners names others ++ alone names n ∷ []) x earlier) (sym (e ∙ ap (λ k. old.newest ++ (k + 1) ∷ []) new))
+          (subst (λ (x : List ℕ). IsLinked (owners names numbers ++ alone names n ∷ []) (owners names others ++ alone names n ∷ []) (old.newest ++ (length (owners names numbers) + 1) ∷ []) x) (sym f) linked)))));
+    }
+
+-- ---- answers
+pub name_known : (names : Names) (index : Index) (name : Listed) → nat_lt (row_of names index.operations.numbers name) (length index.operations.numbers) ≡ list_any (same_listed name) (listing_by names index)
+name_known names index name = is_row names index.operations.numbers name ∙ sym (any_set listed_exact (same_listed name) (map names.at index.operations.numbers))
+
+pub service_known : (names : Names) (index : Index) (s : List ℕ) → IsIndexed names index → nat_lt (service_row names index s) (length index.services.numbers) ≡ has_service s (listing_by names index)
+service_known names index s h =
+    let numbers = index.operations.numbers in
+    is_row (services_of names) index.services.numbers (service_alone s) ∙ same_alone names index.services.numbers s ∙ h.linked.same (same_text s)
+    ∙ any_map (same_text s) (λ n. (names.at n).service) numbers
+    ∙ sym (any_set listed_exact (λ (l : Listed). same_text s l.service) (map names.at numbers) ∙ any_map (λ (l : Listed). same_text s l.service) names.at numbers)
+
+pub services_are : (names : Names) (index : Index) → IsIndexed names index → sorted_set text_cmp (owners names index.services.numbers) ≡ services_in (listing_by names index)
+services_are names index h =
+    let numbers = index.operations.numbers in
+    same_set text_total text_exact (owners names index.services.numbers) (map (λ (l : Listed). l.service) (listing_by names index)) (λ p.
+    h.linked.same p ∙ any_map p (λ n. (names.at n).service) numbers
+    ∙ sym (any_map p (λ (l : Listed). l.service) (listing_by names index) ∙ any_set listed_exact (λ (l : Listed). p l.service) (map names.at numbers) ∙ any_map (λ (l : Listed). p l.service) names.at numbers))
+
+any_operations : (s : List ℕ) (p : Operation → Bool) (ls : List Listed) → list_any p (operations_of s ls) ≡ list_any (λ (l : Listed). same_text s l.service && p l.operation) ls
+any_operations s p ls =
+    any_map p (λ (l : Listed). l.operation) (filter (λ (l : Listed). same_text s l.service) ls) ∙ any_filter (λ (l : Listed). p l.operation) (λ (l : Listed). same_text s l.service) ls
+
+pub operations_are : (s : List ℕ) (ls : List Listed) → sorted_set operation_cmp (operations_of s ls) ≡ sorted_set operation_cmp (operations_of s (sorted_set listed_cmp ls))
+operations_are s ls = same_set operation_total operation_exact (operations_of s ls) (operations_of s (sorted_set listed_cmp ls)) (λ p.
+    any_operations s p ls ∙ sym (any_operations s p (sorted_set listed_cmp ls) ∙ any_set listed_exact (λ (l : Listed). same_text s l.service && p l.operation) ls))
+
+none_own : (s : List ℕ) (ls : List Listed) → has_service s ls ≡ false → operations_of s ls ≡ []
+none_own s [] none = refl
+none_own s (l ∷ ls) none = elim (same_text s l.service) as (λ b. (b || has_service s ls) ≡ false → map (λ (x : Listed). x.operation) (cond b (l ∷ filter (λ (x : Listed). same_text s x.service) ls) (filter (λ (x : Listed). same_text s x.service) ls)) ≡ []) [
+  | true ↦ λ e. absurd (false≢true (sym e))
+  | false ↦ λ e. none_own s ls e
+] none
+
+pub operations_none : (s : List ℕ) (ls : List Listed) → has_service s ls ≡ false → [] ≡ sorted_set operation_cmp (operations_of s ls)
+operations_none s ls none = sym (ap (sorted_set operation_cmp) (none_own s ls none))
+
+pub names_are : (os : List Operation) → names_of (sorted_set operation_cmp os) ≡ names_of os
+names_are os =
+    let name : Operation → List ℕ = λ o. o.name in
+    same_set text_total text_exact (map name (sorted_set operation_cmp os)) (map name os) (λ p.
+    any_map p name (sorted_set operation_cmp os) ∙ any_set operation_exact (λ o. p (name o)) os ∙ sym (any_map p name os))
+
+-- ---- along a chain
+pub newest_of : (names : Names) (index : Index) (s : List ℕ) (r at : ℕ) (numbers : List ℕ) → IsIndexed names index → r ≡ service_row names index s → r < length index.services.numbers
+    → numbers ≡ index.operations.numbers → at ≡ get_or index.newest r 0 → IsNewest (owners names numbers) s at (length numbers)
+newest_of names index s r at numbers h is below same e =
+    let l = length-map index.services.numbers (λ n. (names.at n).service) in
+    let own = service_own names index.services.numbers s r is below in
+    subst (λ (x : List ℕ). IsNewest (owners names x) s at (length x)) (sym same)
+    (subst (λ (x : ℕ). IsNewest (owners names index.operations.numbers) s x (length index.operations.numbers)) (sym e)
+    (subst (λ (x : ℕ). IsNewest (owners names index.operations.numbers) s (get_or index.newest r 0) x) (length-map index.operations.numbers (λ n. (names.at n).service))
+    (subst (λ (x : List ℕ). IsNewest (owners names index.operations.numbers) x (get_or index.newest r 0) (length (owners names index.operations.numbers))) own (h.linked.last r (omega arith)))))
+
+from_other : (names : Names) (numbers : List ℕ) (s : List ℕ) (k : ℕ) → k < length numbers → (get_or (owners names numbers) k [] ≡ s → ⊥)
+    → operations_of s (map names.at (drop k numbers)) ≡ operations_of s (map names.at (drop (suc k) numbers))
+from_other names numbers s k below other =
+    let n = get_or numbers k 0 in
+    let rest = map names.at (drop (suc k) numbers) in
+    let apart : same_text s (names.at n).service ≡ false = differ s (names.at n).service (λ e. other (get_or-map (λ j. (names.at j).service) numbers k 0 [] below ∙ sym e)) in
+    ap (λ x. operations_of s (map names.at x)) (drop-cons numbers k 0 below)
+    ∙ ap (λ b. map (λ (x : Listed). x.operation) (cond b (names.at n ∷ filter (λ (x : Listed). same_text s x.service) rest) (filter (λ (x : Listed). same_text s x.service) rest))) apart
+  where
+    differ : (a b : List ℕ) → (a ≡ b → ⊥) → same_text a b ≡ false
+    differ a b other = elim (same_text a b) as (λ t. same_text a b ≡ t → t ≡ false) [
+      | true ↦ λ e. absurd (other (text_exact a b (is_equal (text_cmp a b) (sym (texts_ties a b) ∙ e))))
+      | false ↦ λ _. refl
+    ] refl
+
+from_own : (names : Names) (numbers : List ℕ) (s : List ℕ) (k : ℕ) → k < length numbers → get_or (owners names numbers) k [] ≡ s
+    → operations_of s (map names.at (drop k numbers)) ≡ (names.at (get_or numbers k 0)).operation ∷ operations_of s (map names.at (drop (suc k) numbers))
+from_own names numbers s k below own =
+    let n = get_or numbers k 0 in
+    let rest = map names.at (drop (suc k) numbers) in
+    let same : same_text s (names.at n).service ≡ true = ap (same_text s) (sym (get_or-map (λ j. (names.at j).service) numbers k 0 [] below) ∙ own) ∙ same_self s in
+    ap (λ x. operations_of s (map names.at x)) (drop-cons numbers k 0 below)
+    ∙ ap (λ b. map (λ (x : Listed). x.operation) (cond b (names.at n ∷ filter (λ (x : Listed). same_text s x.service) rest) (filter (λ (x : Listed). same_text s x.service) rest))) same
+
+-- rows of other services between
+skip : (names : Names) (numbers : List ℕ) (s : List ℕ) (d k m : ℕ) → m ≡ k + d → m ≤ length numbers → ((j : ℕ) → k ≤ j → j < m → get_or (owners names numbers) j [] ≡ s → ⊥)
+    → operations_of s (map names.at (drop k numbers)) ≡ operations_of s (map names.at (drop m numbers))
+skip names numbers s zero k m e within none = let same : k ≡ m = omega arith in ap (λ x. operations_of s (map names.at (drop x numbers))) same
+skip names numbers s (suc d) k m e within none =
+    from_other names numbers s k (omega arith) (none k (omega arith) (omega arith)) ∙ skip names numbers s d (suc k) m (omega arith) within (λ j low below. none j (omega arith) below)
+
+pub walk_start : (names : Names) (numbers : List ℕ) (s : List ℕ) (newest : ℕ) → IsNewest (owners names numbers) s newest (length numbers) → [] ≡ sorted_set operation_cmp (operations_of s (map names.at (drop newest numbers)))
+walk_start names numbers s newest h =
+    let w = h.within in
+    ap (λ x. sorted_set operation_cmp (operations_of s (map names.at x))) (sym (drop_all (length numbers) numbers (omega arith)))
+    ∙ ap (sorted_set operation_cmp) (sym (skip names numbers s (length numbers - newest) newest (length numbers) (omega arith) (omega arith) h.none))
+
+pub walk_step : (names : Names) (numbers : List ℕ) (s : List ℕ) (at row next : ℕ) (known : List Operation) → row + 1 ≡ at → at ≤ length numbers → get_or (owners names numbers) row [] ≡ s
+    → IsNewest (owners names numbers) (get_or (owners names numbers) row []) next row → sorted_set operation_cmp known ≡ sorted_set operation_cmp (operations_of s (map names.at (drop at numbers)))
+    → sorted_set operation_cmp (known ++ (names.at (get_or numbers row 0)).operation ∷ []) ≡ sorted_set operation_cmp (operations_of s (map names.at (drop next numbers)))
+walk_step names numbers s at row next known e within own h is =
+    let w = h.within in
+    let o = (names.at (get_or numbers row 0)).operation in
+    let rest = operations_of s (map names.at (drop at numbers)) in
+    let here : operations_of s (map names.at (drop next numbers)) ≡ o ∷ rest =
+    skip names numbers s (row - next) next row (omega arith) (omega arith) (λ j low below is. h.none j low below (is ∙ sym own))
+    ∙ from_own names numbers s row (omega arith) own ∙ ap (λ k. o ∷ operations_of s (map names.at (drop k numbers))) (let a : suc row ≡ at = omega arith in a) in
+    fold_push (insert_once operation_cmp) [] known o ∙ ap (λ ks. insert_once operation_cmp ks o) is ∙ sym (set_more operation_total operation_exact rest (o ∷ rest) o (λ p. refl)) ∙ ap (sorted_set operation_cmp) (sym here)

@@ -1,0 +1,94 @@
+-- An index of names that stand elsewhere: what it lists, and how the operations of a service lead to one
+-- another.
+use Rattle.std.specs.Prelude.{◌≡◌, ℕ, ◌-◌, ◌^◌, ◌<◌, ◌≤◌, Bool, List, [], map, length, get_or}
+use Rattle.std.specs.List.{list_any}
+use Rattle.trace_model.specs.declared.answer.Operation.{Operation}
+use Rattle.trace_model.specs.Names.{operation_cmp}
+use Rattle.jaeger_model.specs.Texts.{same_text, sorted_set, insert_once}
+use Rattle.service_index.specs.Listing.{Listed, listed_cmp, same_listed, operations_of}
+use Rattle.service_index.specs.Naming.{Names, service_alone, services_of}
+use Rattle.service_index.specs.Probes.{Table, IsNamed, row_of}
+
+-- what is seen of an index: a number for each operation of a service with its kind, a number for each
+-- service; for each service the row of its newest operation and one more, for each operation the row of
+-- the one of its service before it and one more; how many numbers were added, and how many may be
+pub record Index : Type 0 where
+  pub operations : Table
+  pub services : Table
+  pub newest : List ℕ
+  pub earlier : List ℕ
+  pub used : ℕ
+  pub room : ℕ
+
+-- what the numbers that were added report, as a set in order
+abbrev pub listing_by : Names → Index → List Listed
+listing_by names index = sorted_set listed_cmp (map names.at index.operations.numbers)
+
+-- the same with what one more number reports
+abbrev pub listing_with : Names → Index → ℕ → List Listed
+listing_with names index n = insert_once listed_cmp (listing_by names index) (names.at n)
+
+-- the row of a service, or how many rows there are
+abbrev pub service_row : Names → Index → List ℕ → ℕ
+service_row names index service = row_of (services_of names) index.services.numbers (service_alone service)
+
+-- some of these is of the service
+abbrev pub has_service : List ℕ → List Listed → Bool
+has_service service ls = list_any (λ (l : Listed). same_text service l.service) ls
+
+-- one of these is this operation of the service, with this kind
+abbrev pub has_operation : List ℕ → List ℕ → List ℕ → List Listed → Bool
+has_operation service name kind ls = list_any (same_listed (record { service = service; operation = record { name = name; kind = kind } })) ls
+
+-- ---- the operations of a service
+-- those of the service, in order
+abbrev pub own_operations : List ℕ → List Listed → List Operation
+own_operations service ls = sorted_set operation_cmp (operations_of service ls)
+
+-- the services of numbers
+abbrev pub owners : Names → List ℕ → List (List ℕ)
+owners names numbers = map (λ n. (names.at n).service) numbers
+
+-- the newest row of the service below a row, given with one more; 0 where there is none
+pub record IsNewest (rows : List (List ℕ)) (service : List ℕ) (at below : ℕ) : Type 0 where
+  pub within : at ≤ below
+  pub own : 0 < at → get_or rows (at - 1) [] ≡ service
+  pub none : (k : ℕ) → at ≤ k → k < below → get_or rows k [] ≡ service → ⊥
+
+-- each row leads to the newest of its service before it
+pub record IsChain (rows : List (List ℕ)) (earlier : List ℕ) : Type 0 where
+  pub as_many : length earlier ≡ length rows
+  pub before : (k : ℕ) → k < length rows → IsNewest rows (get_or rows k []) (get_or earlier k 0) k
+
+-- these are the operations of each service whose newest row this is
+abbrev pub AreFrom : Names → List ℕ → ℕ → List Operation → Type 0
+AreFrom names numbers newest os = (service : List ℕ) → IsNewest (owners names numbers) service newest (length numbers) → sorted_set operation_cmp os ≡ own_operations service (map names.at numbers)
+
+pub record IsLinked (rows services : List (List ℕ)) (newest earlier : List ℕ) : Type 0 where
+  pub as_many : length newest ≡ length services
+  pub chain : IsChain rows earlier
+  pub same : (p : List ℕ → Bool) → list_any p services ≡ list_any p rows
+  pub last : (s : ℕ) → s < length services → IsNewest rows (get_or services s []) (get_or newest s 0) (length rows)
+
+-- ---- the index
+-- how many of each there are, whatever the names
+pub record IsSized (used room : ℕ) (operations services : Table) (newest earlier : List ℕ) : Type 0 where
+  pub fits : room < 2 ^ 32
+  pub within : used ≤ room
+  pub few : length operations.numbers ≤ used
+  pub fewer : length services.numbers ≤ length operations.numbers
+  pub operations_room : operations.room ≡ room
+  pub services_room : services.room ≡ room
+  pub newest_rows : length newest ≡ length services.numbers
+  pub earlier_rows : length earlier ≡ length operations.numbers
+
+-- the index leads to its numbers by these names
+pub record IsIndexed (names : Names) (index : Index) : Type 0 where
+  pub operations : IsNamed names index.operations
+  pub services : IsNamed (services_of names) index.services
+  pub linked : IsLinked (owners names index.operations.numbers) (owners names index.services.numbers) index.newest index.earlier
+
+-- more names, and the old ones as they were
+pub record Extends (names more : Names) : Type 0 where
+  pub count : names.count ≤ more.count
+  pub same : (n : ℕ) → n < names.count → more.at n ≡ names.at n

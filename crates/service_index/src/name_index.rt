@@ -1,0 +1,270 @@
+ghost use Rattle.std.specs.Prelude.{◌≡◌, ℕ, ◌+◌, ◌<◌, ◌≤◌, ◌↔◌, [], length, IfOk, IsTrue};
+ghost use Rattle.jaeger_model.specs.Texts.{sorted_set};
+ghost use Rattle.trace_model.specs.Names.{operation_cmp};
+ghost use Rattle.service_index.specs.Listing.{services_in, names_in, operations_in};
+ghost use Rattle.service_index.specs.Naming.{Names};
+ghost use Rattle.service_index.specs.Probes.{AreNumbers};
+ghost use Rattle.service_index.specs.Indexes.{listing_by, listing_with, service_row, has_service, has_operation, own_operations};
+ghost use Rattle.service_index.specs.Indexes.{owners, AreFrom, IsChain, IsIndexed};
+
+use crate::name_table::NameTable;
+use crate::operation_sets::{names_alone, operations_in_order, texts_in_order, with_kind};
+use crate::texts::{Name, ServiceTexts, Texts};
+use jaeger_model::Text;
+use std::alloc::{AllocError, Global};
+use std::hash::RandomState;
+use std::marker::Model;
+use trace_model::Operation;
+
+/// The services that the spans of some numbers reported, each with its operations and their kinds, in
+/// room that is taken once.
+///
+/// The names stand with the spans, and each call is given them as [`Texts`]: what they say of the
+/// numbers that were added stays as it was.
+#[derive(Drop)]
+pub struct NameIndex {
+    alloc: Global,
+    room: u32,
+    used: u32,
+    /// A number for each operation of a service with its kind.
+    operations: NameTable,
+    /// A number for each service.
+    services: NameTable,
+    /// For each service the row of its newest operation and one more.
+    newest: Vec<u32>,
+    /// For each operation the row of the one of its service that was added before it and one more, 0
+    /// where it is the first.
+    earlier: Vec<u32>,
+}
+
+impl Model for NameIndex {
+    ghost use Rattle.std.specs.Prelude.{vec_capacity, ◌≤◌};
+    ghost use Rattle.service_index.specs.Indexes.{Index, IsSized};
+
+    ghost Value = { Index };
+
+    ghost view = { λ i. record { operations = i.operations; services = i.services; newest = i.newest.items; earlier = i.earlier.items; used = i.used; room = i.room } };
+
+    ghost invariant = { λ i. (i.room ≤ vec_capacity i.newest) × (i.room ≤ vec_capacity i.earlier) × IsSized i.used i.room i.operations i.services i.newest.items i.earlier.items };
+}
+
+impl NameIndex {
+    /// An index that lists nothing, with room for so many numbers. The keys decide where names stand
+    /// in its tables.
+    ///
+    /// # Errors
+    ///
+    /// Want of memory alone.
+    pub fn with_room(alloc: Global, keys: RandomState, room: u32) -> Result<Self, AllocError>
+        ensures empty { IfOk result (λ index. (names : Names) → listing_by names index ≡ []) }
+        ensures used { IfOk result (λ index. index.used ≡ 0) }
+        ensures room { IfOk result (λ index. index.room ≡ room) }
+        ensures indexed { IfOk result (λ index. (names : Names) → IsIndexed names index) }
+    {
+        let operations = NameTable::with_room(alloc, keys, room)?;
+        let services = NameTable::with_room(alloc, keys, room)?;
+        let newest = Vec::with_capacity(alloc, room as usize)?;
+        let earlier = Vec::with_capacity(alloc, room as usize)?;
+        Ok(NameIndex {
+            alloc,
+            room,
+            used: 0,
+            operations,
+            services,
+            newest,
+            earlier,
+        })
+    }
+
+    /// How many numbers were added.
+    pub fn used(&self) -> u32
+        ensures used { result ≡ self.now.used }
+        ensures within { result ≤ self.now.room }
+    {
+        self.used
+    }
+
+    /// One more number may be added.
+    pub fn has_room(&self) -> bool
+        ensures { IsTrue result ↔ (self.now.used < self.now.room) }
+    {
+        self.used < self.room
+    }
+
+    /// Adds a number: what its span reports is listed from now on. It takes no memory.
+    pub fn add_at<T: Texts>(&mut self, n: u32, texts: &T)
+        requires indexed { IsIndexed (T.names texts.now) self.old }
+        requires held { n < (T.names texts.now).count }
+        requires room { self.old.used < self.old.room }
+
+        ensures listed { listing_by (T.names texts.now) self.new ≡ listing_with (T.names texts.now) self.old n }
+        ensures used { self.new.used ≡ self.old.used + 1 }
+        ensures room { self.new.room ≡ self.old.room }
+        ensures indexed { IsIndexed (T.names texts.now) self.new }
+    {
+        self.used += 1;
+        let row = self.operations.add(texts, n);
+        if (row as usize) < self.earlier.len() {
+            return;
+        }
+        let service = self.services.add(&ServiceTexts { texts }, n) as usize;
+        if service < self.newest.len() {
+            self.earlier.push_reserved(self.newest[service]);
+            self.newest[service] = row + 1;
+        } else {
+            self.earlier.push_reserved(0);
+            self.newest.push_reserved(row + 1);
+        }
+    }
+
+    /// Whether a span of the service was added.
+    pub fn knows_service<T: Texts>(&self, texts: &T, service: &str) -> bool
+        requires { IsIndexed (T.names texts.now) self.now }
+        ensures { result ≡ has_service service.now (listing_by (T.names texts.now) self.now) }
+    {
+        (self.service_row(texts, service) as usize) < self.newest.len()
+    }
+
+    /// Whether a span of the service with this operation and kind was added.
+    pub fn knows<T: Texts>(&self, texts: &T, service: &str, operation: &str, kind: &str) -> bool
+        requires { IsIndexed (T.names texts.now) self.now }
+        ensures { result ≡ has_operation service.now operation.now kind.now (listing_by (T.names texts.now) self.now) }
+    {
+        let name = Name {
+            service,
+            operation,
+            kind,
+        };
+        (self.operations.row_of(texts, name) as usize) < self.earlier.len()
+    }
+
+    /// The services, each once, in the order of their bytes.
+    ///
+    /// # Errors
+    ///
+    /// Want of memory alone.
+    pub fn services_in<T: Texts>(&self, texts: &T) -> Result<Vec<Text>, AllocError>
+        requires { IsIndexed (T.names texts.now) self.now }
+        ensures { IfOk result (λ names. names.items ≡ services_in (listing_by (T.names texts.now) self.now)) }
+    {
+        let names = services_along(self.alloc, texts, self.services.numbers())?;
+        texts_in_order(names)
+    }
+
+    /// The pairs of operation and kind of a service, each once, in order of operation and then of
+    /// kind. An empty kind asks for all.
+    ///
+    /// # Errors
+    ///
+    /// Want of memory alone.
+    pub fn operations_in<T: Texts>(
+        &self,
+        texts: &T,
+        service: &Text,
+        kind: &Text,
+    ) -> Result<Vec<Operation>, AllocError>
+        requires { IsIndexed (T.names texts.now) self.now }
+        ensures { IfOk result (λ found. found.items ≡ operations_in service.now kind.now (listing_by (T.names texts.now) self.now)) }
+    {
+        let operations = self.operations_of(texts, service.as_str())?;
+        let known = operations_in_order(operations)?;
+        with_kind(self.alloc, known, kind)
+    }
+
+    /// The operations of a service, each once, in the order of their bytes.
+    ///
+    /// # Errors
+    ///
+    /// Want of memory alone.
+    pub fn names_in<T: Texts>(&self, texts: &T, service: &Text) -> Result<Vec<Text>, AllocError>
+        requires { IsIndexed (T.names texts.now) self.now }
+        ensures { IfOk result (λ names. names.items ≡ names_in service.now (listing_by (T.names texts.now) self.now)) }
+    {
+        let operations = self.operations_of(texts, service.as_str())?;
+        let names = names_alone(self.alloc, operations)?;
+        texts_in_order(names)
+    }
+
+    /// The row of a service, or how many services there are where it is not known.
+    fn service_row<T: Texts>(&self, texts: &T, service: &str) -> u32
+        requires { IsIndexed (T.names texts.now) self.now }
+        ensures { result ≡ service_row (T.names texts.now) self.now service.now }
+    {
+        let name = Name {
+            service,
+            operation: "",
+            kind: "",
+        };
+        self.services.row_of(&ServiceTexts { texts }, name)
+    }
+
+    /// The operations of a service, the newest first.
+    fn operations_of<T: Texts>(
+        &self,
+        texts: &T,
+        service: &str,
+    ) -> Result<Vec<Operation>, AllocError>
+        requires { IsIndexed (T.names texts.now) self.now }
+        ensures { IfOk result (λ v. sorted_set operation_cmp v.items ≡ own_operations service.now (listing_by (T.names texts.now) self.now)) }
+    {
+        let row = self.service_row(texts, service) as usize;
+        if row >= self.newest.len() {
+            return Ok(Vec::new(self.alloc));
+        }
+        let numbers = self.operations.numbers();
+        operations_along(self.alloc, texts, numbers, &self.earlier, self.newest[row])
+    }
+}
+
+/// The services of some numbers.
+fn services_along<T: Texts>(
+    alloc: Global,
+    texts: &T,
+    numbers: &[u32],
+) -> Result<Vec<Text>, AllocError>
+    requires { AreNumbers (T.names texts.now) numbers.now }
+    ensures { IfOk result (λ names. names.items ≡ owners (T.names texts.now) numbers.now) }
+{
+    let mut names = Vec::new(alloc);
+    for n in numbers {
+        let (service, _, _) = texts.name_at(*n);
+        names.push(Text::from_str(alloc, service)?)?;
+    }
+    Ok(names)
+}
+
+/// The operation of a number, with its kind.
+fn operation_at<T: Texts>(alloc: Global, texts: &T, n: u32) -> Result<Operation, AllocError>
+    requires { n < (T.names texts.now).count }
+    ensures { IfOk result (λ operation. operation ≡ ((T.names texts.now).at n).operation) }
+{
+    let (_, operation, kind) = texts.name_at(n);
+    Ok(Operation {
+        name: Text::from_str(alloc, operation)?,
+        kind: Text::from_str(alloc, kind)?,
+    })
+}
+
+/// The operations of a service: that of its newest row, which is given with one more, and of those
+/// before it.
+fn operations_along<T: Texts>(
+    alloc: Global,
+    texts: &T,
+    numbers: &[u32],
+    earlier: &[u32],
+    newest: u32,
+) -> Result<Vec<Operation>, AllocError>
+    requires numbers { AreNumbers (T.names texts.now) numbers.now }
+    requires chain { IsChain (owners (T.names texts.now) numbers.now) earlier.now }
+    requires within { newest ≤ length numbers.now }
+    ensures { IfOk result (λ known. AreFrom (T.names texts.now) numbers.now newest known.items) }
+{
+    let mut known = Vec::new(alloc);
+    let mut at = newest;
+    while at > 0 {
+        let row = (at - 1) as usize;
+        known.push(operation_at(alloc, texts, numbers[row])?)?;
+        at = earlier[row];
+    }
+    Ok(known)
+}
