@@ -103,4 +103,5 @@ def main():
         measure(words.bin, int(size), words.asks)
 
 
-main()
+if __name__ == "__main__":
+    main()

@@ -1,8 +1,6 @@
 -- What an entry that may follow leaves true.
-use Rattle.std.proofs.Common.{◌≡◌, ℕ, ◌+◌, ◌<◌, ◌≤◌, Bool, true, false, ◌&&◌, cond, max, subst, nat_eq, List, [], ◌∷◌, ◌++◌, length, refl, sym, ap, ◌∙◌, arith, eqb-true, Some, None}
+use Rattle.std.proofs.Common.{◌≡◌, ℕ, ◌+◌, ◌<◌, ◌≤◌, Bool, true, false, ◌&&◌, max, subst, get_or, List, [], ◌∷◌, ◌++◌, length, refl, sym, ap, ◌∙◌, arith, eqb-true, Some, None}
 use Rattle.std.specs.Prelude.{◌==◌, nat_le, if◌then◌else◌}
-use Rattle.std.specs.Option.{unwrap_or}
-use Rattle.std.specs.HashMap.{HashMap, get, Updates}
 use Rattle.std.proofs.lemmas.Bool.{leb-true, leb-false, false≢true}
 use Rattle.std.proofs.lemmas.List.Sums.{fold_push}
 use Rattle.trace_model.specs.declared.entry.Entry.{Entry}
@@ -42,22 +40,24 @@ may_follow limits h e none =
 last_number_push : (seat : ℕ) (h : List Entry) (e : Entry) → last_number seat (h ++ e ∷ []) ≡ (if e.seat == seat then max (last_number seat h) e.number else last_number seat h)
 last_number_push seat h e = fold_push (λ n (x : Entry). if x.seat == seat then max n x.number else n) 0 h e
 
-last_push : {S : Type 0} (h : List Entry) (e : Entry) (m n : HashMap ℕ ℕ S) → ((seat : ℕ) → unwrap_or (get nat_eq m seat) 0 ≡ last_number seat h) → last_number e.seat h < e.number → Updates nat_eq m n e.seat (Some e.number)
-    → (seat : ℕ) → unwrap_or (get nat_eq n seat) 0 ≡ last_number seat (h ++ e ∷ [])
-last_push h e m n last rises updates seat =
-    ap (λ o. unwrap_or o 0) (updates.0 seat)
-    ∙ elim (e.seat == seat) as (λ b. (e.seat == seat) ≡ b → unwrap_or (cond b (Some e.number) (get nat_eq m seat)) 0 ≡ (if b then max (last_number seat h) e.number else last_number seat h)) [
+last_push : (h : List Entry) (e : Entry) (old new : List ℕ) → ((seat : ℕ) → get_or old seat 0 ≡ last_number seat h) → last_number e.seat h < e.number
+    → ((seat : ℕ) → get_or new seat 0 ≡ (if e.seat == seat then e.number else get_or old seat 0)) → (seat : ℕ) → get_or new seat 0 ≡ last_number seat (h ++ e ∷ [])
+last_push h e old new last rises noted seat =
+    noted seat
+    ∙ elim (e.seat == seat) as (λ b. (e.seat == seat) ≡ b → (if b then e.number else get_or old seat 0) ≡ (if b then max (last_number seat h) e.number else last_number seat h)) [
       | true ↦ λ same. let own : last_number seat h < e.number = let P : ℕ → Type 0 = λ s. last_number s h < e.number in subst P (eqb-true e.seat seat same) rises in omega arith
       | false ↦ λ other. last seat
     ] refl
     ∙ sym (last_number_push seat h e)
 
-pub kept_push : {S : Type 0} (limits : Limits) (h : List Entry) (spans : ℕ) (e : Entry) (m n : HashMap ℕ ℕ S) → IsKept limits h spans m → refusal_of limits h e ≡ None → Updates nat_eq m n e.seat (Some e.number)
-    → IsKept limits (h ++ e ∷ []) (spans + length e.batch.spans) n
-kept_push limits h spans e m n kept none updates =
+pub kept_push : (limits : Limits) (h : List Entry) (most most' spans : ℕ) (e : Entry) (old new : List ℕ) (seats seats' : ℕ) → IsKept limits h most spans old seats → refusal_of limits h e ≡ None
+    → ((seat : ℕ) → get_or new seat 0 ≡ (if e.seat == seat then e.number else get_or old seat 0)) → most' ≡ most → seats' ≡ seats → IsKept limits (h ++ e ∷ []) most' (spans + length e.batch.spans) new seats'
+kept_push limits h most most' spans e old new seats seats' kept none noted same stays =
     let follows = may_follow limits h e none in
     record {
       legal = legal_push limits h e kept.legal follows.rises follows.batches follows.spans;
+      room = let room = kept.room in omega arith;
       counted = ap (λ k. k + length e.batch.spans) kept.counted ∙ sym (span_count_push h e);
-      last = last_push h e m n kept.last follows.rises updates;
+      last = last_push h e old new kept.last follows.rises noted;
+      seats_fit = let fit = kept.seats_fit in omega arith;
     }

@@ -1,5 +1,5 @@
 -- What a journal keeps, and how it answers.
-use Rattle.std.specs.Prelude.{ℕ, Option}
+use Rattle.std.specs.Prelude.{Option}
 use Rattle.trace_model.specs.declared.entry.Entry.{Entry}
 use Rattle.trace_model.specs.declared.refusal.Refusal.{Refusal}
 use Rattle.trace_model.specs.declared.refusal.Refusal.TheVariants.{NoMemory}
@@ -7,10 +7,9 @@ use Rattle.std.specs.Option.{unwrap_or}
 use Rattle.trace_model.specs.Refusals.{refusal_of}
 use Rattle.trace_model.specs.Held.{Held}
 
--- the history, and how many more entries there is room for
+-- the history
 pub record Journaled : Type 0 where
   pub held : Held
-  pub room : ℕ
 
 -- what the history answers to this entry; None where it takes it
 abbrev pub refusal_by : Held → Entry → Option Refusal

@@ -1,14 +1,14 @@
-ghost use Rattle.std.specs.Prelude.{◌≡◌, ◌+◌, ◌<◌, ◌≤◌, ◌==◌, [], length, map, None, OnOk, OnErr, IfOk, IfErr, IsOk, option_map};
+ghost use Rattle.std.specs.Prelude.{◌≡◌, ◌==◌, [], length, map, None, OnOk, OnErr, IfOk, option_map};
 ghost use Rattle.std.specs.Arc.{arc_value};
 ghost use Rattle.std.specs.Option.{option_copied};
 ghost use Rattle.std.specs.Result.{result_err};
 ghost use Rattle.trace_model.specs.Histories.{span_count, last_number, IsLegal};
 ghost use Rattle.trace_model.specs.Refusals.{followed_by};
 ghost use Rattle.trace_model.specs.Places.{entry_at};
-ghost use Rattle.arrival_journal.specs.Journals.{Journaled, refusal_by, turned_away_by};
+ghost use Rattle.arrival_journal.specs.Journals.{refusal_by};
 
+use crate::seats::{SEATS, note};
 use std::alloc::{AllocError, Global};
-use std::collections::HashMap;
 use std::marker::Model;
 use std::sync::Arc;
 use trace_model::{Entry, Limits, Refusal};
@@ -19,37 +19,39 @@ pub struct Journal {
     limits: Limits,
     entries: Vec<Arc<Entry>>,
     spans: u64,
-    /// Of each seat that has an entry, the number of its last one.
-    last_numbers: HashMap<u16, u64>,
+    /// By seat the number of its last entry, 0 where it has none, up to the last seat that has one.
+    last_numbers: Vec<u64>,
 }
 
 impl Model for Journal {
-    ghost use Rattle.std.specs.Prelude.{map, min, ◌-◌};
+    ghost use Rattle.std.specs.Prelude.{map};
     ghost use Rattle.std.specs.Arc.{arc_value};
-    ghost use Rattle.std.specs.Vec.{vec_len, vec_capacity};
-    ghost use Rattle.std.specs.HashMap.{spare};
+    ghost use Rattle.std.specs.Vec.{vec_capacity};
     ghost use Rattle.arrival_journal.specs.Journals.{Journaled};
 
     ghost Value = { Journaled };
 
     ghost use Rattle.arrival_journal.specs.Invariants.{IsKept};
 
-    ghost view = { λ j. record { held = record { limits = j.limits; entries = map arc_value j.entries.items }; room = min (vec_capacity j.entries - vec_len j.entries) (spare j.last_numbers) } };
+    ghost view = { λ j. record { held = record { limits = j.limits; entries = map arc_value j.entries.items } } };
 
-    ghost invariant = { λ j. IsKept j.limits (map arc_value j.entries.items) j.spans j.last_numbers };
+    ghost invariant = { λ j. IsKept j.limits (map arc_value j.entries.items) (vec_capacity j.entries) j.spans j.last_numbers.items (vec_capacity j.last_numbers) };
 }
 
 impl Journal {
-    /// A journal with no entry.
-    pub fn new(alloc: Global, limits: Limits) -> Self
-        ensures { result.held ≡ record { limits = limits; entries = [] } }
+    /// A journal with no entry, and the room for all that its limits let it hold. Nothing takes memory
+    /// from then on.
+    pub fn new(alloc: Global, limits: Limits) -> Result<Self, AllocError>
+        ensures { IfOk result (λ journal. journal.held ≡ record { limits = limits; entries = [] }) }
     {
-        Journal {
+        let entries = Vec::with_capacity(alloc, limits.batches as usize)?;
+        let last_numbers = Vec::with_capacity(alloc, SEATS)?;
+        Ok(Journal {
             limits,
-            entries: Vec::new(alloc),
+            entries,
             spans: 0,
-            last_numbers: HashMap::new(alloc),
-        }
+            last_numbers,
+        })
     }
 
     /// How much it may hold.
@@ -100,7 +102,10 @@ impl Journal {
     fn last_number(&self, seat: u16) -> u64
         ensures { result ≡ last_number seat self.now.held.entries }
     {
-        self.last_numbers.get(&seat).copied().unwrap_or(0)
+        self.last_numbers
+            .get(usize::from(seat))
+            .copied()
+            .unwrap_or(0)
     }
 
     /// Says whether the entry may follow: first whether its number is above the last one of its
@@ -125,49 +130,32 @@ impl Journal {
         Ok(())
     }
 
-    /// Takes the room for so many more entries. The entries stay in either case.
-    pub fn reserve(&mut self, additional: usize) -> Result<(), AllocError>
-        ensures entries { self.new.held ≡ self.old.held }
-        ensures ok { OnOk result (additional ≤ self.new.room) }
-        ensures room { self.old.room ≤ self.new.room }
-        ensures succeeds { additional ≤ self.old.room → IsOk result }
-    {
-        self.entries.reserve(additional)?;
-        self.last_numbers.reserve(additional)
-    }
-
-    /// Adds an entry that may follow, in room that was taken before.
+    /// Adds an entry that may follow.
     pub fn append(&mut self, entry: Arc<Entry>)
-        requires admissible { refusal_by self.old.held (arc_value entry) ≡ None }
-        requires room { 0 < self.old.room }
+        requires { refusal_by self.old.held (arc_value entry) ≡ None }
         ensures appended { self.new.held ≡ followed_by self.old.held (arc_value entry) }
-        ensures room { self.old.room ≤ self.new.room + 1 }
         ensures legal { IsLegal self.new.held.limits self.new.held.entries }
     {
         self.spans += entry.batch.spans.len() as u64;
-        let _ = self.last_numbers.insert(entry.seat, entry.number);
+        note(&mut self.last_numbers, entry.seat, entry.number);
         self.entries.push_reserved(entry);
     }
 
     /// Adds an entry at the end and gives its place, the first one being 1.
     ///
-    /// The refusals are those of [`judge`](Self::judge), and after them [`Refusal::NoMemory`]. Any of
-    /// them leaves the entries as they were.
+    /// The refusals are those of [`judge`](Self::judge), and no others. Any of them leaves the entries
+    /// as they were.
     pub fn admit(&mut self, entry: Arc<Entry>) -> Result<u64, Refusal>
+        ensures answer { result_err result ≡ refusal_by self.old.held (arc_value entry) }
         ensures admissible { OnOk result (refusal_by self.old.held (arc_value entry) ≡ None) }
         ensures admitted { OnOk result (self.new.held ≡ followed_by self.old.held (arc_value entry)) }
         ensures place { IfOk result (λ place. place ≡ length self.new.held.entries) }
 
         ensures unchanged { OnErr result (self.new.held ≡ self.old.held) }
-        ensures reason { IfErr result (λ why. why ≡ turned_away_by self.old.held (arc_value entry)) }
-        ensures succeeds { refusal_by self.old.held (arc_value entry) ≡ None → 0 < self.old.room → IsOk result }
 
         ensures legal { IsLegal self.new.held.limits self.new.held.entries }
     {
         self.judge(&entry)?;
-        if self.reserve(1).is_err() {
-            return Err(Refusal::NoMemory);
-        }
         self.append(entry);
         Ok(self.len())
     }

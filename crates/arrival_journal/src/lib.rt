@@ -3,11 +3,14 @@
 //! The list of entries is legal at every moment: each entry's number is above every earlier number
 //! of its seat, and the counts of entries and of spans are within the limits. An entry that would
 //! break this is turned away, and nothing has changed then. Judging and adding an entry costs the
-//! same however long the list is.
+//! same however long the list is. All room is taken when a journal is made, so that adding an entry
+//! never fails for want of memory.
 //!
 //! * `journal`: the [`Journal`].
+//! * `seats`: the last numbers of seats.
 #![tactic(auto)]
 
 mod journal;
+mod seats;
 
 pub use journal::Journal;

@@ -10,6 +10,7 @@ use hex::FromHexError;
 use jaeger_model::Batch;
 use span_store::SpanStore;
 use std::alloc::{AllocError, Global};
+use std::hash::RandomState;
 use std::io::Write;
 use std::marker::Model;
 use std::sync::Arc;
@@ -135,12 +136,11 @@ impl Model for Batches {
 
 impl Batches {
     /// Nothing is held.
-    pub fn new(alloc: Global, limits: Limits) -> Self
-        ensures { result ≡ nothing_held limits }
+    pub fn new(alloc: Global, keys: RandomState, limits: Limits) -> Result<Self, AllocError>
+        ensures { IfOk result (λ batches. batches ≡ nothing_held limits) }
     {
-        Batches {
-            store: SpanStore::open(alloc, limits),
-        }
+        let store = SpanStore::open(alloc, keys, limits)?;
+        Ok(Batches { store })
     }
 
     /// The store.

@@ -22,6 +22,7 @@ use jaeger_model::TraceId;
 pub use line_fault::LineFault;
 use session_devices::{Input, Output};
 use std::alloc::Global;
+use std::hash::RandomState;
 use text_lines::{Halt, answer_lines};
 use trace_model::Limits;
 
@@ -38,6 +39,7 @@ fn status_of(faulty: bool, found: bool) -> u8
 /// The run to the end of the input, which gives the status.
 fn finish<R: Input, W: Output>(
     alloc: Global,
+    keys: RandomState,
     input: &mut R,
     output: &mut W,
     limits: Limits,
@@ -50,7 +52,7 @@ fn finish<R: Input, W: Output>(
     ensures stops { IfErr result (λ h. StopsShort (R.remaining input.old) (R.remaining input.new) (W.contents output.old) (W.contents output.new) (R.has_failed input.new) (W.has_failed output.new)
         (output_of limits trace) (status_by h)) }
 {
-    let mut batches = Batches::new(alloc, limits);
+    let mut batches = Batches::new(alloc, keys, limits)?;
     let faulty = answer_lines(alloc, input, output, &mut batches)?;
     let found = say_trace(alloc, output, batches.store(), trace)?;
     Ok(status_of(faulty, found))
@@ -66,6 +68,7 @@ fn finish<R: Input, W: Output>(
 /// where a read or a write failed, or the limit of reads was met; 5 for want of memory.
 pub fn run_get<R: Input, W: Output>(
     alloc: Global,
+    keys: RandomState,
     input: &mut R,
     output: &mut W,
     limits: Limits,
@@ -76,7 +79,7 @@ pub fn run_get<R: Input, W: Output>(
     ensures { RunsAs (R.remaining input.old) (R.remaining input.new) (W.contents output.old) (W.contents output.new) (R.has_failed input.new) (W.has_failed output.new)
         (output_of limits trace) (status_for limits trace) result }
 {
-    match finish(alloc, input, output, limits, trace) {
+    match finish(alloc, keys, input, output, limits, trace) {
         Ok(status) => status,
         Err(halt) => halt.status(),
     }

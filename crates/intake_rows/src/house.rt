@@ -7,7 +7,9 @@ use intake::{Clerk, Desk, Seat, desk};
 use jaeger_model::{Batch, Process, Seq, Span, SpanId, Text, TraceId};
 use read_side::{Keeper, Opened, Pass, StoreName, open};
 use std::alloc::{AllocError, Global};
+use std::hash::RandomState;
 use std::process::Abort;
+use std::random::RandomSource;
 use std::sync::Wait;
 use std::test::*;
 use std::thread::Threads;
@@ -50,7 +52,7 @@ pub fn batch(alloc: Global, id: u64) -> Result<Batch, AllocError> {
 }
 
 /// Opens a store and its desk, and plays the row with them.
-pub fn played<N: StoreName + Send + Sync, R: Threads + Wait + Abort + Sync>(
+pub fn played<N: StoreName + Send + Sync, R: Threads + Wait + Abort + RandomSource + Sync>(
     rt: &R,
     alloc: Global,
     name: Opened,
@@ -59,7 +61,7 @@ pub fn played<N: StoreName + Send + Sync, R: Threads + Wait + Abort + Sync>(
 ) -> Result<bool, Fail>
     requires { (name.seen.book ≡ N.book) × (limits ≡ N.limits) }
 {
-    let (mut keeper, passes) = open::<N>(alloc, name, limits, 2)?;
+    let (mut keeper, passes) = open::<N>(alloc, RandomState::new(rt)?, name, limits, 2)?;
     let first = keeper.receipt();
     match desk(alloc, first, 1, 4) {
         Err(_) => {

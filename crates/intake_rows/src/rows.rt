@@ -9,6 +9,7 @@ use read_side::{Keeper, Opened, StoreName};
 use std::alloc::Global;
 use std::marker::Brand;
 use std::process::Abort;
+use std::random::RandomSource;
 use std::sync::Wait;
 use std::test::*;
 use std::thread::{Threads, join, yield_now};
@@ -43,7 +44,11 @@ impl Row {
 }
 
 /// The store has room for three batches.
-fn plays<R: Threads + Wait + Abort + Sync>(rt: &R, alloc: Global, row: Row) -> Result<bool, Fail> {
+fn plays<R: Threads + Wait + Abort + RandomSource + Sync>(
+    rt: &R,
+    alloc: Global,
+    row: Row,
+) -> Result<bool, Fail> {
     let limits = Limits::new(3, 100, 0, 0).expect(rt, "limits");
     played::<Brand, _>(rt, alloc, Opened::new(), limits, row)
 }

@@ -1,6 +1,8 @@
 use schedule_core::{Outcome, Step, play};
 use std::alloc::Global;
+use std::hash::RandomState;
 use std::process::Abort;
+use std::random::RandomSource;
 use std::test::*;
 use trace_model::{Answer, Limits, Query};
 use trace_samples::{batch, span};
@@ -77,9 +79,14 @@ fn steps(alloc: Global, rows: &[Row]) -> Result<Vec<Step>, Fail> {
 }
 
 /// Plays the steps, and compares what came of each.
-fn expect_outcomes(rt: &impl Abort, alloc: Global, batches: u32, rows: &[Row]) -> Result<(), Fail> {
+fn expect_outcomes<R: Abort + RandomSource>(
+    rt: &R,
+    alloc: Global,
+    batches: u32,
+    rows: &[Row],
+) -> Result<(), Fail> {
     let limits = Limits::new(batches, 100, 0, 0).expect(rt, "limits");
-    let outcomes = play(alloc, steps(alloc, rows)?, limits)?;
+    let outcomes = play(alloc, RandomState::new(rt)?, steps(alloc, rows)?, limits)?;
     assert_eq!(rt; outcomes.len(), rows.len());
     for (outcome, (_, wanted, number)) in outcomes.iter().zip(rows) {
         assert_eq!(rt; word(outcome), (*wanted, *number));

@@ -15,6 +15,7 @@ mod script;
 pub use script::Script;
 use session_devices::{Input, Output};
 use std::alloc::Global;
+use std::hash::RandomState;
 use text_lines::answer_lines;
 use trace_model::Limits;
 
@@ -33,6 +34,7 @@ fn status_of(faulty: bool) -> u8
 /// was met; 5 for want of memory.
 pub fn run_play<R: Input, W: Output>(
     alloc: Global,
+    keys: RandomState,
     input: &mut R,
     output: &mut W,
     limits: Limits,
@@ -42,7 +44,7 @@ pub fn run_play<R: Input, W: Output>(
     ensures { RunsAs (R.remaining input.old) (R.remaining input.new) (W.contents output.old) (W.contents output.new) (R.has_failed input.new) (W.has_failed output.new)
         (output_of limits) (status_for limits) result }
 {
-    let Ok(mut script) = Script::new(alloc, limits) else {
+    let Ok(mut script) = Script::new(alloc, keys, limits) else {
         return 5;
     };
     match answer_lines(alloc, input, output, &mut script) {

@@ -11,6 +11,7 @@ use matchit::Router;
 use query_http::{Endpoint, endpoints};
 use schedule_core::{Outcome, Step, World};
 use std::alloc::{AllocError, Global};
+use std::hash::RandomState;
 use std::io::Write;
 use std::marker::Model;
 use step_lines::{StepFault, outcome_text, read_step};
@@ -98,7 +99,7 @@ impl Model for Script {
 
 impl Script {
     /// A machine in which nothing has happened.
-    pub fn new(alloc: Global, limits: Limits) -> Result<Self, AllocError>
+    pub fn new(alloc: Global, keys: RandomState, limits: Limits) -> Result<Self, AllocError>
         ensures { IfOk result (λ s. StandsAt s (new_machine limits)) }
     {
         let Ok(router) = endpoints(alloc) else {
@@ -106,7 +107,7 @@ impl Script {
         };
         Ok(Script {
             router,
-            world: World::new(alloc, limits),
+            world: World::new(alloc, keys, limits),
         })
     }
 }

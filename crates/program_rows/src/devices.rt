@@ -7,6 +7,7 @@ use std::io;
 use std::io::{Error, ErrorKind, Read, Write};
 use std::net::{Net, TcpListener, TcpStream};
 use std::process::Abort;
+use std::random::RandomSource;
 use std::sync::Wait;
 use std::test::Fail;
 use std::thread::Threads;
@@ -56,7 +57,13 @@ impl Write for Full {
 /// Runs the words over the input with a reader that fails at each of its calls, and with a writer of each
 /// room below the output's size: each run ends with 4 after a beginning of the output.
 fn check_failures<
-    A: Abort + Threads + Wait + Clock + Net<Stream = TcpStream, Listener = TcpListener> + Sync,
+    A: Abort
+        + Threads
+        + Wait
+        + Clock
+        + RandomSource
+        + Net<Stream = TcpStream, Listener = TcpListener>
+        + Sync,
 >(
     rt: &A,
     alloc: Global,

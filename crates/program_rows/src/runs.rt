@@ -4,6 +4,7 @@ use session_devices::Watched;
 use std::alloc::Global;
 use std::net::{Net, TcpListener, TcpStream};
 use std::process::Abort;
+use std::random::RandomSource;
 use std::sync::Wait;
 use std::test::Fail;
 use std::thread::Threads;
@@ -32,7 +33,13 @@ pub(crate) fn joined(alloc: Global, pieces: &[&str]) -> Result<String, Fail> {
 
 /// Runs the words over the input, and looks at the status and the output.
 pub(crate) fn check<
-    A: Abort + Threads + Wait + Clock + Net<Stream = TcpStream, Listener = TcpListener> + Sync,
+    A: Abort
+        + Threads
+        + Wait
+        + Clock
+        + RandomSource
+        + Net<Stream = TcpStream, Listener = TcpListener>
+        + Sync,
 >(
     rt: &A,
     alloc: Global,
@@ -47,7 +54,13 @@ pub(crate) fn check<
 
 /// The same of any bytes.
 pub(crate) fn check_bytes<
-    A: Abort + Threads + Wait + Clock + Net<Stream = TcpStream, Listener = TcpListener> + Sync,
+    A: Abort
+        + Threads
+        + Wait
+        + Clock
+        + RandomSource
+        + Net<Stream = TcpStream, Listener = TcpListener>
+        + Sync,
 >(
     rt: &A,
     alloc: Global,

@@ -10,7 +10,9 @@ use play_script::run_play;
 use session_devices::{Input, Output};
 use std::alloc::Global;
 use std::convert::AsStr;
+use std::hash::RandomState;
 use std::net::{Net, TcpListener, TcpStream};
+use std::random::RandomSource;
 use std::sync::Wait;
 use std::thread::Threads;
 use std::time::Clock;
@@ -28,16 +30,24 @@ pub fn run<H, S: AsStr, R: Input, W: Output>(
     output: &mut W,
 ) -> u8
 where
-    H: Threads + Wait + Clock + Net<Stream = TcpStream, Listener = TcpListener> + Sync,
+    H: Threads
+        + Wait
+        + Clock
+        + RandomSource
+        + Net<Stream = TcpStream, Listener = TcpListener>
+        + Sync,
     requires input_works { R.has_failed input.old ≡ false }
     requires output_works { W.has_failed output.old ≡ false }
     ensures { Runs (map S.text words.now) (R.remaining input.old) (R.remaining input.new) (W.contents output.old) (W.contents output.new) (R.has_failed input.new) (W.has_failed output.new) result }
 {
+    let Ok(keys) = RandomState::new(rt) else {
+        return 5;
+    };
     match read_words(alloc, words, output) {
-        Ok(Command::Get { limits, trace }) => run_get(alloc, input, output, limits, trace),
-        Ok(Command::Pipe { limits }) => run_pipe(alloc, input, output, limits),
-        Ok(Command::Play { limits }) => run_play(alloc, input, output, limits),
-        Ok(Command::Serve { options }) => run_serve(rt, alloc, output, options),
+        Ok(Command::Get { limits, trace }) => run_get(alloc, keys, input, output, limits, trace),
+        Ok(Command::Pipe { limits }) => run_pipe(alloc, keys, input, output, limits),
+        Ok(Command::Play { limits }) => run_play(alloc, keys, input, output, limits),
+        Ok(Command::Serve { options }) => run_serve(rt, alloc, keys, output, options),
         Err(status) => status,
     }
 }

@@ -8,6 +8,7 @@ use pipe_session::pipe;
 use session_devices::{Input, Output};
 use span_store::SpanStore;
 use std::alloc::Global;
+use std::hash::RandomState;
 use trace_model::Limits;
 
 fn status_of(cause: Cause) -> u8
@@ -24,6 +25,7 @@ fn status_of(cause: Cause) -> u8
 /// or a write failed, and 5 for want of memory.
 pub fn run_pipe<R: Input, W: Output>(
     alloc: Global,
+    keys: RandomState,
     input: &mut R,
     output: &mut W,
     limits: Limits,
@@ -32,7 +34,10 @@ pub fn run_pipe<R: Input, W: Output>(
     requires output_works { W.has_failed output.old ≡ false }
     ensures { Pipes (R.remaining input.old) (R.remaining input.new) (W.contents output.old) (W.contents output.new) (R.has_failed input.new) (W.has_failed output.new) limits result }
 {
-    let mut store = Direct::new(SpanStore::open(alloc, limits));
+    let Ok(opened) = SpanStore::open(alloc, keys, limits) else {
+        return 5;
+    };
+    let mut store = Direct::new(opened);
     match pipe(alloc, input, output, &mut store) {
         Ok(_) => 0,
         Err(fault) => status_of(fault.cause),

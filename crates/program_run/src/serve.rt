@@ -5,6 +5,7 @@ ghost use Rattle.program_run.specs.Serving.{ServesOrNot, TurnsDown};
 use command_words::ServeOptions;
 use session_devices::Output;
 use std::alloc::{AllocError, Global};
+use std::hash::RandomState;
 use std::io;
 use std::io::Write;
 use std::net::{Ipv4Addr, Net, SocketAddr, SocketAddrV4, TcpListener, TcpStream};
@@ -40,7 +41,13 @@ fn turn_down<W: Output>(alloc: Global, output: &mut W, port: u16, error: &io::Er
 /// Takes connections on a port of 127.0.0.1 over an empty store, until as many have ended as were asked
 /// for, and gives the exit status: 4 where the port can't be used, else that of
 /// [`serve_with`](trace_server::serve_with).
-pub fn run_serve<H, W>(rt: &H, alloc: Global, output: &mut W, options: ServeOptions) -> u8
+pub fn run_serve<H, W>(
+    rt: &H,
+    alloc: Global,
+    keys: RandomState,
+    output: &mut W,
+    options: ServeOptions,
+) -> u8
 where
     H: Threads + Wait + Clock + Net<Stream = TcpStream, Listener = TcpListener> + Sync,
     W: Output,
@@ -56,6 +63,7 @@ where
     };
     let plan = Options {
         limits: options.limits,
+        keys,
         workers: options.workers,
         queue: options.queue,
         sessions: options.sessions,

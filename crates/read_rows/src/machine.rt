@@ -5,8 +5,10 @@ use jaeger_model::TraceId;
 use read_side::{Keeper, Opened, Pass, StoreName, open};
 use schedule_core::{Outcome, Step, play};
 use std::alloc::Global;
+use std::hash::RandomState;
 use std::marker::Brand;
 use std::process::Abort;
+use std::random::RandomSource;
 use std::sync::{Arc, Wait};
 use std::test::*;
 use trace_model::{Entry, Limits, Query, Refusal};
@@ -42,14 +44,19 @@ fn steps_of(alloc: Global, before: u64) -> Result<Vec<Step>, Fail> {
 }
 
 /// The looks of a machine to which so many batches are admitted.
-fn machine_looks(alloc: Global, limits: Limits, last: u64) -> Result<Looks, Fail> {
+fn machine_looks(
+    alloc: Global,
+    keys: RandomState,
+    limits: Limits,
+    last: u64,
+) -> Result<Looks, Fail> {
     let mut steps = Vec::new(alloc);
     for before in 0..last {
         for step in steps_of(alloc, before)? {
             steps.push(step)?;
         }
     }
-    looks_of(alloc, play(alloc, steps, limits)?)
+    looks_of(alloc, play(alloc, keys, steps, limits)?)
 }
 
 /// What was answered, of these outcomes.
@@ -95,7 +102,7 @@ fn copies_follow_the_machine(rt: HostRuntime) -> Result<(), Fail> {
     followed::<Brand, _>(&rt, rt.alloc(), Opened::new(), limits)
 }
 
-fn followed<N: StoreName, R: Wait + Abort>(
+fn followed<N: StoreName, R: Wait + Abort + RandomSource>(
     rt: &R,
     alloc: Global,
     name: Opened,
@@ -104,9 +111,10 @@ fn followed<N: StoreName, R: Wait + Abort>(
     requires book { name.seen.book ≡ N.book }
     requires limits { limits ≡ N.limits }
 {
-    let wanted = machine_looks(alloc, limits, 12)?;
+    let keys = RandomState::new(rt)?;
+    let wanted = machine_looks(alloc, keys, limits, 12)?;
     let entries = entries_to(alloc, 12)?;
-    let (mut keeper, mut passes) = open::<N>(alloc, name, limits, 1)?;
+    let (mut keeper, mut passes) = open::<N>(alloc, keys, name, limits, 1)?;
     let seen = copies_look(rt, alloc, &mut keeper, &mut passes, entries);
     keeper.close(rt);
     assert_eq!(rt; wanted.len(), 12);

@@ -4,8 +4,10 @@ use crate::entries::{entries_to, entry_of, limits_of};
 use jaeger_model::TraceId;
 use read_side::{Keeper, Opened, Pass, Receipt, StoreName, open};
 use std::alloc::Global;
+use std::hash::RandomState;
 use std::marker::Brand;
 use std::process::Abort;
+use std::random::RandomSource;
 use std::sync::{Arc, Wait};
 use std::test::*;
 use trace_model::{Answer, Entry, Limits, Query, Refusal};
@@ -33,7 +35,7 @@ fn settling_behind_and_again(rt: HostRuntime) -> Result<(), Fail> {
     settled::<Brand, _>(&rt, rt.alloc(), Opened::new(), limits)
 }
 
-fn settled<N: StoreName, R: Wait + Abort>(
+fn settled<N: StoreName, R: Wait + Abort + RandomSource>(
     rt: &R,
     alloc: Global,
     name: Opened,
@@ -44,7 +46,7 @@ fn settled<N: StoreName, R: Wait + Abort>(
 {
     let three = entries_to(alloc, 3)?;
     let fourth = entry_of(alloc, 4)?;
-    let (mut keeper, mut passes) = open::<N>(alloc, name, limits, 1)?;
+    let (mut keeper, mut passes) = open::<N>(alloc, RandomState::new(rt)?, name, limits, 1)?;
     let seen = settle_twice(rt, alloc, &mut keeper, &mut passes, three, fourth);
     keeper.close(rt);
     assert!(rt; seen == Ok(Some((Err(Refusal::Behind { front: 3 }), Ok(())))));
@@ -78,7 +80,7 @@ fn reading_learning_and_moving_on(rt: HostRuntime) -> Result<(), Fail> {
     moved_on::<Brand, _>(&rt, rt.alloc(), Opened::new(), limits)
 }
 
-fn moved_on<N: StoreName, R: Wait + Abort>(
+fn moved_on<N: StoreName, R: Wait + Abort + RandomSource>(
     rt: &R,
     alloc: Global,
     name: Opened,
@@ -89,7 +91,7 @@ fn moved_on<N: StoreName, R: Wait + Abort>(
 {
     let three = entries_to(alloc, 3)?;
     let fourth = entry_of(alloc, 4)?;
-    let (mut keeper, mut passes) = open::<N>(alloc, name, limits, 3)?;
+    let (mut keeper, mut passes) = open::<N>(alloc, RandomState::new(rt)?, name, limits, 3)?;
     let seen = read_along(rt, alloc, &mut keeper, &mut passes, three, fourth);
     keeper.close(rt);
     let gone = match passes.pop() {
@@ -143,7 +145,7 @@ fn deferred_once(rt: HostRuntime) -> Result<(), Fail> {
 /// In a store for one batch, the first entry is published or, where memory ran out, pending; handed in again
 /// it is stale, and the next one finds the store full. Where memory ran out before it was accepted, it is
 /// taken then.
-fn one_is_held<N: StoreName, R: Wait + Abort>(
+fn one_is_held<N: StoreName, R: Wait + Abort + RandomSource>(
     rt: &R,
     alloc: Global,
     name: Opened,
@@ -154,7 +156,7 @@ fn one_is_held<N: StoreName, R: Wait + Abort>(
 {
     let (first, again) = (entry_of(alloc, 1)?, entry_of(alloc, 1)?);
     let second = entry_of(alloc, 2)?;
-    let (mut keeper, _passes) = open::<N>(alloc, name, limits, 1)?;
+    let (mut keeper, _passes) = open::<N>(alloc, RandomState::new(rt)?, name, limits, 1)?;
     let first = keeper.admit(rt, first).err();
     let again = keeper.admit(rt, again).err();
     let second = keeper.admit(rt, second).err();
@@ -177,7 +179,7 @@ fn one_is_held<N: StoreName, R: Wait + Abort>(
 }
 
 /// In a store for two batches, a first entry that is pending is published with the second, before it.
-fn two_are_held<N: StoreName, R: Wait + Abort>(
+fn two_are_held<N: StoreName, R: Wait + Abort + RandomSource>(
     rt: &R,
     alloc: Global,
     name: Opened,
@@ -187,7 +189,7 @@ fn two_are_held<N: StoreName, R: Wait + Abort>(
     requires limits { limits ≡ N.limits }
 {
     let (first, second) = (entry_of(alloc, 1)?, entry_of(alloc, 2)?);
-    let (mut keeper, _passes) = open::<N>(alloc, name, limits, 1)?;
+    let (mut keeper, _passes) = open::<N>(alloc, RandomState::new(rt)?, name, limits, 1)?;
     let taken = match keeper.admit(rt, first) {
         Ok(_) | Err(Refusal::Deferred) => 1,
         Err(_) => 0,

@@ -3,8 +3,10 @@ ghost use Rattle.std.specs.Prelude.{◌≡◌};
 use crate::entries::{entries_to, limits_of};
 use read_side::{Keeper, Opened, Pass, Receipt, StoreName, open};
 use std::alloc::{AllocError, Global};
+use std::hash::RandomState;
 use std::marker::Brand;
 use std::process::Abort;
+use std::random::RandomSource;
 use std::sync::{Arc, Wait};
 use std::test::*;
 use std::thread::{Threads, join, map_vec};
@@ -62,7 +64,7 @@ fn three_passes(rt: HostRuntime) -> Result<(), Fail> {
     read_beside::<Brand, _>(&rt, rt.alloc(), Opened::new(), limits)
 }
 
-fn read_beside<N: StoreName + Send + Sync, R: Threads + Wait + Abort + Sync>(
+fn read_beside<N: StoreName + Send + Sync, R: Threads + Wait + Abort + RandomSource + Sync>(
     rt: &R,
     alloc: Global,
     name: Opened,
@@ -72,7 +74,7 @@ fn read_beside<N: StoreName + Send + Sync, R: Threads + Wait + Abort + Sync>(
     requires limits { limits ≡ N.limits }
 {
     let entries = entries_to(alloc, 100)?;
-    let (mut keeper, passes) = open::<N>(alloc, name, limits, 3)?;
+    let (mut keeper, passes) = open::<N>(alloc, RandomState::new(rt)?, name, limits, 3)?;
     let (taken, readers) = join(
         rt,
         || -> u64 { admit_all(rt, &mut keeper, entries) },

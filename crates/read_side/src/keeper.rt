@@ -208,7 +208,6 @@ impl<N: StoreName> Keeper<N> {
     {
         let _legal = self.journal.len();
         let _within = self.journal.limits();
-        self.journal.reserve(1)?;
         self.late.reserve(1)?;
         let mine = Arc::try_clone(&entry)?;
         let theirs = Arc::try_clone(&entry)?;

@@ -12,15 +12,18 @@ use arrival_journal::Journal;
 use left_right::writer::Writer;
 use span_store::SpanStore;
 use std::alloc::Global;
+use std::hash::RandomState;
 use trace_model::{Limits, Refusal};
 
-/// Opens an empty store under a name, which is spent, for 1 to 64 readers.
+/// Opens an empty store under a name, which is spent, for 1 to 64 readers. The keys are those of the hash
+/// by which it finds traces.
 ///
 /// # Errors
 ///
 /// [`Refusal::NoMemory`]: nothing is left behind.
 pub fn open<N: StoreName>(
     alloc: Global,
+    keys: RandomState,
     name: Opened,
     limits: Limits,
     readers: usize,
@@ -34,15 +37,15 @@ pub fn open<N: StoreName>(
     ensures reason { IfErr result (λ why. why ≡ NoMemory) }
 {
     let history: Log<N> = Log::new(name);
-    let first = Side::new(SpanStore::open(alloc, limits), history.seen());
-    let second = Side::new(SpanStore::open(alloc, limits), history.seen());
     let mut passes = Vec::with_capacity(alloc, readers)?;
+    let journal = Journal::new(alloc, limits)?;
+    let first = Side::new(SpanStore::open(alloc, keys, limits)?, history.seen());
+    let second = Side::new(SpanStore::open(alloc, keys, limits)?, history.seen());
     let writer: Copies<N> = Writer::new(alloc, first, second, readers)?;
     for _made in 0..readers {
         let entrance = writer.factory().reader().ok();
         let pass = Pass::new(Visitor::new(entrance, history.seen()));
         passes.push_reserved(pass);
     }
-    let journal = Journal::new(alloc, limits);
     Ok((Keeper::new(alloc, writer, journal, history), passes))
 }

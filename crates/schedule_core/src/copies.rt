@@ -14,6 +14,7 @@ ghost use Rattle.schedule_core.specs.Copied.{all_of, turned, with_pending};
 use arrival_journal::Journal;
 use span_store::SpanStore;
 use std::alloc::{AllocError, Global};
+use std::hash::RandomState;
 use std::marker::Model;
 use std::sync::Arc;
 use trace_model::{Answer, Entry, Limits, Query, Refusal};
@@ -42,16 +43,18 @@ impl Model for Copies {
 
 impl Copies {
     /// Two empty copies.
-    pub fn new(alloc: Global, limits: Limits) -> Self
-        ensures { result ≡ record { limits = limits; before = []; history = []; pending = [] } }
+    pub fn new(alloc: Global, keys: RandomState, limits: Limits) -> Result<Self, AllocError>
+        ensures { IfOk result (λ copies. copies ≡ record { limits = limits; before = []; history = []; pending = [] }) }
     {
-        let accepted = Journal::new(alloc, limits);
+        let accepted = Journal::new(alloc, limits)?;
         let _legal = accepted.len();
-        Copies {
+        let shown = SpanStore::open(alloc, keys, limits)?;
+        let spare = SpanStore::open(alloc, keys, limits)?;
+        Ok(Copies {
             accepted,
-            shown: SpanStore::open(alloc, limits),
-            spare: SpanStore::open(alloc, limits),
-        }
+            shown,
+            spare,
+        })
     }
 
     /// How many entries the history has.

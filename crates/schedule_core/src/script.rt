@@ -6,18 +6,25 @@ use crate::outcome::Outcome;
 use crate::step::Step;
 use crate::world::World;
 use std::alloc::{AllocError, Global};
+use std::hash::RandomState;
 use trace_model::Limits;
 
-/// The outcomes of the steps, in order, from a machine in which nothing has happened.
+/// The outcomes of the steps, in order, from a machine in which nothing has happened. They don't depend on
+/// the keys.
 ///
 /// # Errors
 ///
 /// No memory was found for the list of outcomes. A step that finds none, and each later one, is refused by
 /// its outcome.
-pub fn play(alloc: Global, steps: Vec<Step>, limits: Limits) -> Result<Vec<Outcome>, AllocError>
+pub fn play(
+    alloc: Global,
+    keys: RandomState,
+    steps: Vec<Step>,
+    limits: Limits,
+) -> Result<Vec<Outcome>, AllocError>
     ensures { IfOk result (λ outcomes. PlaysAs (new_machine limits) steps.items outcomes.items) }
 {
-    let mut world = World::new(alloc, limits);
+    let mut world = World::new(alloc, keys, limits);
     let outcomes = outcomes_of(alloc, &mut world, steps);
     drop(world);
     outcomes

@@ -19,6 +19,7 @@ use crate::seats::Seats;
 use crate::step::Step;
 use jaeger_model::Batch;
 use std::alloc::{AllocError, Global};
+use std::hash::RandomState;
 use std::marker::Model;
 use std::sync::Arc;
 use trace_model::{Answer, Entry, Limits, Query, Refusal};
@@ -46,13 +47,14 @@ impl Model for Stage {
 
 impl Stage {
     /// A machine in which nothing has happened.
-    pub fn new(alloc: Global, limits: Limits) -> Result<Stage, AllocError>
+    pub fn new(alloc: Global, keys: RandomState, limits: Limits) -> Result<Stage, AllocError>
         ensures { IfOk result (λ s. s ≡ new_machine limits) }
     {
         let seats = Seats::new(alloc)?;
         let readers = Readers::new(alloc)?;
+        let copies = Copies::new(alloc, keys, limits)?;
         Ok(Stage {
-            copies: Copies::new(alloc, limits),
+            copies,
             seats,
             fronts: Vec::new(alloc),
             readers,

@@ -6,6 +6,7 @@ use crate::outcome::Outcome;
 use crate::stage::Stage;
 use crate::step::Step;
 use std::alloc::Global;
+use std::hash::RandomState;
 use std::marker::Model;
 use trace_model::{Limits, Refusal};
 
@@ -22,12 +23,13 @@ impl Model for World {
 }
 
 impl World {
-    /// A machine in which nothing has happened, or one that has found no memory.
-    pub fn new(alloc: Global, limits: Limits) -> Self
+    /// A machine in which nothing has happened, or one that has found no memory. The keys are those of
+    /// its stores.
+    pub fn new(alloc: Global, keys: RandomState, limits: Limits) -> Self
         ensures { (result ≡ Some (new_machine limits)) ⊎ (result ≡ None) }
     {
         World {
-            stage: Stage::new(alloc, limits).ok(),
+            stage: Stage::new(alloc, keys, limits).ok(),
         }
     }
 

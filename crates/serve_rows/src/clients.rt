@@ -5,12 +5,14 @@ ghost use Rattle.std.specs.Prelude.{◌≡◌, ◌≤◌};
 use crate::guests::Guests;
 use session_devices::MemoryOutput;
 use std::alloc::Global;
+use std::hash::RandomState;
 use std::io;
 use std::io::{Read, Write};
 use std::net::{
     Ipv4Addr, Net, OpenStream, Shutdown, SocketAddr, SocketAddrV4, TcpListener, TcpStream,
 };
 use std::process::Abort;
+use std::random::RandomSource;
 use std::sync::Wait;
 use std::test::*;
 use std::thread::{Threads, join};
@@ -19,7 +21,7 @@ use trace_model::Limits;
 use trace_server::{Gate, Options, serve_with};
 
 /// So many workers and sessions.
-pub fn options(rt: &impl Abort, workers: u16, sessions: u32, idle: u32) -> Options
+pub fn options<R: Abort + RandomSource>(rt: &R, workers: u16, sessions: u32, idle: u32) -> Options
     requires { (1 ≤ workers) × (workers ≤ 64) }
     ensures workers { result.workers ≡ workers }
     ensures queue { result.queue ≡ 4 }
@@ -27,6 +29,7 @@ pub fn options(rt: &impl Abort, workers: u16, sessions: u32, idle: u32) -> Optio
     let limits = Limits::new(100, 1000, 0, 0).expect(rt, "limits");
     Options {
         limits,
+        keys: RandomState::new(rt).expect(rt, "keys"),
         workers,
         queue: 4,
         sessions,

@@ -11,21 +11,28 @@ use pipe_session::pipe;
 use read_side::{Keeper, Opened, StoreName, open};
 use session_devices::{MemoryInput, MemoryOutput};
 use span_store::SpanStore;
-use std::alloc::Global;
+use std::alloc::{AllocError, Global};
+use std::hash::RandomState;
 use std::marker::Brand;
 use std::process::Abort;
+use std::random::RandomSource;
 use std::sync::Wait;
 use std::test::*;
 use std::thread::{Threads, join};
 use trace_model::Limits;
 
 /// What a session over a store of one's own writes.
-fn direct_bytes(alloc: Global, limits: Limits, sent: &[u8]) -> MemoryOutput {
+fn direct_bytes(
+    alloc: Global,
+    keys: RandomState,
+    limits: Limits,
+    sent: &[u8],
+) -> Result<MemoryOutput, AllocError> {
     let mut input = MemoryInput::new(sent, 1000, 0);
     let mut output = MemoryOutput::new(alloc, 100_000, 1000);
-    let mut store = Direct::new(SpanStore::open(alloc, limits));
+    let mut store = Direct::new(SpanStore::open(alloc, keys, limits)?);
     let _ended = pipe(alloc, &mut input, &mut output, &mut store);
-    output
+    Ok(output)
 }
 
 /// Has the clerk serve until the desk is closed, and gives the keeper back.
@@ -66,6 +73,7 @@ fn session_bytes<N: StoreName, R: Wait>(
 fn live_bytes<N: StoreName + Send + Sync, R: Threads + Wait + Abort + Sync>(
     rt: &R,
     alloc: Global,
+    keys: RandomState,
     name: Opened,
     limits: Limits,
     sent: &[u8],
@@ -73,7 +81,7 @@ fn live_bytes<N: StoreName + Send + Sync, R: Threads + Wait + Abort + Sync>(
     requires book { name.seen.book ≡ N.book }
     requires limits { limits ≡ N.limits }
 {
-    let (mut keeper, mut passes) = open::<N>(alloc, name, limits, 1)?;
+    let (mut keeper, mut passes) = open::<N>(alloc, keys, name, limits, 1)?;
     let first = keeper.receipt();
     match desk(alloc, first, 1, 1) {
         Err(why) => {
@@ -100,15 +108,16 @@ fn live_bytes<N: StoreName + Send + Sync, R: Threads + Wait + Abort + Sync>(
 }
 
 /// Whether both sessions write the same, and something.
-fn is_same<R: Threads + Wait + Abort + Sync>(
+fn is_same<R: Threads + Wait + Abort + RandomSource + Sync>(
     rt: &R,
     alloc: Global,
     limits: Limits,
     requests: &[&[u8]],
 ) -> Result<bool, Fail> {
     let sent = joined(alloc, requests)?;
-    let live = live_bytes::<Brand, _>(rt, alloc, Opened::new(), limits, sent.as_slice())?;
-    let direct = direct_bytes(alloc, limits, sent.as_slice());
+    let keys = RandomState::new(rt)?;
+    let live = live_bytes::<Brand, _>(rt, alloc, keys, Opened::new(), limits, sent.as_slice())?;
+    let direct = direct_bytes(alloc, keys, limits, sent.as_slice())?;
     Ok(!live.as_slice().is_empty() && live.as_slice() == direct.as_slice())
 }
 

@@ -4,7 +4,9 @@ use pipe_session::pipe;
 use session_devices::{MemoryInput, MemoryOutput};
 use span_store::SpanStore;
 use std::alloc::Global;
+use std::hash::RandomState;
 use std::process::Abort;
+use std::random::RandomSource;
 use std::test::*;
 use trace_model::Limits;
 
@@ -29,26 +31,27 @@ fn batch_and_services(alloc: Global) -> Result<Vec<u8>, Fail> {
     Ok(bytes)
 }
 
-fn empty_store(rt: &impl Abort, alloc: Global) -> Direct {
+fn empty_store<R: Abort + RandomSource>(rt: &R, alloc: Global) -> Result<Direct, Fail> {
     let limits = Limits::new(10, 100, 0, 0).expect(rt, "limits");
-    Direct::new(SpanStore::open(alloc, limits))
+    let keys = RandomState::new(rt)?;
+    Ok(Direct::new(SpanStore::open(alloc, keys, limits)?))
 }
 
 /// A session over a store that was empty: how it ended, what was written, and how many entries the store
 /// has. The reader gives so many bytes a call and fails at that call; the writer has that room and takes so
 /// many bytes a call.
-fn played(
-    rt: &impl Abort,
+fn played<R: Abort + RandomSource>(
+    rt: &R,
     alloc: Global,
     bytes: &[u8],
     (step, fails_at): (usize, u64),
     (room, taken): (usize, usize),
-) -> (Result<Ended, SessionFault>, MemoryOutput, u64) {
+) -> Result<(Result<Ended, SessionFault>, MemoryOutput, u64), Fail> {
     let mut input = MemoryInput::new(bytes, step, fails_at);
     let mut output = MemoryOutput::new(alloc, room, taken);
-    let mut store = empty_store(rt, alloc);
+    let mut store = empty_store(rt, alloc)?;
     let ended = pipe(alloc, &mut input, &mut output, &mut store);
-    (ended, output, store.into_store().len())
+    Ok((ended, output, store.into_store().len()))
 }
 
 #[test]
@@ -56,7 +59,7 @@ fn one_byte_a_call(rt: HostRuntime) -> Result<(), Fail> {
     let alloc = rt.alloc();
     let bytes = batch_and_services(alloc)?;
     for step in [1, 7, 10_000] {
-        let (ended, output, _) = played(&rt, alloc, bytes.as_slice(), (step, 0), (10_000, step));
+        let (ended, output, _) = played(&rt, alloc, bytes.as_slice(), (step, 0), (10_000, step))?;
         assert!(rt;
             ended
                 == Ok(Ended {
@@ -80,7 +83,7 @@ fn a_reader_that_fails_at_each_call(rt: HostRuntime) -> Result<(), Fail> {
             bytes.as_slice(),
             (16, fails_at),
             (10_000, 10_000),
-        );
+        )?;
         let fault = ended.expect_err(&rt, "fault");
         assert!(rt; fault.cause == Cause::Reading);
         assert_eq!(rt; fault.written, 0);
@@ -94,7 +97,13 @@ fn a_writer_that_fails_after_each_byte(rt: HostRuntime) -> Result<(), Fail> {
     let alloc = rt.alloc();
     let bytes = batch_and_services(alloc)?;
     for room in 0..ANSWERS.len() {
-        let (ended, output, entries) = played(&rt, alloc, bytes.as_slice(), (10_000, 0), (room, 5));
+        let (ended, output, entries) = played(
+            &rt,
+            alloc,
+            bytes.as_slice(),
+            (10_000, 0),
+            (room, 5),
+        )?;
         let fault = ended.expect_err(&rt, "fault");
         assert!(rt; fault.cause == Cause::Writing);
         assert!(rt; output.as_slice() == &ANSWERS[..room]);

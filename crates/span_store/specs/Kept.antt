@@ -1,14 +1,15 @@
 -- What a store keeps beside its list of entries.
-use Rattle.std.specs.Prelude.{◌≡◌, ℕ, suc, List, [], ◌∷◌, map, fold, if◌then◌else◌}
+use Rattle.std.specs.Prelude.{◌≡◌, ◌≤◌, ℕ, suc, List, [], ◌∷◌, length, map, fold, if◌then◌else◌}
 use Rattle.jaeger_model.specs.declared.ids.TraceId.{TraceId}
 use Rattle.jaeger_model.specs.declared.placed.Placed.{Placed}
 use Rattle.jaeger_model.specs.declared.batch.Batch.{Batch}
 use Rattle.jaeger_model.specs.Parents.{domain}
 use Rattle.jaeger_model.specs.Texts.{same_text, insert_once}
-use Rattle.trace_model.specs.Histories.{arrivals}
+use Rattle.trace_model.specs.Histories.{arrivals, span_count}
 use Rattle.trace_model.specs.declared.entry.Entry.{Entry}
 use Rattle.trace_model.specs.Held.{Held}
 use Rattle.trace_model.specs.Showing.{ring}
+use Rattle.trace_ring.specs.Windows.{Window}
 use Rattle.trace_assembly.specs.declared.spot.Spot.{Spot}
 use Rattle.trace_assembly.specs.Located.{located, spans_in, shown_spots}
 use Rattle.service_index.specs.Listing.{Listed, listed, listed_cmp, listed_in}
@@ -31,9 +32,11 @@ places_from service place (e ∷ es) = if same_text e.batch.process.service serv
 abbrev pub places_in : List ℕ → List Entry → List ℕ
 places_in service h = places_from service 1 h
 
--- ring, spots, names and the places of services are those of the entries
-pub record IsKept (held : Held) (most : ℕ) (ids : List TraceId) (spots_at : TraceId → List Spot) (index : List Listed) (places_at : List ℕ → List ℕ) : Type 0 where
-  pub limit : most ≡ held.limits.traces
-  pub follows : Follows most (located held.entries) ids spots_at
+-- ring, spots, names and the places of services are those of the entries, and there is room for the traces of all spans that may come
+pub record IsKept (held : Held) (newest : Window) (spots_at : TraceId → List Spot) (index : List Listed) (places_at : List ℕ → List ℕ) : Type 0 where
+  pub limit : newest.limit ≡ held.limits.traces
+  pub room : newest.room ≡ held.limits.spans
+  pub few : length newest.seen ≤ span_count held.entries
+  pub follows : Follows newest.limit (located held.entries) newest.ids spots_at
   pub names : index ≡ listed_in (arrivals held.entries)
   pub places : (service : List ℕ) → places_at service ≡ places_in service held.entries

@@ -1,6 +1,6 @@
 //! What one more entry changes in ring and assembly.
 
-ghost use Rattle.std.specs.Prelude.{◌≡◌, ℕ, ◌+◌, ◌<◌, ◌≤◌, List, [], ◌∷◌, ◌++◌, length, count_by, None, OnOk, if◌then◌else◌};
+ghost use Rattle.std.specs.Prelude.{◌≡◌, ℕ, ◌+◌, ◌<◌, ◌≤◌, List, [], ◌∷◌, ◌++◌, length, count_by, None, if◌then◌else◌};
 ghost use Rattle.jaeger_model.specs.Parents.{same_trace};
 ghost use Rattle.jaeger_model.specs.declared.ids.TraceId.{TraceId as Trace};
 ghost use Rattle.jaeger_model.specs.declared.placed.Placed.{Placed as Arrival};
@@ -13,7 +13,6 @@ ghost use Rattle.span_store.specs.Kept.{Follows};
 
 use arrival_journal::Journal;
 use jaeger_model::TraceId;
-use std::alloc::AllocError;
 use trace_assembly::{Assembly, Spot};
 use trace_model::Entry;
 use trace_ring::Ring;
@@ -31,38 +30,18 @@ fn hide_left(assembly: &mut Assembly, left: Option<TraceId>)
 /// Lets one span in, in room that was taken before: its trace may be opened, and another one may
 /// leave for it.
 fn let_in(ring: &mut Ring, assembly: &mut Assembly, trace: TraceId, spot: Spot)
-    requires ring_room { 0 < ring.old.room }
+    requires ring_room { length ring.old.seen < ring.old.room }
     requires assembly_room { 0 < room_of assembly.old trace }
     ensures limit { ring.new.limit ≡ ring.old.limit }
     ensures follows { (ls : List (Where × Arrival)) (p : Arrival) → Follows ring.old.limit ls ring.old.ids (spots_of assembly.old) →
         trace_of p ≡ trace → Follows ring.old.limit (ls ++ (spot, p) ∷ []) ring.new.ids (spots_of assembly.new) }
-    ensures ring_room { ring.old.room ≤ ring.new.room + 1 }
+    ensures ring_room { ring.new.room ≡ ring.old.room }
+    ensures seen { length ring.new.seen ≤ length ring.old.seen + 1 }
     ensures assembly_room { (t : Trace) → room_of assembly.old t ≤ room_of assembly.new t + (if same_trace t trace then 1 else 0) }
 {
-    let arrived = ring.arrive_reserved(trace);
+    let arrived = ring.arrive(trace);
     hide_left(assembly, arrived.left);
     assembly.add_reserved(trace, spot);
-}
-
-/// Takes the room for one more entry and its spans. What they hold stays in either case.
-pub(crate) fn take_room(
-    journal: &mut Journal,
-    ring: &mut Ring,
-    assembly: &mut Assembly,
-    entry: &Entry,
-) -> Result<(), AllocError>
-    ensures held { journal.new.held ≡ journal.old.held }
-    ensures limit { ring.new.limit ≡ ring.old.limit }
-    ensures ids { ring.new.ids ≡ ring.old.ids }
-    ensures spots { (t : Trace) → spots_of assembly.new t ≡ spots_of assembly.old t }
-
-    ensures journal_room { OnOk result (0 < journal.new.room) }
-    ensures ring_room { OnOk result (length entry.now.batch.spans ≤ ring.new.room) }
-    ensures assembly_room { OnOk result ((t : Trace) → count_by (is_of t) entry.now.batch.spans ≤ room_of assembly.new t) }
-{
-    journal.reserve(1)?;
-    ring.reserve(entry.batch.spans.len())?;
-    assembly.reserve(entry.batch.spans.as_slice())
 }
 
 /// Lets the spans of an entry in, which will stand at the end of the journal, in room that was taken
@@ -70,10 +49,12 @@ pub(crate) fn take_room(
 pub(crate) fn arrange(journal: &Journal, ring: &mut Ring, assembly: &mut Assembly, entry: &Entry)
     requires admissible { refusal_by journal.now.held entry.now ≡ None }
     requires follows { Follows ring.old.limit (located journal.now.held.entries) ring.old.ids (spots_of assembly.old) }
-    requires ring_room { length entry.now.batch.spans ≤ ring.old.room }
+    requires ring_room { length ring.old.seen + length entry.now.batch.spans ≤ ring.old.room }
     requires assembly_room { (t : Trace) → count_by (is_of t) entry.now.batch.spans ≤ room_of assembly.old t }
     ensures limit { ring.new.limit ≡ ring.old.limit }
     ensures follows { Follows ring.old.limit (located (journal.now.held.entries ++ entry.now ∷ [])) ring.new.ids (spots_of assembly.new) }
+    ensures ring_room { ring.new.room ≡ ring.old.room }
+    ensures seen { length ring.new.seen ≤ length ring.old.seen + length entry.now.batch.spans }
 {
     let place = journal.len() + 1;
     let mut index: u32 = 0;

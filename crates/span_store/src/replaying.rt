@@ -8,6 +8,7 @@ ghost use Rattle.span_store.specs.Replaying.{taken, accepted};
 
 use crate::store::SpanStore;
 use std::alloc::Global;
+use std::hash::RandomState;
 use std::sync::Arc;
 use trace_model::{Answer, Entry, Limits, Query, Refusal};
 
@@ -31,11 +32,16 @@ fn take(store: &mut SpanStore, entry: &Arc<Entry>) -> Result<(), Refusal>
 /// # Errors
 ///
 /// Want of memory alone.
-pub fn replay(alloc: Global, limits: Limits, entries: &[Arc<Entry>]) -> Result<SpanStore, Refusal>
+pub fn replay(
+    alloc: Global,
+    keys: RandomState,
+    limits: Limits,
+    entries: &[Arc<Entry>],
+) -> Result<SpanStore, Refusal>
     ensures held { IfOk result (λ s. s ≡ record { limits = limits; entries = accepted limits (map arc_value entries.now) }) }
     ensures reason { IfErr result (λ why. why ≡ NoMemory) }
 {
-    let mut store = SpanStore::open(alloc, limits);
+    let mut store = SpanStore::open(alloc, keys, limits)?;
     for entry in entries {
         take(&mut store, entry)?;
     }
@@ -50,6 +56,7 @@ pub fn replay(alloc: Global, limits: Limits, entries: &[Arc<Entry>]) -> Result<S
 /// Want of memory alone.
 pub fn replayed_answer(
     alloc: Global,
+    keys: RandomState,
     limits: Limits,
     entries: &[Arc<Entry>],
     query: &Query,
@@ -57,6 +64,6 @@ pub fn replayed_answer(
     ensures answer { IfOk result (λ a. a ≡ answer limits (accepted limits (map arc_value entries.now)) query.now) }
     ensures reason { IfErr result (λ why. why ≡ NoMemory) }
 {
-    let store = replay(alloc, limits, entries)?;
+    let store = replay(alloc, keys, limits, entries)?;
     store.answer(query)
 }

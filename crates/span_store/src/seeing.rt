@@ -50,7 +50,7 @@ pub(crate) fn ring_ids(alloc: Global, ring: &Ring) -> Result<Vec<TraceId>, Alloc
 {
     let mut ids = Vec::new(alloc);
     for id in ring.iter() {
-        ids.push(*id)?;
+        ids.push(id)?;
     }
     Ok(ids)
 }

@@ -11,7 +11,7 @@ ghost use Rattle.trace_model.specs.Refusals.{followed_by};
 ghost use Rattle.arrival_journal.specs.Journals.{refusal_by, turned_away_by};
 ghost use Rattle.span_store.specs.Given.{given_traces};
 
-use crate::arrange::{arrange, take_room};
+use crate::arrange::arrange;
 use crate::finding;
 use crate::gather::gather;
 use crate::listing::{exchange, with_listed};
@@ -23,6 +23,7 @@ use service_index::ServiceIndex;
 use service_places::ServicePlaces;
 use span_steps::all_unadjusted;
 use std::alloc::{AllocError, Global};
+use std::hash::RandomState;
 use std::marker::Model;
 use std::sync::Arc;
 use trace_adjust::adjusted;
@@ -54,22 +55,23 @@ impl Model for SpanStore {
 
     ghost view = { λ s. s.journal.held };
 
-    ghost invariant = { λ s. IsKept s.journal.held s.ring.limit s.ring.ids (spots_of s.assembly) s.names (places_of s.reported) };
+    ghost invariant = { λ s. IsKept s.journal.held s.ring (spots_of s.assembly) s.names (places_of s.reported) };
 }
 
 impl SpanStore {
-    /// A store with no entry.
-    pub fn open(alloc: Global, limits: Limits) -> Self
-        ensures { result ≡ record { limits = limits; entries = [] } }
+    /// A store with no entry, and the room that its limits ask for. Its traces are found by a hash
+    /// under these keys, which whoever sends traces doesn't know.
+    pub fn open(alloc: Global, keys: RandomState, limits: Limits) -> Result<Self, AllocError>
+        ensures { IfOk result (λ store. store ≡ record { limits = limits; entries = [] }) }
     {
-        SpanStore {
+        Ok(SpanStore {
             alloc,
-            journal: Journal::new(alloc, limits),
-            ring: Ring::new(alloc, limits.traces),
+            journal: Journal::new(alloc, limits)?,
+            ring: Ring::with_room(alloc, keys, limits.traces, limits.spans)?,
             assembly: Assembly::new(alloc),
             names: ServiceIndex::new(alloc),
             reported: ServicePlaces::new(alloc),
-        }
+        })
     }
 
     pub fn limits(&self) -> Limits
@@ -125,12 +127,7 @@ impl SpanStore {
     {
         self.journal.judge(&entry)?;
         let names = with_listed(&self.names, &entry.batch)?;
-        take_room(
-            &mut self.journal,
-            &mut self.ring,
-            &mut self.assembly,
-            &entry,
-        )?;
+        self.assembly.reserve(entry.batch.spans.as_slice())?;
         self.reported.reserve(&entry.batch.process.service)?;
         arrange(&self.journal, &mut self.ring, &mut self.assembly, &entry);
         let place = self.journal.len() + 1;

@@ -2,6 +2,7 @@
 //!
 //! * `limits`: what a store may hold, and why it turns an entry away.
 //! * `journals`: `arrival_journal`.
+//! * `tables`: `id_table`.
 //! * `rings`: `trace_ring`, `trace_assembly`, and which spans the plain store shows.
 //! * `names`: `service_index`, `service_places`, and the names of the plain store.
 //! * `stores`: `span_store`, put the same questions as the plain store of its entries.
@@ -20,3 +21,5 @@ mod names;
 mod rings;
 #[cfg(test)]
 mod stores;
+#[cfg(test)]
+mod tables;

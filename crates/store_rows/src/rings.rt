@@ -2,6 +2,7 @@ use crate::entries::{entry, id};
 use jaeger_model::TraceId;
 use plain_store::plain_answer;
 use std::alloc::{AllocError, Global};
+use std::hash::RandomState;
 use std::process::Abort;
 use std::sync::Arc;
 use std::test::*;
@@ -10,21 +11,15 @@ use trace_model::{Answer, Entry, Limits, Query};
 use trace_ring::{Arrived, Ring};
 use trace_samples::span;
 
-/// What the arrival did. Want of memory ends the test, and must leave the ring as it was.
-fn arrive(rt: &impl Abort, ring: &mut Ring, trace: TraceId) -> Result<Arrived, AllocError> {
-    let count = ring.len();
-    let held = ring.position(trace);
-    let arrived = ring.arrive(trace);
-    if arrived.is_err() {
-        assert_eq!(rt; ring.len(), count);
-        assert_eq!(rt; ring.position(trace), held);
-    }
-    arrived
+/// What the arrival did, for which there must be room.
+fn arrive(rt: &impl Abort, ring: &mut Ring, trace: TraceId) -> Arrived {
+    assert!(rt; ring.has_room());
+    ring.arrive(trace)
 }
 
 #[test]
 fn late_spans_renew_nothing(rt: HostRuntime) -> Result<(), Fail> {
-    let mut ring = Ring::new(rt.alloc(), 2);
+    let mut ring = Ring::with_room(rt.alloc(), RandomState::new(&rt)?, 2, 4)?;
     for (trace, opened, left) in [
         (1, true, None),
         (2, true, None),
@@ -32,7 +27,7 @@ fn late_spans_renew_nothing(rt: HostRuntime) -> Result<(), Fail> {
         (3, true, Some(id(1))),
         (1, true, Some(id(2))),
     ] {
-        let arrived = arrive(&rt, &mut ring, id(trace))?;
+        let arrived = arrive(&rt, &mut ring, id(trace));
         assert_eq!(rt; arrived, Arrived { opened, left }, "trace {trace}");
     }
     assert_eq!(rt; ring.position(id(3)), Some(0));
@@ -44,16 +39,17 @@ fn late_spans_renew_nothing(rt: HostRuntime) -> Result<(), Fail> {
 
 #[test]
 fn keeps_all_without_a_limit(rt: HostRuntime) -> Result<(), Fail> {
-    let mut ring = Ring::new(rt.alloc(), 0);
+    let mut ring = Ring::with_room(rt.alloc(), RandomState::new(&rt)?, 0, 2)?;
     assert!(rt; ring.is_empty());
-    ring.reserve(2)?;
-    let first = ring.arrive_reserved(id(7));
-    let second = ring.arrive_reserved(id(8));
+    let first = arrive(&rt, &mut ring, id(7));
+    let second = arrive(&rt, &mut ring, id(8));
     assert!(rt; first.opened && second.opened);
     assert!(rt; first.left.is_none() && second.left.is_none());
     assert!(rt; ring.holds(id(7)) && !ring.holds(TraceId { high: 7, low: 7 }));
     assert_eq!(rt; ring.len(), 2);
     assert_eq!(rt; ring.limit(), 0);
+    assert_eq!(rt; ring.used(), 2);
+    assert!(rt; !ring.has_room());
     Ok(())
 }
 

@@ -3,6 +3,7 @@ use jaeger_model::{Seq, Span, SpanId, Tag, Text};
 use plain_store::plain_answer;
 use span_store::{SpanStore, replay, replayed_answer};
 use std::alloc::{AllocError, Global};
+use std::hash::RandomState;
 use std::process::Abort;
 use std::sync::Arc;
 use std::test::*;
@@ -181,7 +182,7 @@ fn as_the_plain_store(rt: HostRuntime) -> Result<(), Fail> {
     let mut seed: u64 = 1;
     for limit in [0, 1, 2, 3] {
         let limits = Limits::new(20, 40, limit, 300).expect(&rt, "limits");
-        let mut store = SpanStore::open(alloc, limits);
+        let mut store = SpanStore::open(alloc, RandomState::new(&rt)?, limits)?;
         assert!(rt; store.is_empty());
         same_answers(&rt, alloc, &store, seed)?;
         for number in 1..9 {
@@ -191,11 +192,36 @@ fn as_the_plain_store(rt: HostRuntime) -> Result<(), Fail> {
     Ok(())
 }
 
+/// Many traces, of which most come again, under a limit of traces too: their ids stand in few places.
+#[test]
+fn many_traces_as_the_plain_store(rt: HostRuntime) -> Result<(), Fail> {
+    let alloc = rt.alloc();
+    for limit in [0, 7] {
+        let limits = Limits::new(30, 90, limit, 0).expect(&rt, "limits");
+        let mut store = SpanStore::open(alloc, RandomState::new(&rt)?, limits)?;
+        for number in 1..31 {
+            let traces = [number << 32, number, number / 2];
+            let place = apply(&rt, alloc, &mut store, &entry_of(alloc, number, &traces)?)?;
+            assert_eq!(rt; place, Ok(number));
+        }
+        for number in 1..31 {
+            for trace in [number << 32, number] {
+                let id = id(trace);
+                same_answer(&rt, alloc, &store, Query::Trace { id, raw: true })?;
+            }
+            if number % 6 == 0 {
+                same_searches(&rt, alloc, &store, after(number))?;
+            }
+        }
+    }
+    Ok(())
+}
+
 #[test]
 fn refused_entries_change_nothing(rt: HostRuntime) -> Result<(), Fail> {
     let alloc = rt.alloc();
     let limits = Limits::new(3, 5, 2, 0).expect(&rt, "limits");
-    let mut store = SpanStore::open(alloc, limits);
+    let mut store = SpanStore::open(alloc, RandomState::new(&rt)?, limits)?;
     let full = |batches, spans| Err(Refusal::JournalFull { batches, spans });
     let first: &[u64] = &[1, 2, 3];
     let second: &[u64] = &[1, 1];
@@ -222,12 +248,14 @@ fn replays_what_is_accepted(rt: HostRuntime) -> Result<(), Fail> {
     for number in [1, 1, 2, 3] {
         entries.push(entry_of(alloc, number, &[number, 7])?)?;
     }
-    let Ok(store) = replay(alloc, limits, &entries) else {
+    let keys = RandomState::new(&rt)?;
+    let Ok(store) = replay(alloc, keys, limits, &entries) else {
         return Err(AllocError.into());
     };
     assert_eq!(rt; store.len(), 2);
     same_answers(&rt, alloc, &store, 5)?;
-    let Ok(Answer::Names(names)) = replayed_answer(alloc, limits, &entries, &Query::Services) else {
+    let query = Query::Services;
+    let Ok(Answer::Names(names)) = replayed_answer(alloc, keys, limits, &entries, &query) else {
         return Err(AllocError.into());
     };
     assert!(rt; names.len() > 0);

@@ -1,13 +1,16 @@
-ghost use Rattle.std.specs.Prelude.{◌≡◌, ◌+◌, ◌<◌, ◌≤◌, ◌==◌, [], ◌∷◌, ◌++◌, length, not, false, ◌↔◌, OnOk, OnErr, IfOk, IfSome, IsSome, option_to_list, position};
+ghost use Rattle.std.specs.Prelude.{◌≡◌, ◌+◌, ◌<◌, ◌≤◌, ◌==◌, [], ◌∷◌, ◌++◌, length, not, false, ◌↔◌, IfOk, IsTrue, IfSome, IsSome, option_to_list, position};
 ghost use Rattle.std.specs.Bool.{OnTrue, OnFalse};
-ghost use Rattle.std.specs.VecDeque.Iter.{deque_iter_rest};
+ghost use Rattle.std.specs.Iterator.{YieldsFirst, item_count};
 ghost use Rattle.jaeger_model.specs.Parents.{same_trace};
 ghost use Rattle.trace_model.specs.Rings.{holds, arrive};
+ghost use Rattle.id_table.specs.Rows.{id_at};
 ghost use Rattle.trace_ring.specs.Windows.{NoneTwice, opened_by};
 
+use id_table::IdTable;
 use jaeger_model::TraceId;
 use std::alloc::{AllocError, Global};
-use std::collections::{HashMap, VecDeque, vec_deque};
+use std::collections::VecDeque;
+use std::hash::RandomState;
 use std::marker::Model;
 
 /// What an arrival did to the ring.
@@ -23,47 +26,108 @@ pub struct Arrived {
 #[derive(Drop)]
 pub struct Ring {
     limit: u32,
-    ids: VecDeque<TraceId>,
+    room: u32,
+    /// Each trace that was ever seen.
+    table: IdTable,
+    /// The rows of the traces in the ring, oldest first.
+    rows: VecDeque<u32>,
     /// The number of the oldest trace. Each later one has the next number, and 0 follows the
     /// greatest one.
     first: u64,
-    numbers: HashMap<(u64, u64), u64>,
+    /// For each row the number that its trace had when it was opened last. Nothing is cleared when a
+    /// trace leaves: a row is in the ring where it stands at the place that its number says.
+    numbers: Vec<u64>,
 }
 
 impl Model for Ring {
-    ghost use Rattle.std.specs.Prelude.{min, ◌-◌};
-    ghost use Rattle.std.specs.VecDeque.{deque_len, deque_capacity};
-    ghost use Rattle.std.specs.HashMap.{spare};
+    ghost use Rattle.std.specs.Prelude.{◌≤◌, vec_capacity};
+    ghost use Rattle.std.specs.VecDeque.{deque_capacity};
     ghost use Rattle.trace_ring.specs.Windows.{Window};
 
     ghost Value = { Window };
 
-    ghost use Rattle.trace_ring.specs.Numbers.{IsNumbered};
+    ghost use Rattle.trace_ring.specs.Numbers.{window, IsRing};
 
-    ghost view = { λ r. record { limit = r.limit; ids = r.ids.items; room = min (deque_capacity r.ids - deque_len r.ids) (spare r.numbers) } };
+    ghost view = { λ r. record { limit = r.limit; ids = window r.table.ids r.rows.items; seen = r.table.ids; room = r.room } };
 
-    ghost invariant = { λ r. IsNumbered r.limit r.ids.items r.first r.numbers };
+    ghost invariant = { λ r. (r.room ≤ deque_capacity r.rows) × (r.room ≤ vec_capacity r.numbers) × IsRing r.limit r.room r.table r.rows.items r.first r.numbers.items };
 }
 
-/// What the trace is looked up by.
-fn key(trace: TraceId) -> (u64, u64)
-    ensures { result ≡ (trace.high, trace.low) }
-{
-    (trace.high, trace.low)
+/// The traces of a ring from some place on, the one opened longest ago first.
+#[derive(Drop)]
+pub struct Traces<'a> {
+    ring: &'a Ring,
+    at: usize,
+}
+
+impl<'a> Model for Traces<'a> {
+    ghost use Rattle.std.specs.Prelude.{List, drop};
+    ghost use Rattle.jaeger_model.specs.declared.ids.TraceId.{TraceId as Trace};
+
+    ghost Value = { List Trace };
+
+    ghost view = { λ t. drop t.at t.ring.now.ids };
+}
+
+impl<'a> Iterator for Traces<'a> {
+    type Item = TraceId;
+
+    ghost next_gives = { YieldsFirst (λ traces. traces) };
+
+    ghost remaining = { item_count (λ traces. traces) };
+
+    fn next(&mut self) -> Option<TraceId> {
+        if self.at >= self.ring.len() {
+            return None;
+        }
+        let trace = self.ring.trace_at(self.at);
+        self.at += 1;
+        Some(trace)
+    }
 }
 
 impl Ring {
-    /// A ring with no trace, in which the newest `limit` traces will stay, or all where it is 0.
-    pub fn new(alloc: Global, limit: u32) -> Self
-        ensures limit { result.limit ≡ limit }
-        ensures ids { result.ids ≡ [] }
+    /// A ring with no trace, in which the newest `limit` traces will stay, or all where it is 0, and room
+    /// for so many traces in all, those that left too. The keys are those of the hash by which a trace
+    /// is found.
+    pub fn with_room(
+        alloc: Global,
+        keys: RandomState,
+        limit: u32,
+        room: u32,
+    ) -> Result<Self, AllocError>
+        ensures limit { IfOk result (λ ring. ring.limit ≡ limit) }
+        ensures ids { IfOk result (λ ring. ring.ids ≡ []) }
+        ensures seen { IfOk result (λ ring. ring.seen ≡ []) }
+        ensures room { IfOk result (λ ring. ring.room ≡ room) }
     {
-        Ring {
+        let table = IdTable::with_room(alloc, keys, room)?;
+        let rows = VecDeque::with_capacity(alloc, room as usize)?;
+        let numbers = Vec::with_capacity(alloc, room as usize)?;
+        Ok(Ring {
             limit,
-            ids: VecDeque::new(alloc),
+            room,
+            table,
+            rows,
             first: 0,
-            numbers: HashMap::new(alloc),
-        }
+            numbers,
+        })
+    }
+
+    /// How many traces were ever seen.
+    pub fn used(&self) -> u32
+        ensures used { result ≡ length self.now.seen }
+        ensures within { result ≤ self.now.room }
+    {
+        let _ = &self.room;
+        self.table.used()
+    }
+
+    /// One more trace may be let in.
+    pub fn has_room(&self) -> bool
+        ensures { IsTrue result ↔ (length self.now.seen < self.now.room) }
+    {
+        self.used() < self.room
     }
 
     /// How many traces stay; 0 where all of them do.
@@ -79,36 +143,70 @@ impl Ring {
         ensures within { 0 < self.now.limit → length self.now.ids ≤ self.now.limit }
         ensures once { NoneTwice self.now.ids }
     {
-        self.ids.len()
+        self.rows.len()
     }
 
     /// No trace is in the ring.
     pub fn is_empty(&self) -> bool
         ensures { result ≡ (length self.now.ids == 0) }
     {
-        self.ids.is_empty()
+        self.rows.is_empty()
     }
 
     /// The traces, oldest first.
-    pub fn iter(&self) -> vec_deque::Iter<'_, TraceId>
-        ensures { deque_iter_rest result ≡ self.now.ids }
+    pub fn iter(&self) -> Traces<'_>
+        ensures { result ≡ self.now.ids }
     {
-        self.ids.iter()
+        Traces { ring: self, at: 0 }
+    }
+
+    /// The trace at a place of the ring, the oldest one at 0.
+    fn trace_at(&self, place: usize) -> TraceId
+        requires { place < length self.now.ids }
+        ensures { result ≡ id_at self.now.ids place }
+    {
+        self.table.id(self.rows[place])
+    }
+
+    /// How many traces of the ring were opened before that of the row; `None` where it isn't in the
+    /// ring.
+    fn place(&self, row: u32) -> Option<u64>
+        requires { row < length self.now.seen }
+        ensures { result ≡ position (same_trace (id_at self.now.seen row)) self.now.ids }
+    {
+        let place = self.numbers[row as usize].wrapping_sub(self.first);
+        if place >= self.rows.len() as u64 {
+            return None;
+        }
+        if self.rows[place as usize] != row {
+            return None;
+        }
+        Some(place)
+    }
+
+    /// The trace of the row is in the ring.
+    fn holds_row(&self, row: u32) -> bool
+        requires { row < length self.now.seen }
+        ensures { result ≡ holds self.now.ids (id_at self.now.seen row) }
+    {
+        self.place(row).is_some()
     }
 
     /// How many traces of the ring were opened before this one; `None` where it isn't in the ring.
     pub fn position(&self, trace: TraceId) -> Option<u64>
         ensures { result ≡ position (same_trace trace) self.now.ids }
     {
-        let number = *self.numbers.get(&key(trace))?;
-        Some(number.wrapping_sub(self.first))
+        match self.table.find(trace) {
+            Some(row) => self.place(row),
+            None => None,
+        }
     }
 
     /// The trace is in the ring.
     pub fn holds(&self, trace: TraceId) -> bool
         ensures { result ≡ holds self.now.ids trace }
     {
-        self.numbers.contains_key(&key(trace))
+        self.position(trace).is_some()
     }
 
     /// The next trace that is opened makes the oldest one leave.
@@ -116,62 +214,71 @@ impl Ring {
         ensures full { OnTrue result ((0 < self.now.limit) × (length self.now.ids ≡ self.now.limit)) }
         ensures not_full { OnFalse result (0 < self.now.limit → length self.now.ids < self.now.limit) }
     {
-        self.limit != 0 && self.ids.len() >= self.limit as usize
+        self.limit != 0 && self.rows.len() >= self.limit as usize
     }
 
-    /// Takes the room for so many more arrivals. The traces stay in either case.
-    pub fn reserve(&mut self, additional: usize) -> Result<(), AllocError>
+    /// The row of a trace, which is seen from now on.
+    fn row_of(&mut self, trace: TraceId) -> u32
+        requires { length self.old.seen < self.old.room }
         ensures limit { self.new.limit ≡ self.old.limit }
         ensures ids { self.new.ids ≡ self.old.ids }
-        ensures ok { OnOk result (additional ≤ self.new.room) }
-        ensures room { self.old.room ≤ self.new.room }
+        ensures seen { self.new.seen ≡ opened_by self.old.seen trace }
+        ensures room { self.new.room ≡ self.old.room }
+        ensures known { result < length self.new.seen }
+        ensures row { id_at self.new.seen result ≡ trace }
     {
-        self.ids.reserve(additional)?;
-        self.numbers.reserve(additional)
+        match self.table.find(trace) {
+            Some(row) => row,
+            None => {
+                self.numbers.push_reserved(0);
+                self.table.add(trace)
+            }
+        }
     }
 
     /// The oldest trace leaves.
     fn drop_oldest(&mut self) -> Option<TraceId>
         ensures limit { self.new.limit ≡ self.old.limit }
         ensures ids { self.old.ids ≡ option_to_list result ++ self.new.ids }
+        ensures seen { self.new.seen ≡ self.old.seen }
+        ensures room { self.new.room ≡ self.old.room }
         ensures variant { IsSome result ↔ (0 < length self.old.ids) }
         ensures once { NoneTwice self.old.ids }
-        ensures room { self.old.room ≤ self.new.room }
     {
-        let oldest = self.ids.pop_front()?;
-        self.numbers.remove(&key(oldest));
+        let oldest = self.rows.pop_front()?;
         self.first = self.first.wrapping_add(1);
-        Some(oldest)
+        Some(self.table.id(oldest))
     }
 
-    /// Puts a trace at the newest end.
-    fn open(&mut self, trace: TraceId)
-        requires absent { holds self.old.ids trace ≡ false }
+    /// Puts the trace of a row at the newest end.
+    fn open(&mut self, row: u32)
+        requires known { row < length self.old.seen }
+        requires absent { holds self.old.ids (id_at self.old.seen row) ≡ false }
         requires within { 0 < self.old.limit → length self.old.ids < self.old.limit }
-        requires room { 0 < self.old.room }
         ensures limit { self.new.limit ≡ self.old.limit }
-        ensures ids { self.new.ids ≡ self.old.ids ++ trace ∷ [] }
-        ensures room { self.old.room ≤ self.new.room + 1 }
+        ensures ids { self.new.ids ≡ self.old.ids ++ id_at self.old.seen row ∷ [] }
+        ensures seen { self.new.seen ≡ self.old.seen }
+        ensures room { self.new.room ≡ self.old.room }
     {
-        let number = self.first.wrapping_add(self.ids.len() as u64);
-        let _ = self.numbers.insert(key(trace), number);
-        self.ids.push_back_reserved(trace);
+        self.numbers[row as usize] = self.first.wrapping_add(self.rows.len() as u64);
+        self.rows.push_back_reserved(row);
     }
 
-    /// Lets a trace in, in room that was taken before: it is opened at the newest end unless it is
-    /// in the ring, and the oldest trace then leaves if the limit is passed.
-    pub fn arrive_reserved(&mut self, trace: TraceId) -> Arrived
-        requires { 0 < self.old.room }
+    /// Lets a trace in: it is opened at the newest end unless it is in the ring, and the oldest trace
+    /// then leaves if the limit is passed. No memory is taken.
+    pub fn arrive(&mut self, trace: TraceId) -> Arrived
+        requires { length self.old.seen < self.old.room }
         ensures limit { self.new.limit ≡ self.old.limit }
         ensures ids { self.new.ids ≡ arrive self.old.limit self.old.ids trace }
+        ensures seen { self.new.seen ≡ opened_by self.old.seen trace }
+        ensures room { self.new.room ≡ self.old.room }
 
         ensures opened { result.opened ≡ not (holds self.old.ids trace) }
         ensures left { opened_by self.old.ids trace ≡ option_to_list result.left ++ self.new.ids }
         ensures gone { IfSome result.left (λ gone. holds self.new.ids gone ≡ false) }
-
-        ensures room { self.old.room ≤ self.new.room + 1 }
     {
-        if self.holds(trace) {
+        let row = self.row_of(trace);
+        if self.holds_row(row) {
             return Arrived {
                 opened: false,
                 left: None,
@@ -182,22 +289,7 @@ impl Ring {
         } else {
             None
         };
-        self.open(trace);
+        self.open(row);
         Arrived { opened: true, left }
-    }
-
-    /// Lets a trace in, as [`arrive_reserved`](Self::arrive_reserved) does, after taking the room.
-    /// Where that is refused the ring stays as it was.
-    pub fn arrive(&mut self, trace: TraceId) -> Result<Arrived, AllocError>
-        ensures limit { self.new.limit ≡ self.old.limit }
-        ensures ids { OnOk result (self.new.ids ≡ arrive self.old.limit self.old.ids trace) }
-        ensures unchanged { OnErr result (self.new.ids ≡ self.old.ids) }
-
-        ensures opened { IfOk result (λ arrived. arrived.opened ≡ not (holds self.old.ids trace)) }
-        ensures left { IfOk result (λ arrived. opened_by self.old.ids trace ≡ option_to_list arrived.left ++ self.new.ids) }
-        ensures gone { IfOk result (λ arrived. IfSome arrived.left (λ gone. holds self.new.ids gone ≡ false)) }
-    {
-        self.reserve(1)?;
-        Ok(self.arrive_reserved(trace))
     }
 }

@@ -72,7 +72,7 @@ impl<N: StoreName> House<N> {
         requires queue { (1 ≤ options.now.queue) × (options.now.queue ≤ 4096) }
     {
         let workers = options.workers as usize;
-        let (mut keeper, passes) = open::<N>(alloc, name, limits, workers)?;
+        let (mut keeper, passes) = open::<N>(alloc, options.keys, name, limits, workers)?;
         match front(alloc, &mut keeper, passes, options) {
             Ok((desk, clerk, lives)) => Ok(House {
                 keeper,

@@ -1,5 +1,6 @@
 //! How a server is set up.
 
+use std::hash::RandomState;
 use trace_model::Limits;
 
 /// How a server is set up.
@@ -7,6 +8,8 @@ use trace_model::Limits;
 pub struct Options {
     /// How much its store keeps.
     pub limits: Limits,
+    /// The keys of the hash by which its store finds traces.
+    pub keys: RandomState,
     /// How many connections are served at a time, 1 to 64.
     pub workers: u16,
     /// How many batches may wait for the clerk, 1 to 4,096.

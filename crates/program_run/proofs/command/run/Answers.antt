@@ -1,4 +1,4 @@
-use Rattle.std.proofs.Common.{inl, inr, refl, subst, map, List, Option, ℕ}
+use Rattle.std.proofs.Common.{inl, inr, refl, subst, map, List, Option, ℕ, arith}
 use Rattle.get_command.specs.Runs.{output_of as get_output, status_of as get_status}
 use Rattle.play_script.specs.Playing.{output_of as play_output, status_of as play_status}
 use Rattle.text_lines.specs.Halting.{RunsAs}
@@ -8,6 +8,15 @@ use Rattle.command_words.specs.declared.words.Command.TheVariants.{Get, Pipe, Pl
 use Rattle.program_run.specs.Piping.{Pipes}
 use Rattle.program_run.specs.Serving.{ServesOrNot}
 use Rattle.program_run.proofs.command.run.Goals as goal
+
+pub returns-in_default : goal.returns-in_default
+returns-in_default g c = inr (record {
+  unread = refl;
+  input_works = c.requires.input_works;
+  fault = inr (inr (refl, c.requires.output_works));
+  accepted = λ command a. refl;
+  bad_trace = λ limits t e. absurd (omega arith);
+})
 
 pub returns-in-Ok-Get : goal.returns-in-Ok-Get
 returns-in-Ok-Get g c =

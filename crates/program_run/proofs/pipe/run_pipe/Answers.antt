@@ -1,12 +1,40 @@
-use Rattle.std.proofs.Common.{inl, inr, refl}
+use Rattle.std.proofs.Common.{inl, inr, refl, [], arith, rules}
+use Rattle.std.proofs.KnownBytes.{Consumes-nil, Appends-nil}
+use Rattle.http_session.specs.Sessions.{none_yet}
+use Rattle.http_session.specs.declared.exchanges.Cause.TheVariants.{Memory}
 use Rattle.program_run.proofs.pipe.run_pipe.Goals as goal
 
-pub returns-in-Ok : goal.returns-in-Ok
-returns-in-Ok g c =
-    let both = rw (c.new-store.ensures, c.open.ensures) at c.in-Ok.ensures.ended in
+pub returns-in_default : goal.returns-in_default
+returns-in_default g c =
+    inr (record {
+      fault = record { answered = 0; written = 0; cause = Memory };
+      status_is = refl;
+      last = record { limits = c.args.limits; entries = [] };
+      fails = record {
+        taken = [];
+        opens = [];
+        next = none_yet;
+        rest = [];
+        read = Consumes-nil (g.R.Input.remaining c.args.input.now);
+        split = refl;
+        each = search rules;
+        next_is = tt;
+        run = refl;
+        within = omega arith;
+        written = Appends-nil (g.W.Output.contents c.args.output.now);
+        count = refl;
+        cause = tt;
+        spared = λ e. absurd (cc e);
+      };
+      exact = λ _. (refl, refl);
+    })
+
+pub returns-in-Ok-pipe : goal.returns-in-Ok-pipe
+returns-in-Ok-pipe g c =
+    let both = rw (c.new-store.ensures, c.in-Ok.ensures) at c.in-Ok-pipe.ensures.ended in
     inl (refl, record { answered = _; clean = _; last = _; ends = both.0; exact = both.1 })
 
 pub returns : goal.returns
 returns g c =
-    let both = rw (c.new-store.ensures, c.open.ensures) at c.in-Err.ensures.fault in
+    let both = rw (c.new-store.ensures, c.in-Ok.ensures) at c.in-Err.ensures.fault in
     inr (record { fault = _; status_is = c.status_of.ensures; last = _; fails = both.0; exact = both.1 })

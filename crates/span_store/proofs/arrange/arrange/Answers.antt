@@ -26,7 +26,8 @@ loop-span-preserved c =
       index = ap (λ k. k + 1) c.loop-span.invariant.index;
       limit = c.let_in.ensures.limit ∙ c.loop-span.invariant.limit;
       follows = subst (λ l. Follows c.args.ring.now.limit l c.let_in.new.ring.ids (spots_of c.let_in.new.assembly)) (ap (λ k. ls ++ (record { place = place; index = k }, p) ∷ []) c.loop-span.invariant.index ∙ one_more_span (located h) place b i s le is) g;
-      ring_room = let now = c.let_in.ensures.ring_room in let then = c.loop-span.invariant.ring_room in omega arith;
+      ring_room = c.let_in.ensures.ring_room ∙ c.loop-span.invariant.ring_room;
+      seen = let now = c.let_in.ensures.seen in let then = c.loop-span.invariant.seen in omega arith;
       assembly_room = λ t. room_for_rest t b.spans i s (room_of c.loop-span.assembly t) (room_of c.let_in.new.assembly t) le is (c.loop-span.invariant.assembly_room t) (c.let_in.ensures.assembly_room t);
     }
 
@@ -36,3 +37,14 @@ returns-clause-follows c =
     (all_spans c.args.journal.now.held.entries c.args.entry.now (c.len-place.result + 1) c.loop-span.span-index
     (ap (λ k. k + 1) c.len-place.ensures.length) (subst (λ (ss : List Span). length ss ≤ c.loop-span.span-index) c.as_slice-span-items.ensures c.loop-span-test.false))
     c.loop-span.invariant.follows
+
+pub let_in-requires-clause-ring_room : goal.let_in-requires-clause-ring_room
+let_in-requires-clause-ring_room c =
+    let le : c.loop-span.span-index < length c.args.entry.now.batch.spans = subst (λ (ss : List Span). c.loop-span.span-index < length ss) c.as_slice-span-items.ensures c.loop-span-test.true in
+    omega (arith, c.requires.ring_room, c.loop-span.invariant.ring_room, c.loop-span.invariant.seen)
+
+pub returns-clause-ring_room : goal.returns-clause-ring_room
+returns-clause-ring_room c = c.loop-span.invariant.ring_room
+
+pub returns-clause-seen : goal.returns-clause-seen
+returns-clause-seen c = omega (arith, c.loop-span.invariant.seen)

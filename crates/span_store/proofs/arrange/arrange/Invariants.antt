@@ -1,4 +1,4 @@
-use Rattle.std.proofs.Common.{◌≡◌, ◌+◌, ◌≤◌, ◌++◌, length, take, drop, count_by}
+use Rattle.std.proofs.Common.{◌≡◌, ◌+◌, ◌-◌, ◌≤◌, ◌++◌, length, take, drop, count_by}
 use Rattle.jaeger_model.specs.declared.ids.TraceId.{TraceId}
 use Rattle.jaeger_model.specs.Parents.{domain}
 use Rattle.trace_assembly.specs.Rows.{spots_of, room_of, is_of}
@@ -11,6 +11,7 @@ invariant-loop-span l = record {
   index : l.index ≡ l.span-index;
   limit : l.ring.limit ≡ l.initial.ring.limit;
   follows : Follows l.initial.ring.limit (located l.journal.held.entries ++ located_in l.place 0 (domain (record l.entry.batch { spans = take l.span-index l.entry.batch.spans }))) l.ring.ids (spots_of l.assembly);
-  ring_room : length l.entry.batch.spans ≤ l.span-index + l.ring.room;
+  ring_room : l.ring.room ≡ l.initial.ring.room;
+  seen : length l.ring.seen + (length l.entry.batch.spans - l.span-index) ≤ length l.initial.ring.seen + length l.entry.batch.spans;
   assembly_room : (t : TraceId) → count_by (is_of t) (drop l.span-index l.entry.batch.spans) ≤ room_of l.assembly t;
 }

@@ -16,7 +16,7 @@ use Rattle.span_store.proofs.store.SpanStore.all_traces.Goals as goal
 pub see_traces-requires : goal.see_traces-requires
 see_traces-requires c =
     let was = c.self.inside in
-    kept_spots was.journal.held was.ring.limit was.ring.ids (spots_of was.assembly) was.names (places_of was.reported) c.self.invariant
+    kept_spots was.journal.held was.ring (spots_of was.assembly) was.names (places_of was.reported) c.self.invariant
 
 pub returns : goal.returns
 returns c =
@@ -24,6 +24,6 @@ returns c =
     let h = was.journal.held in
     let ids : c.deref.result.now ≡ was.ring.ids = c.deref.ensures.value ∙ c.in_ok-ids.ensures in
     let all : map (spans_of_trace h.limits.traces (arrivals h.entries)) c.deref.result.now ≡ traces h.limits.traces (arrivals h.entries) =
-    ap (map (spans_of_trace h.limits.traces (arrivals h.entries))) ids ∙ kept_traces h was.ring.limit was.ring.ids (spots_of was.assembly) was.names (places_of was.reported) c.self.invariant in
+    ap (map (spans_of_trace h.limits.traces (arrivals h.entries))) ids ∙ kept_traces h was.ring (spots_of was.assembly) was.names (places_of was.reported) c.self.invariant in
     subst (λ (v : Held). IfOk c.see_traces.result (λ (ts : Vec (Vec Seen Global) Global). given_traces ts.items ≡ traces v.limits.traces (arrivals v.entries))) c.self.view_is
     (subst (λ (l : List (List Placed)). IfOk c.see_traces.result (λ (ts : Vec (Vec Seen Global) Global). given_traces ts.items ≡ l)) all c.see_traces.ensures)

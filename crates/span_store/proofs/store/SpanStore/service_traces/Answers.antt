@@ -17,12 +17,12 @@ use Rattle.span_store.proofs.store.SpanStore.service_traces.Goals as goal
 pub ids_along-requires : goal.ids_along-requires
 ids_along-requires c =
     let was = c.self.inside in
-    subst NoneTwice (sym (kept_ring was.journal.held was.ring.limit was.ring.ids (spots_of was.assembly) was.names (places_of was.reported) c.self.invariant)) (ring_once was.journal.held.limits.traces (arrivals was.journal.held.entries))
+    subst NoneTwice (sym (kept_ring was.journal.held was.ring (spots_of was.assembly) was.names (places_of was.reported) c.self.invariant)) (ring_once was.journal.held.limits.traces (arrivals was.journal.held.entries))
 
 pub see_traces-requires : goal.see_traces-requires
 see_traces-requires c =
     let was = c.self.inside in
-    kept_spots was.journal.held was.ring.limit was.ring.ids (spots_of was.assembly) was.names (places_of was.reported) c.self.invariant
+    kept_spots was.journal.held was.ring (spots_of was.assembly) was.names (places_of was.reported) c.self.invariant
 
 pub returns : goal.returns
 returns c = λ q same.
@@ -33,5 +33,5 @@ returns c = λ q same.
     let all : found_in q (given_traces c.in_ok-traces.traces.items) ≡ found_in q (traces h.limits.traces (arrivals h.entries)) =
     ap (found_in q) (c.in_ok-traces.ensures ∙ ap (map f) ids)
     ∙ found_among q h.limits.traces h.entries c.args.service.now was.ring.ids same
-    ∙ ap (found_in q) (kept_traces h was.ring.limit was.ring.ids (spots_of was.assembly) was.names (places_of was.reported) c.self.invariant) in
+    ∙ ap (found_in q) (kept_traces h was.ring (spots_of was.assembly) was.names (places_of was.reported) c.self.invariant) in
     subst (λ (v : Held). found_in q (given_traces c.in_ok-traces.traces.items) ≡ found_in q (traces v.limits.traces (arrivals v.entries))) c.self.view_is all

@@ -1,18 +1,41 @@
-use Rattle.std.proofs.Common.{rules, ◌≡◌, ◌<◌, ◌^◌, length, false, List, Some, sym, ap, subst, ◌∙◌}
-use Rattle.std.specs.HashMap.{Updates}
-use Rattle.jaeger_model.specs.declared.ids.TraceId.{TraceId}
+use Rattle.std.proofs.Common.{◌≡◌, ◌<◌, ◌+◌, ◌%◌, ◌^◌, ◌∙◌, ℕ, length, List, [], ◌∷◌, ◌++◌, sym, ap, subst, arith}
+use Rattle.std.proofs.Math.ListN.{set}
+use Rattle.id_table.specs.Rows.{id_at}
 use Rattle.trace_model.specs.Rings.{holds}
 use Rattle.trace_ring.specs.Windows.{Window}
-use Rattle.trace_ring.specs.Numbers.{IsNumbered, key_of, same_key, number_at}
-use Rattle.trace_ring.proofs.Numbering.{numbered_push}
+use Rattle.trace_ring.specs.Numbers.{window, IsRing}
+use Rattle.trace_ring.proofs.Ringing.{length_window, none_held, ring_room, ring_opened}
 use Rattle.trace_ring.proofs.ring.Ring.open.Goals as goal
+
+pub push_back_reserved-requires : goal.push_back_reserved-requires
+push_back_reserved-requires c =
+    let t = c.self.inside in
+    let h = c.self.invariant.2 in
+    let row = c.args.row in
+    let known = subst (λ (w : Window). row < length w.seen) (sym c.self.view_is) c.requires.known in
+    let absent = none_held (id_at t.table.ids row) (window t.table.ids t.rows.items) (ap (λ (w : Window). holds w.ids (id_at w.seen row)) c.self.view_is ∙ c.requires.absent) in
+    let l = length_window t.table.ids t.rows.items in
+    let few : 0 < t.limit → length t.rows.items < t.limit = λ pos.
+    let w = subst (λ (w : Window). 0 < w.limit → length w.ids < w.limit) (sym c.self.view_is) c.requires.within pos in
+    subst (λ (n : ℕ). n < t.limit) l w in
+    let room = ring_room t.limit t.room t.table t.rows.items t.first t.numbers.items row h known absent few in
+    omega (arith, c.self.invariant.0)
 
 pub invariant_of-self : goal.invariant_of-self
 invariant_of-self c =
-    let ids = c.self.inside.ids.items in
-    let updates : Updates same_key c.self.inside.numbers c.insert.new.self (key_of c.args.trace) (Some (number_at c.self.inside.first (length ids))) = search rules in
-    let fits : length ids < 2 ^ 64 = search rules in
-    let absent : holds ids c.args.trace ≡ false = ap (λ (w : Window). holds w.ids c.args.trace) c.self.view_is ∙ c.requires.absent in
-    let few : 0 < c.self.inside.limit → length ids < c.self.inside.limit = search rules in
-    subst (λ (xs : List TraceId). IsNumbered c.self.inside.limit xs c.self.inside.first c.insert.new.self) (sym c.push_back_reserved.ensures.items)
-    (numbered_push c.self.inside.limit ids c.args.trace c.self.inside.first c.self.inside.numbers c.insert.new.self c.self.invariant absent few fits updates)
+    let t = c.self.inside in
+    let h = c.self.invariant.2 in
+    let row = c.args.row in
+    let known = subst (λ (w : Window). row < length w.seen) (sym c.self.view_is) c.requires.known in
+    let absent = none_held (id_at t.table.ids row) (window t.table.ids t.rows.items) (ap (λ (w : Window). holds w.ids (id_at w.seen row)) c.self.view_is ∙ c.requires.absent) in
+    let l = length_window t.table.ids t.rows.items in
+    let few : 0 < t.limit → length t.rows.items < t.limit = λ pos.
+    let w = subst (λ (w : Window). 0 < w.limit → length w.ids < w.limit) (sym c.self.view_is) c.requires.within pos in
+    subst (λ (n : ℕ). n < t.limit) l w in
+    let len : length t.rows.items ≡ c.len.result = omega arith in (
+      omega (arith, c.self.invariant.0),
+      omega (arith, c.self.invariant.1),
+      subst (λ (xs : List ℕ). IsRing t.limit t.room t.table xs t.first (set t.numbers.items row ((t.first + c.len.result) % 2 ^ 64))) (sym c.push_back_reserved.ensures.items)
+          (subst (λ (n : ℕ). IsRing t.limit t.room t.table (t.rows.items ++ row ∷ []) t.first (set t.numbers.items row ((t.first + n) % 2 ^ 64))) len
+          (ring_opened t.limit t.room t.table t.rows.items t.first t.numbers.items row h known absent few)),
+    )

@@ -1,22 +1,20 @@
-use Rattle.std.proofs.Common.{rules, ◌≡◌, ◌<◌, ◌^◌, Some, None, sym, ap, ◌∙◌}
+use Rattle.std.proofs.Common.{◌≡◌, ◌∙◌, Some, sym, ap}
 use Rattle.std.specs.Prelude.{position}
+use Rattle.jaeger_model.specs.declared.ids.TraceId.{TraceId}
 use Rattle.jaeger_model.specs.Parents.{same_trace}
-use Rattle.std.specs.HashMap.{get}
+use Rattle.id_table.specs.Rows.{id_at}
 use Rattle.trace_ring.specs.Windows.{Window}
-use Rattle.trace_ring.specs.Numbers.{place_of, key_of, same_key, number_at}
-use Rattle.trace_ring.proofs.Numbering.{place_from_number, place_of-position, place_missing}
+use Rattle.trace_ring.proofs.Ringing.{row_is, none_unseen}
 use Rattle.trace_ring.proofs.ring.Ring.position.Goals as goal
 
-pub returns : goal.returns
-returns c =
-    let looked : get same_key c.self.inside.numbers (key_of c.args.trace) ≡ Some c.in_ok-number.field-0.now = search rules in
-    let first : c.self.inside.first < 2 ^ 64 = search rules in
-    place_from_number c.args.trace c.self.inside.ids.items c.self.inside.first c.in_ok-number.field-0.now first c.self.invariant.fits (sym (c.self.invariant.found c.args.trace) ∙ looked)
-    ∙ place_of-position c.args.trace c.self.inside.ids.items ∙ ap (λ (w : Window). position (same_trace c.args.trace) w.ids) c.self.view_is
+pub returns-in-Some : goal.returns-in-Some
+returns-in-Some c =
+    let found : position (same_trace c.args.trace) c.self.inside.table.ids ≡ Some c.in-Some.row = sym c.find.ensures ∙ c.in-Some.is in
+    let seen : id_at c.args.self.now.seen c.in-Some.row ≡ c.args.trace = ap (λ (w : Window). id_at w.seen c.in-Some.row) (sym c.self.view_is) ∙ row_is c.args.trace c.self.inside.table.ids c.in-Some.row found in
+    c.place.ensures ∙ ap (λ (x : TraceId). position (same_trace x) c.args.self.now.ids) seen
 
-pub returns-in_err-number : goal.returns-in_err-number
-returns-in_err-number c =
-    let none : c.from_residual.result ≡ None = search rules in
-    let looked : get same_key c.self.inside.numbers (key_of c.args.trace) ≡ None = search rules in
-    none ∙ place_missing (number_at c.self.inside.first) (place_of c.args.trace c.self.inside.ids.items) (sym (c.self.invariant.found c.args.trace) ∙ looked)
-    ∙ place_of-position c.args.trace c.self.inside.ids.items ∙ ap (λ (w : Window). position (same_trace c.args.trace) w.ids) c.self.view_is
+pub returns-in-None : goal.returns-in-None
+returns-in-None c =
+    let t = c.self.inside in
+    none_unseen t.limit t.room t.table t.rows.items t.first t.numbers.items c.args.trace c.self.invariant.2 (sym c.find.ensures ∙ c.in-None.is)
+    ∙ ap (λ (w : Window). position (same_trace c.args.trace) w.ids) c.self.view_is

@@ -1,0 +1,86 @@
+#!/usr/bin/env python3
+"""Whether whoever sends ids can make an arrival dear.
+
+Each measurement is one run of `jaeger_one pipe` that is sent one body of one-span traces, whose ids are of one
+kind. What is timed is from the first byte of the request to the last byte of its answer. The kinds:
+
+  random     any ids
+  counted    1, 2, 3 and so on
+  one half   ids that differ in their upper half alone
+  colliding  ids that all have one hash under `std::collections::HashMap` of the kit, which has no key
+
+    bench/ids.py [--bin PATH] [--traces 20000] [--rounds 3]
+
+The column `of random` is the ratio of the best times.
+"""
+import argparse
+import os
+import random
+import struct
+import time
+
+from decode import ROOT, field, text
+from session import Session, post
+
+MASK = (1 << 64) - 1
+SEED = 0x243F6A8885A308D3
+MULTIPLIER = 0x9E3779B97F4A7C15
+
+
+def folded(a, b):
+    product = a * b
+    return (product & MASK) ^ (product >> 64)
+
+
+def colliding(n):
+    """An id whose hash without a key is that of each other such id: its lower half undoes what its upper half does."""
+    return n, folded(SEED ^ n, MULTIPLIER ^ 16) ^ 0x5555
+
+
+def ids_of(kind, count):
+    rng = random.Random(7)
+    if kind == "random":
+        return [(rng.getrandbits(64), rng.getrandbits(64)) for _ in range(count)]
+    if kind == "counted":
+        return [(0, n + 1) for n in range(count)]
+    if kind == "one half":
+        return [(n + 1, 1) for n in range(count)]
+    return [colliding(n + 1) for n in range(count)]
+
+
+def span(high, low):
+    out = field(10, 1) + struct.pack(">Q", low) + field(10, 2) + struct.pack(">Q", high)
+    out += field(10, 3) + struct.pack(">Q", 2) + field(10, 4) + struct.pack(">Q", 0) + field(11, 5) + text("op")
+    out += field(8, 7) + struct.pack(">i", 1) + field(10, 8) + struct.pack(">q", 1000) + field(10, 9) + struct.pack(">q", 50)
+    return out + b"\0"
+
+
+def body(ids):
+    process = field(12, 1) + field(11, 1) + text("a") + b"\0"
+    return process + field(15, 2) + b"\x0c" + struct.pack(">i", len(ids)) + b"".join(span(*i) for i in ids) + b"\0"
+
+
+def measure(binary, sent):
+    session = Session([binary, "pipe"])
+    took, _ = session.ask([post(sent)])
+    session.run.stdin.close()
+    session.run.wait()
+    return took
+
+
+def main():
+    asked = argparse.ArgumentParser(description=__doc__, formatter_class=argparse.RawDescriptionHelpFormatter)
+    asked.add_argument("--bin", default=os.path.join(ROOT, "crates", "jaeger_one", "out", "jaeger_one"))
+    asked.add_argument("--traces", type=int, default=20_000)
+    asked.add_argument("--rounds", type=int, default=3)
+    words = asked.parse_args()
+    kinds = ["random", "counted", "one half", "colliding"]
+    bodies = {kind: body(ids_of(kind, words.traces)) for kind in kinds}
+    best = {kind: min(measure(words.bin, bodies[kind]) for _ in range(words.rounds)) for kind in kinds}
+    print("%d traces of one span in a body of %d bytes" % (words.traces, len(bodies["random"])))
+    for kind in kinds:
+        print("%-10s %8.1f ms, %6.2f of random" % (kind, best[kind] * 1e3, best[kind] / best["random"]))
+
+
+if __name__ == "__main__":
+    main()

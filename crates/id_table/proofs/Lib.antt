@@ -1,0 +1,2 @@
+pub mod Probing
+pub mod Spreading

@@ -1,0 +1,34 @@
+use id_table::IdTable;
+use jaeger_model::TraceId;
+use std::hash::RandomState;
+use std::test::*;
+
+/// Ids that differ in one half alone.
+fn nth(number: u32) -> TraceId {
+    let number = u64::from(number);
+    TraceId {
+        high: if number % 2 == 0 { number } else { 1 },
+        low: if number % 2 == 0 { 1 } else { number },
+    }
+}
+
+/// Of so many ids in so few places, most begin their walk where another one stands, under any key.
+#[test]
+fn each_id_has_its_row(rt: HostRuntime) -> Result<(), Fail> {
+    for room in [1, 2, 3, 40, 300] {
+        let mut table = IdTable::with_room(rt.alloc(), RandomState::new(&rt)?, room)?;
+        for row in 0..room {
+            let id = nth(row);
+            assert!(rt; table.has_room() && table.find(id).is_none());
+            assert_eq!(rt; table.add(id), row);
+        }
+        assert!(rt; !table.has_room());
+        assert_eq!(rt; table.used(), room);
+        for row in 0..table.used() {
+            assert_eq!(rt; table.find(nth(row)), Some(row));
+            assert_eq!(rt; table.id(row), nth(row));
+        }
+        assert_eq!(rt; table.find(nth(room)), None);
+    }
+    Ok(())
+}
