@@ -12,16 +12,12 @@ use Rattle.trace_model.specs.Showing.{ring}
 use Rattle.trace_ring.specs.Windows.{Window}
 use Rattle.trace_assembly.specs.declared.spot.Spot.{Spot}
 use Rattle.trace_assembly.specs.Located.{located, spans_in, shown_spots}
-use Rattle.service_index.specs.Listing.{Listed, listed, listed_cmp, listed_in}
+use Rattle.arrival_names.specs.Kept.{Kept as Names, IsKept as NamesKept}
 
 -- the ring is that of these arrivals, and each trace has the spots of its shown spans
 pub record Follows (n : ℕ) (ls : List (Spot × Placed)) (ids : List TraceId) (spots_at : TraceId → List Spot) : Type 0 where
   pub ring : ids ≡ ring n (spans_in ls)
   pub spots : (t : TraceId) → spots_at t ≡ shown_spots n ls t
-
--- what is listed once the spans of the batch are
-abbrev pub with_listed : List Listed → Batch → List Listed
-with_listed ls b = fold (insert_once listed_cmp) ls (map listed (domain b))
 
 -- the places of the service's entries from this place on
 abbrev pub places_from : List ℕ → ℕ → List Entry → List ℕ
@@ -32,11 +28,18 @@ places_from service place (e ∷ es) = if same_text e.batch.process.service serv
 abbrev pub places_in : List ℕ → List Entry → List ℕ
 places_in service h = places_from service 1 h
 
+-- the names of the entries are kept, with room for all that may come
+pub record IsNamed (held : Held) (names : Names) : Type 0 where
+  pub kept : NamesKept held.entries names
+  pub batches : names.numbers.batches ≡ held.limits.batches
+  pub numbers : names.numbers.spans ≡ held.limits.spans
+  pub index : names.index.room ≡ held.limits.spans
+
 -- ring, spots, names and the places of services are those of the entries, and there is room for the traces of all spans that may come
-pub record IsKept (held : Held) (newest : Window) (spots_at : TraceId → List Spot) (index : List Listed) (places_at : List ℕ → List ℕ) : Type 0 where
+pub record IsKept (held : Held) (newest : Window) (spots_at : TraceId → List Spot) (names : Names) (places_at : List ℕ → List ℕ) : Type 0 where
   pub limit : newest.limit ≡ held.limits.traces
   pub room : newest.room ≡ held.limits.spans
   pub few : length newest.seen ≤ span_count held.entries
   pub follows : Follows newest.limit (located held.entries) newest.ids spots_at
-  pub names : index ≡ listed_in (arrivals held.entries)
+  pub named : IsNamed held names
   pub places : (service : List ℕ) → places_at service ≡ places_in service held.entries

@@ -10,7 +10,6 @@
 //! * `searching`: which traces a search by a service looks at.
 //! * `seeing`: the shown spans of traces, where they stand.
 //! * `finding`: searches and calls over these.
-//! * `listing`: the names that one more batch lists.
 //! * `store`: the [`SpanStore`].
 //! * `replaying`: a store made of a whole list of entries.
 #![tactic(auto)]
@@ -18,7 +17,6 @@
 mod arrange;
 mod finding;
 mod gather;
-mod listing;
 mod replaying;
 mod searching;
 mod seeing;

@@ -14,12 +14,11 @@ ghost use Rattle.span_store.specs.Given.{given_traces};
 use crate::arrange::arrange;
 use crate::finding;
 use crate::gather::gather;
-use crate::listing::{exchange, with_listed};
 use crate::searching::ids_along;
 use crate::seeing::{ring_ids, see_traces};
 use arrival_journal::Journal;
+use arrival_names::ArrivalNames;
 use jaeger_model::{Placed, Seen, Seq, Text, TraceId};
-use service_index::ServiceIndex;
 use service_places::ServicePlaces;
 use span_steps::all_unadjusted;
 use std::alloc::{AllocError, Global};
@@ -41,7 +40,7 @@ pub struct SpanStore {
     journal: Journal,
     ring: Ring,
     assembly: Assembly,
-    names: ServiceIndex,
+    names: ArrivalNames,
     reported: ServicePlaces,
 }
 
@@ -69,7 +68,7 @@ impl SpanStore {
             journal: Journal::new(alloc, limits)?,
             ring: Ring::with_room(alloc, keys, limits.traces, limits.spans)?,
             assembly: Assembly::new(alloc),
-            names: ServiceIndex::new(alloc),
+            names: ArrivalNames::with_room(alloc, keys, limits.batches, limits.spans)?,
             reported: ServicePlaces::new(alloc),
         })
     }
@@ -126,15 +125,14 @@ impl SpanStore {
         ensures legal { IsLegal self.new.limits self.new.entries }
     {
         self.journal.judge(&entry)?;
-        let names = with_listed(&self.names, &entry.batch)?;
         self.assembly.reserve(entry.batch.spans.as_slice())?;
         self.reported.reserve(&entry.batch.process.service)?;
         arrange(&self.journal, &mut self.ring, &mut self.assembly, &entry);
         let place = self.journal.len() + 1;
         self.reported
             .add_reserved(&entry.batch.process.service, place);
-        exchange(&mut self.names, names);
         self.journal.append(entry);
+        self.names.add(self.journal.entries());
         Ok(self.journal.len())
     }
 
@@ -165,7 +163,7 @@ impl SpanStore {
     fn services(&self) -> Result<Answer, AllocError>
         ensures { IfOk result (λ a. a ≡ answer self.now.limits self.now.entries ask.Services) }
     {
-        let names = self.names.services()?;
+        let names = self.names.services(self.journal.entries())?;
         Ok(Answer::Names(Seq::from_vec(names)))
     }
 
@@ -173,7 +171,7 @@ impl SpanStore {
     fn operation_names(&self, service: &Text) -> Result<Answer, AllocError>
         ensures { IfOk result (λ a. a ≡ answer self.now.limits self.now.entries (ask.OperationNames service.now)) }
     {
-        let names = self.names.names(service)?;
+        let names = self.names.operation_names(self.journal.entries(), service)?;
         Ok(Answer::Names(Seq::from_vec(names)))
     }
 
@@ -181,7 +179,9 @@ impl SpanStore {
     fn operations(&self, service: &Text, kind: &Text) -> Result<Answer, AllocError>
         ensures { IfOk result (λ a. a ≡ answer self.now.limits self.now.entries (ask.Operations service.now kind.now)) }
     {
-        let found = self.names.operations(service, kind)?;
+        let found = self
+            .names
+            .operations(self.journal.entries(), service, kind)?;
         Ok(Answer::Operations(Seq::from_vec(found)))
     }
 

@@ -1,17 +1,16 @@
-use Rattle.std.proofs.Common.{◌≡◌, ◌∙◌, ap, subst}
+use Rattle.std.proofs.Common.{List, ◌≡◌, ◌∙◌, ap, subst}
+use Rattle.trace_model.specs.declared.entry.Entry.{Entry}
 use Rattle.trace_model.specs.Held.{Held}
 use Rattle.trace_model.specs.declared.query.Query.TheVariants.{OperationNames}
 use Rattle.trace_model.specs.declared.answer.Answer.TheVariants.{Names}
 use Rattle.trace_model.specs.Answers.{answer}
 use Rattle.trace_model.specs.Histories.{arrivals}
 use Rattle.trace_model.specs.Names.{operation_names}
-use Rattle.service_index.specs.Listing.{names_in}
-use Rattle.service_index.proofs.Arrivals.{names_listed}
 use Rattle.span_store.proofs.store.SpanStore.operation_names.Goals as goal
 
 pub returns : goal.returns
 returns c =
     let held = c.self.inside.journal.held in
     let service = c.args.service.now in
-    let all : c.from_vec.result ≡ operation_names service (arrivals held.entries) = c.from_vec.ensures ∙ c.in_ok-names.ensures ∙ ap (names_in service) c.self.invariant.names ∙ names_listed service (arrivals held.entries) in
+    let all : c.from_vec.result ≡ operation_names service (arrivals held.entries) = c.from_vec.ensures ∙ c.in_ok-names.ensures ∙ ap (λ (h : List Entry). operation_names service (arrivals h)) c.entries.ensures in
     subst (λ (v : Held). Names c.from_vec.result ≡ answer v.limits v.entries (OperationNames service)) c.self.view_is (ap Names all)

@@ -1,12 +1,11 @@
-use Rattle.std.proofs.Common.{◌≡◌, ◌∙◌, ap, subst}
+use Rattle.std.proofs.Common.{List, ◌≡◌, ◌∙◌, ap, subst}
+use Rattle.trace_model.specs.declared.entry.Entry.{Entry}
 use Rattle.trace_model.specs.Held.{Held}
 use Rattle.trace_model.specs.declared.query.Query.TheVariants as ask
 use Rattle.trace_model.specs.declared.answer.Answer.TheVariants as say
 use Rattle.trace_model.specs.Answers.{answer}
 use Rattle.trace_model.specs.Histories.{arrivals}
 use Rattle.trace_model.specs.Names.{operations}
-use Rattle.service_index.specs.Listing.{operations_in}
-use Rattle.service_index.proofs.Arrivals.{operations_listed}
 use Rattle.span_store.proofs.store.SpanStore.operations.Goals as goal
 
 pub returns : goal.returns
@@ -14,5 +13,5 @@ returns c =
     let held = c.self.inside.journal.held in
     let service = c.args.service.now in
     let kind = c.args.kind.now in
-    let all : c.from_vec.result ≡ operations service kind (arrivals held.entries) = c.from_vec.ensures ∙ c.in_ok-found.ensures ∙ ap (operations_in service kind) c.self.invariant.names ∙ operations_listed service kind (arrivals held.entries) in
+    let all : c.from_vec.result ≡ operations service kind (arrivals held.entries) = c.from_vec.ensures ∙ c.in_ok-found.ensures ∙ ap (λ (h : List Entry). operations service kind (arrivals h)) c.entries.ensures in
     subst (λ (v : Held). say.Operations c.from_vec.result ≡ answer v.limits v.entries (ask.Operations service kind)) c.self.view_is (ap say.Operations all)

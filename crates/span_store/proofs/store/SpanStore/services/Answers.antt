@@ -1,16 +1,15 @@
-use Rattle.std.proofs.Common.{◌≡◌, ◌∙◌, ap, subst}
+use Rattle.std.proofs.Common.{List, ◌≡◌, ◌∙◌, ap, subst}
+use Rattle.trace_model.specs.declared.entry.Entry.{Entry}
 use Rattle.trace_model.specs.Held.{Held}
 use Rattle.trace_model.specs.declared.query.Query.TheVariants.{Services}
 use Rattle.trace_model.specs.declared.answer.Answer.TheVariants.{Names}
 use Rattle.trace_model.specs.Answers.{answer}
 use Rattle.trace_model.specs.Histories.{arrivals}
 use Rattle.trace_model.specs.Names.{services}
-use Rattle.service_index.specs.Listing.{services_in}
-use Rattle.service_index.proofs.Arrivals.{services_listed}
 use Rattle.span_store.proofs.store.SpanStore.services.Goals as goal
 
 pub returns : goal.returns
 returns c =
     let held = c.self.inside.journal.held in
-    let all : c.from_vec.result ≡ services (arrivals held.entries) = c.from_vec.ensures ∙ c.in_ok-names.ensures ∙ ap services_in c.self.invariant.names ∙ services_listed (arrivals held.entries) in
+    let all : c.from_vec.result ≡ services (arrivals held.entries) = c.from_vec.ensures ∙ c.in_ok-names.ensures ∙ ap (λ (h : List Entry). services (arrivals h)) c.entries.ensures in
     subst (λ (v : Held). Names c.from_vec.result ≡ answer v.limits v.entries Services) c.self.view_is (ap Names all)
