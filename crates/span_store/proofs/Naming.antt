@@ -1,17 +1,8 @@
 -- The places of services.
-use Rattle.std.proofs.Common.{◌≡◌, ℕ, suc, arith, ◌+◌, ◌<◌, Bool, true, false, List, [], ◌∷◌, ◌++◌, map, take, drop, length, get_or, refl, sym, ap, ◌∙◌}
-use Rattle.std.specs.Prelude.{fold, if◌then◌else◌}
-use Rattle.std.specs.List.{list_any}
-use Rattle.std.specs.List.Sorted.{IsStrictlySortedBy}
-use Rattle.std.proofs.lemmas.List.{map-append, map_push, map_more, at_drop_more, flat_map_more}
-use Rattle.std.proofs.lemmas.List.Sums.{fold-append, fold_push}
-use Rattle.jaeger_model.specs.declared.span.Span.{Span}
-use Rattle.jaeger_model.specs.declared.batch.Batch.{Batch}
-use Rattle.jaeger_model.specs.Parents.{domain, placed, needs_no_reference, parent_reference}
-use Rattle.jaeger_model.specs.Tags.{kind_of}
-use Rattle.jaeger_model.specs.Texts.{same_text, insert_once}
+use Rattle.std.proofs.Common.{◌≡◌, ℕ, suc, arith, ◌+◌, Bool, true, false, List, [], ◌∷◌, ◌++◌, length, refl, sym, ap, ◌∙◌}
+use Rattle.std.specs.Prelude.{if◌then◌else◌}
+use Rattle.jaeger_model.specs.Texts.{same_text}
 use Rattle.trace_model.specs.declared.entry.Entry.{Entry}
-use Rattle.trace_model.specs.Histories.{arrivals}
 use Rattle.span_store.specs.Kept.{places_from, places_in}
 use Rattle.service_places.specs.Reported.{with_place}
 

@@ -1,11 +1,9 @@
 -- What a store keeps beside its list of entries.
-use Rattle.std.specs.Prelude.{◌≡◌, ◌≤◌, ℕ, suc, List, [], ◌∷◌, length, map, fold, if◌then◌else◌}
+use Rattle.std.specs.Prelude.{◌≡◌, ◌≤◌, ℕ, suc, List, [], ◌∷◌, length, if◌then◌else◌}
 use Rattle.jaeger_model.specs.declared.ids.TraceId.{TraceId}
 use Rattle.jaeger_model.specs.declared.placed.Placed.{Placed}
-use Rattle.jaeger_model.specs.declared.batch.Batch.{Batch}
-use Rattle.jaeger_model.specs.Parents.{domain}
-use Rattle.jaeger_model.specs.Texts.{same_text, insert_once}
-use Rattle.trace_model.specs.Histories.{arrivals, span_count}
+use Rattle.jaeger_model.specs.Texts.{same_text}
+use Rattle.trace_model.specs.Histories.{span_count}
 use Rattle.trace_model.specs.declared.entry.Entry.{Entry}
 use Rattle.trace_model.specs.Held.{Held}
 use Rattle.trace_model.specs.Showing.{ring}
