@@ -20,13 +20,19 @@ use std::time::Clock;
 use trace_model::Limits;
 use trace_server::{Gate, Options, serve_with};
 
-/// So many workers and sessions.
-pub fn options<R: Abort + RandomSource>(rt: &R, workers: u16, sessions: u32, idle: u32) -> Options
+/// So many workers and sessions, over a store with room for so many batches.
+pub fn options<R: Abort + RandomSource>(
+    rt: &R,
+    workers: u16,
+    sessions: u32,
+    idle: u32,
+    batches: u32,
+) -> Options
     requires { (1 ≤ workers) × (workers ≤ 64) }
     ensures workers { result.workers ≡ workers }
     ensures queue { result.queue ≡ 4 }
 {
-    let limits = Limits::new(100, 1000, 0, 0).expect(rt, "limits");
+    let limits = Limits::new(batches, 1000, 0, 0).expect(rt, "limits");
     Options {
         limits,
         keys: RandomState::new(rt).expect(rt, "keys"),
@@ -43,14 +49,14 @@ pub struct Outcome {
     pub status: u8,
     /// What the server wrote.
     pub output: MemoryOutput,
-    /// Whether the clients met what they wanted.
+    /// Whether the clients met what they wanted, and the first line was the right one.
     pub pleased: bool,
 }
 
 impl Outcome {
-    /// Whether all was well, and the server said at its end that it took so many connections.
-    pub fn is_well(&self, served: &[u8]) -> bool {
-        self.status == 0 && self.pleased && self.output.as_slice().ends_with(served)
+    /// Whether all was well, and these were the server's last lines.
+    pub fn is_well(&self, last_lines: &[u8]) -> bool {
+        self.status == 0 && self.pleased && self.output.as_slice().ends_with(last_lines)
     }
 }
 
@@ -68,6 +74,13 @@ fn serve<G: Gate + Sync, R: Threads + Wait + Clock + Sync>(
     let mut output = MemoryOutput::new(alloc, 1000, 1000);
     let status = serve_with(rt, alloc, listener, options, gate, &mut output);
     (status, output)
+}
+
+/// Whether the server's first line names the port that it listens on.
+fn names_port(alloc: Global, output: &MemoryOutput, port: u16) -> bool {
+    let mut line = Vec::new(alloc);
+    writeln!(line, "listening 127.0.0.1:{port}").is_ok()
+        && output.as_slice().starts_with(line.as_slice())
 }
 
 /// Runs a server on a port of its own beside its clients.
@@ -88,7 +101,7 @@ pub fn visited<
         { serve(rt, alloc, &listener, options, gate) },
         || guests.visit(rt, alloc, address),
     );
-    let pleased = matches!(pleased, Ok(true));
+    let pleased = matches!(pleased, Ok(true)) && names_port(alloc, &output, address.port());
     Ok(Outcome {
         status,
         output,

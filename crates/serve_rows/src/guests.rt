@@ -14,6 +14,10 @@ use std::thread::{Threads, join, map_indices};
 pub enum Guests {
     /// One hands a batch in and finds it.
     One,
+    /// One hands a batch in, and when it has gone another does.
+    TwoSessions,
+    /// One hands two batches in, and there is room for one.
+    OneTooMany,
     /// What one connection hands in the other finds; both are open before.
     TwoConnections,
     /// Two ask at the same time.
@@ -36,6 +40,8 @@ impl Guests {
     ) -> io::Result<bool> {
         match self {
             Guests::One => one(rt, alloc, address),
+            Guests::TwoSessions => two_sessions(rt, alloc, address),
+            Guests::OneTooMany => one_too_many(rt, alloc, address),
             Guests::TwoConnections => two_connections(rt, alloc, address),
             Guests::TwoAtOnce => two_at_once(rt, alloc, address),
             Guests::Eight => eight(rt, alloc, address),
@@ -56,6 +62,37 @@ fn one<R: Net<Stream = TcpStream, Listener = TcpListener>>(
         ask(alloc, &mut stream, post.as_slice(), ACCEPTED)?
             && ask(alloc, &mut stream, SERVICES, ONE_SERVICE)?
             && parts(alloc, &mut stream, b"")?,
+    )
+}
+
+fn hands_in<R: Net<Stream = TcpStream, Listener = TcpListener>>(
+    rt: &R,
+    alloc: Global,
+    address: SocketAddr,
+) -> io::Result<bool> {
+    let mut stream = TcpStream::connect(rt, address)?;
+    let post = joined(alloc, &[POST, BATCH])?;
+    ask(alloc, &mut stream, post.as_slice(), ACCEPTED)
+}
+
+fn two_sessions<R: Net<Stream = TcpStream, Listener = TcpListener>>(
+    rt: &R,
+    alloc: Global,
+    address: SocketAddr,
+) -> io::Result<bool> {
+    Ok(hands_in(rt, alloc, address)? && hands_in(rt, alloc, address)?)
+}
+
+fn one_too_many<R: Net<Stream = TcpStream, Listener = TcpListener>>(
+    rt: &R,
+    alloc: Global,
+    address: SocketAddr,
+) -> io::Result<bool> {
+    let mut stream = TcpStream::connect(rt, address)?;
+    let post = joined(alloc, &[POST, BATCH])?;
+    Ok(
+        ask(alloc, &mut stream, post.as_slice(), ACCEPTED)?
+            && ask(alloc, &mut stream, post.as_slice(), b"HTTP/1.1 503 ")?,
     )
 }
 
