@@ -68,7 +68,7 @@ impl SpanStore {
             alloc,
             journal: Journal::new(alloc, limits)?,
             ring: Ring::with_room(alloc, keys, limits.traces, limits.spans)?,
-            assembly: Assembly::new(alloc),
+            assembly: Assembly::new(alloc, keys),
             names: ServiceIndex::new(alloc),
             reported: ServicePlaces::new(alloc),
         })
