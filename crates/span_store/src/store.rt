@@ -67,7 +67,7 @@ impl SpanStore {
             alloc,
             journal: Journal::new(alloc, limits)?,
             ring: Ring::with_room(alloc, keys, limits.traces, limits.spans)?,
-            assembly: Assembly::new(alloc),
+            assembly: Assembly::new(alloc, keys),
             names: ArrivalNames::with_room(alloc, keys, limits.batches, limits.spans)?,
             reported: ServicePlaces::new(alloc),
         })

@@ -59,7 +59,7 @@ fn spot(place: u64) -> Spot {
 
 #[test]
 fn hidden_spots_stay_away(rt: HostRuntime) -> Result<(), Fail> {
-    let mut assembly = Assembly::new(rt.alloc());
+    let mut assembly = Assembly::new(rt.alloc(), RandomState::new(&rt)?);
     for (trace, place) in [(1, 1), (2, 2), (1, 3)] {
         assembly.add(id(trace), spot(place))?;
     }
@@ -77,7 +77,7 @@ fn hidden_spots_stay_away(rt: HostRuntime) -> Result<(), Fail> {
 #[test]
 fn adds_in_room(rt: HostRuntime) -> Result<(), Fail> {
     let alloc = rt.alloc();
-    let mut assembly = Assembly::new(alloc);
+    let mut assembly = Assembly::new(alloc, RandomState::new(&rt)?);
     let mut spans = Vec::new(alloc);
     for trace in [5, 6, 5, 5] {
         spans.push(span(alloc, trace, 1)?)?;

@@ -8,13 +8,15 @@ use crate::spot::Spot;
 use jaeger_model::{Span, TraceId};
 use std::alloc::{AllocError, Global};
 use std::collections::HashMap;
+use std::hash::RandomState;
 use std::marker::Model;
 
 /// The spots of each trace, in the order in which they were added.
 #[derive(Drop)]
 pub struct Assembly {
     alloc: Global,
-    rows: HashMap<(u64, u64), Row>,
+    keys: RandomState,
+    rows: HashMap<(u64, u64), Row, RandomState>,
 }
 
 impl Model for Assembly {
@@ -34,13 +36,14 @@ fn key(trace: TraceId) -> (u64, u64)
 }
 
 impl Assembly {
-    /// An assembly with no spots.
-    pub fn new(alloc: Global) -> Self
+    /// An assembly with no spots. The keys are those of the hash by which a trace is found.
+    pub fn new(alloc: Global, keys: RandomState) -> Self
         ensures { (t : Trace) → spots_of result t ≡ [] }
     {
         Assembly {
             alloc,
-            rows: HashMap::new(alloc),
+            keys,
+            rows: HashMap::with_hasher(alloc, keys),
         }
     }
 
@@ -75,7 +78,8 @@ impl Assembly {
         ensures room { (t : Trace) → room_of self.old t ≤ room_of self.new t }
         ensures ok { OnOk result ((t : Trace) → count_by (is_of t) spans.now ≤ room_of self.new t) }
     {
-        let mut counts: HashMap<(u64, u64), usize> = HashMap::new(self.alloc);
+        let mut counts: HashMap<(u64, u64), usize, RandomState> =
+            HashMap::with_hasher(self.alloc, self.keys);
         for span in spans {
             let count = counts.get(&key(span.trace)).copied().unwrap_or(0) + 1;
             counts.insert(key(span.trace), count)?;
