@@ -78,8 +78,9 @@ impl Assembly {
         ensures room { (t : Trace) → room_of self.old t ≤ room_of self.new t }
         ensures ok { OnOk result ((t : Trace) → count_by (is_of t) spans.now ≤ room_of self.new t) }
     {
-        let mut counts: HashMap<(u64, u64), usize, RandomState> =
-            HashMap::with_hasher(self.alloc, self.keys);
+        let mut counts: HashMap<(u64, u64), usize, RandomState> = HashMap::with_hasher(
+            self.alloc, self.keys,
+        );
         for span in spans {
             let count = counts.get(&key(span.trace)).copied().unwrap_or(0) + 1;
             counts.insert(key(span.trace), count)?;

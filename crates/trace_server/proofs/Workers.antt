@@ -77,7 +77,7 @@ one_taken_in seats waiting fewer s ended ended' taken taken' h last still stays 
   others = s ∷ h.others;
   split = h.split ∙ (ap (λ z. z ++ h.others) last ∙ append_assoc fewer (s ∷ []) h.others);
   each = All-cons (IsTakenIn ended' taken') s h.others (here, whole)
-  (λ k d lt. let t = h.each k d lt in let o = get_or h.others k d in (still o.seat o.jobs t.0, stays o.seat o.jobs t.0 t.1));
+      (λ k d lt. let t = h.each k d lt in let o = get_or h.others k d in (still o.seat o.jobs t.0, stays o.seat o.jobs t.0 t.1));
 }
 
 pub all_taken_in : (seats waiting : List SeatValue) (ended : List EndedSeat) (taken : List Entry) → SomeTakenIn seats waiting ended taken → waiting ≡ [] → AreTaken taken seats
@@ -89,10 +89,11 @@ pub moves_none : (taken left : List Entry) → Moves taken left taken left
 moves_none taken left = ([], sym (append-nil taken), sym (append-nil left))
 
 pub moves_more : (s : ℕ) (js t0 l0 t1 l1 t2 l2 : List Entry) → Moves t0 l0 t1 l1 → MovesFor s js t1 l1 t2 l2 → Moves t0 l0 t2 l2
-moves_more s js t0 l0 t1 l1 t2 l2 a b =
-    (a.0 ++ b.moved,
-      b.taken_is ∙ (ap (λ z. z ++ b.moved) a.1 ∙ append_assoc t0 a.0 b.moved),
-      b.left_is ∙ (ap (λ z. z ++ b.moved) a.2 ∙ append_assoc l0 a.0 b.moved))
+moves_more s js t0 l0 t1 l1 t2 l2 a b = (
+  a.0 ++ b.moved,
+  b.taken_is ∙ (ap (λ z. z ++ b.moved) a.1 ∙ append_assoc t0 a.0 b.moved),
+  b.left_is ∙ (ap (λ z. z ++ b.moved) a.2 ∙ append_assoc l0 a.0 b.moved),
+)
 
 pub last_popped : {X : Type 0} (f : X → SeatValue) (old fewer : List X) (x : X) (s : SeatValue) → old ≡ fewer ++ x ∷ [] → s ≡ f x → map f old ≡ map f fewer ++ s ∷ []
 last_popped f old fewer x s e is = ap (map f) e ∙ (map-append f fewer (x ∷ []) ∙ ap (λ (z : SeatValue). map f fewer ++ z ∷ []) (sym is))

@@ -16,12 +16,11 @@ pub(crate) trait Task<R, J, X> {
 }
 
 /// Has each job done in a thread of its own, where one can be made, and gives what each gave, in order.
-pub(crate) fn each_done<
-    J: Send + Drop,
-    X: Send + Drop,
-    R: Threads + Sync,
-    T: Task<R, J, X> + Sync,
->(rt: &R, task: &T, jobs: Vec<J>) -> Result<Vec<X>, AllocError>
+pub(crate) fn each_done<J: Send + Drop, X: Send + Drop, R: Threads + Sync, T: Task<R, J, X> + Sync>(
+    rt: &R,
+    task: &T,
+    jobs: Vec<J>,
+) -> Result<Vec<X>, AllocError>
     ensures { IfOk result (λ v. Each T.gives jobs.items v.items) }
 {
     map_vec(rt, jobs, &|job| task.done(rt, job))

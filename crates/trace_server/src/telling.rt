@@ -97,7 +97,12 @@ pub(crate) fn together<N: StoreName>(workers: &[(Shift, Live<N>)]) -> Shift
 }
 
 /// Says how many connections were taken, and then what became of the batches.
-fn say_end<W: Output>(alloc: Global, output: &mut W, served: u64, totals: Totals) -> Result<(), Halt>
+fn say_end<W: Output>(
+    alloc: Global,
+    output: &mut W,
+    served: u64,
+    totals: Totals,
+) -> Result<(), Halt>
     requires { W.has_failed output.old ≡ false }
     ensures { Says (W.contents output.old) (W.contents output.new) (W.has_failed output.new)
         (last_lines served totals.acknowledged totals.refused totals.left) result }

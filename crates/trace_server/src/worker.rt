@@ -60,12 +60,7 @@ impl<'a, N: StoreName, G: Gate> Stage<'a, N, G> {
     }
 
     /// Serves a connection, from what was vouched for when it came.
-    fn serve<R: Wait + Clock>(
-        &self,
-        rt: &R,
-        stream: &TcpStream,
-        store: &mut Gated<'_, N, G, R>,
-    )
+    fn serve<R: Wait + Clock>(&self, rt: &R, stream: &TcpStream, store: &mut Gated<'_, N, G, R>)
         ensures { GoesOn store.old.seat store.new.seat }
     {
         if let Ok(receipt) = self.desk.vouch(rt) {
@@ -101,8 +96,7 @@ impl<'a, N: StoreName, G: Gate> Stage<'a, N, G> {
 }
 
 impl<'a, N: StoreName, G: Gate, R: Wait + Clock> Task<R, (u32, Live<N>), (Shift, Live<N>)>
-    for Stage<'a, N, G>
-{
+    for Stage<'a, N, G> {
     ghost use Rattle.live_store.specs.Sharing.{GoesOn};
 
     ghost gives = { λ job end. GoesOn job.1.seat end.1.seat };

@@ -76,7 +76,7 @@ loop-preserved g c =
       search rules,
       search rules,
       moves-one seat.seat c.handed-last.result seat.jobs c.args.self.now.inbox.taken (map arc_value c.args.self.now.left.items) before.inbox.taken (map arc_value before.left.items)
-      c.pop.new.self.taken (map arc_value c.push_reserved.new.self.items) job i.3 (search rules) i.5 not taken left,
+          c.pop.new.self.taken (map arc_value c.push_reserved.new.self.items) job i.3 (search rules) i.5 not taken left,
       still-not c.number-number.result c.handed-last.result before.inbox.taken c.pop.new.self.taken job i.4 other taken,
       i.5,
       search rules,
