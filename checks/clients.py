@@ -300,7 +300,9 @@ def by_curl(checks, server, folder, searches):
     checks.same("curl: HTTP/1.0", curl("--http1.0", *status, services), (0, "200"))
     checks.same("curl: an upgrade to HTTP/2 is not taken", curl("--http2", *status, services), (0, "200"))
     checks.same("curl: a body that is waited for (Expect)", post(files[0], kinds[0], "-H", "Expect: 100-continue"), (0, "202"))
-    checks.same("curl: a body in chunks", post(files[0], kinds[0], "-H", "Transfer-Encoding: chunked"), (0, "400"))
+    # The plain server, which takes no searches, reads no chunks either.
+    chunked = ["-H", "Transfer-Encoding: chunked"]
+    checks.same("curl: a body in chunks", post(files[0], kinds[0], *chunked), (0, "202" if searches else "400"))
     checks.same("curl: DELETE", curl("--request", "DELETE", *status, to), (0, "405"))
     large = os.path.join(folder, "large.bin")
     with open(large, "wb") as out:

@@ -53,7 +53,12 @@ impl Scan {
     /// in what is new.
     pub(crate) fn is_due(&mut self, bytes: &[u8]) -> bool {
         let mut due = false;
-        for byte in bytes.iter().skip(self.seen) {
+        let unseen = if self.seen <= bytes.len() {
+            &bytes[self.seen..]
+        } else {
+            bytes
+        };
+        for byte in unseen {
             match self.place.after(*byte) {
                 Some(place) => self.place = place,
                 None => {
