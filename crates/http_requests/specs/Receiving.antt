@@ -1,12 +1,12 @@
 -- What reading on does to the bytes received, and what one look for a request finds.
-use Rattle.std.specs.Prelude.{◌≡◌, ℕ, ◌+◌, ◌*◌, ◌≤◌, ◌⊎◌, Bool, true, if◌then◌else◌, List, [], ◌++◌, length, Option}
+use Rattle.std.specs.Prelude.{◌≡◌, ℕ, ◌+◌, ◌*◌, ◌≤◌, ◌⊎◌, Bool, true, if◌then◌else◌, List, [], ◌++◌, length, Option, Result, Ok, Err}
 use Rattle.std.specs.Io.KnownBytes.{Consumes, IsAtEnd}
 use Rattle.chunked_bodies.specs.Chunks.{Lacks}
 use Rattle.http_requests.specs.Requests.{Spells, IsWhole, IsBroken}
 use Rattle.http_requests.specs.declared.asked.Breach.{Breach}
 use Rattle.http_requests.specs.declared.asked.Request.{Request}
 use Rattle.http_requests.specs.declared.received.Interrupted.{Interrupted}
-use Rattle.http_requests.specs.declared.received.Interrupted.TheVariants.{Reading}
+use Rattle.http_requests.specs.declared.received.Interrupted.TheVariants.{Reading, Memory}
 use Rattle.http_requests.specs.declared.reading.Next.{Next}
 use Rattle.http_requests.specs.declared.reading.Next.TheVariants.{One, Clean, Broken}
 
@@ -38,6 +38,12 @@ pub record Stops (in0 in1 : Option (List ℕ)) (failed : Bool) (old : Received) 
   pub more : List ℕ
   pub read : Consumes in0 in1 more
   pub least : why ≡ Reading → (failed ≡ true) ⊎ (turns old ≤ length more)
+
+-- whether the input has failed is as it was, unless reading it stopped the call
+abbrev pub SameUnlessReading : {A : Type 0} → Bool → Bool → Result A Interrupted → Type 0
+SameUnlessReading failed0 failed1 (Ok x) = failed1 ≡ failed0
+SameUnlessReading failed0 failed1 (Err Memory) = failed1 ≡ failed0
+SameUnlessReading failed0 failed1 (Err Reading) = Unit {0}
 
 -- a text in front of the bytes again
 abbrev pub put_back : List ℕ → Received → Received

@@ -1,7 +1,7 @@
 ghost use Rattle.std.specs.Prelude.{◌≡◌, ◌≤◌, false, IfOk, IfErr, OnOk, length};
 ghost use Rattle.chunked_bodies.specs.Chunks.{IsTrailer};
 ghost use Rattle.http_requests.specs.Asked.{IsBounded};
-ghost use Rattle.http_requests.specs.Receiving.{KnowsItsEnd, ReadsOn, Stops};
+ghost use Rattle.http_requests.specs.Receiving.{KnowsItsEnd, ReadsOn, Stops, SameUnlessReading};
 ghost use Rattle.http_requests.specs.Bodies.{LineWhenDue, TrailerWhenDue, TakesSize, TakesOrMisses, IsLineEnd, begins_line_end, Gathers, TakesContentOr, ReadsBody};
 ghost use Rattle.http_requests.specs.declared.asked.BodyLength.TheVariants.{Chunked};
 
@@ -24,7 +24,7 @@ fn gather<R: Input>(
     requires end { KnowsItsEnd received.old.ended (R.remaining input.old) }
     ensures gathers { IfOk result (λ all. Gathers (R.remaining input.old) (R.remaining input.new) received.old received.new message.old.items message.new.items size all) }
     ensures err { IfErr result (λ why. Stops (R.remaining input.old) (R.remaining input.new) (R.has_failed input.new) received.old why) }
-    ensures same { OnOk result (R.has_failed input.new ≡ R.has_failed input.old) }
+    ensures same { SameUnlessReading (R.has_failed input.old) (R.has_failed input.new) result }
 {
     let mut left = size;
     'pieces: loop {
@@ -55,7 +55,7 @@ fn read_up_to<R: Input>(
     ensures reads { OnOk result (ReadsOn (R.remaining input.old) (R.remaining input.new) received.old received.new) }
     ensures all { OnOk result ((received.new.ended ≡ false) → (count ≤ length received.new.held)) }
     ensures err { IfErr result (λ why. Stops (R.remaining input.old) (R.remaining input.new) (R.has_failed input.new) received.old why) }
-    ensures same { OnOk result (R.has_failed input.new ≡ R.has_failed input.old) }
+    ensures same { SameUnlessReading (R.has_failed input.old) (R.has_failed input.new) result }
 {
     while received.as_slice().len() < count && !received.has_ended() {
         received.read_on(input)?;
@@ -75,7 +75,7 @@ fn take_line_end<R: Input>(input: &mut R, received: &mut Received) -> Result<boo
     requires end { KnowsItsEnd received.old.ended (R.remaining input.old) }
     ensures takes { IfOk result (TakesOrMisses (R.remaining input.old) (R.remaining input.new) received.old received.new IsLineEnd) }
     ensures err { IfErr result (λ why. Stops (R.remaining input.old) (R.remaining input.new) (R.has_failed input.new) received.old why) }
-    ensures same { OnOk result (R.has_failed input.new ≡ R.has_failed input.old) }
+    ensures same { SameUnlessReading (R.has_failed input.old) (R.has_failed input.new) result }
 {
     read_up_to(input, received, 2)?;
     if !begins_line_end(received.as_slice()) {
@@ -102,7 +102,7 @@ fn take_size<R: Input>(input: &mut R, received: &mut Received) -> Result<Option<
     requires end { KnowsItsEnd received.old.ended (R.remaining input.old) }
     ensures takes { IfOk result (TakesSize (R.remaining input.old) (R.remaining input.new) received.old received.new) }
     ensures err { IfErr result (λ why. Stops (R.remaining input.old) (R.remaining input.new) (R.has_failed input.new) received.old why) }
-    ensures same { OnOk result (R.has_failed input.new ≡ R.has_failed input.old) }
+    ensures same { SameUnlessReading (R.has_failed input.old) (R.has_failed input.new) result }
 {
     let mut seen = 0;
     'looks: loop {
@@ -140,7 +140,7 @@ fn take_trailer<R: Input>(input: &mut R, received: &mut Received) -> Result<bool
     requires end { KnowsItsEnd received.old.ended (R.remaining input.old) }
     ensures takes { IfOk result (TakesOrMisses (R.remaining input.old) (R.remaining input.new) received.old received.new IsTrailer) }
     ensures err { IfErr result (λ why. Stops (R.remaining input.old) (R.remaining input.new) (R.has_failed input.new) received.old why) }
-    ensures same { OnOk result (R.has_failed input.new ≡ R.has_failed input.old) }
+    ensures same { SameUnlessReading (R.has_failed input.old) (R.has_failed input.new) result }
 {
     let mut scan = Scan::behind_a_line();
     'looks: loop {
@@ -172,7 +172,7 @@ fn take_content<R: Input>(
     requires end { KnowsItsEnd received.old.ended (R.remaining input.old) }
     ensures takes { IfOk result (TakesContentOr (R.remaining input.old) (R.remaining input.new) received.old received.new message.old.items message.new.items size) }
     ensures err { IfErr result (λ why. Stops (R.remaining input.old) (R.remaining input.new) (R.has_failed input.new) received.old why) }
-    ensures same { OnOk result (R.has_failed input.new ≡ R.has_failed input.old) }
+    ensures same { SameUnlessReading (R.has_failed input.old) (R.has_failed input.new) result }
 {
     if gather(input, received, message, size)? {
         take_line_end(input, received)
@@ -190,7 +190,7 @@ fn read_chunks<R: Input>(
     requires end { KnowsItsEnd received.old.ended (R.remaining input.old) }
     ensures body { IfOk result (ReadsBody (R.remaining input.old) (R.remaining input.new) received.old received.new message.old.items message.new.items Chunked) }
     ensures err { IfErr result (λ why. Stops (R.remaining input.old) (R.remaining input.new) (R.has_failed input.new) received.old why) }
-    ensures same { OnOk result (R.has_failed input.new ≡ R.has_failed input.old) }
+    ensures same { SameUnlessReading (R.has_failed input.old) (R.has_failed input.new) result }
 {
     let mut left = MOST_BODY_BYTES;
     'chunks: loop {
@@ -223,7 +223,7 @@ pub(crate) fn read_body<R: Input>(
     requires end { KnowsItsEnd received.old.ended (R.remaining input.old) }
     ensures body { IfOk result (ReadsBody (R.remaining input.old) (R.remaining input.new) received.old received.new message.old.items message.new.items size) }
     ensures err { IfErr result (λ why. Stops (R.remaining input.old) (R.remaining input.new) (R.has_failed input.new) received.old why) }
-    ensures same { OnOk result (R.has_failed input.new ≡ R.has_failed input.old) }
+    ensures same { SameUnlessReading (R.has_failed input.old) (R.has_failed input.new) result }
 {
     match size {
         BodyLength::Bytes(count) => {

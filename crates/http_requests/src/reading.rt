@@ -1,6 +1,6 @@
 ghost use Rattle.std.specs.Prelude.{◌≡◌, ◌≤◌, ◌+◌, [], true, false, IfOk, IfErr, OnOk, length, drop};
 ghost use Rattle.std.specs.Io.KnownBytes.{IsAtEnd};
-ghost use Rattle.http_requests.specs.Receiving.{KnowsItsEnd, ReadsOn, Stops, Finds};
+ghost use Rattle.http_requests.specs.Receiving.{KnowsItsEnd, ReadsOn, Stops, Finds, SameUnlessReading};
 ghost use Rattle.http_requests.specs.Searching.{FindsHead};
 
 use crate::asked::{Breach, Request, frame};
@@ -47,7 +47,7 @@ fn find_head<R: Input>(
     ensures reads { OnOk result (ReadsOn (R.remaining input.old) (R.remaining input.new) received.old received.new) }
     ensures found { IfOk result (λ found. FindsHead (R.remaining input.new) received.new.held headers.new found) }
     ensures err { IfErr result (λ why. Stops (R.remaining input.old) (R.remaining input.new) (R.has_failed input.new) received.old why) }
-    ensures same { OnOk result (R.has_failed input.new ≡ R.has_failed input.old) }
+    ensures same { SameUnlessReading (R.has_failed input.old) (R.has_failed input.new) result }
 {
     let mut scan = Scan::new();
     'looks: loop {
@@ -82,7 +82,7 @@ pub fn next_request<R: Input>(
     requires end { KnowsItsEnd received.old.ended (R.remaining input.old) }
     ensures found { IfOk result (λ next. Finds (R.remaining input.old) (R.remaining input.new) received.old received.new message.new.items next) }
     ensures err { IfErr result (λ why. Stops (R.remaining input.old) (R.remaining input.new) (R.has_failed input.new) received.old why) }
-    ensures same { OnOk result (R.has_failed input.new ≡ R.has_failed input.old) }
+    ensures same { SameUnlessReading (R.has_failed input.old) (R.has_failed input.new) result }
 {
     let mut headers = [EMPTY_HEADER_SPAN; FIELD_ROOM];
     let spans = match find_head(input, received, &mut headers)? {

@@ -1,5 +1,5 @@
 ghost use Rattle.std.specs.Prelude.{◌≡◌, ◌≤◌, ◌+◌, [], false, IfErr, OnOk, length, drop};
-ghost use Rattle.http_requests.specs.Receiving.{ReadsOn, Stops};
+ghost use Rattle.http_requests.specs.Receiving.{ReadsOn, Stops, SameUnlessReading};
 
 use session_devices::Input;
 use std::alloc::{AllocError, Global};
@@ -103,7 +103,7 @@ impl Received {
         requires { self.old.ended ≡ false }
         ensures ok { OnOk result (ReadsOn (R.remaining input.old) (R.remaining input.new) self.old self.new) }
         ensures err { IfErr result (λ why. Stops (R.remaining input.old) (R.remaining input.new) (R.has_failed input.new) self.old why) }
-        ensures same { OnOk result (R.has_failed input.new ≡ R.has_failed input.old) }
+        ensures same { SameUnlessReading (R.has_failed input.old) (R.has_failed input.new) result }
         ensures fewer { OnOk result (self.new.left + 1 ≡ self.old.left) }
     {
         if self.left == 0 {

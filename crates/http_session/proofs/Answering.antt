@@ -31,7 +31,8 @@ module _ {S : Type 0} (submits : Submits S) (reads : Reads S) (in0 in1 in2 out0 
   so_whole : SoFar submits reads in0 in2 out0 out1 s t whole answered
   so_whole = reads_on submits reads in0 in1 in2 out0 out1 s t old whole answered so found.reads
 
-  pub judged_not : (in_failed out_failed : Bool) → FailsAs submits reads in0 in2 out0 out1 s t in_failed out_failed (record { answered = answered; written = 0; cause = Memory })
+  pub judged_not : (in_failed out_failed : Bool) → in_failed ≡ false → out_failed ≡ false
+      → FailsAs submits reads in0 in2 out0 out1 s t in_failed out_failed (record { answered = answered; written = 0; cause = Memory })
   judged_not in_failed out_failed = fails_judging submits reads in0 in2 out0 out1 s t whole answered in_failed out_failed so_whole
 
   module _ (out2 : Option (List ℕ)) (u : S) (verdict : Verdict) (reply : Reply) (close : Bool) (judged : Judges (asked_of message r) (body_of message r) verdict)
@@ -52,10 +53,10 @@ module _ {S : Type 0} (submits : Submits S) (reads : Reads S) (in0 in1 in2 out0 
         (is_exchange found.text message r found.whole verdict reply found.spells judged) (sym close_is ∙ leaves) refl step
         (subst (λ (b : Bool). Appends out1 out2 (response_of reply b)) close_is wrote)
 
-    pub answered_not : (failed0 in_failed out_failed : Bool) (silence : Silence) → Says out1 out2 failed0 out_failed (response_of reply close) (Err silence)
+    pub answered_not : (in_failed out_failed : Bool) (silence : Silence) → Says out1 out2 false out_failed (response_of reply close) (Err silence) → in_failed ≡ false
         → (takes_no_memory reply ≡ true → silence.cause ≢ Memory)
         → FailsAs submits reads in0 in2 out0 out2 s u in_failed out_failed (record { answered = answered; written = silence.written; cause = silence.cause })
-    answered_not failed0 in_failed out_failed silence said spared =
-        fails_due submits reads in0 in2 out0 out1 out2 s t u whole here.held answered failed0 in_failed out_failed turn silence so_whole
+    answered_not in_failed out_failed silence said in_works spared =
+        fails_due submits reads in0 in2 out0 out1 out2 s t u whole here.held answered in_failed out_failed turn silence so_whole
         (is_exchange found.text message r found.whole verdict reply found.spells judged) refl step
-        (subst (λ (b : Bool). Says out1 out2 failed0 out_failed (response_of reply b) (Err silence)) close_is said) spared
+        (subst (λ (b : Bool). Says out1 out2 false out_failed (response_of reply b) (Err silence)) close_is said) in_works spared

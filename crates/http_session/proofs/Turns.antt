@@ -1,10 +1,10 @@
 -- How one turn of a session carries what is known of it on.
-use Rattle.std.proofs.Common.{◌≡◌, ◌≢◌, ℕ, ◌+◌, ◌≤◌, ◌<◌, ◌⊎◌, Bool, true, false, List, [], ◌∷◌, ◌++◌, length, take, Option, Err, refl, sym, ap, ◌∙◌, subst, arith, inl, inr, append_assoc, append-nil, length-append, rules}
+use Rattle.std.proofs.Common.{◌≡◌, ◌≢◌, ℕ, ◌+◌, ◌≤◌, ◌<◌, ◌⊎◌, Bool, true, false, List, [], ◌∷◌, ◌++◌, length, take, Option, Result, Err, refl, sym, ap, ◌∙◌, subst, arith, inl, inr, append_assoc, append-nil, length-append, rules}
 use Rattle.std.specs.Io.KnownBytes.{Appends, IsAtEnd}
 use Rattle.std.proofs.KnownBytes.{Consumes-trans, Appends-trans, Consumes-nil, Appends-nil}
 use Rattle.std.proofs.lemmas.List.Elements.{All-append, All-cons, All-nil}
 use Rattle.http_requests.specs.Requests.{IsBroken}
-use Rattle.http_requests.specs.Receiving.{Received, ReadsOn, Stops, turns}
+use Rattle.http_requests.specs.Receiving.{Received, ReadsOn, Stops, SameUnlessReading, turns}
 use Rattle.http_requests.specs.declared.asked.Breach.{Breach}
 use Rattle.http_requests.specs.declared.received.Interrupted.{Interrupted}
 use Rattle.http_requests.specs.declared.received.Interrupted.TheVariants as why
@@ -147,16 +147,17 @@ module _ {S : Type 0} (submits : Submits S) (reads : Reads S) where
     clean_is = refl;
   }
 
-  cause_of_stop : (stop : Interrupted) (in_failed out_failed : Bool) (taken more : List ℕ) (left : ℕ) → (stop ≡ why.Reading → (in_failed ≡ true) ⊎ (left ≤ length more))
-      → 1099511627776 ≤ length taken + left → IsCause (cause_by stop) in_failed out_failed (taken ++ more)
-  cause_of_stop why.Reading in_failed out_failed taken more left r b = elim (r refl) [ inl e ↦ inl e | inr e ↦ inr (omega (arith, length-append taken more)) ]
-  cause_of_stop why.Memory in_failed out_failed taken more left r b = tt
+  cause_of_stop : (A : Type 0) (stop : Interrupted) (before in_failed out_failed : Bool) (taken more : List ℕ) (left : ℕ) → (stop ≡ why.Reading → (in_failed ≡ true) ⊎ (left ≤ length more))
+      → 1099511627776 ≤ length taken + left → SameUnlessReading {A = A} before in_failed (Err stop) → before ≡ false → out_failed ≡ false → IsCause (cause_by stop) in_failed out_failed (taken ++ more)
+  cause_of_stop A why.Reading before in_failed out_failed taken more left r b same was out = (elim (r refl) [ inl e ↦ inl e | inr e ↦ inr (omega (arith, length-append taken more)) ], out)
+  cause_of_stop A why.Memory before in_failed out_failed taken more left r b same was out = (same ∙ was, out)
 
   -- no more could be read
-  pub fails_reading : (in0 in1 in2 out0 out1 : Option (List ℕ)) (s t : S) (old : Received) (answered : ℕ) (in_failed out_failed : Bool) (stop : Interrupted)
+  pub fails_reading : (A : Type 0) (in0 in1 in2 out0 out1 : Option (List ℕ)) (s t : S) (old : Received) (answered : ℕ) (before in_failed out_failed : Bool) (stop : Interrupted)
       → SoFar submits reads in0 in1 out0 out1 s t old answered → Stops in1 in2 in_failed old stop
+      → SameUnlessReading {A = A} before in_failed (Err stop) → before ≡ false → out_failed ≡ false
       → FailsAs submits reads in0 in2 out0 out1 s t in_failed out_failed (record { answered = answered; written = 0; cause = cause_by stop })
-  fails_reading in0 in1 in2 out0 out1 s t old answered in_failed out_failed stop so stops = record {
+  fails_reading A in0 in1 in2 out0 out1 s t old answered before in_failed out_failed stop so stops same was out = record {
     taken = so.taken ++ stops.more;
     opens = so.opens;
     next = none_yet;
@@ -169,15 +170,16 @@ module _ {S : Type 0} (submits : Submits S) (reads : Reads S) where
     within = omega arith;
     written = subst (Appends out0 out1) (sym (append-nil (responses so.opens))) so.written;
     count = so.count;
-    cause = cause_of_stop stop in_failed out_failed so.taken stops.more (turns old) stops.least so.least;
+    cause = cause_of_stop A stop before in_failed out_failed so.taken stops.more (turns old) stops.least so.least same was out;
+    unwritten = λ e. refl;
     spared = λ e. absurd (cc e);
   }
 
   -- there was no memory to judge a request
   pub fails_judging : (in0 in1 out0 out1 : Option (List ℕ)) (s t : S) (old : Received) (answered : ℕ) (in_failed out_failed : Bool)
-      → SoFar submits reads in0 in1 out0 out1 s t old answered
+      → SoFar submits reads in0 in1 out0 out1 s t old answered → in_failed ≡ false → out_failed ≡ false
       → FailsAs submits reads in0 in1 out0 out1 s t in_failed out_failed (record { answered = answered; written = 0; cause = Memory })
-  fails_judging in0 in1 out0 out1 s t old answered in_failed out_failed so = record {
+  fails_judging in0 in1 out0 out1 s t old answered in_failed out_failed so in_works out_works = record {
     taken = so.taken;
     opens = so.opens;
     next = none_yet;
@@ -190,21 +192,29 @@ module _ {S : Type 0} (submits : Submits S) (reads : Reads S) where
     within = omega arith;
     written = subst (Appends out0 out1) (sym (append-nil (responses so.opens))) so.written;
     count = so.count;
-    cause = tt;
+    cause = (in_works, out_works);
+    unwritten = λ e. refl;
     spared = λ e. absurd (cc e);
   }
 
-  cause_of_silence : (cause : Cause) (in_failed out_failed : Bool) (taken : List ℕ) → cause ≢ Reading → (cause ≡ Writing → out_failed ≡ true) → IsCause cause in_failed out_failed taken
-  cause_of_silence Reading in_failed out_failed taken r w = absurd (r refl)
-  cause_of_silence Writing in_failed out_failed taken r w = w refl
-  cause_of_silence Memory in_failed out_failed taken r w = tt
+  cause_of_silence : (cause : Cause) (written : ℕ) (in_failed out_failed : Bool) (taken : List ℕ) → in_failed ≡ false → cause ≢ Reading → (cause ≡ Writing → out_failed ≡ true)
+      → (cause ≡ Memory → (out_failed ≡ false) × (written ≡ 0)) → IsCause cause in_failed out_failed taken
+  cause_of_silence Reading written in_failed out_failed taken i r w m = absurd (r refl)
+  cause_of_silence Writing written in_failed out_failed taken i r w m = (w refl, i)
+  cause_of_silence Memory written in_failed out_failed taken i r w m = (i, (m refl).0)
 
-  pub fails_due : (in0 in1 out0 out1 out2 : Option (List ℕ)) (s t u : S) (old : Received) (rest : List ℕ) (answered : ℕ) (failed0 in_failed out_failed : Bool) (x : Exchange) (silence : Silence)
+  unwritten_of_silence : (cause : Cause) (written : ℕ) (out_failed : Bool) → cause ≢ Reading → (cause ≡ Memory → (out_failed ≡ false) × (written ≡ 0))
+      → cause ≢ Writing → written ≡ 0
+  unwritten_of_silence Reading written out_failed r m n = absurd (r refl)
+  unwritten_of_silence Writing written out_failed r m n = absurd (n refl)
+  unwritten_of_silence Memory written out_failed r m n = (m refl).1
+
+  pub fails_due : (in0 in1 out0 out1 out2 : Option (List ℕ)) (s t u : S) (old : Received) (rest : List ℕ) (answered : ℕ) (in_failed out_failed : Bool) (x : Exchange) (silence : Silence)
       → SoFar submits reads in0 in1 out0 out1 s t old answered → IsExchange x → old.held ≡ x.text ++ rest
-      → Step submits reads t x.verdict x.reply u → Says out1 out2 failed0 out_failed (response_to x) (Err silence)
+      → Step submits reads t x.verdict x.reply u → Says out1 out2 false out_failed (response_to x) (Err silence) → in_failed ≡ false
       → (takes_no_memory x.reply ≡ true → silence.cause ≢ Memory)
       → FailsAs submits reads in0 in1 out0 out2 s u in_failed out_failed (record { answered = answered; written = silence.written; cause = silence.cause })
-  fails_due in0 in1 out0 out1 out2 s t u old rest answered failed0 in_failed out_failed x silence so is cut step said spared = record {
+  fails_due in0 in1 out0 out1 out2 s t u old rest answered in_failed out_failed x silence so is cut step said in_works spared = record {
     taken = so.taken;
     opens = so.opens;
     next = due x;
@@ -217,15 +227,16 @@ module _ {S : Type 0} (submits : Submits S) (reads : Reads S) where
     within = said.0;
     written = Appends-trans out0 out1 out2 (responses so.opens) (take silence.written (response_to x)) so.written said.1;
     count = so.count;
-    cause = cause_of_silence silence.cause in_failed out_failed so.taken said.2 said.3;
+    cause = cause_of_silence silence.cause silence.written in_failed out_failed so.taken in_works said.2 said.3 said.4;
+    unwritten = unwritten_of_silence silence.cause silence.written out_failed said.2 said.4;
     spared = spared;
   }
 
-  pub fails_parting : (in0 in1 out0 out1 out2 : Option (List ℕ)) (s t : S) (old : Received) (answered : ℕ) (failed0 in_failed out_failed : Bool) (b : Breach) (silence : Silence)
+  pub fails_parting : (in0 in1 out0 out1 out2 : Option (List ℕ)) (s t : S) (old : Received) (answered : ℕ) (in_failed out_failed : Bool) (b : Breach) (silence : Silence)
       → SoFar submits reads in0 in1 out0 out1 s t old answered → IsBroken (IsAtEnd in1) old.held b
-      → Says out1 out2 failed0 out_failed (response_of (Broken b) true) (Err silence)
+      → Says out1 out2 false out_failed (response_of (Broken b) true) (Err silence) → in_failed ≡ false
       → FailsAs submits reads in0 in1 out0 out2 s t in_failed out_failed (record { answered = answered; written = silence.written; cause = silence.cause })
-  fails_parting in0 in1 out0 out1 out2 s t old answered failed0 in_failed out_failed b silence so is said = record {
+  fails_parting in0 in1 out0 out1 out2 s t old answered in_failed out_failed b silence so is said in_works = record {
     taken = so.taken;
     opens = so.opens;
     next = due_parting b;
@@ -238,6 +249,7 @@ module _ {S : Type 0} (submits : Submits S) (reads : Reads S) where
     within = said.0;
     written = Appends-trans out0 out1 out2 (responses so.opens) (take silence.written (response_of (Broken b) true)) so.written said.1;
     count = so.count;
-    cause = cause_of_silence silence.cause in_failed out_failed so.taken said.2 said.3;
+    cause = cause_of_silence silence.cause silence.written in_failed out_failed so.taken in_works said.2 said.3 said.4;
+    unwritten = unwritten_of_silence silence.cause silence.written out_failed said.2 said.4;
     spared = λ e. absurd (cc e);
   }

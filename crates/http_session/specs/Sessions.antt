@@ -153,11 +153,12 @@ is_spared none_yet = false
 is_spared (due x) = takes_no_memory x.reply
 is_spared (due_parting b) = false
 
--- each cause comes only with its device, or with the limit of reads
+-- each cause comes only with its device, or with the limit of reads, and with no failure of another device
 abbrev pub IsCause : Cause → Bool → Bool → List ℕ → Type 0
-IsCause Reading in_failed out_failed taken = (in_failed ≡ true) ⊎ (1099511627776 ≤ length taken)
-IsCause Writing in_failed out_failed taken = out_failed ≡ true
-IsCause Memory in_failed out_failed taken = Unit {0}
+IsCause Reading in_failed out_failed taken =
+    ((in_failed ≡ true) ⊎ (1099511627776 ≤ length taken)) × (out_failed ≡ false)
+IsCause Writing in_failed out_failed taken = (out_failed ≡ true) × (in_failed ≡ false)
+IsCause Memory in_failed out_failed taken = (in_failed ≡ false) × (out_failed ≡ false)
 
 -- A session that failed: the responses before are written whole, the next one as far as is told. The
 -- store has gone on by the exchange that is due, so an accepted batch stays accepted. Want of memory holds
@@ -176,6 +177,7 @@ pub record FailsAs {S : Type 0} (submits : Submits S) (reads : Reads S) (in0 in1
   pub written : Appends out0 out1 (responses opens ++ take fault.written (bytes_due next))
   pub count : fault.answered ≡ length opens
   pub cause : IsCause fault.cause in_failed out_failed taken
+  pub unwritten : fault.cause ≢ Writing → fault.written ≡ 0
   pub spared : is_spared next ≡ true → fault.cause ≢ Memory
 
 -- ---- on the way
@@ -198,7 +200,9 @@ pub record SoFar {S : Type 0} (submits : Submits S) (reads : Reads S) (in0 in1 o
 abbrev pub Says : Option (List ℕ) → Option (List ℕ) → Bool → Bool → List ℕ → Result (Unit {0}) Silence → Type 0
 Says out0 out1 failed0 failed1 bytes (Ok _) = Appends out0 out1 bytes × (failed1 ≡ failed0)
 Says out0 out1 failed0 failed1 bytes (Err e) =
-    (e.written ≤ length bytes) × Appends out0 out1 (take e.written bytes) × (e.cause ≢ Reading) × (e.cause ≡ Writing → failed1 ≡ true)
+    (e.written ≤ length bytes) × Appends out0 out1 (take e.written bytes)
+    × (e.cause ≢ Reading) × (e.cause ≡ Writing → failed1 ≡ true)
+    × (e.cause ≡ Memory → (failed1 ≡ failed0) × (e.written ≡ 0))
 
 abbrev pub cause_by : Interrupted → Cause
 cause_by why.Reading = Reading

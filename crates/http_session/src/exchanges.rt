@@ -1,4 +1,4 @@
-ghost use Rattle.std.specs.Prelude.{◌≡◌, ◌≢◌, true, false, IfOk, IfErr, ◌||◌, ◌++◌};
+ghost use Rattle.std.specs.Prelude.{◌≡◌, ◌≢◌, true, false, IfOk, IfErr, OnOk, ◌||◌, ◌++◌};
 ghost use Rattle.query_http.specs.Paths.{endpoint_rows};
 ghost use Rattle.http_session.specs.Replies.{response_of, closes, takes_no_memory};
 ghost use Rattle.http_session.specs.declared.exchanges.Cause.TheVariants.{Writing, Memory};
@@ -141,6 +141,7 @@ fn run_session<T, R: Input, W: Output, B: Backend<T>>(
     requires input_works { R.has_failed input.old ≡ false }
     requires output_works { W.has_failed output.old ≡ false }
     ensures ended { IfOk result (λ e. EndsAs B.submits B.reads (R.remaining input.old) (R.remaining input.new) (W.contents output.old) (W.contents output.new) backend.old backend.new e.answered e.clean) }
+    ensures works { OnOk result ((R.has_failed input.new ≡ false) × (W.has_failed output.new ≡ false)) }
     ensures fault { IfErr result (λ f. FailsAs B.submits B.reads (R.remaining input.old) (R.remaining input.new) (W.contents output.old) (W.contents output.new) backend.old backend.new (R.has_failed input.new) (W.has_failed output.new) f) }
 {
     let mut received = Received::new(alloc);
@@ -222,6 +223,8 @@ pub fn session<T, R: Input, W: Output, B: Backend<T>>(
 
     ensures ended { IfOk result (λ e. (ends : EndsAs B.submits B.reads (R.remaining input.old) (R.remaining input.new) (W.contents output.old) (W.contents output.new) backend.old backend.new e.answered e.clean)
         × Related (B.knows backend.old) (B.limits backend.old) nothing_seen (ends.opens ++ last_of ends.ending)) }
+
+    ensures works { OnOk result ((R.has_failed input.new ≡ false) × (W.has_failed output.new ≡ false)) }
 
     ensures fault { IfErr result (λ f. (fails : FailsAs B.submits B.reads (R.remaining input.old) (R.remaining input.new) (W.contents output.old) (W.contents output.new) backend.old backend.new (R.has_failed input.new) (W.has_failed output.new) f)
         × Related (B.knows backend.old) (B.limits backend.old) nothing_seen (fails.opens ++ exchange_due fails.next)) }

@@ -1,4 +1,5 @@
-ghost use Rattle.std.specs.Prelude.{◌≡◌, IfOk, slice_range};
+ghost use Rattle.std.specs.Prelude.{◌≡◌, IfOk, OnErr, slice_range};
+ghost use Rattle.http_requests.specs.declared.asked.Method.TheVariants.{Get};
 ghost use Rattle.http_requests.specs.Requests.{IsWhole};
 ghost use Rattle.query_http.specs.Paths.{endpoint_rows, IsPath};
 ghost use Rattle.query_http.specs.Forms.{pairs_of};
@@ -85,7 +86,7 @@ fn target_of<'b>(message: &'b [u8], request: &Request) -> &'b str
 ///
 /// # Errors
 ///
-/// Want of memory for what isn't a batch.
+/// Out of memory, for a query. A batch that there is no memory for has a verdict, which says so.
 pub(crate) fn judge(
     alloc: Global,
     router: &Router<Endpoint>,
@@ -94,7 +95,8 @@ pub(crate) fn judge(
 ) -> Result<Verdict, AllocError>
     requires routes { router.now ≡ endpoint_rows }
     requires whole { IsWhole message.now request.now }
-    ensures { IfOk result (Judges (asked_of message.now request.now) (body_of message.now request.now)) }
+    ensures verdict { IfOk result (Judges (asked_of message.now request.now) (body_of message.now request.now)) }
+    ensures memory { OnErr result (request.now.method ≡ Get) }
 {
     let (path, form) = path_and_form(target_of(message, request));
     let Some((endpoint, part)) = find_endpoint(router, path) else {

@@ -1,4 +1,5 @@
 use Rattle.std.proofs.Common.{◌∙◌}
+use Rattle.http_requests.specs.declared.reading.Next.{Next}
 use Rattle.http_session.proofs.Turns.{begins, reads_on, ends_clean, ends_broken, fails_reading, fails_parting}
 use Rattle.http_session.proofs.Answering.{fewer_left, judged_not, answered_open, answered_last, answered_not}
 use Rattle.http_session.proofs.exchanges.run_session.Goals as goal
@@ -8,7 +9,8 @@ requests-init g c = (rw c.new-received.ensures (begins _ _ _ _ _), c.requires.in
 
 pub returns-in-Err-clause-fault : goal.returns-in-Err-clause-fault
 returns-in-Err-clause-fault g c =
-    rw c.cause_of.ensures (fails_reading _ _ _ _ _ _ _ _ _ _ _ _ _ _ c.requests.invariant.0 c.in-Err.ensures.err)
+    rw c.cause_of.ensures (fails_reading _ _ Next _ _ _ _ _ _ _ _ _ _ _ _ _ c.requests.invariant.0 c.in-Err.ensures.err
+    c.in-Err.ensures.same c.requests.invariant.1 c.requests.invariant.2)
 
 pub returns-in-Ok-Clean-clause-ended : goal.returns-in-Ok-Clean-clause-ended
 returns-in-Ok-Clean-clause-ended g c =
@@ -20,7 +22,8 @@ pub returns-in-Err-say-clause-fault : goal.returns-in-Err-say-clause-fault
 returns-in-Err-say-clause-fault g c =
     let found = rw c.in-Ok-Broken.field-0-is at c.in-Ok-Broken.ensures.found in
     let so = reads_on _ _ _ _ _ _ _ _ _ _ _ _ c.requests.invariant.0 found.reads in
-    rw c.after.ensures (fails_parting _ _ _ _ _ _ _ _ _ _ _ (g.W.Output.has_failed c.requests.output) _ _ _ _ so found.broken c.in-Err-say.ensures.says)
+    rw c.after.ensures (fails_parting _ _ _ _ _ _ _ _ _ _ _ _ _ _ _ so found.broken (rw c.requests.invariant.2 at c.in-Err-say.ensures.says)
+    (c.in-Ok-Broken.ensures.same ∙ c.requests.invariant.1))
 
 pub returns-in-Ok-Broken-clause-ended : goal.returns-in-Ok-Broken-clause-ended
 returns-in-Ok-Broken-clause-ended g c =
@@ -31,19 +34,19 @@ returns-in-Ok-Broken-clause-ended g c =
 pub returns-in_default-judge-clause-fault : goal.returns-in_default-judge-clause-fault
 returns-in_default-judge-clause-fault g c =
     let found = rw c.in-Ok-One.field-0-is at c.in-Ok-One.ensures.found in
-    judged_not _ _ _ _ _ _ _ _ _ _ _ _ _ _ c.requests.invariant.0 found _ _
+    judged_not _ _ _ _ _ _ _ _ _ _ _ _ _ _ c.requests.invariant.0 found _ _ (c.in-Ok-One.ensures.same ∙ c.requests.invariant.1) c.requests.invariant.2
 
 pub returns-in-Err-said-clause-fault : goal.returns-in-Err-said-clause-fault
 returns-in-Err-said-clause-fault g c =
     let found = rw c.in-Ok-One.field-0-is at c.in-Ok-One.ensures.found in
-    let judged = rw c.as_slice.ensures.value at c.in-Ok.ensures in
+    let judged = rw c.as_slice.ensures.value at c.in-Ok.ensures.verdict in
     rw c.after-in-Err-said.ensures (answered_not _ _ _ _ _ _ _ _ _ _ _ _ _ _ c.requests.invariant.0 found _ _ _ _ _ judged c.answer-reply.ensures c.closes_behind-close.ensures
-    (g.W.Output.has_failed c.requests.output) _ _ _ c.in-Err-said.ensures.says c.in-Err-said.ensures.spared)
+    _ _ _ (rw c.requests.invariant.2 at c.in-Err-said.ensures.says) (c.in-Ok-One.ensures.same ∙ c.requests.invariant.1) c.in-Err-said.ensures.spared)
 
 pub returns-then-close-clause-ended : goal.returns-then-close-clause-ended
 returns-then-close-clause-ended g c =
     let found = rw c.in-Ok-One.field-0-is at c.in-Ok-One.ensures.found in
-    let judged = rw c.as_slice.ensures.value at c.in-Ok.ensures in
+    let judged = rw c.as_slice.ensures.value at c.in-Ok.ensures.verdict in
     answered_last _ _ _ _ _ _ _ _ _ _ _ _ _ _ c.requests.invariant.0 found _ _ _ _ _ judged c.answer-reply.ensures c.closes_behind-close.ensures c.in_default-said.ensures.says.0 c.if-close.true
 
 pub requests-smaller : goal.requests-smaller
@@ -54,7 +57,7 @@ requests-smaller g c =
 pub requests-preserved : goal.requests-preserved
 requests-preserved g c =
     let found = rw c.in-Ok-One.field-0-is at c.in-Ok-One.ensures.found in
-    let judged = rw c.as_slice.ensures.value at c.in-Ok.ensures in (
+    let judged = rw c.as_slice.ensures.value at c.in-Ok.ensures.verdict in (
       answered_open _ _ _ _ _ _ _ _ _ _ _ _ _ _ c.requests.invariant.0 found _ _ _ _ _ judged c.answer-reply.ensures c.closes_behind-close.ensures c.in_default-said.ensures.says.0 c.if-close.false,
       c.in-Ok-One.ensures.same ∙ c.requests.invariant.1,
       c.in_default-said.ensures.says.1 ∙ c.requests.invariant.2,

@@ -6,7 +6,8 @@ use Rattle.http_session.proofs.exchanges.session.Goals as goal
 pub returns-in_default-clause-fault : goal.returns-in_default-clause-fault
 returns-in_default-clause-fault g c =
     let fails = fails_judging g.B.Backend.submits g.B.Backend.reads _ _ _ _ _ _ _ _ (g.R.Input.has_failed c.args.input.now) (g.W.Output.has_failed c.args.output.now)
-    (begins g.B.Backend.submits g.B.Backend.reads (g.R.Input.remaining c.args.input.now) (g.W.Output.contents c.args.output.now) c.args.backend.now) in (
+    (begins g.B.Backend.submits g.B.Backend.reads (g.R.Input.remaining c.args.input.now) (g.W.Output.contents c.args.output.now) c.args.backend.now)
+    c.requires.input_works c.requires.output_works in (
       fails,
       related g.B.Backend.limits g.B.Backend.knows g.B.Backend.submits g.B.Backend.reads g.met.B.Backend.submit_knows g.met.B.Backend.read_knows
           (g.B.Backend.limits c.args.backend.now) (g.B.Backend.knows c.args.backend.now) c.args.backend.now _ nothing_seen _

@@ -7,13 +7,13 @@ use Rattle.http_session.specs.declared.verdict.Verdict.{Verdict}
 use Rattle.http_session.proofs.Judging.{if_ok_map}
 use Rattle.http_session.proofs.verdict.judge.Goals as goal
 
-pub returns-in_default : goal.returns-in_default
-returns-in_default c =
+pub returns-in_default-clause-verdict : goal.returns-in_default-clause-verdict
+returns-in_default-clause-verdict c =
     let path = c.path_and_form.ensures.path ∙ ap path_of c.target_of.ensures in
     inl (subst IsNoPath path c.in_default.ensures, refl)
 
-pub returns-in-Get-default : goal.returns-in-Get-default
-returns-in-Get-default c =
+pub returns-in-Get-default-clause-verdict : goal.returns-in-Get-default-clause-verdict
+returns-in-Get-default-clause-verdict c =
     let path = c.path_and_form.ensures.path ∙ ap path_of c.target_of.ensures in
     let form = c.path_and_form.ensures.form ∙ ap form_of c.target_of.ensures in
     if_ok_map _ _ (λ (v : Verdict) j. inr (record {
