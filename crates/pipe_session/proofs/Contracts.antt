@@ -62,6 +62,7 @@ failed bytes before left (Some after) s t i o fault fails memory = (
       written = refl;
       count = fails.count;
       cause = fails.cause;
+      unwritten = fails.unwritten;
       spared = fails.spared;
     };
     memory = memory;
