@@ -1,22 +1,19 @@
 -- What a search and calls say does not depend on whether a span has its parent among its references.
-use Rattle.std.proofs.Common.{◌≡◌, ℕ, zero, suc, ℤ, Bool, true, false, ◌||◌, cond, List, [], ◌∷◌, ◌++◌, map, take, refl, sym, ap, ◌∙◌, Option, Some, None}
-use Rattle.std.specs.Prelude.{filter, filter_map, flat_map, find, option_map, Vec, if◌then◌else◌, ◌==◌, slice_index_or}
+use Rattle.std.proofs.Common.{◌≡◌, ℤ, Bool, true, false, ◌||◌, cond, List, [], ◌∷◌, ◌++◌, map, refl, sym, ap, ◌∙◌, Option, Some, None}
+use Rattle.std.specs.Prelude.{filter_map, flat_map, find, option_map, Vec, if◌then◌else◌, ◌==◌}
 use Rattle.std.specs.Global.{Global}
 use Rattle.std.specs.List.{list_any}
-use Rattle.std.proofs.lemmas.List.{take-map}
 use Rattle.jaeger_model.specs.declared.ids.SpanId.{SpanId}
 use Rattle.jaeger_model.specs.declared.span.Span.{Span}
 use Rattle.jaeger_model.specs.declared.placed.Placed.{Placed}
 use Rattle.jaeger_model.specs.declared.placed.Seen.{Seen}
 use Rattle.jaeger_model.specs.Parents.{with_parent, needs_no_reference, parent_reference, parent, parent_by_references}
 use Rattle.trace_model.specs.declared.query.Find.{Find}
-use Rattle.trace_model.specs.Searching.{matches, first_start, first_id, ranked, cut, matching, found_in, ids_of}
+use Rattle.trace_model.specs.Searching.{matches}
 use Rattle.trace_model.specs.Linking.{has_id, parent_in, call_from, calls_of, in_window, calls_within, counted, links}
-use Rattle.trace_model.proofs.Ranking.{ranked-map}
 use Rattle.trace_model.proofs.NameLaws.{any_map}
 use Rattle.trace_model.proofs.Parents.{with_parent-twice, with_parent-trace}
 use Rattle.trace_model.specs.Seeing.{seen, seen_traces}
-use Rattle.find_traces.specs.Places.{trace_at}
 use Rattle.span_store.specs.Given.{adopted, given_traces}
 
 abbrev with_if : Bool → Span → Span
@@ -34,18 +31,6 @@ pub map_map : {X Y Z : Type 0} (f : Y → Z) (g : X → Y) (xs : List X) → map
 map_map f g [] = refl
 map_map f g (x ∷ xs) = ap (λ l. f (g x) ∷ l) (map_map f g xs)
 
-pub filter_mapped : {X Y : Type 0} (w : Y → Bool) (v : X → Bool) (f : X → Y) → ((x : X) → w (f x) ≡ v x) → (xs : List X) → filter w (map f xs) ≡ map f (filter v xs)
-filter_mapped w v f h [] = refl
-filter_mapped w v f h (x ∷ xs) =
-    ap (λ b. cond b (f x ∷ filter w (map f xs)) (filter w (map f xs))) (h x)
-    ∙ elim (v x) as (λ b. cond b (f x ∷ filter w (map f xs)) (filter w (map f xs)) ≡ map f (cond b (x ∷ filter v xs) (filter v xs))) [
-      | true ↦ ap (λ l. f x ∷ l) (filter_mapped w v f h xs)
-      | false ↦ filter_mapped w v f h xs
-    ]
-
-cut_map : {X Y : Type 0} (f : X → Y) (limit : ℕ) (xs : List X) → cut limit (map f xs) ≡ map f (cut limit xs)
-cut_map f limit xs = elim (limit == 0) as (λ b. (if b then map f xs else take limit (map f xs)) ≡ map f (if b then xs else take limit xs)) [ true ↦ refl | false ↦ take-map f limit xs ]
-
 filter_map_same : {X Y Z : Type 0} (p : Y → Option Z) (q : X → Option Z) (f : X → Y) → ((x : X) → p (f x) ≡ q x) → (xs : List X) → filter_map p (map f xs) ≡ filter_map q xs
 filter_map_same p q f h [] = refl
 filter_map_same {X} {Y} {Z} p q f h (x ∷ xs) = let rest : filter_map p (map f xs) ≡ filter_map q xs = filter_map_same p q f h xs in cc (h x, rest)
@@ -61,29 +46,11 @@ find_same p q f h (x ∷ xs) =
     ∙ elim (q x) as (λ b. cond b (Some (f x)) (find p (map f xs)) ≡ option_map f (cond b (Some x) (find q xs))) [ true ↦ refl | false ↦ find_same p q f h xs ]
 
 -- ---- searches
-matches-adopted : (q : Find) (p : Placed) → matches q (adopted p) ≡ matches q p
+pub matches-adopted : (q : Find) (p : Placed) → matches q (adopted p) ≡ matches q p
 matches-adopted q p = elim (needs_no_reference p.span) as (λ b. matches q (placed_if b p) ≡ matches q p) [ true ↦ refl | false ↦ refl ]
 
-found-adopted_any : (q : Find) (t : List Placed) → list_any (matches q) (map adopted t) ≡ list_any (matches q) t
-found-adopted_any q t = any_map (matches q) adopted t ∙ any_same (λ p. matches q (adopted p)) (matches q) (matches-adopted q) t
-
-start-adopted : (t : List Placed) → first_start (map adopted t) ≡ first_start t
-start-adopted [] = refl
-start-adopted (p ∷ ps) = elim (needs_no_reference p.span) as (λ b. (placed_if b p).span.start ≡ p.span.start) [ true ↦ refl | false ↦ refl ]
-
-pub found-adopted : (q : Find) (ts : List (List Placed)) → found_in q (map (map adopted) ts) ≡ map (map adopted) (found_in q ts)
-found-adopted q ts =
-    let f : List Placed → List Placed = λ t. map adopted t in
-    ap (λ l. cut q.limit (ranked first_start l)) (filter_mapped (list_any (matches q)) (list_any (matches q)) f (found-adopted_any q) ts)
-    ∙ ap (cut q.limit) (sym (ranked-map f first_start (matching q ts)) ∙ ap (λ (start : List Placed → ℤ). map f (ranked start (matching q ts))) (λ i t. start-adopted t i))
-    ∙ cut_map f q.limit (ranked first_start (matching q ts))
-
-id-adopted : (t : List Placed) → first_id (map adopted t) ≡ first_id t
-id-adopted [] = refl
-id-adopted (p ∷ ps) = ap Some (with_parent-trace p.span)
-
-pub ids-adopted : (ts : List (List Placed)) → ids_of (map (map adopted) ts) ≡ ids_of ts
-ids-adopted ts = filter_map_same first_id first_id (map adopted) id-adopted ts
+pub start-adopted : (p : Placed) → (adopted p).span.start ≡ p.span.start
+start-adopted p = elim (needs_no_reference p.span) as (λ b. (placed_if b p).span.start ≡ p.span.start) [ true ↦ refl | false ↦ refl ]
 
 -- ---- calls
 parent-adopted : (s : Span) → parent (with_parent s) ≡ parent s
@@ -108,7 +75,7 @@ calls_of-adopted : (t : List Placed) → calls_of (map adopted t) ≡ calls_of t
 calls_of-adopted t =
     filter_map_same (λ p. call_from p (parent_in (map adopted t) p)) (λ p. call_from p (parent_in t p)) adopted (λ p. ap (call_from (adopted p)) (parent_in-adopted t p) ∙ call-adopted p (parent_in t p)) t
 
-window-adopted : (end_ms lookback_ms : ℤ) (p : Placed) → in_window end_ms lookback_ms (adopted p) ≡ in_window end_ms lookback_ms p
+pub window-adopted : (end_ms lookback_ms : ℤ) (p : Placed) → in_window end_ms lookback_ms (adopted p) ≡ in_window end_ms lookback_ms p
 window-adopted end_ms lookback_ms p = elim (needs_no_reference p.span) as (λ b. in_window end_ms lookback_ms (placed_if b p) ≡ in_window end_ms lookback_ms p) [ true ↦ refl | false ↦ refl ]
 
 within-adopted : (end_ms lookback_ms : ℤ) (t : List Placed) → calls_within end_ms lookback_ms (map adopted t) ≡ calls_within end_ms lookback_ms t
@@ -123,24 +90,6 @@ links-adopted end_ms lookback_ms ts = ap counted (flat_map_same (calls_within en
 given-seen : (ts : List (Vec Seen Global)) → given_traces ts ≡ map (map adopted) (seen_traces ts)
 given-seen [] = refl
 given-seen (t ∷ ts) = λ i. sym (map_map adopted seen t.items) i ∷ given-seen ts i
-
-at-adopted : (ts : List (List Placed)) (i : ℕ) → slice_index_or (map (map adopted) ts) i [] ≡ map adopted (trace_at ts i)
-at-adopted [] i = refl
-at-adopted (t ∷ ts) zero = refl
-at-adopted (t ∷ ts) (suc i) = at-adopted ts i
-
-all-adopted : (ts : List (List Placed)) (places : List ℕ) → map (λ i. slice_index_or (map (map adopted) ts) i []) places ≡ map (map adopted) (map (trace_at ts) places)
-all-adopted ts [] = refl
-all-adopted ts (i ∷ is) = λ j. at-adopted ts i j ∷ all-adopted ts is j
-
-pub found-given : (q : Find) (ts : List (Vec Seen Global)) (places : List ℕ) → map (trace_at (seen_traces ts)) places ≡ found_in q (seen_traces ts)
-    → map (λ i. slice_index_or (given_traces ts) i []) places ≡ found_in q (given_traces ts)
-found-given q ts places found =
-    ap (λ (l : List (List Placed)). map (λ i. slice_index_or l i []) places) (given-seen ts)
-    ∙ all-adopted (seen_traces ts) places ∙ ap (map (map adopted)) found ∙ sym (found-adopted q (seen_traces ts)) ∙ ap (found_in q) (sym (given-seen ts))
-
-pub ids-given : (q : Find) (ts : List (Vec Seen Global)) → ids_of (found_in q (seen_traces ts)) ≡ ids_of (found_in q (given_traces ts))
-ids-given q ts = sym (ap (λ l. ids_of (found_in q l)) (given-seen ts) ∙ ap ids_of (found-adopted q (seen_traces ts)) ∙ ids-adopted (found_in q (seen_traces ts)))
 
 pub links-given : (end_ms lookback_ms : ℤ) (ts : List (Vec Seen Global)) → links end_ms lookback_ms (seen_traces ts) ≡ links end_ms lookback_ms (given_traces ts)
 links-given end_ms lookback_ms ts = sym (ap (links end_ms lookback_ms) (given-seen ts) ∙ links-adopted end_ms lookback_ms (seen_traces ts))

@@ -1,27 +1,13 @@
-//! The spans that spots name.
+//! The spans that spots name, copied.
 
-ghost use Rattle.std.specs.Prelude.{◌≡◌, Some, IfOk, IsSome, map, List};
-ghost use Rattle.std.specs.List.{All};
-ghost use Rattle.trace_assembly.specs.Located.{span_at};
+ghost use Rattle.std.specs.Prelude.{◌≡◌, IfOk};
+ghost use Rattle.span_store.specs.Standing.{spans_named};
 
+use crate::standing::seen_at;
 use arrival_journal::Journal;
 use jaeger_model::{Placed, place_span};
 use std::alloc::{AllocError, Global};
 use trace_assembly::Spot;
-
-/// The span that a spot names.
-fn span_of_spot(alloc: Global, journal: &Journal, spot: Spot) -> Result<Placed, AllocError>
-    requires { IsSome (span_at journal.now.held.entries spot) }
-    ensures { IfOk result (λ p. Some p ≡ span_at journal.now.held.entries spot) }
-{
-    let Some(entry) = journal.entry(spot.place) else {
-        unreachable!()
-    };
-    let Some(span) = entry.batch.spans.as_slice().get(spot.index as usize) else {
-        unreachable!()
-    };
-    place_span(alloc, &entry.batch.process, span)
-}
 
 /// The spans that the spots name, in their order.
 pub(crate) fn gather(
@@ -29,12 +15,13 @@ pub(crate) fn gather(
     journal: &Journal,
     spots: &[Spot],
 ) -> Result<Vec<Placed>, AllocError>
-    requires { All (λ s. IsSome (span_at journal.now.held.entries s)) spots.now }
-    ensures { IfOk result (λ v. map Some v.items ≡ map (span_at journal.now.held.entries) spots.now) }
+    ensures { IfOk result (λ v. v.items ≡ spans_named journal.now.held.entries spots.now) }
 {
     let mut spans = Vec::new(alloc);
     for spot in spots {
-        spans.push(span_of_spot(alloc, journal, *spot)?)?;
+        if let Some(seen) = seen_at(journal, *spot) {
+            spans.push(place_span(alloc, seen.process, seen.span)?)?;
+        }
     }
     Ok(spans)
 }

@@ -1,45 +1,28 @@
 //! The shown spans of traces, where they stand in the journal: none is copied.
 
-ghost use Rattle.std.specs.Prelude.{◌≡◌, Some, IfOk, IsSome, map, List};
-ghost use Rattle.std.specs.List.{All};
-ghost use Rattle.jaeger_model.specs.declared.ids.TraceId.{TraceId as Trace};
-ghost use Rattle.trace_model.specs.Histories.{arrivals};
-ghost use Rattle.trace_model.specs.Showing.{spans_of_trace};
-ghost use Rattle.trace_assembly.specs.Located.{located, shown_spots, span_at};
+ghost use Rattle.std.specs.Prelude.{◌≡◌, IfOk, map, filter};
+ghost use Rattle.std.specs.List.{list_any};
+ghost use Rattle.trace_model.specs.Linking.{in_window};
 ghost use Rattle.trace_assembly.specs.Rows.{spots_of};
-ghost use Rattle.span_store.specs.Given.{given, given_traces};
+ghost use Rattle.span_store.specs.Given.{given_all, given_traces};
+ghost use Rattle.span_store.specs.Standing.{spans_named, trace_named};
 
+use crate::standing::{reaches_window, seen_at};
 use arrival_journal::Journal;
 use jaeger_model::{Seen, TraceId};
 use std::alloc::{AllocError, Global};
 use trace_assembly::{Assembly, Spot};
 use trace_ring::Ring;
 
-/// The span that a spot names.
-fn seen_at(journal: &Journal, spot: Spot) -> Seen<'_>
-    requires { IsSome (span_at journal.now.held.entries spot) }
-    ensures { Some (given result) ≡ span_at journal.now.held.entries spot }
-{
-    let Some(entry) = journal.entry(spot.place) else {
-        unreachable!()
-    };
-    let Some(span) = entry.batch.spans.as_slice().get(spot.index as usize) else {
-        unreachable!()
-    };
-    Seen {
-        process: &entry.batch.process,
-        span,
-    }
-}
-
 /// The spans that the spots name, in their order.
 fn see<'a>(alloc: Global, journal: &'a Journal, spots: &[Spot]) -> Result<Vec<Seen<'a>>, AllocError>
-    requires { All (λ s. IsSome (span_at journal.now.held.entries s)) spots.now }
-    ensures { IfOk result (λ v. map (λ s. Some (given s)) v.items ≡ map (span_at journal.now.held.entries) spots.now) }
+    ensures { IfOk result (λ v. given_all v.items ≡ spans_named journal.now.held.entries spots.now) }
 {
     let mut spans = Vec::new(alloc);
     for spot in spots {
-        spans.push(seen_at(journal, *spot))?;
+        if let Some(seen) = seen_at(journal, *spot) {
+            spans.push(seen)?;
+        }
     }
     Ok(spans)
 }
@@ -55,20 +38,24 @@ pub(crate) fn ring_ids(alloc: Global, ring: &Ring) -> Result<Vec<TraceId>, Alloc
     Ok(ids)
 }
 
-/// The shown spans of each of the traces.
-pub(crate) fn see_traces<'a>(
+/// The spans of each of the traces that has one in the window. Of the others none but their starts is
+/// looked at.
+pub(crate) fn see_within<'a>(
     alloc: Global,
     journal: &'a Journal,
     assembly: &Assembly,
     ids: &[TraceId],
+    end_ms: i64,
+    lookback_ms: i64,
 ) -> Result<Vec<Vec<Seen<'a>>>, AllocError>
-    requires { (t : Trace) → spots_of assembly.now t ≡ shown_spots journal.now.held.limits.traces (located journal.now.held.entries) t }
-    ensures { IfOk result (λ v. given_traces v.items ≡ map (spans_of_trace journal.now.held.limits.traces (arrivals journal.now.held.entries)) ids.now) }
+    ensures { IfOk result (λ v. given_traces v.items ≡ filter (list_any (in_window end_ms lookback_ms)) (map (trace_named journal.now.held.entries (spots_of assembly.now)) ids.now)) }
 {
     let mut traces = Vec::new(alloc);
     for id in ids {
-        let trace = see(alloc, journal, assembly.spans_of(*id))?;
-        traces.push(trace)?;
+        let spots = assembly.spans_of(*id);
+        if reaches_window(journal, spots, end_ms, lookback_ms) {
+            traces.push(see(alloc, journal, spots)?)?;
+        }
     }
     Ok(traces)
 }
