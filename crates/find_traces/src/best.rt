@@ -60,7 +60,8 @@ fn judge_popped<T: Searched>(
     requires rises { IsStrictlySortedBy best_cmp ranking }
     requires permutation { IsPermutation ranking (heap_items keys) }
     requires heap { IsHeap key_cmp (heap_items keys) }
-    ensures { IfOk result (λ v. v.items ≡ map key_place (cut query.now.limit (filter (key_judged query.now (T.traces traces.now)) ranking))) }
+    ensures { IfOk result (λ v. v.items ≡ map key_place
+        (cut query.now.limit (filter (key_judged query.now (T.traces traces.now)) ranking))) }
 {
     let mut places = Vec::new(alloc);
     while let Some(key) = keys.pop() {

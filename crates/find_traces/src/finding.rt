@@ -18,7 +18,8 @@ use trace_model::Find;
 /// Want of memory alone.
 pub fn find<T: Searched>(alloc: Global, traces: &T, query: &Find) -> Result<Vec<usize>, AllocError>
     ensures places { IfOk result (λ v. v.items ≡ places_found query.now (T.traces traces.now)) }
-    ensures traces { IfOk result (λ v. map (trace_at (T.traces traces.now)) v.items ≡ found_in query.now (T.traces traces.now)) }
+    ensures traces { IfOk result (λ v. map (trace_at (T.traces traces.now)) v.items ≡
+        found_in query.now (T.traces traces.now)) }
 {
     if query.limit == 0 {
         return find_all(alloc, traces, query);

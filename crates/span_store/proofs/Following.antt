@@ -21,8 +21,8 @@ use Rattle.trace_assembly.specs.Rows.{with_spot, is_of}
 use Rattle.trace_assembly.specs.Located.{span_at, located, located_in, spans_in, shown_spots, after_leaving}
 use Rattle.trace_assembly.proofs.Feeding.{after_arrival_law, spans_at_shown_law}
 use Rattle.trace_assembly.proofs.Places.{located_push_law, located_in-push}
-use Rattle.span_store.specs.Standing.{spans_named, trace_named}
-use Rattle.span_store.proofs.Spots.{named_is}
+use Rattle.journal_traces.specs.Standing.{spans_named, trace_named}
+use Rattle.journal_traces.proofs.Spots.{named_is}
 use Rattle.span_store.specs.Kept.{Follows}
 
 spans-push : (ls : List (Spot × Placed)) (l : Spot × Placed) → spans_in (ls ++ l ∷ []) ≡ spans_in ls ++ l.1 ∷ []

@@ -24,7 +24,7 @@ use Rattle.trace_assembly.specs.Rows.{is_of}
 use Rattle.trace_assembly.proofs.Lists.{slice_get_middle}
 use Rattle.arrival_names.specs.Kept.{reports_service, reports_operation}
 use Rattle.span_store.specs.Kept.{places_from, places_in}
-use Rattle.span_store.specs.Picked.{reaches, spans_or_none, spans_at, spans_along}
+use Rattle.journal_traces.specs.Picked.{reaches, spans_or_none, spans_at, spans_along}
 
 and_true : (a b : Bool) → (a && b) ≡ true → (a ≡ true) × (b ≡ true)
 and_true true b e = (refl, e)

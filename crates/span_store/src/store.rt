@@ -10,18 +10,15 @@ ghost use Rattle.trace_model.specs.Linking.{links};
 ghost use Rattle.trace_model.specs.Searching.{traces, found_in};
 ghost use Rattle.trace_model.specs.Refusals.{followed_by};
 ghost use Rattle.arrival_journal.specs.Journals.{refusal_by, turned_away_by};
-ghost use Rattle.span_store.specs.Given.{given_traces};
-ghost use Rattle.span_store.specs.Standing.{traces_named};
+ghost use Rattle.journal_traces.specs.Given.{given_traces};
+ghost use Rattle.journal_traces.specs.Standing.{traces_named};
 
 use crate::arrange::arrange;
-use crate::candidates::Candidates;
 use crate::finding;
-use crate::gather::gather;
-use crate::searching::spots_along;
-use crate::seeing::{ring_ids, see_within};
 use arrival_journal::Journal;
 use arrival_names::ArrivalNames;
 use jaeger_model::{Placed, Seen, Seq, Text, TraceId};
+use journal_traces::{Candidates, gather, ring_ids, see_within, spots_along};
 use service_places::ServicePlaces;
 use span_steps::all_unadjusted;
 use std::alloc::{AllocError, Global};
@@ -192,7 +189,8 @@ impl SpanStore {
     /// Whether an arrival is of the service that a search asks for, and of the operation where it asks
     /// for one. Where none is, nothing is found.
     fn may_find(&self, query: &Find) -> bool
-        ensures { OnFalse result (found_in query.now (traces self.now.limits.traces (arrivals self.now.entries)) ≡ []) }
+        ensures { OnFalse result
+            (found_in query.now (traces self.now.limits.traces (arrivals self.now.entries)) ≡ []) }
     {
         let entries = self.journal.entries();
         let service = query.service.as_str();
@@ -206,7 +204,8 @@ impl SpanStore {
     /// The spots of the shown traces that entries of the search's service have spans of, those of the
     /// one opened longest ago first: the search finds the same among these traces as among all.
     fn candidates(&self, query: &Find) -> Result<Vec<&[Spot]>, AllocError>
-        ensures { IfOk result (λ v. found_in query.now (traces_named self.now.entries v.items) ≡ found_in query.now (traces self.now.limits.traces (arrivals self.now.entries))) }
+        ensures { IfOk result (λ v. found_in query.now (traces_named self.now.entries v.items) ≡
+            found_in query.now (traces self.now.limits.traces (arrivals self.now.entries))) }
     {
         if !self.may_find(query) {
             return Ok(Vec::new(self.alloc));
@@ -251,7 +250,8 @@ impl SpanStore {
     /// The shown traces that have a span in a window of time, the one opened longest ago first: those
     /// from whose calls services are seen to call one another there.
     fn traces_within(&self, end_ms: i64, lookback_ms: i64) -> Result<Vec<Vec<Seen<'_>>>, AllocError>
-        ensures { IfOk result (λ v. links end_ms lookback_ms (given_traces v.items) ≡ links end_ms lookback_ms (traces self.now.limits.traces (arrivals self.now.entries))) }
+        ensures { IfOk result (λ v. links end_ms lookback_ms (given_traces v.items) ≡
+            links end_ms lookback_ms (traces self.now.limits.traces (arrivals self.now.entries))) }
     {
         let ids = ring_ids(self.alloc, &self.ring)?;
         let traces = see_within(

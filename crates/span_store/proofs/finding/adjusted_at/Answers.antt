@@ -1,6 +1,6 @@
 use Rattle.std.proofs.Common.{◌∙◌, ap}
 use Rattle.trace_model.specs.Adjusting.{adjusted}
-use Rattle.span_store.proofs.Spots.{trace_there}
+use Rattle.journal_traces.proofs.Spots.{trace_there}
 use Rattle.span_store.proofs.finding.adjusted_at.Goals as goal
 
 pub returns : goal.returns

@@ -1,7 +1,7 @@
 use Rattle.std.proofs.Common.{◌≡◌, map, take, []}
 use Rattle.std.specs.Prelude.{slice_index_or}
 use Rattle.trace_model.specs.Adjusting.{adjusted}
-use Rattle.span_store.specs.Standing.{traces_named}
+use Rattle.journal_traces.specs.Standing.{traces_named}
 use Rattle.span_store.proofs.finding.adjusted_traces.Given as goal
 
 abbrev pub invariant-loop-place : goal.invariant-loop-place

@@ -2,8 +2,8 @@ use Rattle.std.proofs.Common.{◌∙◌, [], List, map, sym, ap}
 use Rattle.std.specs.Prelude.{slice_index_or}
 use Rattle.jaeger_model.specs.declared.placed.Placed.{Placed}
 use Rattle.trace_model.specs.Adjusting.{adjusted}
-use Rattle.span_store.specs.Standing.{traces_named}
-use Rattle.span_store.proofs.Adopting.{map_map}
+use Rattle.journal_traces.specs.Standing.{traces_named}
+use Rattle.journal_traces.proofs.Adopting.{map_map}
 use Rattle.span_store.proofs.finding.find.Goals as goal
 
 pub returns : goal.returns

@@ -10,12 +10,12 @@ use Rattle.trace_ring.specs.Windows.{NoneTwice}
 use Rattle.trace_assembly.specs.Rows.{spots_of}
 use Rattle.service_places.specs.Reported.{places_of}
 use Rattle.span_store.specs.Kept.{places_in}
-use Rattle.span_store.specs.Picked.{reaches, spans_along}
-use Rattle.span_store.specs.Standing.{spans_named, traces_named}
-use Rattle.span_store.proofs.Adopting.{map_map}
+use Rattle.journal_traces.specs.Picked.{reaches, spans_along}
+use Rattle.journal_traces.specs.Standing.{spans_named, traces_named}
+use Rattle.journal_traces.proofs.Adopting.{map_map}
 use Rattle.span_store.proofs.Following.{trace_stands}
 use Rattle.span_store.proofs.Keeping.{kept_spots, kept_ring, kept_traces}
-use Rattle.span_store.proofs.Marking.{ring_once}
+use Rattle.journal_traces.proofs.Marking.{ring_once}
 use Rattle.span_store.proofs.Picking.{found_among, nothing_found}
 use Rattle.span_store.proofs.store.SpanStore.candidates.Goals as goal
 

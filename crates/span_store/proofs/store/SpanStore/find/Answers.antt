@@ -6,7 +6,7 @@ use Rattle.trace_model.specs.declared.answer.Answer.TheVariants as say
 use Rattle.trace_model.specs.Adjusting.{adjusted}
 use Rattle.trace_model.specs.Held.{Held}
 use Rattle.trace_model.specs.Searching.{found_in}
-use Rattle.span_store.specs.Standing.{traces_named}
+use Rattle.journal_traces.specs.Standing.{traces_named}
 use Rattle.span_store.proofs.store.SpanStore.find.Goals as goal
 
 pub returns : goal.returns

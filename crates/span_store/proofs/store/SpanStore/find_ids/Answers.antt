@@ -4,7 +4,7 @@ use Rattle.trace_assembly.specs.declared.spot.Spot.{Spot}
 use Rattle.trace_model.specs.declared.answer.Answer.TheVariants as say
 use Rattle.trace_model.specs.Held.{Held}
 use Rattle.trace_model.specs.Searching.{found_in, ids_of}
-use Rattle.span_store.specs.Standing.{traces_named}
+use Rattle.journal_traces.specs.Standing.{traces_named}
 use Rattle.span_store.proofs.store.SpanStore.find_ids.Goals as goal
 
 pub returns : goal.returns

@@ -5,7 +5,7 @@ use Rattle.std.specs.Global.{Global}
 use Rattle.jaeger_model.specs.declared.placed.Seen.{Seen}
 use Rattle.trace_model.specs.declared.answer.Answer.TheVariants as say
 use Rattle.trace_model.specs.Linking.{links}
-use Rattle.span_store.specs.Given.{given_traces}
+use Rattle.journal_traces.specs.Given.{given_traces}
 use Rattle.span_store.proofs.store.SpanStore.links.Goals as goal
 
 pub returns : goal.returns

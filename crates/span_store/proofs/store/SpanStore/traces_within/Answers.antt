@@ -8,11 +8,11 @@ use Rattle.trace_model.specs.Linking.{in_window, links}
 use Rattle.trace_model.specs.Searching.{traces}
 use Rattle.trace_assembly.specs.Rows.{spots_of}
 use Rattle.service_places.specs.Reported.{places_of}
-use Rattle.span_store.specs.Given.{given_traces}
-use Rattle.span_store.specs.Standing.{trace_named}
+use Rattle.journal_traces.specs.Given.{given_traces}
+use Rattle.journal_traces.specs.Standing.{trace_named}
 use Rattle.span_store.proofs.Following.{trace_stands}
 use Rattle.span_store.proofs.Keeping.{kept_spots, kept_traces}
-use Rattle.span_store.proofs.Spots.{links_within}
+use Rattle.journal_traces.proofs.Spots.{links_within}
 use Rattle.span_store.proofs.store.SpanStore.traces_within.Goals as goal
 
 pub returns : goal.returns

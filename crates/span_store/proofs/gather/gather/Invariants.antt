@@ -1,6 +1,0 @@
-use Rattle.std.proofs.Common.{◌≡◌, take}
-use Rattle.span_store.specs.Standing.{spans_named}
-use Rattle.span_store.proofs.gather.gather.Given as goal
-
-abbrev pub invariant-loop-spot : goal.invariant-loop-spot
-invariant-loop-spot l = l.spans.items ≡ spans_named l.journal.held.entries (take l.spot-index l.spots)
