@@ -10,6 +10,7 @@ use trace_model::Find;
 /// Traces whose spans were gathered in lists.
 #[derive(Clone, Copy)]
 pub struct Gathered<'a> {
+    /// The spans of each trace, those of the one opened longest ago first.
     pub traces: &'a [Vec<Seen<'a>>],
 }
 

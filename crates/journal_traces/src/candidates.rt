@@ -11,13 +11,14 @@ use trace_model::Find;
 #[derive(Clone, Copy)]
 pub struct Candidates<'a> {
     pub journal: &'a Journal,
+    /// The spots of each trace, those of the one opened longest ago first.
     pub spots: &'a [&'a [Spot]],
 }
 
 impl<'a> Searched for Candidates<'a> {
-    ghost use Rattle.journal_traces.specs.Standing.{traces_named};
+    ghost use Rattle.journal_traces.specs.Looked.{traces_of};
 
-    ghost traces = { λ c. traces_named c.journal.now.held.entries c.spots.now };
+    ghost traces = { traces_of };
 
     fn count(&self) -> usize {
         self.spots.len()

@@ -14,11 +14,7 @@ use trace_assembly::Spot;
 /// # Errors
 ///
 /// Want of memory alone.
-pub fn gather(
-    alloc: Global,
-    journal: &Journal,
-    spots: &[Spot],
-) -> Result<Vec<Placed>, AllocError>
+pub fn gather(alloc: Global, journal: &Journal, spots: &[Spot]) -> Result<Vec<Placed>, AllocError>
     ensures { IfOk result (λ v. v.items ≡ spans_named journal.now.held.entries spots.now) }
 {
     let mut spans = Vec::new(alloc);

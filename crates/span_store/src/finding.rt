@@ -5,7 +5,7 @@ ghost use Rattle.trace_model.specs.Adjusting.{adjusted};
 ghost use Rattle.trace_model.specs.Linking.{links};
 ghost use Rattle.trace_model.specs.Searching.{found_in, ids_of};
 ghost use Rattle.journal_traces.specs.Given.{given_traces};
-ghost use Rattle.journal_traces.specs.Standing.{traces_named};
+ghost use Rattle.journal_traces.specs.Looked.{traces_of};
 
 use jaeger_model::{Seen, Seq, TraceId};
 use journal_traces::{Candidates, gather};
@@ -20,8 +20,7 @@ fn adjusted_at(
     place: usize,
     max_skew: u64,
 ) -> Result<Seq<Shown>, AllocError>
-    ensures { IfOk result (λ s. s ≡ adjusted max_skew
-        (slice_index_or (traces_named traces.now.journal.now.held.entries traces.now.spots.now) place [])) }
+    ensures { IfOk result (λ s. s ≡ adjusted max_skew (slice_index_or (traces_of traces.now) place [])) }
 {
     let Some(spots) = traces.spots.get(place) else {
         return Ok(Seq::new(alloc));
@@ -39,8 +38,8 @@ fn adjusted_traces(
     places: &[usize],
     max_skew: u64,
 ) -> Result<Vec<Seq<Shown>>, AllocError>
-    ensures { IfOk result (λ v. v.items ≡ map (λ i. adjusted max_skew
-        (slice_index_or (traces_named traces.now.journal.now.held.entries traces.now.spots.now) i [])) places.now) }
+    ensures { IfOk result (λ v. v.items ≡
+        map (λ i. adjusted max_skew (slice_index_or (traces_of traces.now) i [])) places.now) }
 {
     let mut shown = Vec::new(alloc);
     for place in places {
@@ -56,8 +55,8 @@ pub(crate) fn find(
     query: &Find,
     max_skew: u64,
 ) -> Result<Vec<Seq<Shown>>, AllocError>
-    ensures { IfOk result (λ v. v.items ≡ map (adjusted max_skew)
-        (found_in query.now (traces_named traces.now.journal.now.held.entries traces.now.spots.now))) }
+    ensures { IfOk result (λ v. v.items ≡
+        map (adjusted max_skew) (found_in query.now (traces_of traces.now))) }
 {
     let places = find_traces::find(alloc, traces, query)?;
     let shown = adjusted_traces(alloc, traces, &places, max_skew)?;
@@ -70,8 +69,7 @@ pub(crate) fn find_ids(
     traces: &Candidates<'_>,
     query: &Find,
 ) -> Result<Vec<TraceId>, AllocError>
-    ensures { IfOk result (λ v. v.items ≡ ids_of
-        (found_in query.now (traces_named traces.now.journal.now.held.entries traces.now.spots.now))) }
+    ensures { IfOk result (λ v. v.items ≡ ids_of (found_in query.now (traces_of traces.now))) }
 {
     let ids = find_traces::find_ids(alloc, traces, query)?;
     Ok(ids)
