@@ -1,17 +1,14 @@
 -- The traces at the places are those that a search finds.
-use Rattle.std.proofs.Common.{◌≡◌, ℕ, zero, suc, ◌+◌, true, false, cond, List, [], ◌∷◌, ◌++◌, map, length, get_or, take, refl, sym, ap, subst, ◌∙◌, arith, append_assoc, length-append, ◌<◌, Vec, Option, Some, None}
+use Rattle.std.proofs.Common.{◌≡◌, ℕ, zero, suc, ◌+◌, true, false, cond, List, [], ◌∷◌, ◌++◌, map, length, get_or, take, refl, sym, ap, subst, ◌∙◌, arith, append_assoc, length-append, ◌<◌, ◌≤◌, Option, Some, None}
 use Rattle.std.specs.Prelude.{filter, if◌then◌else◌, ◌==◌}
 use Rattle.std.specs.List.{list_any, All, filter_map, cons_option}
-use Rattle.std.specs.Global.{Global}
-use Rattle.std.proofs.lemmas.List.{append-nil, length-map, length-take-le, map_push, take_more}
+use Rattle.std.proofs.lemmas.List.{append-nil, length-take-le, map_push, take_more}
 use Rattle.std.proofs.lemmas.List.Elements.{All-nil, All-cons, All-head, All-tail, All-take, All-filter, filter-append, filter_map-append}
-use Rattle.jaeger_model.specs.declared.placed.Seen.{Seen}
 use Rattle.std.proofs.lemmas.List.Sorted.{All-permutation}
 use Rattle.jaeger_model.specs.declared.placed.Placed.{Placed}
 use Rattle.trace_model.specs.declared.query.Find.{Find}
 use Rattle.trace_model.specs.Searching.{matches, matching, first_start, first_id, ids_of, ranked, cut, found_in}
 use Rattle.trace_model.proofs.Ranking.{ranked-permutation, ranked-map}
-use Rattle.trace_model.specs.Seeing.{seen_all, seen_traces}
 use Rattle.find_traces.specs.Places.{numbered, is_hit, start_of, hits, hit_of, place_of, places_found, trace_at, id_at}
 
 abbrev place : ℕ × List Placed → ℕ
@@ -57,10 +54,16 @@ numbers_lead before (t ∷ rest) n e =
     (subst (λ l. All (λ (x : ℕ × List Placed). trace_at l x.0 ≡ x.1) (numbered (n + 1) rest)) (append_assoc before (t ∷ []) rest)
     (numbers_lead (before ++ t ∷ []) rest (n + 1) (let l = length-append before (t ∷ []) in omega arith)))
 
+abbrev pub Leads : List (List Placed) → List (ℕ × List Placed) → Type 0
+Leads ts es = All (λ (e : ℕ × List Placed). trace_at ts e.0 ≡ e.1) es
+
+pub all_lead : (ts : List (List Placed)) → Leads ts (numbered 0 ts)
+all_lead ts = numbers_lead [] ts 0 refl
+
 hits_lead : (q : Find) (ts : List (List Placed)) → All (λ (e : ℕ × List Placed). trace_at ts e.0 ≡ e.1) (cut q.limit (ranked start_of (hits q ts)))
 hits_lead q ts =
     cut_all q.limit (ranked start_of (hits q ts))
-    (All-permutation P (hits q ts) (ranked start_of (hits q ts)) (ranked-permutation start_of (hits q ts)) (All-filter (is_hit q) P (numbered 0 ts) (numbers_lead [] ts 0 refl)))
+    (All-permutation P (hits q ts) (ranked start_of (hits q ts)) (ranked-permutation start_of (hits q ts)) (All-filter (is_hit q) P (numbered 0 ts) (all_lead ts)))
   where
     P : ℕ × List Placed → Type 0
     P e = trace_at ts e.0 ≡ e.1
@@ -94,33 +97,24 @@ numbered_push : {X : Type 0} (n : ℕ) (xs : List X) (x : X) → numbered n (xs 
 numbered_push n [] x = let e : n ≡ n + 0 = omega arith in ap (λ m. (m, x) ∷ []) e
 numbered_push n (y ∷ ys) x = let e : (n + 1) + length ys ≡ n + length (y ∷ ys) = omega arith in ap (λ l. (n, y) ∷ l) (numbered_push (n + 1) ys x ∙ ap (λ m. numbered (n + 1) ys ++ (m, x) ∷ []) e)
 
-hits_push : (q : Find) (ts : List (List Placed)) (t : List Placed) → hits q (ts ++ t ∷ []) ≡ hits q ts ++ cond (list_any (matches q) t) ((length ts, t) ∷ []) []
-hits_push q ts t =
-    ap (filter (is_hit q)) (numbered_push 0 ts t ∙ (let e : 0 + length ts ≡ length ts = omega arith in ap (λ m. numbered 0 ts ++ (m, t) ∷ []) e))
-    ∙ filter-append (is_hit q) (numbered 0 ts) ((length ts, t) ∷ [])
+-- the traces once one more is looked at
+numbered_read : (ts : List (List Placed)) (i : ℕ) → i < length ts → numbered 0 (take (i + 1) ts) ≡ numbered 0 (take i ts) ++ (i, trace_at ts i) ∷ []
+numbered_read ts i h =
+    let count : 0 + length (take i ts) ≡ i = omega (arith, length-take-le i ts (let l : i ≤ length ts = omega arith in l)) in
+    ap (numbered 0) (take_more ts i [] h) ∙ numbered_push 0 (take i ts) (trace_at ts i) ∙ ap (λ n. numbered 0 (take i ts) ++ (n, trace_at ts i) ∷ []) count
 
--- the hits once one more trace is looked at
-hits_read : (q : Find) (vs : List (Vec Seen Global)) (i : ℕ) (v : Vec Seen Global) → i < length vs → v ≡ get_or vs i v
-    → map hit_of (hits q (seen_traces (take (i + 1) vs))) ≡ map hit_of (hits q (seen_traces (take i vs)) ++ cond (list_any (matches q) (seen_all v.items)) ((i, seen_all v.items) ∷ []) [])
-hits_read q vs i v h e =
-    let all : Vec Seen Global → List Placed = λ u. seen_all u.items in
-    let count : length (map all (take i vs)) ≡ i = length-map (take i vs) all ∙ length-take-le i vs (omega arith) in
-    ap (map hit_of) (
-    ap (λ l. hits q (map all l)) (take_more vs i v h ∙ ap (λ u. take i vs ++ u ∷ []) (sym e)) ∙ ap (hits q) (map_push all (take i vs) v)
-    ∙ hits_push q (map all (take i vs)) (all v)
-    ∙ ap (λ n. hits q (map all (take i vs)) ++ cond (list_any (matches q) (all v)) ((n, all v) ∷ []) []) count)
+pub made_read : {K : Type 0} (f : ℕ × List Placed → K) (ts : List (List Placed)) (i : ℕ) → i < length ts → map f (numbered 0 (take (i + 1) ts)) ≡ map f (numbered 0 (take i ts)) ++ f (i, trace_at ts i) ∷ []
+made_read f ts i h = ap (map f) (numbered_read ts i h) ∙ map_push f (numbered 0 (take i ts)) (i, trace_at ts i)
 
-pub hits_hit : (q : Find) (vs : List (Vec Seen Global)) (i : ℕ) (v : Vec Seen Global) → i < length vs → v ≡ get_or vs i v → list_any (matches q) (seen_all v.items) ≡ true
-    → map hit_of (hits q (seen_traces (take (i + 1) vs))) ≡ map hit_of (hits q (seen_traces (take i vs))) ++ hit_of (i, seen_all v.items) ∷ []
-hits_hit q vs i v h e m =
-    hits_read q vs i v h e ∙ ap (λ b. map hit_of (hits q (seen_traces (take i vs)) ++ cond b ((i, seen_all v.items) ∷ []) [])) m
-    ∙ map_push hit_of (hits q (seen_traces (take i vs))) (i, seen_all v.items)
+hits_read : (q : Find) (ts : List (List Placed)) (i : ℕ) → i < length ts → hits q (take (i + 1) ts) ≡ hits q (take i ts) ++ cond (list_any (matches q) (trace_at ts i)) ((i, trace_at ts i) ∷ []) []
+hits_read q ts i h = ap (filter (is_hit q)) (numbered_read ts i h) ∙ filter-append (is_hit q) (numbered 0 (take i ts)) ((i, trace_at ts i) ∷ [])
 
-pub hits_miss : (q : Find) (vs : List (Vec Seen Global)) (i : ℕ) (v : Vec Seen Global) → i < length vs → v ≡ get_or vs i v → list_any (matches q) (seen_all v.items) ≡ false
-    → map hit_of (hits q (seen_traces (take (i + 1) vs))) ≡ map hit_of (hits q (seen_traces (take i vs)))
-hits_miss q vs i v h e m =
-    hits_read q vs i v h e ∙ ap (λ b. map hit_of (hits q (seen_traces (take i vs)) ++ cond b ((i, seen_all v.items) ∷ []) [])) m
-    ∙ ap (map hit_of) (append-nil (hits q (seen_traces (take i vs))))
+pub hits_hit : (q : Find) (ts : List (List Placed)) (i : ℕ) → i < length ts → list_any (matches q) (trace_at ts i) ≡ true → map hit_of (hits q (take (i + 1) ts)) ≡ map hit_of (hits q (take i ts)) ++ hit_of (i, trace_at ts i) ∷ []
+hits_hit q ts i h m =
+    ap (map hit_of) (hits_read q ts i h ∙ ap (λ b. hits q (take i ts) ++ cond b ((i, trace_at ts i) ∷ []) []) m) ∙ map_push hit_of (hits q (take i ts)) (i, trace_at ts i)
+
+pub hits_miss : (q : Find) (ts : List (List Placed)) (i : ℕ) → i < length ts → list_any (matches q) (trace_at ts i) ≡ false → map hit_of (hits q (take (i + 1) ts)) ≡ map hit_of (hits q (take i ts))
+hits_miss q ts i h m = ap (map hit_of) (hits_read q ts i h ∙ ap (λ b. hits q (take i ts) ++ cond b ((i, trace_at ts i) ∷ []) []) m ∙ append-nil (hits q (take i ts)))
 
 pub kept_some : {X Y : Type 0} (f : X → Option Y) (xs : List X) (x : X) (y : Y) → f x ≡ Some y → filter_map f (xs ++ x ∷ []) ≡ filter_map f xs ++ y ∷ []
 kept_some f xs x y e = filter_map-append f xs (x ∷ []) ∙ ap (λ o. filter_map f xs ++ cons_option o []) e

@@ -1,3 +1,9 @@
 pub mod Hex
+pub mod Choosing
+pub mod Rising
+pub mod Order
 pub mod Sorting
 pub mod Found
+pub mod Walking
+pub mod Popped
+pub mod Lazy

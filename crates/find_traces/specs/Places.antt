@@ -6,7 +6,7 @@ use Rattle.std.specs.Ordering.{ordering_then, int_cmp, nat_cmp}
 use Rattle.jaeger_model.specs.declared.ids.TraceId.{TraceId}
 use Rattle.jaeger_model.specs.declared.placed.Placed.{Placed}
 use Rattle.trace_model.specs.declared.query.Find.{Find}
-use Rattle.find_traces.specs.declared.finding.Hit.{Hit}
+use Rattle.find_traces.specs.declared.matched.Hit.{Hit}
 use Rattle.trace_model.specs.Searching.{matches, first_start, ranked, cut, first_id}
 
 -- each with its place, where the first stands at n

@@ -1,8 +1,7 @@
 -- Ring and spots follow the arrivals.
-use Rattle.std.proofs.Common.{◌≡◌, ℕ, zero, suc, ◌+◌, ◌<◌, ◌≤◌, Bool, true, false, cond, List, [], ◌∷◌, ◌++◌, map, length, take, drop, get_or, Some, None, refl, sym, ap, subst, ◌∙◌, arith, append_assoc}
-use Rattle.std.specs.List.{All}
+use Rattle.std.proofs.Common.{◌≡◌, ℕ, ◌+◌, ◌<◌, ◌≤◌, Bool, true, false, cond, List, [], ◌∷◌, ◌++◌, map, length, take, drop, get_or, Some, None, refl, sym, ap, ◌∙◌, arith, append_assoc}
 use Rattle.std.proofs.lemmas.List.{map_push, map_more, length-take-le, length-map, take_all}
-use Rattle.std.specs.Prelude.{Option, IsSome, option_map, count_by, IfSome, option_to_list, if◌then◌else◌}
+use Rattle.std.specs.Prelude.{Option, option_map, count_by, IfSome, option_to_list, if◌then◌else◌}
 use Rattle.std.proofs.lemmas.List.Sums.{sum_by-drop_more}
 use Rattle.jaeger_model.specs.declared.ids.TraceId.{TraceId}
 use Rattle.jaeger_model.specs.declared.placed.Placed.{Placed}
@@ -22,8 +21,8 @@ use Rattle.trace_assembly.specs.Rows.{with_spot, is_of}
 use Rattle.trace_assembly.specs.Located.{span_at, located, located_in, spans_in, shown_spots, after_leaving}
 use Rattle.trace_assembly.proofs.Feeding.{after_arrival_law, spans_at_shown_law}
 use Rattle.trace_assembly.proofs.Places.{located_push_law, located_in-push}
-use Rattle.jaeger_model.specs.declared.placed.Seen.{Seen}
-use Rattle.span_store.specs.Given.{given, given_all}
+use Rattle.journal_traces.specs.Standing.{spans_named, trace_named}
+use Rattle.journal_traces.proofs.Spots.{named_is}
 use Rattle.span_store.specs.Kept.{Follows}
 
 spans-push : (ls : List (Spot × Placed)) (l : Spot × Placed) → spans_in (ls ++ l ∷ []) ≡ spans_in ls ++ l.1 ∷ []
@@ -42,12 +41,6 @@ follows_more n ls spot p own left old new spots spots' f same is opened gone cha
           changed t ∙ ap (λ o. with_spot o spot (after_leaving left spots) t) (sym same)
           ∙ after_arrival_law n ls (spot, p) left old new spots f.ring is' (ap (opened_by old) same ∙ opened) gone f.spots t;
     }
-
-some_same : {X : Type 0} (xs ys : List X) → map Some xs ≡ map Some ys → xs ≡ ys
-some_same [] [] e = refl
-some_same [] (y ∷ ys) e = absurd cc
-some_same (x ∷ xs) [] e = absurd cc
-some_same {X} (x ∷ xs) (y ∷ ys) e = let first : Some x ≡ Some y = cc e in let rest : map Some xs ≡ map Some ys = cc e in let head : x ≡ y = cc first in cc (head, some_same xs ys rest)
 
 -- ---- the spans of one batch, one by one
 -- the batch with so many of its spans
@@ -95,32 +88,17 @@ pub spots_name : (limit n : ℕ) (h : List Entry) (ids : List TraceId) (spots : 
 spots_name limit n h ids spots t found f same is =
     ap (map (span_at h)) (is ∙ f.spots t) ∙ spans_at_shown_law limit h t ∙ ap (λ m. map Some (spans_of_trace m (arrivals h) t)) same
 
--- each spot names a span
-pub each_named : (h : List Entry) (found : List Spot) (spans : List Placed) → map (span_at h) found ≡ map Some spans → All (λ s. IsSome (span_at h s)) found
-each_named h [] spans same k d le = absurd (omega arith)
-each_named h (s ∷ found) [] same k d le = absurd cc
-each_named h (s ∷ found) (p ∷ spans) same zero d le = let first : span_at h s ≡ Some p = cc same in subst (λ (o : Option Placed). IsSome o) (sym first) refl
-each_named h (s ∷ found) (p ∷ spans) same (suc k) d le = each_named h found spans (cc same) k d (omega arith)
-
 pub none_found : (f : List Placed → List Shown) (h : List Entry) (found : List Spot) (spans : List Placed) → map (span_at h) found ≡ map Some spans → length found ≡ 0 → None ≡ option_map f (if_any spans)
 none_found f h [] [] same none = refl
 none_found f h [] (p ∷ spans) same none = absurd cc
 none_found f h (s ∷ found) spans same none = absurd (omega (arith, none))
 
 pub some_found : (f : List Placed → List Shown) (h : List Entry) (found : List Spot) (spans items : List Placed) (shown : List Shown)
-    → map (span_at h) found ≡ map Some spans → map Some items ≡ map (span_at h) found → 0 < length found → shown ≡ f items → Some shown ≡ option_map f (if_any spans)
+    → map (span_at h) found ≡ map Some spans → items ≡ spans_named h found → 0 < length found → shown ≡ f items → Some shown ≡ option_map f (if_any spans)
 some_found f h [] spans items shown same got some is = absurd (omega arith)
 some_found f h (s ∷ found) [] items shown same got some is = absurd cc
-some_found f h (s ∷ found) (p ∷ spans) items shown same got some is = ap Some (is ∙ ap f (some_same items (p ∷ spans) (got ∙ same)))
+some_found f h (s ∷ found) (p ∷ spans) items shown same got some is = ap Some (is ∙ ap f (got ∙ named_is h (s ∷ found) (p ∷ spans) same))
 
 -- ---- the spans of a trace where they stand
-pub trace_named : (n : ℕ) (h : List Entry) (spots : TraceId → List Spot) (t : TraceId) (found : List Spot) → ((t : TraceId) → spots t ≡ shown_spots n (located h) t) → found ≡ spots t
-    → map (span_at h) found ≡ map Some (spans_of_trace n (arrivals h) t)
-trace_named n h spots t found all is = ap (map (span_at h)) (is ∙ all t) ∙ spans_at_shown_law n h t
-
-some_given : (ss : List Seen) → map (λ s. Some (given s)) ss ≡ map Some (given_all ss)
-some_given [] = refl
-some_given (s ∷ ss) = ap (λ l. Some (given s) ∷ l) (some_given ss)
-
-pub trace_seen : (h : List Entry) (found : List Spot) (ss : List Seen) (spans : List Placed) → map (span_at h) found ≡ map Some spans → map (λ s. Some (given s)) ss ≡ map (span_at h) found → given_all ss ≡ spans
-trace_seen h found ss spans named same = some_same (given_all ss) spans (sym (some_given ss) ∙ same ∙ named)
+pub trace_stands : (n : ℕ) (h : List Entry) (spots : TraceId → List Spot) → ((t : TraceId) → spots t ≡ shown_spots n (located h) t) → (t : TraceId) → trace_named h spots t ≡ spans_of_trace n (arrivals h) t
+trace_stands n h spots all t = named_is h (spots t) (spans_of_trace n (arrivals h) t) (ap (map (span_at h)) (all t) ∙ spans_at_shown_law n h t)

@@ -1,6 +1,4 @@
 pub mod Following
 pub mod Naming
 pub mod Keeping
-pub mod Adopting
 pub mod Picking
-pub mod Entries

@@ -1,4 +1,2 @@
 pub mod Kept
-pub mod Given
 pub mod Replaying
-pub mod Picked

@@ -4,38 +4,28 @@ ghost use Rattle.std.specs.Prelude.{◌≡◌, [], IfOk, map, slice_index_or};
 ghost use Rattle.trace_model.specs.Adjusting.{adjusted};
 ghost use Rattle.trace_model.specs.Linking.{links};
 ghost use Rattle.trace_model.specs.Searching.{found_in, ids_of};
-ghost use Rattle.span_store.specs.Given.{given_all, given_traces};
+ghost use Rattle.journal_traces.specs.Given.{given_traces};
+ghost use Rattle.journal_traces.specs.Looked.{traces_of};
 
-use jaeger_model::{Placed, Seen, Seq, TraceId, place_span};
+use jaeger_model::{Seen, Seq, TraceId};
+use journal_traces::{Candidates, gather};
 use std::alloc::{AllocError, Global};
 use trace_adjust::adjusted;
 use trace_model::{Find, Link, Shown};
 
-/// A copy of the spans of a trace.
-#[tactic(auto, using(std::proofs::lemmas::List::map_more))]
-fn copied(alloc: Global, trace: &[Seen]) -> Result<Vec<Placed>, AllocError>
-    ensures { IfOk result (λ v. v.items ≡ given_all trace.now) }
-{
-    let mut spans = Vec::new(alloc);
-    for at in trace {
-        spans.push(place_span(alloc, at.process, at.span)?)?;
-    }
-    Ok(spans)
-}
-
 /// The trace at a place as it is shown, without spans where there is none.
 fn adjusted_at(
     alloc: Global,
-    traces: &[Vec<Seen>],
+    traces: &Candidates<'_>,
     place: usize,
     max_skew: u64,
 ) -> Result<Seq<Shown>, AllocError>
-    ensures { IfOk result (λ s. s ≡ adjusted max_skew (slice_index_or (given_traces traces.now) place [])) }
+    ensures { IfOk result (λ s. s ≡ adjusted max_skew (slice_index_or (traces_of traces.now) place [])) }
 {
-    let Some(trace) = traces.get(place) else {
+    let Some(spots) = traces.spots.get(place) else {
         return Ok(Seq::new(alloc));
     };
-    let spans = copied(alloc, trace)?;
+    let spans = gather(alloc, traces.journal, spots)?;
     let shown = adjusted(alloc, spans, max_skew)?;
     Ok(Seq::from_vec(shown))
 }
@@ -44,11 +34,12 @@ fn adjusted_at(
 #[tactic(auto, using(std::proofs::lemmas::List::map_more))]
 fn adjusted_traces(
     alloc: Global,
-    traces: &[Vec<Seen>],
+    traces: &Candidates<'_>,
     places: &[usize],
     max_skew: u64,
 ) -> Result<Vec<Seq<Shown>>, AllocError>
-    ensures { IfOk result (λ v. v.items ≡ map (λ i. adjusted max_skew (slice_index_or (given_traces traces.now) i [])) places.now) }
+    ensures { IfOk result (λ v. v.items ≡
+        map (λ i. adjusted max_skew (slice_index_or (traces_of traces.now) i [])) places.now) }
 {
     let mut shown = Vec::new(alloc);
     for place in places {
@@ -60,11 +51,12 @@ fn adjusted_traces(
 /// The traces that a search finds, as they are shown. Only these are copied.
 pub(crate) fn find(
     alloc: Global,
-    traces: &[Vec<Seen>],
+    traces: &Candidates<'_>,
     query: &Find,
     max_skew: u64,
 ) -> Result<Vec<Seq<Shown>>, AllocError>
-    ensures { IfOk result (λ v. v.items ≡ map (adjusted max_skew) (found_in query.now (given_traces traces.now))) }
+    ensures { IfOk result (λ v. v.items ≡
+        map (adjusted max_skew) (found_in query.now (traces_of traces.now))) }
 {
     let places = find_traces::find(alloc, traces, query)?;
     let shown = adjusted_traces(alloc, traces, &places, max_skew)?;
@@ -74,10 +66,10 @@ pub(crate) fn find(
 /// The ids of the traces that a search finds.
 pub(crate) fn find_ids(
     alloc: Global,
-    traces: &[Vec<Seen>],
+    traces: &Candidates<'_>,
     query: &Find,
 ) -> Result<Vec<TraceId>, AllocError>
-    ensures { IfOk result (λ v. v.items ≡ ids_of (found_in query.now (given_traces traces.now))) }
+    ensures { IfOk result (λ v. v.items ≡ ids_of (found_in query.now (traces_of traces.now))) }
 {
     let ids = find_traces::find_ids(alloc, traces, query)?;
     Ok(ids)

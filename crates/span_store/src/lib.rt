@@ -6,20 +6,14 @@
 //! and one invariant of the type ties it to the list. An entry that is refused changes nothing.
 //!
 //! * `arrange`: what one more entry changes in ring and assembly.
-//! * `gather`: the spans that spots name, copied.
-//! * `searching`: which traces a search by a service looks at.
-//! * `seeing`: the shown spans of traces, where they stand.
-//! * `finding`: searches and calls over these.
+//! * `finding`: searches and calls over traces that stand in the journal.
 //! * `store`: the [`SpanStore`].
 //! * `replaying`: a store made of a whole list of entries.
 #![tactic(auto)]
 
 mod arrange;
 mod finding;
-mod gather;
 mod replaying;
-mod searching;
-mod seeing;
 mod store;
 
 pub use replaying::{replay, replayed_answer};

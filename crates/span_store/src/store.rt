@@ -1,24 +1,24 @@
 ghost use Rattle.std.specs.Prelude.{◌≡◌, ◌==◌, [], map, length, None, OnOk, OnErr, IfOk, IfErr};
 ghost use Rattle.std.specs.Arc.{arc_value};
+ghost use Rattle.std.specs.Bool.{OnFalse};
 ghost use Rattle.std.specs.Result.{result_err};
 ghost use Rattle.trace_model.specs.declared.query.Query.TheVariants as ask;
 ghost use Rattle.trace_model.specs.declared.refusal.Refusal.TheVariants.{NoMemory};
 ghost use Rattle.trace_model.specs.Answers.{answer, shown_as};
 ghost use Rattle.trace_model.specs.Histories.{IsLegal, arrivals};
+ghost use Rattle.trace_model.specs.Linking.{links};
 ghost use Rattle.trace_model.specs.Searching.{traces, found_in};
-ghost use Rattle.trace_model.specs.declared.query.Find.{Find as Search};
 ghost use Rattle.trace_model.specs.Refusals.{followed_by};
 ghost use Rattle.arrival_journal.specs.Journals.{refusal_by, turned_away_by};
-ghost use Rattle.span_store.specs.Given.{given_traces};
+ghost use Rattle.journal_traces.specs.Given.{given_traces};
+ghost use Rattle.journal_traces.specs.Standing.{traces_named};
 
 use crate::arrange::arrange;
 use crate::finding;
-use crate::gather::gather;
-use crate::searching::ids_along;
-use crate::seeing::{ring_ids, see_traces};
 use arrival_journal::Journal;
 use arrival_names::ArrivalNames;
 use jaeger_model::{Placed, Seen, Seq, Text, TraceId};
+use journal_traces::{Candidates, gather, ring_ids, see_within, spots_along};
 use service_places::ServicePlaces;
 use span_steps::all_unadjusted;
 use std::alloc::{AllocError, Global};
@@ -26,14 +26,15 @@ use std::hash::RandomState;
 use std::marker::Model;
 use std::sync::Arc;
 use trace_adjust::adjusted;
-use trace_assembly::Assembly;
+use trace_assembly::{Assembly, Spot};
 use trace_model::{Answer, Entry, Find, Limits, Query, Refusal, Shown};
 use trace_ring::Ring;
 
 /// The accepted entries of one store, and quick answers from them.
 ///
-/// A trace by its id costs its own spans, names cost what is listed, and a search looks at the entries
-/// of its service and at their traces, and copies only what it finds.
+/// A trace by its id costs its own spans, and names cost what is listed. A search looks at the entries
+/// of its service and at the first span of each of their traces. It judges these traces as the answer
+/// orders them, until as many match as it asks for, and copies only what it finds.
 #[derive(Drop)]
 pub struct SpanStore {
     alloc: Global,
@@ -185,30 +186,50 @@ impl SpanStore {
         Ok(Answer::Operations(Seq::from_vec(found)))
     }
 
-    /// The shown traces, the one opened longest ago first.
-    fn all_traces(&self) -> Result<Vec<Vec<Seen<'_>>>, AllocError>
-        ensures { IfOk result (λ v. given_traces v.items ≡ traces self.now.limits.traces (arrivals self.now.entries)) }
+    /// Whether an arrival is of the service that a search asks for, and of the operation where it asks
+    /// for one. Where none is, nothing is found.
+    fn may_find(&self, query: &Find) -> bool
+        ensures { OnFalse result
+            (found_in query.now (traces self.now.limits.traces (arrivals self.now.entries)) ≡ []) }
     {
-        let ids = ring_ids(self.alloc, &self.ring)?;
-        see_traces(self.alloc, &self.journal, &self.assembly, &ids)
+        let entries = self.journal.entries();
+        let service = query.service.as_str();
+        if query.operation.as_str() == "" {
+            return self.names.knows_service(entries, service);
+        }
+        self.names
+            .knows_operation(entries, service, query.operation.as_str())
     }
 
-    /// The shown traces that entries of the service have spans of, the one opened longest ago first: a
-    /// search by the service finds the same among them as among all.
-    fn service_traces(&self, service: &Text) -> Result<Vec<Vec<Seen<'_>>>, AllocError>
-        ensures { IfOk result (λ v. (q : Search) → q.service ≡ service.now → found_in q (given_traces v.items) ≡ found_in q (traces self.now.limits.traces (arrivals self.now.entries))) }
+    /// The spots of the shown traces that entries of the search's service have spans of, those of the
+    /// one opened longest ago first: the search finds the same among these traces as among all.
+    fn candidates(&self, query: &Find) -> Result<Vec<&[Spot]>, AllocError>
+        ensures { IfOk result (λ v. found_in query.now (traces_named self.now.entries v.items) ≡
+            found_in query.now (traces self.now.limits.traces (arrivals self.now.entries))) }
     {
-        let places = self.reported.places_of(service);
-        let ids = ids_along(self.alloc, &self.ring, &self.journal, places)?;
-        let traces = see_traces(self.alloc, &self.journal, &self.assembly, &ids)?;
-        Ok(traces)
+        if !self.may_find(query) {
+            return Ok(Vec::new(self.alloc));
+        }
+        let places = self.reported.places_of(&query.service);
+        let spots = spots_along(
+            self.alloc,
+            &self.ring,
+            &self.assembly,
+            &self.journal,
+            places,
+        )?;
+        Ok(spots)
     }
 
     /// The traces that a search finds, as they are shown.
     fn find(&self, query: &Find) -> Result<Answer, AllocError>
         ensures { IfOk result (λ a. a ≡ answer self.now.limits self.now.entries (ask.Find query.now)) }
     {
-        let traces = self.service_traces(&query.service)?;
+        let spots = self.candidates(query)?;
+        let traces = Candidates {
+            journal: &self.journal,
+            spots: &spots,
+        };
         let found = finding::find(self.alloc, &traces, query, self.limits().max_skew)?;
         Ok(Answer::Traces(Seq::from_vec(found)))
     }
@@ -217,16 +238,38 @@ impl SpanStore {
     fn find_ids(&self, query: &Find) -> Result<Answer, AllocError>
         ensures { IfOk result (λ a. a ≡ answer self.now.limits self.now.entries (ask.FindIds query.now)) }
     {
-        let traces = self.service_traces(&query.service)?;
+        let spots = self.candidates(query)?;
+        let traces = Candidates {
+            journal: &self.journal,
+            spots: &spots,
+        };
         let ids = finding::find_ids(self.alloc, &traces, query)?;
         Ok(Answer::Ids(Seq::from_vec(ids)))
+    }
+
+    /// The shown traces that have a span in a window of time, the one opened longest ago first: those
+    /// from whose calls services are seen to call one another there.
+    fn traces_within(&self, end_ms: i64, lookback_ms: i64) -> Result<Vec<Vec<Seen<'_>>>, AllocError>
+        ensures { IfOk result (λ v. links end_ms lookback_ms (given_traces v.items) ≡
+            links end_ms lookback_ms (traces self.now.limits.traces (arrivals self.now.entries))) }
+    {
+        let ids = ring_ids(self.alloc, &self.ring)?;
+        let traces = see_within(
+            self.alloc,
+            &self.journal,
+            &self.assembly,
+            &ids,
+            end_ms,
+            lookback_ms,
+        )?;
+        Ok(traces)
     }
 
     /// How often services call one another in a window of time.
     fn links(&self, end_ms: i64, lookback_ms: i64) -> Result<Answer, AllocError>
         ensures { IfOk result (λ a. a ≡ answer self.now.limits self.now.entries (ask.Links end_ms lookback_ms)) }
     {
-        let traces = self.all_traces()?;
+        let traces = self.traces_within(end_ms, lookback_ms)?;
         let links = finding::links(self.alloc, &traces, end_ms, lookback_ms)?;
         Ok(Answer::Links(Seq::from_vec(links)))
     }

@@ -1,5 +1,5 @@
 use crate::histories::{Row, answer_of};
-use find_traces::{find, find_ids, is_found, is_match};
+use find_traces::{Gathered, find, find_ids, is_found, is_match};
 use jaeger_model::{Log, Placed, Seen, Seq, Tag, Text, TraceId, Value};
 use std::alloc::{AllocError, Global};
 use std::process::Abort;
@@ -129,11 +129,15 @@ fn begun(alloc: Global, starts: &[[i64; 2]]) -> Result<Vec<Vec<Placed>>, AllocEr
 }
 
 /// The starts of traces, the limit, and the places of those found.
-const ORDERS: [(&[[i64; 2]], u64, &[usize]); 5] = [
+const ORDERS: [(&[[i64; 2]], u64, &[usize]); 9] = [
     (&[[3000, 0], [1000, 0], [2000, 0]], 0, &[0, 2, 1]),
+    (&[[3000, 0], [1000, 0], [2000, 0]], 1, &[0]),
     (&[[3000, 0], [1000, 0], [2000, 0]], 2, &[0, 2]),
+    (&[[3000, 0], [1000, 0], [2000, 0]], 3, &[0, 2, 1]),
     (&[[1000, 9000], [2000, 0]], 0, &[1, 0]),
+    (&[[1000, 9000], [2000, 0]], 1, &[1]),
     (&[[1000, 0], [1000, 0]], 1, &[1]),
+    (&[[1000, 0], [1000, 0], [1000, 0]], 0, &[2, 1, 0]),
     (&[[i64::MIN, 0], [i64::MAX, 0]], 9, &[1, 0]),
 ];
 
@@ -154,8 +158,9 @@ fn found_of(
     let query = limited(alloc, limit)?;
     let traces = begun(alloc, starts)?;
     let traces = seen_traces(alloc, &traces)?;
-    let places = find(alloc, &traces, &query)?;
-    Ok((places, find_ids(alloc, &traces, &query)?))
+    let gathered = Gathered { traces: &traces };
+    let places = find(alloc, &gathered, &query)?;
+    Ok((places, find_ids(alloc, &gathered, &query)?))
 }
 
 #[test]

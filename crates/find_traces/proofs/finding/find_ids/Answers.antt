@@ -3,27 +3,26 @@ use Rattle.std.specs.List.{filter_map}
 use Rattle.std.proofs.lemmas.List.{take_all}
 use Rattle.jaeger_model.specs.declared.ids.TraceId.{TraceId}
 use Rattle.find_traces.specs.Places.{id_at, trace_at}
-use Rattle.trace_model.specs.Seeing.{seen_traces}
 use Rattle.find_traces.proofs.Found.{ids_found, read_some, read_none}
 use Rattle.find_traces.proofs.finding.find_ids.Goals as goal
 use Rattle.find_traces.proofs.finding.find_ids.Goals.{in-Some+in_ok-push, in_default}
 
 pub loop-place-preserved : goal.loop-place-preserved
-loop-place-preserved c =
-    let before : c.loop-place.ids.items ≡ filter_map (id_at (seen_traces c.args.traces.now)) (take c.loop-place.place-index c.deref-place-items.result.now) = c.loop-place.invariant in
+loop-place-preserved g c =
+    let before : c.loop-place.ids.items ≡ filter_map (id_at (g.T.Searched.traces c.args.traces.now)) (take c.loop-place.place-index c.deref-place-items.result.now) = c.loop-place.invariant in
     elim c.match-id_at.branch [
       | in-Some+in_ok-push w ↦
           ap (λ v. v.items) w.ids-is ∙ w.in_ok-push.ensures.items ∙ ap (λ (l : List TraceId). l ++ w.in-Some.id ∷ []) before
-          ∙ sym (read_some (id_at (seen_traces c.args.traces.now)) c.deref-place-items.result.now c.loop-place.place-index 0 w.in-Some.id c.loop-place-test.true (sym c.id_at.ensures ∙ w.in-Some.is))
+          ∙ sym (read_some (id_at (g.T.Searched.traces c.args.traces.now)) c.deref-place-items.result.now c.loop-place.place-index 0 w.in-Some.id c.loop-place-test.true (sym c.id_at.ensures ∙ w.in-Some.is))
       | in_default w ↦
           ap (λ v. v.items) w.ids-is ∙ before
-          ∙ sym (read_none (id_at (seen_traces c.args.traces.now)) c.deref-place-items.result.now c.loop-place.place-index 0 c.loop-place-test.true (sym c.id_at.ensures ∙ w.in_default.is))
+          ∙ sym (read_none (id_at (g.T.Searched.traces c.args.traces.now)) c.deref-place-items.result.now c.loop-place.place-index 0 c.loop-place-test.true (sym c.id_at.ensures ∙ w.in_default.is))
     ]
 
 pub returns : goal.returns
-returns c =
-    let before : c.loop-place.ids.items ≡ filter_map (id_at (seen_traces c.args.traces.now)) (take c.loop-place.place-index c.deref-place-items.result.now) = c.loop-place.invariant in
+returns g c =
+    let before : c.loop-place.ids.items ≡ filter_map (id_at (g.T.Searched.traces c.args.traces.now)) (take c.loop-place.place-index c.deref-place-items.result.now) = c.loop-place.invariant in
     let end : length c.deref-place-items.result.now ≤ c.loop-place.place-index = let h = c.loop-place-test.false in omega arith in
-    before ∙ ap (filter_map (id_at (seen_traces c.args.traces.now))) (take_all c.loop-place.place-index c.deref-place-items.result.now end)
-    ∙ ids_found c.args.query.now (seen_traces c.args.traces.now) c.deref-place-items.result.now
-    (ap (map (trace_at (seen_traces c.args.traces.now))) c.deref-place-items.ensures.value ∙ c.in_ok-places.ensures.traces)
+    before ∙ ap (filter_map (id_at (g.T.Searched.traces c.args.traces.now))) (take_all c.loop-place.place-index c.deref-place-items.result.now end)
+    ∙ ids_found c.args.query.now (g.T.Searched.traces c.args.traces.now) c.deref-place-items.result.now
+    (ap (map (trace_at (g.T.Searched.traces c.args.traces.now))) c.deref-place-items.ensures.value ∙ c.in_ok-places.ensures.traces)

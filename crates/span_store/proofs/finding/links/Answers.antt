@@ -2,7 +2,7 @@ use Rattle.std.proofs.Common.{◌∙◌, w64}
 use Rattle.std.proofs.lemmas.Int.{to_z-of_z}
 use Rattle.trace_model.specs.Linking.{links}
 use Rattle.trace_model.specs.Seeing.{seen_traces}
-use Rattle.span_store.proofs.Adopting.{links-given}
+use Rattle.journal_traces.proofs.Adopting.{links-given}
 use Rattle.span_store.proofs.finding.links.Goals as goal
 
 pub returns : goal.returns

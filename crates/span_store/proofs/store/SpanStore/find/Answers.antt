@@ -1,20 +1,22 @@
-use Rattle.std.proofs.Common.{refl, ◌∙◌, ap, map, List}
-use Rattle.std.specs.Prelude.{Vec}
-use Rattle.std.specs.Global.{Global}
-use Rattle.jaeger_model.specs.declared.placed.Seen.{Seen}
+use Rattle.std.proofs.Common.{◌∙◌, ap, map, List}
+use denote.Ref.{Bor}
+use Rattle.trace_assembly.specs.declared.spot.Spot.{Spot}
 use Rattle.trace_model.specs.declared.limits.Limits.{Limits}
 use Rattle.trace_model.specs.declared.answer.Answer.TheVariants as say
 use Rattle.trace_model.specs.Adjusting.{adjusted}
+use Rattle.trace_model.specs.Held.{Held}
 use Rattle.trace_model.specs.Searching.{found_in}
-use Rattle.span_store.specs.Given.{given_traces}
+use Rattle.journal_traces.specs.Standing.{traces_named}
 use Rattle.span_store.proofs.store.SpanStore.find.Goals as goal
 
 pub returns : goal.returns
 returns c =
     let q = c.args.query.now in
+    let skew = c.args.self.now.limits.max_skew in
     ap say.Traces (
     c.from_vec.ensures ∙ c.in_ok-found.ensures
-    ∙ ap (λ (l : Limits). map (adjusted l.max_skew) (found_in q (given_traces c.deref.result.now))) c.limits.ensures
-    ∙ ap (λ (ts : List (Vec Seen Global)). map (adjusted c.args.self.now.limits.max_skew) (found_in q (given_traces ts))) c.deref.ensures.value
-    ∙ ap (map (adjusted c.args.self.now.limits.max_skew)) (c.in_ok-traces.ensures q refl)
+    ∙ ap (λ (l : Limits). map (adjusted l.max_skew) (found_in q (traces_named c.self.inside.journal.held.entries c.deref.result.now))) c.limits.ensures
+    ∙ ap (λ (v : Held). map (adjusted skew) (found_in q (traces_named v.entries c.deref.result.now))) c.self.view_is
+    ∙ ap (λ (ss : List (Bor (List Spot))). map (adjusted skew) (found_in q (traces_named c.args.self.now.entries ss))) c.deref.ensures.value
+    ∙ ap (map (adjusted skew)) c.in_ok-spots.ensures
     )

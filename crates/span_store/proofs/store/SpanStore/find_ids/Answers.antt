@@ -1,10 +1,10 @@
-use Rattle.std.proofs.Common.{refl, ◌∙◌, ap, List}
-use Rattle.std.specs.Prelude.{Vec}
-use Rattle.std.specs.Global.{Global}
-use Rattle.jaeger_model.specs.declared.placed.Seen.{Seen}
+use Rattle.std.proofs.Common.{◌∙◌, ap, List}
+use denote.Ref.{Bor}
+use Rattle.trace_assembly.specs.declared.spot.Spot.{Spot}
 use Rattle.trace_model.specs.declared.answer.Answer.TheVariants as say
+use Rattle.trace_model.specs.Held.{Held}
 use Rattle.trace_model.specs.Searching.{found_in, ids_of}
-use Rattle.span_store.specs.Given.{given_traces}
+use Rattle.journal_traces.specs.Standing.{traces_named}
 use Rattle.span_store.proofs.store.SpanStore.find_ids.Goals as goal
 
 pub returns : goal.returns
@@ -12,6 +12,7 @@ returns c =
     let q = c.args.query.now in
     ap say.Ids (
     c.from_vec.ensures ∙ c.in_ok-ids.ensures
-    ∙ ap (λ (ts : List (Vec Seen Global)). ids_of (found_in q (given_traces ts))) c.deref.ensures.value
-    ∙ ap ids_of (c.in_ok-traces.ensures q refl)
+    ∙ ap (λ (v : Held). ids_of (found_in q (traces_named v.entries c.deref.result.now))) c.self.view_is
+    ∙ ap (λ (ss : List (Bor (List Spot))). ids_of (found_in q (traces_named c.args.self.now.entries ss))) c.deref.ensures.value
+    ∙ ap ids_of c.in_ok-spots.ensures
     )

@@ -5,7 +5,7 @@ use Rattle.std.specs.Global.{Global}
 use Rattle.jaeger_model.specs.declared.placed.Seen.{Seen}
 use Rattle.trace_model.specs.declared.answer.Answer.TheVariants as say
 use Rattle.trace_model.specs.Linking.{links}
-use Rattle.span_store.specs.Given.{given_traces}
+use Rattle.journal_traces.specs.Given.{given_traces}
 use Rattle.span_store.proofs.store.SpanStore.links.Goals as goal
 
 pub returns : goal.returns
@@ -16,5 +16,5 @@ returns c =
     c.from_vec.ensures ∙ c.in_ok-links.ensures
     ∙ (λ i. links (e i) (l i) (given_traces c.deref.result.now))
     ∙ ap (λ (ts : List (Vec Seen Global)). links c.args.end_ms c.args.lookback_ms (given_traces ts)) c.deref.ensures.value
-    ∙ ap (links c.args.end_ms c.args.lookback_ms) c.in_ok-traces.ensures
+    ∙ (rw (e, l) at c.in_ok-traces.ensures)
     )

@@ -6,7 +6,7 @@ use Rattle.trace_model.specs.Answers.{shown_as}
 use Rattle.trace_model.specs.Histories.{arrivals}
 use Rattle.trace_model.specs.Showing.{spans_of_trace, trace_found}
 use Rattle.trace_assembly.specs.Rows.{spots_of}
-use Rattle.span_store.proofs.Following.{spots_name, each_named, none_found, some_found}
+use Rattle.span_store.proofs.Following.{spots_name, none_found, some_found}
 use Rattle.span_store.proofs.store.SpanStore.trace.Goals as goal
 
 pub returns-then-is_empty : goal.returns-then-is_empty
@@ -17,12 +17,6 @@ returns-then-is_empty c =
     let named = spots_name c.self.inside.ring.limit held.limits.traces held.entries c.self.inside.ring.ids (spots_of c.self.inside.assembly) c.args.id spots c.self.invariant.follows c.self.invariant.limit c.spans_of-spots.ensures in
     subst (λ (v : Held). Trace None ≡ Trace (option_map (shown_as v.limits c.args.raw) (trace_found v.limits.traces (arrivals v.entries) c.args.id))) c.self.view_is
     (ap Trace (none_found (shown_as held.limits c.args.raw) held.entries spots (spans_of_trace held.limits.traces (arrivals held.entries) c.args.id) named none))
-
-pub gather-requires : goal.gather-requires
-gather-requires c =
-    let held = c.self.inside.journal.held in
-    each_named held.entries c.spans_of-spots.result.now (spans_of_trace held.limits.traces (arrivals held.entries) c.args.id)
-    (spots_name c.self.inside.ring.limit held.limits.traces held.entries c.self.inside.ring.ids (spots_of c.self.inside.assembly) c.args.id c.spans_of-spots.result.now c.self.invariant.follows c.self.invariant.limit c.spans_of-spots.ensures)
 
 pub returns : goal.returns
 returns c =

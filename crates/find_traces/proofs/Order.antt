@@ -1,0 +1,137 @@
+-- Numbered elements, once ranked, rise strictly by start and then place, best first.
+use Rattle.std.proofs.Common.{◌≡◌, ℕ, ℤ, ◌+◌, ◌<◌, ◌≤◌, true, false, cond, List, [], ◌∷◌, map, refl, sym, ap, ◌∙◌, arith}
+use Rattle.std.specs.Prelude.{if◌then◌else◌, ◌==◌, int_lt}
+use Rattle.std.specs.List.{AllByRecursion}
+use Rattle.std.specs.List.Sorted.{IsStrictlySortedBy}
+use Rattle.std.specs.declared.cmp.Ordering.{Ordering}
+use Rattle.std.specs.declared.cmp.Ordering.TheVariants.{Less, Equal, Greater}
+use Rattle.std.specs.Ordering.{ordering_then, int_cmp, nat_cmp}
+use Rattle.std.specs.Cmp.{IsTotalOrder, on_total}
+use Rattle.std.specs.FinMap.{IsAntisymmetric, nat_cmp-IsAntisymmetric, int_cmp-IsAntisymmetric}
+use Rattle.std.proofs.lemmas.Cmp.{then_total, back_total, int_cmp_total, nat_cmp_total}
+use Rattle.std.proofs.lemmas.Bool.{lt-ltb}
+use Rattle.std.proofs.lemmas.List.Elements.{All-from_recursion, recursion_from_All}
+use Rattle.std.proofs.lemmas.List.Sorted.{All-permutation}
+use Rattle.jaeger_model.specs.declared.placed.Placed.{Placed}
+use Rattle.trace_model.specs.Searching.{put_by_start, ranked}
+use Rattle.trace_model.proofs.Ranking.{ranked-permutation}
+use Rattle.trace_model.proofs.Rising.{Below}
+use Rattle.find_traces.specs.declared.matched.Hit.{Hit}
+use Rattle.find_traces.specs.declared.best.Key.{Key}
+use Rattle.find_traces.specs.Places.{numbered, start_of, hit_of, hit_cmp}
+use Rattle.find_traces.specs.Keys.{key_of, best_cmp}
+
+both_equal : {P : Type 0} (a b : Ordering) → ordering_then a b ≡ Equal → (a ≡ Equal → b ≡ Equal → P) → P
+both_equal Less b e k = absurd cc
+both_equal Equal b e k = k refl e
+both_equal Greater b e k = absurd cc
+
+pub hit_total : IsTotalOrder hit_cmp
+hit_total = then_total (on_total (λ (h : Hit). h.start.0) (back_total int_cmp_total)) (on_total (λ (h : Hit). h.place.0) (back_total nat_cmp_total))
+
+pub hit_exact : IsAntisymmetric hit_cmp
+hit_exact a b e = both_equal (int_cmp b.start.0 a.start.0) (nat_cmp b.place.0 a.place.0) e (λ s p.
+    let ss : b.start.0 ≡ a.start.0 = int_cmp-IsAntisymmetric b.start.0 a.start.0 s in
+    let ps : b.place.0 ≡ a.place.0 = nat_cmp-IsAntisymmetric b.place.0 a.place.0 p in
+    λ i. record { start = record { 0 = sym ss i }; place = record { 0 = sym ps i } })
+
+pub best_total : IsTotalOrder best_cmp
+best_total = then_total (on_total (λ (k : Key). k.start) (back_total int_cmp_total)) (on_total (λ (k : Key). k.place) (back_total nat_cmp_total))
+
+pub best_exact : IsAntisymmetric best_cmp
+best_exact a b e = both_equal (int_cmp b.start a.start) (nat_cmp b.place a.place) e (λ s p.
+    let ss : b.start ≡ a.start = int_cmp-IsAntisymmetric b.start a.start s in
+    let ps : b.place ≡ a.place = nat_cmp-IsAntisymmetric b.place a.place p in
+    λ i. record { start = sym ss i; place = sym ps i })
+
+module _ {X : Type 0} (start : ℕ × X → ℤ) where
+  -- latest start first, and of equal starts the later place first
+  abbrev pub rank_cmp : ℕ × X → ℕ × X → Ordering
+  rank_cmp a b = ordering_then (int_cmp (start b) (start a)) (nat_cmp b.0 a.0)
+
+  rank_total : IsTotalOrder rank_cmp
+  rank_total = then_total (on_total start (back_total int_cmp_total)) (on_total (λ (e : ℕ × X). e.0) (back_total nat_cmp_total))
+
+  abbrev After : ℕ × X → List (ℕ × X) → Type 0
+  After x es = AllByRecursion (λ (e : ℕ × X). x.0 < e.0) es
+
+  abbrev PlacesRise : List (ℕ × X) → Type 0
+  PlacesRise [] = Unit {0}
+  PlacesRise (x ∷ es) = After x es × PlacesRise es
+
+  earlier : (x y : ℕ × X) → int_lt (start y) (start x) ≡ true → rank_cmp x y ≡ Less
+  earlier x y e = ap (λ b. ordering_then (cond b Less (cond (int_lt (start x) (start y)) Greater Equal)) (nat_cmp y.0 x.0)) e
+
+  later : (x y : ℕ × X) → int_lt (start y) (start x) ≡ false → x.0 < y.0 → rank_cmp y x ≡ Less
+  later x y e h = elim (int_lt (start x) (start y)) as (λ b. ordering_then (cond b Less (cond (int_lt (start y) (start x)) Greater Equal)) (nat_cmp x.0 y.0) ≡ Less) [
+    | true ↦ refl
+    | false ↦
+        ap (λ b. ordering_then (cond b Greater Equal) (nat_cmp x.0 y.0)) e
+        ∙ ap (λ b. cond b Less (cond (x.0 == y.0) Equal Greater)) (lt-ltb x.0 y.0 h)
+  ]
+
+  below_chain : (x y : ℕ × X) (es : List (ℕ × X)) → rank_cmp x y ≡ Less → Below rank_cmp y es → Below rank_cmp x es
+  below_chain x y [] e h = tt
+  below_chain x y (z ∷ es) e h = (rank_total.trans x y z e h.0, below_chain x y es e h.1)
+
+  below_put : (y x : ℕ × X) (es : List (ℕ × X)) → rank_cmp y x ≡ Less → Below rank_cmp y es → Below rank_cmp y (put_by_start start x es)
+  below_put y x [] e h = (e, tt)
+  below_put y x (z ∷ es) e h = elim (int_lt (start z) (start x)) as (λ b. Below rank_cmp y (if b then x ∷ z ∷ es else z ∷ put_by_start start x es)) [
+    | true ↦ (e, h)
+    | false ↦ (h.0, below_put y x es e h.1)
+  ]
+
+  strict_put : (x : ℕ × X) (es : List (ℕ × X)) → After x es → IsStrictlySortedBy rank_cmp es → IsStrictlySortedBy rank_cmp (put_by_start start x es)
+  unfolding IsStrictlySortedBy
+  strict_put x [] a h = (tt, tt)
+  strict_put x (y ∷ es) a h = elim (int_lt (start y) (start x)) as (λ b. int_lt (start y) (start x) ≡ b → IsStrictlySortedBy rank_cmp (if b then x ∷ y ∷ es else y ∷ put_by_start start x es)) [
+    | true ↦ λ e. ((earlier x y e, below_chain x y es (earlier x y e) h.0), h)
+    | false ↦ λ e. (below_put y x es (later x y e a.0) h.0, strict_put x es a.1 h.1)
+  ] refl
+
+  strict_ranked : (es : List (ℕ × X)) → PlacesRise es → IsStrictlySortedBy rank_cmp (ranked start es)
+  unfolding IsStrictlySortedBy
+  strict_ranked [] r = tt
+  strict_ranked (x ∷ es) r =
+      strict_put x (ranked start es)
+      (recursion_from_All (λ (e : ℕ × X). x.0 < e.0) _ (All-permutation (λ (e : ℕ × X). x.0 < e.0) es (ranked start es) (ranked-permutation start es) (All-from_recursion (λ (e : ℕ × X). x.0 < e.0) es r.0)))
+      (strict_ranked es r.1)
+
+  -- the places of what is numbered rise
+  weaker : (n : ℕ) (es : List (ℕ × X)) → AllByRecursion (λ (e : ℕ × X). n + 1 ≤ e.0) es → AllByRecursion (λ (e : ℕ × X). n ≤ e.0) es
+  weaker n [] a = tt
+  weaker n (x ∷ es) a = (let b = a.0 in omega arith, weaker n es a.1)
+
+  above : (n : ℕ) (es : List (ℕ × X)) → AllByRecursion (λ (e : ℕ × X). n + 1 ≤ e.0) es → AllByRecursion (λ (e : ℕ × X). n < e.0) es
+  above n [] a = tt
+  above n (x ∷ es) a = (let b = a.0 in omega arith, above n es a.1)
+
+  places_above : (n : ℕ) (xs : List X) → AllByRecursion (λ (e : ℕ × X). n ≤ e.0) (numbered n xs)
+  places_above n [] = tt
+  places_above n (x ∷ xs) = (omega arith, weaker n (numbered (n + 1) xs) (places_above (n + 1) xs))
+
+  places_rise : (n : ℕ) (xs : List X) → PlacesRise (numbered n xs)
+  places_rise n [] = tt
+  places_rise n (x ∷ xs) = (above n (numbered (n + 1) xs) (places_above (n + 1) xs), places_rise (n + 1) xs)
+
+  pub ranked_rises : (xs : List X) → IsStrictlySortedBy rank_cmp (ranked start (numbered 0 xs))
+  ranked_rises xs = strict_ranked (numbered 0 xs) (places_rise 0 xs)
+
+-- ---- and so do their keys
+below_hits : (x : ℕ × List Placed) (es : List (ℕ × List Placed)) → Below (rank_cmp start_of) x es → Below hit_cmp (hit_of x) (map hit_of es)
+below_hits x [] h = tt
+below_hits x (y ∷ es) h = (h.0, below_hits x es h.1)
+
+pub strict_hits : (es : List (ℕ × List Placed)) → IsStrictlySortedBy (rank_cmp start_of) es → IsStrictlySortedBy hit_cmp (map hit_of es)
+unfolding IsStrictlySortedBy
+strict_hits [] h = tt
+strict_hits (x ∷ es) h = (below_hits x es h.0, strict_hits es h.1)
+
+below_keys : (x : ℕ × List Placed) (es : List (ℕ × List Placed)) → Below (rank_cmp start_of) x es → Below best_cmp (key_of x) (map key_of es)
+below_keys x [] h = tt
+below_keys x (y ∷ es) h = (h.0, below_keys x es h.1)
+
+pub strict_keys : (es : List (ℕ × List Placed)) → IsStrictlySortedBy (rank_cmp start_of) es → IsStrictlySortedBy best_cmp (map key_of es)
+unfolding IsStrictlySortedBy
+strict_keys [] h = tt
+strict_keys (x ∷ es) h = (below_keys x es h.0, strict_keys es h.1)

@@ -1,0 +1,69 @@
+-- A strictly rising list is settled by its members, and so by any list that has its elements in another order.
+use Rattle.std.proofs.Common.{◌≡◌, suc, ◌+◌, true, false, ◌||◌, List, [], ◌∷◌, get_or, refl, sym, ap, subst, ◌∙◌, arith}
+use Rattle.std.specs.List.{IsDistinct}
+use Rattle.std.specs.List.Sorted.{IsSorted, IsStrictlySortedBy, IsPermutation}
+use Rattle.std.specs.declared.cmp.Ordering.{Ordering}
+use Rattle.std.specs.declared.cmp.Ordering.TheVariants.{Less, Equal, Greater}
+use Rattle.std.specs.Ordering.{eq_by_cmp, is_eq, is_lt, ordering_reverse}
+use Rattle.std.specs.Cmp.{IsTotalOrder, tied_itself}
+use Rattle.std.specs.FinMap.{IsAntisymmetric}
+use Rattle.std.proofs.lemmas.List.Elements.{All-from_recursion, recursion_from_All}
+use Rattle.std.proofs.lemmas.List.Sorted.{list_any-IsPermutation, ranks_by, sorted_far}
+use Rattle.std.proofs.lemmas.Map.Keys.{IsDistinct-IsPermutation, IsDistinct-from_sorted}
+use Rattle.trace_model.proofs.Rising.{Below, has, rises_same}
+
+module _ {K : Type 0} {cmp : K → K → Ordering} (o : IsTotalOrder cmp) (exact : IsAntisymmetric cmp) where
+  below_chain : (x y : K) (ys : List K) → cmp x y ≡ Less → Below cmp y ys → Below cmp x ys
+  below_chain x y [] e b = tt
+  below_chain x y (z ∷ ys) e b = (o.trans x y z e b.0, below_chain x y ys e b.1)
+
+  pub not_below : (q x : K) (ys : List K) → cmp q x ≡ Equal → Below cmp x ys → has cmp q ys ≡ false
+  not_below q x [] e b = refl
+  not_below q x (y ∷ ys) e b = ap (λ r. is_eq r || has cmp q ys) (o.congr q x y e ∙ b.0) ∙ not_below q x ys e b.1
+
+  itself : (x : K) → cmp x x ≡ Equal
+  itself x = tied_itself o x
+
+  pub absent : (x y : K) (ys : List K) → cmp x y ≡ Less → Below cmp y ys → has cmp x (y ∷ ys) ≡ false
+  absent x y ys l b = ap (λ r. is_eq r || has cmp x ys) l ∙ not_below x x ys (itself x) (below_chain x y ys l b)
+
+  pub present : (x : K) (xs : List K) → has cmp x (x ∷ xs) ≡ true
+  present x xs = ap (λ r. is_eq r || has cmp x xs) (itself x)
+
+  less : (r : Ordering) → is_lt (ordering_reverse r) ≡ false → is_eq r ≡ false → r ≡ Less
+  less Less l e = refl
+  less Equal l e = absurd cc
+  less Greater l e = absurd cc
+
+  tail_sorted : (x : K) (xs : List K) → IsSorted cmp (x ∷ xs) → IsSorted cmp xs
+  tail_sorted x xs h k d low high =
+      let next : suc k + 1 ≡ suc (k + 1) = omega arith in
+      let up : is_lt (cmp (get_or (x ∷ xs) (suc k + 1) d) (get_or (x ∷ xs) (suc k) d)) ≡ false = h (suc k) d (omega arith) (omega arith) in
+      subst (λ n. is_lt (cmp (get_or (x ∷ xs) n d) (get_or xs k d)) ≡ false) next up
+
+  strictly : (xs : List K) → IsSorted cmp xs → IsDistinct (eq_by_cmp cmp) xs → IsStrictlySortedBy cmp xs
+  unfolding IsStrictlySortedBy IsDistinct
+  strictly [] s d = tt
+  strictly (x ∷ xs) s d = (
+    recursion_from_All (λ y. cmp x y ≡ Less) xs (λ k e h.
+        let far : is_lt (cmp (get_or (x ∷ xs) (suc k) e) (get_or (x ∷ xs) 0 e)) ≡ false = sorted_far (λ a b. is_lt (cmp a b)) (ranks_by o (λ y. y)) (x ∷ xs) s 0 (suc k) e (omega arith) (omega arith) in
+        let apart : is_eq (cmp x (get_or xs k e)) ≡ false = All-from_recursion (λ y. eq_by_cmp cmp x y ≡ false) xs d.0 k e h in
+        less (cmp x (get_or xs k e)) (ap is_lt (sym (o.antisymm (get_or xs k e) x)) ∙ far) apart),
+    strictly xs (tail_sorted x xs s) d.1,
+  )
+
+  pub flips : (x y : K) → eq_by_cmp cmp x y ≡ eq_by_cmp cmp y x
+  flips x y = ap is_eq (o.antisymm x y) ∙ turned (cmp y x)
+    where
+      turned : (r : Ordering) → is_eq (ordering_reverse r) ≡ is_eq r
+      turned Less = refl
+      turned Equal = refl
+      turned Greater = refl
+
+  pub distinct_moved : (xs ys : List K) → IsStrictlySortedBy cmp xs → IsPermutation xs ys → IsDistinct (eq_by_cmp cmp) ys
+  distinct_moved xs ys strict moved = IsDistinct-IsPermutation (eq_by_cmp cmp) flips xs ys moved (IsDistinct-from_sorted cmp xs strict)
+
+  -- what a sort gives
+  pub sorted_is : (xs ys : List K) → IsStrictlySortedBy cmp xs → IsPermutation xs ys → IsSorted cmp ys → ys ≡ xs
+  sorted_is xs ys strict moved sorted =
+      rises_same o exact ys xs (strictly ys sorted (distinct_moved xs ys strict moved)) strict (λ q. sym (list_any-IsPermutation (eq_by_cmp cmp q) xs ys moved))

@@ -1,0 +1,88 @@
+//! Searches with a limit: a heap gives the traces in the order of the answer, and they are judged as
+//! they come up, until as many match as are asked for.
+
+ghost use Rattle.std.specs.Prelude.{◌≡◌, IfOk, List, map, filter};
+ghost use Rattle.std.specs.List.Sorted.{IsPermutation, IsStrictlySortedBy};
+ghost use Rattle.std.specs.BinaryHeap.{heap_items, IsHeap};
+ghost use Rattle.trace_model.specs.Searching.{cut};
+ghost use Rattle.find_traces.specs.Places.{trace_at, places_found, numbered};
+ghost use Rattle.find_traces.specs.Keys.{is_full, key_of, key_place, key_cmp, best_cmp, key_judged};
+
+use crate::searched::Searched;
+use std::alloc::{AllocError, Global};
+use std::collections::BinaryHeap;
+use trace_model::Find;
+
+/// A trace that may match. The one with the latest first start is the greatest, and of equal starts
+/// the one at the later place, which was opened later.
+#[derive(Clone, Copy, Debug, PartialEq, Eq, PartialOrd, Ord)]
+struct Key {
+    start: i64,
+    place: usize,
+}
+
+fn key_at<T: Searched>(traces: &T, place: usize) -> Key
+    ensures { result ≡ key_of (place, trace_at (T.traces traces.now) place) }
+{
+    Key {
+        start: traces.start_at(place),
+        place,
+    }
+}
+
+/// A key for each trace.
+fn all_keys<T: Searched>(alloc: Global, traces: &T) -> Result<Vec<Key>, AllocError>
+    ensures { IfOk result (λ v. v.items ≡ map key_of (numbered 0 (T.traces traces.now))) }
+{
+    let mut keys = Vec::with_capacity(alloc, traces.count())?;
+    for place in 0..traces.count() {
+        keys.push(key_at(traces, place))?;
+    }
+    Ok(keys)
+}
+
+/// Whether so many are as many as the limit lets through.
+fn is_full(limit: u64, count: usize) -> bool
+    ensures { result ≡ is_full limit count }
+{
+    limit != 0 && limit <= count as u64
+}
+
+/// The places of the traces that match, the best first, no more than the limit. None is judged once
+/// the limit is reached.
+fn judge_popped<T: Searched>(
+    alloc: Global,
+    traces: &T,
+    mut keys: BinaryHeap<Key>,
+    query: &Find,
+) -> Result<Vec<usize>, AllocError>
+    ghost ranking: { List Key }
+    requires rises { IsStrictlySortedBy best_cmp ranking }
+    requires permutation { IsPermutation ranking (heap_items keys) }
+    requires heap { IsHeap key_cmp (heap_items keys) }
+    ensures { IfOk result (λ v. v.items ≡ map key_place
+        (cut query.now.limit (filter (key_judged query.now (T.traces traces.now)) ranking))) }
+{
+    let mut places = Vec::new(alloc);
+    while let Some(key) = keys.pop() {
+        if is_full(query.limit, places.len()) {
+            break;
+        }
+        if traces.is_found_at(key.place, query) {
+            places.push(key.place)?;
+        }
+    }
+    Ok(places)
+}
+
+/// The places of the best traces that match, in the order of the answer.
+pub(crate) fn find_best<T: Searched>(
+    alloc: Global,
+    traces: &T,
+    query: &Find,
+) -> Result<Vec<usize>, AllocError>
+    ensures { IfOk result (λ v. v.items ≡ places_found query.now (T.traces traces.now)) }
+{
+    let keys = all_keys(alloc, traces)?;
+    judge_popped(alloc, traces, BinaryHeap::from(keys), query)
+}

@@ -1,0 +1,3 @@
+pub mod Adopting
+pub mod Marking
+pub mod Spots

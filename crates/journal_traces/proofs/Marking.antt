@@ -1,0 +1,192 @@
+-- The marks of the traces that a search by a service looks at.
+use Rattle.std.proofs.Common.{◌≡◌, ℕ, zero, suc, ◌+◌, ◌-◌, ◌<◌, drop, lt-ltb, ◌≤◌, Bool, true, false, ◌||◌, cond, List, [], ◌∷◌, ◌++◌, map, length, take, get_or, refl, sym, ap, subst, ◌∙◌, arith, Some, None}
+use Rattle.std.specs.Prelude.{filter, slice_get, if◌then◌else◌, not}
+use Rattle.std.specs.List.{list_any, position, position_or_len}
+use Rattle.std.proofs.Math.ListN.{set}
+use Rattle.std.proofs.lemmas.Bool.{false≢true}
+use Rattle.std.proofs.lemmas.List.{append-nil, take_more, take_all, flat_map_more, map_push}
+use Rattle.std.proofs.lemmas.List.Elements.{filter-append}
+use Rattle.std.proofs.lemmas.List.Folds.{list_any-append}
+use Rattle.std.proofs.lemmas.List.Quantifiers.{position-Some}
+use Rattle.std.proofs.lemmas.Option.{slice_get-get_or}
+use Rattle.jaeger_model.specs.declared.ids.TraceId.{TraceId}
+use Rattle.jaeger_model.specs.declared.placed.Placed.{Placed}
+use Rattle.jaeger_model.specs.declared.span.Span.{Span}
+use Rattle.jaeger_model.specs.Parents.{same_trace}
+use Rattle.trace_model.specs.declared.entry.Entry.{Entry}
+use Rattle.trace_model.specs.Rings.{holds, newest, arrive}
+use Rattle.trace_model.specs.Showing.{ring, trace_of}
+use Rattle.trace_model.proofs.Shows.{by_pushes, ring_push}
+use Rattle.trace_model.proofs.Traces.{same_is, same_self, or_true}
+use Rattle.trace_ring.specs.Windows.{NoneTwice}
+use Rattle.trace_assembly.specs.declared.spot.Spot.{Spot}
+use Rattle.trace_assembly.specs.Rows.{is_of}
+use Rattle.trace_assembly.proofs.Written.{same_swap}
+use Rattle.journal_traces.specs.Picked.{reaches, spans_at, spans_along}
+
+-- ---- no trace stands in the ring twice
+either_false : (a b : Bool) → (a || b) ≡ false → (a ≡ false) × (b ≡ false)
+either_false true b e = absurd (false≢true (sym e))
+either_false false b e = (refl, e)
+
+twice_push : (ids : List TraceId) (t : TraceId) → NoneTwice ids → holds ids t ≡ false → NoneTwice (ids ++ t ∷ [])
+twice_push [] t once absent = (refl, tt)
+twice_push (x ∷ xs) t once absent =
+    let apart = either_false (same_trace t x) (holds xs t) absent in
+    let other : same_trace x t ≡ false = same_swap x t ∙ apart.0 in
+    (list_any-append (same_trace x) xs (t ∷ []) ∙ (λ i. once.0 i || (other i || false)), twice_push xs t once.1 apart.1)
+
+twice_drop : (k : ℕ) (ids : List TraceId) → NoneTwice ids → NoneTwice (drop k ids)
+twice_drop zero ids once = once
+twice_drop (suc k) [] once = once
+twice_drop (suc k) (x ∷ xs) once = twice_drop k xs once.1
+
+twice_newest : (n : ℕ) (ids : List TraceId) → NoneTwice ids → NoneTwice (newest n ids)
+twice_newest zero ids once = once
+twice_newest (suc n) ids once = twice_drop (length ids - suc n) ids once
+
+twice_arrive : (n : ℕ) (ids : List TraceId) (t : TraceId) → NoneTwice ids → NoneTwice (arrive n ids t)
+twice_arrive n ids t once = elim (holds ids t) as (λ b. holds ids t ≡ b → NoneTwice (if b then ids else newest n (ids ++ t ∷ []))) [
+  | true ↦ λ _. once
+  | false ↦ λ absent. twice_newest n (ids ++ t ∷ []) (twice_push ids t once absent)
+] refl
+
+pub ring_once : (n : ℕ) (ps : List Placed) → NoneTwice (ring n ps)
+ring_once n = by_pushes (λ ps. NoneTwice (ring n ps)) tt (λ ps p once. subst NoneTwice (sym (ring_push n ps p)) (twice_arrive n (ring n ps) (trace_of p) once))
+
+-- ---- where a trace stands in the ring
+held : (r : List TraceId) (k : ℕ) (t : TraceId) → slice_get r k ≡ Some t → holds r t ≡ true
+held [] k t e = absurd cc
+held (x ∷ xs) zero t e = let same : x ≡ t = cc e in ap (λ y. same_trace t y || holds xs t) same ∙ ap (λ b. b || holds xs t) (same_self t)
+held (x ∷ xs) (suc k) t e = ap (λ b. same_trace t x || b) (held xs k t e) ∙ or_true (same_trace t x)
+
+-- the position of a trace is its place
+placed_at : (r : List TraceId) (t : TraceId) (place : ℕ) → position (same_trace t) r ≡ Some place → slice_get r place ≡ Some t
+placed_at r t place e =
+    let w = position-Some (same_trace t) r place t e in
+    slice_get-get_or r place t w.0 ∙ ap Some (sym (same_is t (get_or r place t) w.1))
+
+found_before : (r : List TraceId) (t : TraceId) → holds r t ≡ true → position_or_len (same_trace t) r < length r
+found_before [] t h = absurd (false≢true h)
+found_before (x ∷ xs) t h = elim (same_trace t x) as (λ b. (b || holds xs t) ≡ true → cond (not b) (1 + position_or_len (same_trace t) xs) 0 < suc (length xs)) [
+  | true ↦ λ _. omega arith
+  | false ↦ λ k. let rest = found_before xs t k in omega arith
+] h
+
+position_none : (r : List TraceId) (t : TraceId) → position (same_trace t) r ≡ None → holds r t ≡ false
+position_none r t e = elim (holds r t) as (λ b. holds r t ≡ b → b ≡ false) [
+  | true ↦ λ h.
+      let test = lt-ltb (position_or_len (same_trace t) r) (length r) (found_before r t h) in
+      let there : position (same_trace t) r ≡ Some (position_or_len (same_trace t) r) = ap (λ b. cond b (Some (position_or_len (same_trace t) r)) None) test in
+      absurd (cc (sym e ∙ there))
+  | false ↦ λ _. refl
+] refl
+
+pub place_below : (r : List TraceId) (t : TraceId) (place : ℕ) → position (same_trace t) r ≡ Some place → place < length r
+place_below r t place e = (position-Some (same_trace t) r place t e).0
+
+-- ---- one more trace is marked
+pub or_same : (b : Bool) → b ≡ (b || false)
+or_same true = refl
+or_same false = refl
+
+beside : (p : TraceId → Bool) (x t : TraceId) → same_trace x t ≡ false → p x ≡ (p x || same_trace x t)
+beside p x t other = or_same (p x) ∙ ap (λ b. p x || b) (sym other)
+
+unmarked : (p : TraceId → Bool) (r : List TraceId) (t : TraceId) → holds r t ≡ false → map p r ≡ map (λ u. p u || same_trace u t) r
+unmarked p [] t e = refl
+unmarked p (x ∷ xs) t e =
+    let apart = either_false (same_trace t x) (holds xs t) e in
+    let first : p x ≡ (p x || same_trace x t) = beside p x t (same_swap x t ∙ apart.0) in
+    let rest = unmarked p xs t apart.1 in
+    λ i. first i ∷ rest i
+
+marked_at : (p : TraceId → Bool) (r : List TraceId) (t : TraceId) (k : ℕ) → NoneTwice r → slice_get r k ≡ Some t → set (map p r) k true ≡ map (λ u. p u || same_trace u t) r
+marked_at p [] t k once e = absurd cc
+marked_at p (x ∷ xs) t zero once e =
+    let same : x ≡ t = cc e in
+    let first : true ≡ (p x || same_trace x t) = sym (ap (λ y. p x || same_trace y t) same ∙ ap (λ b. p x || b) (same_self t) ∙ or_true (p x)) in
+    let rest = unmarked p xs t (ap (holds xs) (sym same) ∙ once.0) in
+    λ i. first i ∷ rest i
+marked_at p (x ∷ xs) t (suc k) once e =
+    let there : holds xs t ≡ true = held xs k t e in
+    let other : same_trace x t ≡ false = elim (same_trace x t) as (λ b. same_trace x t ≡ b → b ≡ false) [
+      | true ↦ λ s. absurd (false≢true (sym once.0 ∙ ap (holds xs) (same_is x t s) ∙ there))
+      | false ↦ λ _. refl
+    ] refl in
+    let first : p x ≡ (p x || same_trace x t) = beside p x t other in
+    let rest = marked_at p xs t k once.1 e in
+    λ i. first i ∷ rest i
+
+pub marked_put : (p : TraceId → Bool) (r : List TraceId) (t : TraceId) (place : ℕ) (marks : List Bool) → NoneTwice r → position (same_trace t) r ≡ Some place → marks ≡ map p r → set marks place true ≡ map (λ u. p u || same_trace u t) r
+marked_put p r t place marks once e before = ap (λ l. set l place true) before ∙ marked_at p r t place once (placed_at r t place e)
+
+-- a trace that is not in the ring changes nothing
+pub marked_absent : (p : TraceId → Bool) (r : List TraceId) (t : TraceId) → position (same_trace t) r ≡ None → map p r ≡ map (λ u. p u || same_trace u t) r
+marked_absent p r t e = unmarked p r t (position_none r t e)
+
+-- ---- one more of the spans
+or_assoc : (a b c : Bool) → ((a || b) || c) ≡ (a || (b || c))
+or_assoc true b c = refl
+or_assoc false b c = refl
+
+pub marked_none : (p : TraceId → Bool) (r : List TraceId) → map p r ≡ map (λ u. p u || false) r
+marked_none p r = λ i. map (λ u. or_same (p u) i) r
+
+module _ (ss : List Span) (i : ℕ) (s : Span) (le : i < length ss) (is : s ≡ get_or ss i s) where
+  reach_more : (u : TraceId) → reaches (take (i + 1) ss) u ≡ (reaches (take i ss) u || same_trace u s.trace)
+  reach_more u =
+      ap (list_any (is_of u)) (take_more ss i s le) ∙ list_any-append (is_of u) (take i ss) (get_or ss i s ∷ [])
+      ∙ ap (λ b. reaches (take i ss) u || b) (sym (or_same (is_of u (get_or ss i s))) ∙ ap (is_of u) (sym is))
+
+  pub marked_more : (p : TraceId → Bool) (r : List TraceId) → map (λ u. (p u || reaches (take i ss) u) || same_trace u s.trace) r ≡ map (λ u. p u || reaches (take (i + 1) ss) u) r
+  marked_more p r = λ j. map (λ u. (or_assoc (p u) (reaches (take i ss) u) (same_trace u s.trace) ∙ ap (λ b. p u || b) (sym (reach_more u))) j) r
+
+  still : reaches (take i ss) s.trace ≡ true → (u : TraceId) → reaches (take i ss) u ≡ (reaches (take i ss) u || same_trace u s.trace)
+  still there u = elim (same_trace u s.trace) as (λ b. same_trace u s.trace ≡ b → reaches (take i ss) u ≡ (reaches (take i ss) u || b)) [
+    | true ↦ λ e. ap (reaches (take i ss)) (same_is u s.trace e) ∙ there ∙ sym (or_true (reaches (take i ss) u))
+    | false ↦ λ _. or_same (reaches (take i ss) u)
+  ] refl
+
+  -- a trace that was marked before
+  pub marked_again : (p : TraceId → Bool) (r : List TraceId) → reaches (take i ss) s.trace ≡ true → map (λ u. p u || reaches (take i ss) u) r ≡ map (λ u. p u || reaches (take (i + 1) ss) u) r
+  marked_again p r there = λ j. map (λ u. p u || (still there u ∙ sym (reach_more u)) j) r
+
+  pub reached_own : (t : TraceId) → s.trace ≡ t → reaches (take (i + 1) ss) t ≡ true
+  reached_own t own = reach_more t ∙ ap (λ x. reaches (take i ss) t || same_trace t x) own ∙ ap (λ b. reaches (take i ss) t || b) (same_self t) ∙ or_true (reaches (take i ss) t)
+
+  pub reached_still : (t : TraceId) → reaches (take i ss) t ≡ true → reaches (take (i + 1) ss) t ≡ true
+  reached_still t there = reach_more t ∙ ap (λ b. b || same_trace t s.trace) there
+
+pub marked_all : (p : TraceId → Bool) (r : List TraceId) (ss : List Span) (i : ℕ) → length ss ≤ i → map (λ u. p u || reaches (take i ss) u) r ≡ map (λ u. p u || reaches ss u) r
+marked_all p r ss i le = ap (λ (l : List Span). map (λ u. p u || reaches l u) r) (take_all i ss le)
+
+-- ---- one more of the places
+pub marked_place : (h : List Entry) (r : List TraceId) (ps : List ℕ) (i : ℕ) → i < length ps
+    → map (λ u. reaches (spans_along h (take i ps)) u || reaches (spans_at h (get_or ps i 0)) u) r ≡ map (reaches (spans_along h (take (i + 1) ps))) r
+marked_place h r ps i le = λ j. map (λ u. sym (
+    ap (λ l. reaches (spans_along h l) u) (take_more ps i 0 le)
+    ∙ ap (λ l. reaches l u) (sym (flat_map_more (spans_at h) [] (take i ps) (get_or ps i 0)))
+    ∙ list_any-append (is_of u) (spans_along h (take i ps)) (spans_at h (get_or ps i 0))) j) r
+
+pub marked_places : (h : List Entry) (r : List TraceId) (ps : List ℕ) (i : ℕ) → length ps ≤ i → map (reaches (spans_along h (take i ps))) r ≡ map (reaches (spans_along h ps)) r
+marked_places h r ps i le = ap (λ l. map (reaches (spans_along h l)) r) (take_all i ps le)
+
+-- ---- what was marked is picked
+pub mark_read : (p : TraceId → Bool) (r : List TraceId) (marks : List Bool) (i : ℕ) (d : TraceId) (b : Bool) → i < length r → marks ≡ map p r → get_or marks i b ≡ p (get_or r i d)
+mark_read p r marks i d b le same = ap (λ l. get_or l i b) same ∙ read r i le
+  where
+    read : (r : List TraceId) (i : ℕ) → i < length r → get_or (map p r) i b ≡ p (get_or r i d)
+    read [] i le = absurd (omega arith)
+    read (x ∷ xs) zero le = refl
+    read (x ∷ xs) (suc i) le = read xs i (omega arith)
+
+module _ (f : TraceId → List Spot) (p : TraceId → Bool) (r : List TraceId) (i : ℕ) (d : TraceId) (le : i < length r) where
+  pick_more : filter p (take (i + 1) r) ≡ filter p (take i r) ++ cond (p (get_or r i d)) (get_or r i d ∷ []) []
+  pick_more = ap (filter p) (take_more r i d le) ∙ filter-append p (take i r) (get_or r i d ∷ [])
+
+  pub picked : p (get_or r i d) ≡ true → map f (filter p (take (i + 1) r)) ≡ map f (filter p (take i r)) ++ f (get_or r i d) ∷ []
+  picked e = ap (map f) (pick_more ∙ ap (λ b. filter p (take i r) ++ cond b (get_or r i d ∷ []) []) e) ∙ map_push f (filter p (take i r)) (get_or r i d)
+
+  pub passed : p (get_or r i d) ≡ false → map f (filter p (take (i + 1) r)) ≡ map f (filter p (take i r))
+  passed e = ap (map f) (pick_more ∙ ap (λ b. filter p (take i r) ++ cond b (get_or r i d ∷ []) []) e ∙ append-nil (filter p (take i r)))

@@ -1,0 +1,6 @@
+use Rattle.std.proofs.Common.{◌≡◌, take}
+use Rattle.journal_traces.specs.Standing.{spans_named}
+use Rattle.journal_traces.proofs.gathering.gather.Given as goal
+
+abbrev pub invariant-loop-spot : goal.invariant-loop-spot
+invariant-loop-spot l = l.spans.items ≡ spans_named l.journal.held.entries (take l.spot-index l.spots)

@@ -1,0 +1,4 @@
+pub mod Given
+pub mod Picked
+pub mod Standing
+pub mod Looked

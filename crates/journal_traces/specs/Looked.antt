@@ -1,0 +1,8 @@
+-- The traces that a search looks at.
+use Rattle.std.specs.Prelude.{List}
+use Rattle.jaeger_model.specs.declared.placed.Placed.{Placed}
+use Rattle.journal_traces.specs.declared.candidates.Candidates.{Candidates}
+use Rattle.journal_traces.specs.Standing.{traces_named}
+
+abbrev pub traces_of : Candidates → List (List Placed)
+traces_of c = traces_named c.journal.now.held.entries c.spots.now

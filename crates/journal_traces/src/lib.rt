@@ -1,0 +1,20 @@
+//! Traces where their spans stand in a journal, named by their spots: nothing is copied but what is
+//! asked for.
+//!
+//! * `standing`: the spans that spots name.
+//! * `gathering`: these spans, copied.
+//! * `searching`: which traces a search by a service looks at.
+//! * `candidates`: these traces, as a search looks at them.
+//! * `seeing`: the spans of the traces in a window of time.
+#![tactic(auto)]
+
+mod candidates;
+mod gathering;
+mod searching;
+mod seeing;
+mod standing;
+
+pub use candidates::Candidates;
+pub use gathering::gather;
+pub use searching::spots_along;
+pub use seeing::{ring_ids, see_within};

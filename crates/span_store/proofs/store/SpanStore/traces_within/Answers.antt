@@ -1,0 +1,34 @@
+use Rattle.std.proofs.Common.{◌≡◌, ◌∙◌, ap, subst, map, filter, w64, List}
+use Rattle.std.proofs.lemmas.Int.{to_z-of_z}
+use Rattle.std.specs.List.{list_any}
+use Rattle.jaeger_model.specs.declared.ids.TraceId.{TraceId}
+use Rattle.trace_model.specs.Held.{Held}
+use Rattle.trace_model.specs.Histories.{arrivals}
+use Rattle.trace_model.specs.Linking.{in_window, links}
+use Rattle.trace_model.specs.Searching.{traces}
+use Rattle.trace_assembly.specs.Rows.{spots_of}
+use Rattle.service_places.specs.Reported.{places_of}
+use Rattle.journal_traces.specs.Given.{given_traces}
+use Rattle.journal_traces.specs.Standing.{trace_named}
+use Rattle.span_store.proofs.Following.{trace_stands}
+use Rattle.span_store.proofs.Keeping.{kept_spots, kept_traces}
+use Rattle.journal_traces.proofs.Spots.{links_within}
+use Rattle.span_store.proofs.store.SpanStore.traces_within.Goals as goal
+
+pub returns : goal.returns
+returns c =
+    let was = c.self.inside in
+    let h = was.journal.held in
+    let e = to_z-of_z w64 c.args.end_ms c.ranges.end_ms in
+    let l = to_z-of_z w64 c.args.lookback_ms c.ranges.lookback_ms in
+    let end_ms = c.args.end_ms in
+    let lookback_ms = c.args.lookback_ms in
+    let spots = spots_of was.assembly in
+    let stands = trace_stands h.limits.traces h.entries spots (kept_spots h was.ring spots was.names (places_of was.reported) c.self.invariant) in
+    let ids : c.deref.result.now ≡ was.ring.ids = c.deref.ensures.value ∙ c.in_ok-ids.ensures in
+    let seen : given_traces c.in_ok-traces.traces.items ≡ filter (list_any (in_window end_ms lookback_ms)) (map (trace_named h.entries spots) c.deref.result.now) = rw (e, l) at c.in_ok-traces.ensures in
+    let all : links end_ms lookback_ms (given_traces c.in_ok-traces.traces.items) ≡ links end_ms lookback_ms (traces h.limits.traces (arrivals h.entries)) =
+    ap (links end_ms lookback_ms) seen ∙ links_within end_ms lookback_ms (map (trace_named h.entries spots) c.deref.result.now)
+    ∙ ap (λ (r : List TraceId). links end_ms lookback_ms (map (trace_named h.entries spots) r)) ids
+    ∙ ap (links end_ms lookback_ms) ((λ i. map (λ t. stands t i) was.ring.ids) ∙ kept_traces h was.ring spots was.names (places_of was.reported) c.self.invariant) in
+    subst (λ (v : Held). links end_ms lookback_ms (given_traces c.in_ok-traces.traces.items) ≡ links end_ms lookback_ms (traces v.limits.traces (arrivals v.entries))) c.self.view_is all
