@@ -1,5 +1,6 @@
 -- Heads of which some bytes have come, and the fields of a struct.
-use Rattle.std.specs.Prelude.{ℕ, ℤ, List, Option, Ok, Err, ◌&&◌, ◌||◌, ◌==◌, if◌then◌else◌}
+use Rattle.std.specs.Prelude.{◌≡◌, true, Some, None, Result, ℕ, ℤ, List, Option, Ok, Err, ◌&&◌, ◌||◌, ◌==◌, if◌then◌else◌}
+use Rattle.wire_pieces.specs.declared.fault.PieceError.{PieceError}
 use Rattle.thrift_binary.specs.declared.fault.WireError.{WireError}
 use Rattle.thrift_binary.specs.declared.fault.WireError.TheVariants.{BadType}
 use Rattle.thrift_binary.specs.Reading.{Read, ◌>>=◌, lift, byte_at, size_at, typed, field_at, list_at, map_at, is_code}
@@ -33,6 +34,13 @@ field_from (field.Id p) w = id_from p w
 
 abbrev pub head_from : FieldHead → List ℕ → Read (Option (ℕ × ℤ))
 head_from h w = field_from h.step w
+
+-- the type of a field is one of the table
+abbrev pub IsTyped : Result (Option (Option (ℕ × ℤ))) PieceError → Type 0
+IsTyped (Ok (Some (Some f))) = is_code f.0 ≡ true
+IsTyped (Ok (Some None)) = Unit {0}
+IsTyped (Ok None) = Unit {0}
+IsTyped (Err e) = Unit {0}
 
 -- ---- the head of a list: the type of its elements, then its size
 

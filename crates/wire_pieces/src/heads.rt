@@ -1,7 +1,7 @@
 ghost use Rattle.std.specs.Prelude.{◌≡◌, List, ℕ};
 ghost use Rattle.thrift_binary.specs.Reading.{is_code, field_at, list_at};
 ghost use Rattle.wire_pieces.specs.Pieces.{Goes, OkTakes};
-ghost use Rattle.wire_pieces.specs.Heads.{id_from, head_from, typed_size_from, list_head};
+ghost use Rattle.wire_pieces.specs.Heads.{IsTyped, id_from, head_from, typed_size_from, list_head};
 
 use crate::fault::PieceError;
 use crate::numbers::{I16, Size};
@@ -35,6 +35,7 @@ impl TypedId {
     fn more(&mut self, piece: &mut Piece<'_>) -> Result<Option<Option<(u8, i16)>>, PieceError>
         ensures reads { Goes (λ x. x) (id_from self.old) (id_from self.new) piece.old piece.new result }
         ensures taken { OkTakes piece.old piece.new result }
+        ensures typed { IsTyped result }
     {
         let Some(id) = self.id.more(piece) else {
             return Ok(None);
@@ -73,6 +74,7 @@ impl FieldHead {
     pub fn more(&mut self, piece: &mut Piece<'_>) -> Result<Option<Option<(u8, i16)>>, PieceError>
         ensures reads { Goes (λ x. x) (head_from self.old) (head_from self.new) piece.old piece.new result }
         ensures taken { OkTakes piece.old piece.new result }
+        ensures typed { IsTyped result }
     {
         match &mut self.step {
             HeadStep::First => {
