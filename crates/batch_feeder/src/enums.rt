@@ -19,7 +19,11 @@ impl Partial for TypePart {
 
     ghost resumes = { type_part };
 
-    fn more(&mut self, _alloc: Global, piece: &mut Piece<'_>) -> Result<Option<TagType>, DecodeError> {
+    fn more(
+        &mut self,
+        _alloc: Global,
+        piece: &mut Piece<'_>,
+    ) -> Result<Option<TagType>, DecodeError> {
         let Some(number) = self.part.more(piece) else {
             return Ok(None);
         };
@@ -54,7 +58,11 @@ impl Partial for KindPart {
 
     ghost resumes = { kind_part };
 
-    fn more(&mut self, _alloc: Global, piece: &mut Piece<'_>) -> Result<Option<RefKind>, DecodeError> {
+    fn more(
+        &mut self,
+        _alloc: Global,
+        piece: &mut Piece<'_>,
+    ) -> Result<Option<RefKind>, DecodeError> {
         let Some(number) = self.part.more(piece) else {
             return Ok(None);
         };

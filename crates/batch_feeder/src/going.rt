@@ -14,7 +14,11 @@ pub(crate) trait Partial: Drop + Sized {
     ghost resumes: { Self → List ℕ → Result (Self.Value × List ℕ) DecodeError };
 
     /// Goes on over a piece: the value where it is whole, and nothing where the piece ends before.
-    fn more(&mut self, alloc: Global, piece: &mut Piece<'_>) -> Result<Option<Self::Value>, DecodeError>
+    fn more(
+        &mut self,
+        alloc: Global,
+        piece: &mut Piece<'_>,
+    ) -> Result<Option<Self::Value>, DecodeError>
         ensures goes { Goes (resumes self.old) (resumes self.new) piece.old piece.new result }
         ensures no_longer { OnOk result (length piece.new ≤ length piece.old) };
 }

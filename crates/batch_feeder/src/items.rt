@@ -57,7 +57,11 @@ impl<P: Fresh> Partial for ListPart<P> {
 
     ghost resumes = { λ p. list_from P.reads P.Partial.resumes p.items.items p.left p.step };
 
-    fn more(&mut self, alloc: Global, piece: &mut Piece<'_>) -> Result<Option<Seq<P::Value>>, DecodeError> {
+    fn more(
+        &mut self,
+        alloc: Global,
+        piece: &mut Piece<'_>,
+    ) -> Result<Option<Seq<P::Value>>, DecodeError> {
         match &mut self.step {
             ListStep::Head(head) => {
                 let (code, size) = match head.more(piece) {

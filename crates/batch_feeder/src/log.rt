@@ -1,5 +1,5 @@
 use crate::fields::{Slots, required};
-use crate::going::{Fresh, set, place};
+use crate::going::{Fresh, place, set};
 use crate::items::ListPart;
 use crate::skipped::SkipPart;
 use crate::structs::Struct;

@@ -38,9 +38,19 @@ pub(crate) struct SpanParts {
 impl Model for SpanParts {
     ghost Value = { SpanSlots };
 
-    ghost view = { λ s. record { trace_low = s.trace_low; trace_high = s.trace_high; id = s.id; parent = s.parent;
-        operation = s.operation; references = s.references; flags = s.flags; start = s.start; duration = s.duration;
-        tags = s.tags; logs = s.logs } };
+    ghost view = { λ s. record {
+      trace_low = s.trace_low;
+      trace_high = s.trace_high;
+      id = s.id;
+      parent = s.parent;
+      operation = s.operation;
+      references = s.references;
+      flags = s.flags;
+      start = s.start;
+      duration = s.duration;
+      tags = s.tags;
+      logs = s.logs;
+    } };
 }
 
 /// The value of a field of a span, of which some bytes have come.

@@ -19,7 +19,11 @@ impl<S: Slots> Partial for Struct<S> {
 
     ghost resumes = { λ p. struct_from S.takes S.resumes S.makes p.slots p.step };
 
-    fn more(&mut self, alloc: Global, piece: &mut Piece<'_>) -> Result<Option<S::Made>, DecodeError> {
+    fn more(
+        &mut self,
+        alloc: Global,
+        piece: &mut Piece<'_>,
+    ) -> Result<Option<S::Made>, DecodeError> {
         if !more_fields(&mut self.slots, &mut self.step, alloc, piece)? {
             return Ok(None);
         }

@@ -53,7 +53,11 @@ impl Partial for BinaryPart {
 
     ghost resumes = { binary_part };
 
-    fn more(&mut self, alloc: Global, piece: &mut Piece<'_>) -> Result<Option<Seq<u8>>, DecodeError> {
+    fn more(
+        &mut self,
+        alloc: Global,
+        piece: &mut Piece<'_>,
+    ) -> Result<Option<Seq<u8>>, DecodeError> {
         match self.part.more(alloc, piece) {
             Err(error) => Err(fault_of(error)),
             Ok(None) => Ok(None),

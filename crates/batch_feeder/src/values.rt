@@ -45,7 +45,11 @@ impl Partial for DoublePart {
 
     ghost resumes = { double_part };
 
-    fn more(&mut self, _alloc: Global, piece: &mut Piece<'_>) -> Result<Option<[u8; 8]>, DecodeError> {
+    fn more(
+        &mut self,
+        _alloc: Global,
+        piece: &mut Piece<'_>,
+    ) -> Result<Option<[u8; 8]>, DecodeError> {
         Ok(self.part.more(piece))
     }
 }
