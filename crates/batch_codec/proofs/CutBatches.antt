@@ -18,7 +18,7 @@ use Rattle.batch_codec.specs.SpanReading.{take_span, span_from, span_at}
 use Rattle.batch_codec.specs.BatchReading.{take_batch, batch_from, batch_at}
 use Rattle.batch_codec.proofs.CutStructs.{Safe, SafeAt, bool_safe, double_safe, i32_safe, i64_safe, id_safe, text_safe, binary_safe, kind_safe, type_safe, known_safe, skipped_safe, list_safe, struct_safe}
 
-take_tag_safe : (s : TagSlots) (c : ℕ) (i : ℤ) (w : List ℕ) → SafeAt (take_tag s c i) w
+pub take_tag_safe : (s : TagSlots) (c : ℕ) (i : ℤ) (w : List ℕ) → SafeAt (take_tag s c i) w
 unfolding take_tag
 take_tag_safe s c i w =
     known_safe text_at text_safe (λ x. record s { key = Some x }) (eqb c 11 && int_eq i (pos 1)) _ w (
@@ -34,7 +34,7 @@ pub tag_safe : Safe tag_at
 unfolding tag_at
 tag_safe = struct_safe take_tag no_tag tag_from take_tag_safe
 
-take_log_safe : (s : LogSlots) (c : ℕ) (i : ℤ) (w : List ℕ) → SafeAt (take_log s c i) w
+pub take_log_safe : (s : LogSlots) (c : ℕ) (i : ℤ) (w : List ℕ) → SafeAt (take_log s c i) w
 unfolding take_log
 take_log_safe s c i w =
     known_safe i64_at i64_safe (λ x. record s { at = Some x }) (eqb c 10 && int_eq i (pos 1)) _ w (
@@ -45,7 +45,7 @@ pub log_safe : Safe log_at
 unfolding log_at
 log_safe = struct_safe take_log no_log log_from take_log_safe
 
-take_reference_safe : (s : ReferenceSlots) (c : ℕ) (i : ℤ) (w : List ℕ) → SafeAt (take_reference s c i) w
+pub take_reference_safe : (s : ReferenceSlots) (c : ℕ) (i : ℤ) (w : List ℕ) → SafeAt (take_reference s c i) w
 unfolding take_reference
 take_reference_safe s c i w =
     known_safe kind_at kind_safe (λ x. record s { kind = Some x }) (eqb c 8 && int_eq i (pos 1)) _ w (
@@ -58,7 +58,7 @@ pub reference_safe : Safe reference_at
 unfolding reference_at
 reference_safe = struct_safe take_reference no_reference reference_from take_reference_safe
 
-take_process_safe : (s : ProcessSlots) (c : ℕ) (i : ℤ) (w : List ℕ) → SafeAt (take_process s c i) w
+pub take_process_safe : (s : ProcessSlots) (c : ℕ) (i : ℤ) (w : List ℕ) → SafeAt (take_process s c i) w
 unfolding take_process
 take_process_safe s c i w =
     known_safe text_at text_safe (λ x. record s { service = Some x }) (eqb c 11 && int_eq i (pos 1)) _ w (
@@ -69,7 +69,7 @@ pub process_safe : Safe process_at
 unfolding process_at
 process_safe = struct_safe take_process no_process process_from take_process_safe
 
-take_span_safe : (s : SpanSlots) (c : ℕ) (i : ℤ) (w : List ℕ) → SafeAt (take_span s c i) w
+pub take_span_safe : (s : SpanSlots) (c : ℕ) (i : ℤ) (w : List ℕ) → SafeAt (take_span s c i) w
 unfolding take_span
 take_span_safe s c i w =
     known_safe id_at id_safe (λ x. record s { trace_low = Some x }) (eqb c 10 && int_eq i (pos 1)) _ w (
@@ -89,7 +89,7 @@ pub span_safe : Safe span_at
 unfolding span_at
 span_safe = struct_safe take_span no_span span_from take_span_safe
 
-take_batch_safe : (s : BatchSlots) (c : ℕ) (i : ℤ) (w : List ℕ) → SafeAt (take_batch s c i) w
+pub take_batch_safe : (s : BatchSlots) (c : ℕ) (i : ℤ) (w : List ℕ) → SafeAt (take_batch s c i) w
 unfolding take_batch
 take_batch_safe s c i w =
     known_safe process_at process_safe (λ x. record s { process = Some x }) (eqb c 12 && int_eq i (pos 1)) _ w (

@@ -15,10 +15,10 @@ use thrift_binary::types::{I64, LIST, STRUCT};
 
 /// What was gathered of a batch so far.
 #[derive(Drop)]
-pub(crate) struct BatchSlots {
-    pub(crate) process: Option<Process>,
-    pub(crate) spans: Option<Seq<Span>>,
-    pub(crate) seq_no: Option<i64>,
+pub struct BatchSlots {
+    pub process: Option<Process>,
+    pub spans: Option<Seq<Span>>,
+    pub seq_no: Option<i64>,
 }
 
 impl<'a> Slots<'a> for BatchSlots {

@@ -8,7 +8,8 @@
 //!
 //! * `fault`: why bytes are no batch.
 //! * `values`, `fields`, `items`: single values, a struct's fields up to its stop byte, a list of structs.
-//! * `tag`, `log`, `reference`, `process`, `span`, `batch`: one struct of `jaeger.thrift` each.
+//! * `tag`, `log`, `reference`, `process`, `span`, `batch`: one struct of `jaeger.thrift` each. What is gathered of
+//!   it (`TagSlots` and so on) is public for the specifications of crates that decode in another way.
 //! * `writer`: [`encode`], the one spelling of a batch.
 //! * `laws`: facts about the definitions.
 #![tactic(auto)]
@@ -26,6 +27,12 @@ mod tag;
 mod values;
 mod writer;
 
-pub use batch::decode;
+pub use batch::{BatchSlots, decode};
 pub use fault::{DecodeError, Part};
+pub use log::LogSlots;
+pub use process::ProcessSlots;
+pub use reference::ReferenceSlots;
+pub use span::SpanSlots;
+pub use tag::{TagSlots, TagType};
+pub use values::{ByteSlice, TextSlice};
 pub use writer::encode;

@@ -12,9 +12,9 @@ use thrift_binary::types::{I64, LIST};
 
 /// What was gathered of a log so far.
 #[derive(Drop)]
-pub(crate) struct LogSlots {
-    pub(crate) at: Option<i64>,
-    pub(crate) fields: Option<Seq<Tag>>,
+pub struct LogSlots {
+    pub at: Option<i64>,
+    pub fields: Option<Seq<Tag>>,
 }
 
 impl<'a> Slots<'a> for LogSlots {

@@ -13,9 +13,9 @@ use thrift_binary::types::{LIST, STRING};
 
 /// What was gathered of a process so far.
 #[derive(Drop)]
-pub(crate) struct ProcessSlots<'a> {
-    pub(crate) service: Option<TextSlice<'a>>,
-    pub(crate) tags: Seq<Tag>,
+pub struct ProcessSlots<'a> {
+    pub service: Option<TextSlice<'a>>,
+    pub tags: Seq<Tag>,
 }
 
 impl<'a> Slots<'a> for ProcessSlots<'a> {

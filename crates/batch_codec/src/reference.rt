@@ -13,11 +13,11 @@ use thrift_binary::types::{I32, I64};
 
 /// What was gathered of a reference so far.
 #[derive(Drop)]
-pub(crate) struct ReferenceSlots {
-    pub(crate) kind: Option<RefKind>,
-    pub(crate) trace_low: Option<u64>,
-    pub(crate) trace_high: Option<u64>,
-    pub(crate) id: Option<u64>,
+pub struct ReferenceSlots {
+    pub kind: Option<RefKind>,
+    pub trace_low: Option<u64>,
+    pub trace_high: Option<u64>,
+    pub id: Option<u64>,
 }
 
 impl<'a> Slots<'a> for ReferenceSlots {

@@ -14,18 +14,18 @@ use thrift_binary::types::{I32, I64, LIST, STRING};
 
 /// What was gathered of a span so far.
 #[derive(Drop)]
-pub(crate) struct SpanSlots<'a> {
-    pub(crate) trace_low: Option<u64>,
-    pub(crate) trace_high: Option<u64>,
-    pub(crate) id: Option<u64>,
-    pub(crate) parent: Option<u64>,
-    pub(crate) operation: Option<TextSlice<'a>>,
-    pub(crate) references: Seq<SpanRef>,
-    pub(crate) flags: Option<i32>,
-    pub(crate) start: Option<i64>,
-    pub(crate) duration: Option<i64>,
-    pub(crate) tags: Seq<Tag>,
-    pub(crate) logs: Seq<Log>,
+pub struct SpanSlots<'a> {
+    pub trace_low: Option<u64>,
+    pub trace_high: Option<u64>,
+    pub id: Option<u64>,
+    pub parent: Option<u64>,
+    pub operation: Option<TextSlice<'a>>,
+    pub references: Seq<SpanRef>,
+    pub flags: Option<i32>,
+    pub start: Option<i64>,
+    pub duration: Option<i64>,
+    pub tags: Seq<Tag>,
+    pub logs: Seq<Log>,
 }
 
 impl<'a> SpanSlots<'a> {

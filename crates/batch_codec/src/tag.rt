@@ -15,7 +15,7 @@ use thrift_binary::types::{BOOL, DOUBLE, I32, I64, STRING};
 
 /// Which of its values a tag has (`TagType` of `jaeger.thrift`).
 #[derive(Clone, Copy)]
-pub(crate) enum TagType {
+pub enum TagType {
     Text,
     Double,
     Bool,
@@ -26,14 +26,14 @@ pub(crate) enum TagType {
 /// What was gathered of a tag so far. Only the value that its type names is kept, so texts and bytes
 /// stay in the input until the type is known.
 #[derive(Drop)]
-pub(crate) struct TagSlots<'a> {
-    pub(crate) key: Option<TextSlice<'a>>,
-    pub(crate) kind: Option<TagType>,
-    pub(crate) text: TextSlice<'a>,
-    pub(crate) double: [u8; 8],
-    pub(crate) boolean: bool,
-    pub(crate) long: i64,
-    pub(crate) binary: ByteSlice<'a>,
+pub struct TagSlots<'a> {
+    pub key: Option<TextSlice<'a>>,
+    pub kind: Option<TagType>,
+    pub text: TextSlice<'a>,
+    pub double: [u8; 8],
+    pub boolean: bool,
+    pub long: i64,
+    pub binary: ByteSlice<'a>,
 }
 
 impl<'a> TagSlots<'a> {

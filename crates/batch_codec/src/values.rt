@@ -10,7 +10,7 @@ use thrift_binary::{Cursor, WireError};
 
 /// A text that stands in the input, which contracts see as its bytes. It is copied only once it is kept.
 #[derive(Drop)]
-pub(crate) struct TextSlice<'a> {
+pub struct TextSlice<'a> {
     text: &'a str,
 }
 
@@ -36,7 +36,7 @@ impl<'a> TextSlice<'a> {
 
 /// Bytes that stand in the input, which contracts see as their list. They are copied only once they are kept.
 #[derive(Drop)]
-pub(crate) struct ByteSlice<'a> {
+pub struct ByteSlice<'a> {
     bytes: &'a [u8],
 }
 

@@ -17,7 +17,7 @@ refused e v = Err e
 refused_cut : (e : WireError) → IsCutSafe Truncated (refused e)
 refused_cut e = cut_err Truncated (refused e) e (λ v. refl)
 
-past_cut : (n : ℕ) → IsCutSafe Truncated (past n)
+pub past_cut : (n : ℕ) → IsCutSafe Truncated (past n)
 past_cut n = cut_front Truncated n (λ w. tt) (λ w le. refl)
 
 both_cut : (a b : Skip) → IsCutSafe Truncated a → IsCutSafe Truncated b → IsCutSafe Truncated (both a b)
@@ -55,7 +55,7 @@ module _ (value : ℕ → Skip) (safe : (c : ℕ) → IsCutSafe Truncated (value
       let others : Skip = λ v. cond (eqb c 13) (pairs value v) (items value v) in
       cut_if Truncated (eqb c 12) (struct value) others w (struct_cut w) (cut_if Truncated (eqb c 13) (pairs value) (items value) w (pairs_cut w) (items_cut w))
 
-value_cut : (levels c : ℕ) → IsCutSafe Truncated (value_at levels c)
+pub value_cut : (levels c : ℕ) → IsCutSafe Truncated (value_at levels c)
 unfolding value_at
 value_cut zero c w = cut_if Truncated (is_container c) (refused TooDeep) (leaf c) w (refused_cut TooDeep w) (leaf_cut c w)
 value_cut (suc levels) c w = cut_if Truncated (is_container c) (container (value_at levels) c) (leaf c) w (container_cut (value_at levels) (λ d. value_cut levels d) c w) (leaf_cut c w)

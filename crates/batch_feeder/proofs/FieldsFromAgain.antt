@@ -1,0 +1,62 @@
+-- The steps of a struct that comes in pieces.
+use Rattle.std.proofs.Common.{◌≡◌, ℕ, ℤ, List, Option, Some, None, Result, Ok, Err, refl, ap, sym, ◌∙◌}
+use Rattle.thrift_binary.specs.declared.fault.WireError.TheVariants.{Truncated}
+use Rattle.thrift_binary.specs.Reading.{◌>>=◌, field_at}
+use Rattle.thrift_binary.specs.Fields.{Take, behind_field, fields_at}
+use Rattle.thrift_binary.specs.Cuts.{IsCutSafe}
+use Rattle.wire_pieces.specs.declared.fault.PieceError.{PieceError}
+use Rattle.wire_pieces.specs.declared.heads.FieldHead.{FieldHead}
+use Rattle.wire_pieces.specs.Pieces.{Comes, Waits, Refused}
+use Rattle.wire_pieces.specs.Heads.{head_from}
+use Rattle.wire_pieces.proofs.Steps.{comes-is, comes-trans, comes-waits, comes-inside, waits-inside}
+use Rattle.wire_pieces.proofs.FieldsAgain as wires
+use Rattle.batch_codec.specs.declared.fault.DecodeError.{DecodeError}
+use Rattle.batch_codec.specs.declared.fault.DecodeError.TheVariants.{Wire}
+use Rattle.batch_codec.specs.Decoding.{Reading, wire}
+use Rattle.batch_feeder.specs.declared.fields.Step.{Step}
+use Rattle.batch_feeder.specs.declared.fields.Step.TheVariants.{Head, Value}
+use Rattle.batch_feeder.specs.Going.{fault_of, Faults}
+use Rattle.batch_feeder.specs.Fields.{fields_from, struct_at, struct_from}
+use Rattle.batch_feeder.proofs.GoingAgain.{faults-lift, faults-inside, comes-faults}
+
+module _ {S V : Type 0} (take : Take S DecodeError) (res : S → V → Reading S) {a : List ℕ → Result (S × List ℕ) DecodeError} {p : List ℕ} where
+  pub head-faults : (s : S) (step : Step V) (h : FieldHead) (w : List ℕ) (e : PieceError) → step ≡ Head h → Refused (head_from h) w e → Comes a (fields_from take res s step) p w → Faults a p (fault_of e)
+  head-faults s step h w e is g inv = comes-faults a (fields_from take res s (Head h)) p w (fault_of e) (rw is at inv) (faults-inside (λ x. behind_field (fields_at wire take) take s x.0 x.1) _ w (fault_of e) (faults-lift (head_from h) w e g))
+
+  pub head-waits : (s : S) (step : Step V) (h k : FieldHead) (w v : List ℕ) → step ≡ Head h → Waits Truncated (head_from h) (head_from k) w v → Comes a (fields_from take res s step) p w → Waits (Wire Truncated) a (fields_from take res s (Head k)) p v
+  head-waits s step h k w v is g inv = comes-waits (rw is at inv) (wires.head-waits wire take s h k w v g)
+
+  pub head-stop : (s : S) (step : Step V) (h : FieldHead) (w v : List ℕ) → step ≡ Head h → Comes (head_from h) (λ u. Ok (None, u)) w v → Comes a (fields_from take res s step) p w → Comes a (λ u. Ok (s, u)) p v
+  head-stop s step h w v is g inv = comes-trans (rw is at inv) (wires.head-stop wire take s h w v g)
+
+  pub head-value : (s : S) (step : Step V) (h : FieldHead) (c : ℕ) (i : ℤ) (held : V) (w v : List ℕ) → step ≡ Head h → Comes (head_from h) (λ u. Ok (Some (c, i), u)) w v → ((t : S) (u : List ℕ) → res t held u ≡ take t c i u) → Comes a (fields_from take res s step) p w → Comes a (fields_from take res s (Value held)) p v
+  head-value s step h c i held w v is g same inv = comes-trans (rw is at inv) (wires.head-value wire take s h w v c i (res s held) g (same s))
+
+  pub value-waits : (s t : S) (step : Step V) (h k : V) (w v : List ℕ) → step ≡ Value h → Waits (Wire Truncated) (res s h) (res t k) w v → Comes a (fields_from take res s step) p w → Waits (Wire Truncated) a (fields_from take res t (Value k)) p v
+  value-waits s t step h k w v is g inv = comes-waits (rw is at inv) (wires.value-waits wire take (res s h) (res t k) w v g)
+
+  pub value-faults : (s : S) (step : Step V) (h : V) (w : List ℕ) (e : DecodeError) → step ≡ Value h → Faults (res s h) w e → Comes a (fields_from take res s step) p w → Faults a p e
+  value-faults s step h w e is g inv = comes-faults a (fields_from take res s (Value h)) p w e (rw is at inv) (faults-inside (λ x. fields_at wire take x.0 x.1) (res s h) w e g)
+
+  module _ (safe : (s : S) (c : ℕ) (i : ℤ) → IsCutSafe (Wire Truncated) (take s c i)) where
+    pub value-whole : (s t : S) (step : Step V) (h : V) (k : FieldHead) (w v : List ℕ) → step ≡ Value h → ((u : List ℕ) → head_from k u ≡ field_at u) → Comes (res s h) (λ u. Ok (t, u)) w v → Comes a (fields_from take res s step) p w → Comes a (fields_from take res t (Head k)) p v
+    value-whole s t step h k w v is fresh g inv = comes-trans (rw is at inv) (wires.value-whole wire take safe t k (res s h) w v fresh g)
+
+module _ {S V A : Type 0} (take : Take S DecodeError) (res : S → V → Reading S) (makes : S → Result A DecodeError) where
+  abbrev made : S × List ℕ → Result (A × List ℕ) DecodeError
+  made x = makes x.0 >>= λ m. Ok (m, x.1)
+
+  pub struct-fresh : ((s : S) (c : ℕ) (i : ℤ) → IsCutSafe (Wire Truncated) (take s c i)) → (s none : S) (h : FieldHead) (w : List ℕ) → s ≡ none → ((u : List ℕ) → head_from h u ≡ field_at u) → struct_from take res makes s (Head h) w ≡ struct_at take none makes w
+  struct-fresh safe s none h w is fresh = rw is (ap (λ r. r >>= made) (wires.head-fresh wire take safe none h fresh w))
+
+  pub struct-whole : (s t : S) (step : Step V) (m : A) (p q : List ℕ) → makes t ≡ Ok m → Comes (fields_from take res s step) (λ u. Ok (t, u)) p q → Comes (struct_from take res makes s step) (λ u. Ok (m, u)) p q
+  struct-whole s t step m p q is g = comes-trans (comes-inside made g) (record { same = λ rest. rw is refl })
+
+  pub struct-faults : (s t : S) (step : Step V) (e : DecodeError) (p q : List ℕ) → ((r : S) → makes r ≡ Err (Wire Truncated) → ⊥) → makes t ≡ Err e → Comes (fields_from take res s step) (λ u. Ok (t, u)) p q → Faults (struct_from take res makes s step) p e
+  struct-faults s t step e p q never is g = λ n. record { same = λ rest. (comes-inside made g).same rest ∙ rw is refl; no_want = λ h. never t (is ∙ ap (λ d. Err d) h) }
+
+  pub struct-waits : (s t : S) (step next : Step V) (p q : List ℕ) → Waits (Wire Truncated) (fields_from take res s step) (fields_from take res t next) p q → Waits (Wire Truncated) (struct_from take res makes s step) (struct_from take res makes t next) p q
+  struct-waits s t step next p q g = waits-inside made g
+
+  pub fields-faults : (s : S) (step : Step V) (p : List ℕ) (e : DecodeError) → Faults (fields_from take res s step) p e → Faults (struct_from take res makes s step) p e
+  fields-faults s step p e g = faults-inside made (fields_from take res s step) p e g

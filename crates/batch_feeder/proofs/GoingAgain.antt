@@ -1,0 +1,57 @@
+-- What calls gave, in larger readings.
+use Rattle.std.proofs.Common.{◌≡◌, ℕ, List, ◌++◌, Option, Some, None, Result, Ok, Err, Bool, true, false, refl, ap, sym, ◌∙◌}
+use Rattle.thrift_binary.specs.declared.fault.WireError.{WireError}
+use Rattle.thrift_binary.specs.declared.fault.WireError.TheVariants.{Truncated}
+use Rattle.thrift_binary.specs.Reading.{◌>>=◌, lift}
+use Rattle.wire_pieces.specs.declared.fault.PieceError.{PieceError}
+use Rattle.wire_pieces.specs.declared.fault.PieceError.TheVariants as piece
+use Rattle.wire_pieces.specs.Pieces.{Comes, Waits, Refuses, Refused, Reaches}
+use Rattle.wire_pieces.specs.Pieces as wires
+use Rattle.wire_pieces.proofs.Steps.{comes-trans, comes-inside, waits-inside, refuses-inside, comes-refuses, comes-lift, waits-lift, refuses-lift}
+use Rattle.batch_codec.specs.declared.fault.DecodeError.{DecodeError}
+use Rattle.batch_codec.specs.declared.fault.DecodeError.TheVariants.{Wire, Memory}
+use Rattle.batch_codec.specs.Decoding.{Reading, wire}
+use Rattle.batch_feeder.specs.Going.{fault_of, Faults, Goes, GoesTo, Places, Sets}
+
+pub one_wire : (e f : WireError) → wire e ≡ wire f → e ≡ f
+one_wire e f h = cc
+
+-- ---- a part of the wire
+
+pub reaches-lift : {A X : Type 0} (view : A → X) (a b : List ℕ → Result (X × List ℕ) WireError) (p q : List ℕ) (o : Option A) → Reaches Truncated view a b p q o → Reaches (Wire Truncated) view (λ w. lift wire (a w)) (λ w. lift wire (b w)) p q o
+reaches-lift view a b p q None g = waits-lift wire g
+reaches-lift view a b p q (Some x) g = comes-lift wire g
+
+pub faults-lift : {X : Type 0} (a : List ℕ → Result X WireError) (p : List ℕ) (e : PieceError) → Refused a p e → Faults (λ w. lift wire (a w)) p (fault_of e)
+faults-lift a p (piece.Wire e) g = λ n. refuses-lift wire (one_wire e Truncated) g
+faults-lift a p piece.Memory g = λ n. absurd (n refl)
+
+-- ---- inside of larger readings
+
+module _ {X Y : Type 0} (then : X → Result Y DecodeError) where
+  pub faults-inside : (a : List ℕ → Result X DecodeError) (p : List ℕ) (e : DecodeError) → Faults a p e → Faults (λ w. a w >>= then) p e
+  faults-inside a p e g = λ n. refuses-inside then (g n)
+
+pub comes-faults : {X : Type 0} (a b : List ℕ → Result X DecodeError) (p q : List ℕ) (e : DecodeError) → Comes a b p q → Faults b q e → Faults a p e
+comes-faults a b p q e f g = λ n. comes-refuses f (g n)
+
+-- a fault that a value has
+pub ends-faults : {A X : Type 0} (a : Reading A) (then : A × List ℕ → Result X DecodeError) (x : A) (p q : List ℕ) (e : DecodeError) → (e ≡ Wire Truncated → ⊥) → ((rest : List ℕ) → then (x, rest) ≡ Err e) → Comes a (λ w. Ok (x, w)) p q → Faults (λ w. a w >>= then) p e
+ends-faults a then x p q e apart same g = λ n. record { same = λ rest. (comes-inside then g).same rest ∙ same (q ++ rest); no_want = apart }
+
+-- a value that makes another
+pub ends-comes : {A X : Type 0} (a : Reading A) (then : A × List ℕ → Result (X × List ℕ) DecodeError) (x : A) (y : X) (p q : List ℕ) → ((rest : List ℕ) → then (x, rest) ≡ Ok (y, rest)) → Comes a (λ w. Ok (x, w)) p q → Comes (λ w. a w >>= then) (λ w. Ok (y, w)) p q
+ends-comes a then x y p q same g = comes-trans (comes-inside then g) (record { same = λ rest. same (q ++ rest) })
+
+-- ---- slots
+
+module _ {A S : Type 0} (a b : Reading A) (p q : List ℕ) where
+  pub place-goes : (put : A → S) (x y : A) (r : Result Bool DecodeError) → Places a b x y p q r → GoesTo (put y) (λ w. a w >>= λ z. Ok (put z.0, z.1)) (λ w. b w >>= λ z. Ok (put z.0, z.1)) p q r
+  place-goes put x y (Ok true) g = comes-inside (λ z. Ok (put z.0, z.1)) g
+  place-goes put x y (Ok false) g = waits-inside (λ z. Ok (put z.0, z.1)) g.0
+  place-goes put x y (Err e) g = faults-inside (λ z. Ok (put z.0, z.1)) a p e g
+
+  pub set-goes : (put : Option A → S) (x y : Option A) (r : Result Bool DecodeError) → Sets a b x y p q r → GoesTo (put y) (λ w. a w >>= λ z. Ok (put (Some z.0), z.1)) (λ w. b w >>= λ z. Ok (put (Some z.0), z.1)) p q r
+  set-goes put x y (Ok true) (v, is, g) = rw is (comes-inside (λ z. Ok (put (Some z.0), z.1)) g)
+  set-goes put x y (Ok false) g = waits-inside (λ z. Ok (put (Some z.0), z.1)) g.0
+  set-goes put x y (Err e) g = faults-inside (λ z. Ok (put (Some z.0), z.1)) a p e g

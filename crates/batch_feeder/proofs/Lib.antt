@@ -1,0 +1,8 @@
+pub mod GoingAgain
+pub mod FieldsFromAgain
+pub mod ListsFromAgain
+pub mod TextsAgain
+pub mod FeedingAgain
+pub mod PiecesAgain
+pub mod SlotsAgain
+pub mod SpansAgain

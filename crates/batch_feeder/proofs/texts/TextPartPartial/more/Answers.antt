@@ -1,0 +1,20 @@
+use Rattle.std.proofs.Common.{rules, ◌≡◌, ◌∙◌, List, ℕ, Bool, true, false, Ok, Err, refl, ap, sym}
+use Rattle.std.specs.Str.{is_utf8, IsUtf8}
+use Rattle.std.proofs.lemmas.Str.{is_utf8-from_IsUtf8, IsUtf8-from_is_utf8, IsUtf8-string_bytes}
+use Rattle.thrift_binary.specs.declared.fault.WireError.TheVariants.{BadText, Truncated}
+use Rattle.wire_pieces.specs.Pieces.{Comes}
+use Rattle.batch_feeder.specs.Values.{text_part, judged}
+use Rattle.batch_feeder.proofs.TextsAgain.{text-whole, text-bad, not_text}
+use Rattle.batch_feeder.proofs.texts.TextPartPartial.more.Goals as goal
+
+pub returns-in-Ok-clause-goes : goal.returns-in-Ok-clause-goes
+returns-in-Ok-clause-goes c =
+    let same : c.in-Ok.text.bytes.items ≡ c.in-Ok-Some.bytes.items = ap (λ v. v.items) c.in-Ok.ensures.ok in
+    let is : is_utf8 c.in-Ok-Some.bytes.items ≡ true = rw (← same) (is_utf8-from_IsUtf8 c.in-Ok.text.bytes.items (IsUtf8-string_bytes c.in-Ok.text)) in
+    let whole : Comes (text_part c.args.self.now) (λ w. Ok (c.in-Ok-Some.bytes.items, w)) c.args.piece.now c.more.new.piece = text-whole _ _ _ _ is (rw c.in-Ok-Some.field-0-is at c.in-Ok-Some.ensures.reads) in
+    search (rules, whole, same)
+
+pub returns-clause-goes : goal.returns-clause-goes
+returns-clause-goes c =
+    let isnt : is_utf8 c.in-Ok-Some.bytes.items ≡ false = not_text _ (λ h. absurd (let k : false ≡ true = c.in-Err-from_utf8.ensures.succeeds h in cc)) in
+    text-bad _ _ _ _ isnt (rw c.in-Ok-Some.field-0-is at c.in-Ok-Some.ensures.reads)

@@ -1,0 +1,77 @@
+-- What a feeder answers.
+use Rattle.std.specs.Prelude.{◌≡◌, ℕ, List, [], ◌++◌, Result, Ok, Err, Bool, true, false, not}
+use Rattle.thrift_binary.specs.declared.fault.WireError.{WireError}
+use Rattle.thrift_binary.specs.declared.fault.WireError.TheVariants.{Truncated, BadLength, BadType, TooDeep, BadBool, BadText}
+use Rattle.thrift_binary.specs.Reading.{◌>>=◌}
+use Rattle.jaeger_model.specs.declared.batch.Batch.{Batch}
+use Rattle.batch_codec.specs.declared.fault.DecodeError.{DecodeError}
+use Rattle.batch_codec.specs.declared.fault.DecodeError.TheVariants.{Wire, Missing, BadEnum, Trailing, Memory}
+use Rattle.batch_codec.specs.BatchReading.{take_batch, batch_from, at_end}
+use Rattle.batch_feeder.specs.declared.feeder.State.{State}
+use Rattle.batch_feeder.specs.declared.feeder.State.TheVariants as state
+use Rattle.batch_feeder.specs.Going.{Faults}
+use Rattle.batch_feeder.specs.Fields.{struct_from}
+use Rattle.batch_feeder.specs.Batches.{batch_goes_on}
+
+-- what it answers if these bytes are still to come, and no others
+unfoldable pub answers_of : State → List ℕ → Result Batch DecodeError
+answers_of (state.Reading r) w = struct_from take_batch batch_goes_on batch_from r.slots r.step w >>= at_end
+answers_of (state.Whole b) w = at_end (b, w)
+answers_of (state.Refused e) w = Err e
+
+-- the fault is want of bytes
+abbrev pub is_want : DecodeError → Bool
+is_want (Wire Truncated) = true
+is_want (Wire BadLength) = false
+is_want (Wire BadType) = false
+is_want (Wire TooDeep) = false
+is_want (Wire BadBool) = false
+is_want (Wire BadText) = false
+is_want (Missing p i) = false
+is_want BadEnum = false
+is_want Trailing = false
+is_want Memory = false
+
+abbrev pub is_short : {A : Type 0} → Result A DecodeError → Bool
+is_short (Ok x) = false
+is_short (Err e) = is_want e
+
+-- no bytes are too few while it reads, and it refuses for no want of bytes
+unfoldable pub settled : State → Bool
+settled (state.Reading r) = is_short (struct_from take_batch batch_goes_on batch_from r.slots r.step [])
+settled (state.Whole b) = true
+settled (state.Refused e) = not (is_want e)
+
+abbrev pub IsSettled : State → Type 0
+IsSettled s = settled s ≡ true
+
+-- whole, or too short
+abbrev pub HasNoFault : Result Batch DecodeError → Type 0
+HasNoFault (Ok b) = Unit {0}
+HasNoFault (Err e) = e ≡ Wire Truncated
+
+-- It took the piece: whatever follows is answered as it was before, and the bytes so far have no fault but that
+-- they may be too few.
+pub record Taken (old new : List ℕ → Result Batch DecodeError) (piece : List ℕ) : Type 0 where
+  pub same : (rest : List ℕ) → old (piece ++ rest) ≡ new rest
+  pub sound : HasNoFault (old piece)
+
+-- There is this fault, whatever follows, which isn't want of bytes; of want of memory nothing is said. From now
+-- on it is the answer.
+pub record Refuses (old new : List ℕ → Result Batch DecodeError) (piece : List ℕ) (e : DecodeError) : Type 0 where
+  pub faults : Faults old piece e
+  pub stays : (rest : List ℕ) → new rest ≡ Err e
+
+abbrev pub Feeds : (List ℕ → Result Batch DecodeError) → (List ℕ → Result Batch DecodeError) → List ℕ → Result (Unit {0}) DecodeError → Type 0
+Feeds old new piece (Ok x) = Taken old new piece
+Feeds old new piece (Err e) = Refuses old new piece e
+
+-- nothing follows the batch
+abbrev pub Ends : List ℕ → Result (Unit {0}) DecodeError → Type 0
+Ends w (Ok x) = w ≡ []
+Ends w (Err e) = (e ≡ Trailing) × (w ≡ [] → ⊥)
+
+-- the same of the state, before a refusal is kept
+abbrev pub Advances : State → State → List ℕ → Result (Unit {0}) DecodeError → Type 0
+Advances old new piece (Ok x) = Taken (answers_of old) (answers_of new) piece × IsSettled new
+Advances old new piece (Err e) = Faults (answers_of old) piece e × (e ≡ Wire Truncated → ⊥)

@@ -1,0 +1,42 @@
+-- What a call gave that went on over a piece.
+use Rattle.std.specs.Prelude.{◌≡◌, ℕ, List, Option, Some, None, Result, Ok, Err, Bool, true, false}
+use Rattle.thrift_binary.specs.declared.fault.WireError.{WireError}
+use Rattle.thrift_binary.specs.declared.fault.WireError.TheVariants.{Truncated}
+use Rattle.wire_pieces.specs.declared.fault.PieceError.{PieceError}
+use Rattle.wire_pieces.specs.declared.fault.PieceError.TheVariants as piece
+use Rattle.wire_pieces.specs.Pieces.{Comes, Waits, Refuses, Reaches}
+use Rattle.batch_codec.specs.declared.fault.DecodeError.{DecodeError}
+use Rattle.batch_codec.specs.declared.fault.DecodeError.TheVariants.{Wire, Memory}
+use Rattle.batch_codec.specs.Decoding.{Reading}
+
+-- the fault of a part is that of the whole
+abbrev pub fault_of : PieceError → DecodeError
+fault_of (piece.Wire e) = Wire e
+fault_of piece.Memory = Memory
+
+-- The fault, whatever follows; it isn't for want of bytes. Of want of memory nothing is said.
+abbrev pub Faults : {X : Type 0} → (List ℕ → Result X DecodeError) → List ℕ → DecodeError → Type 0
+Faults old piece e = (e ≡ Memory → ⊥) → Refuses (Wire Truncated) old piece e
+
+-- a value, or nothing yet, or a fault
+abbrev pub Goes : {A : Type 0} → Reading A → Reading A → List ℕ → List ℕ → Result (Option A) DecodeError → Type 0
+Goes old new piece left (Ok o) = Reaches (Wire Truncated) (λ x. x) old new piece left o
+Goes old new piece left (Err e) = Faults old piece e
+
+-- the same of a call that changes what was gathered, and tells whether it is whole
+abbrev pub GoesTo : {X : Type 0} → X → Reading X → Reading X → List ℕ → List ℕ → Result Bool DecodeError → Type 0
+GoesTo x old new piece left (Ok true) = Comes old (λ w. Ok (x, w)) piece left
+GoesTo x old new piece left (Ok false) = Waits (Wire Truncated) old new piece left
+GoesTo x old new piece left (Err e) = Faults old piece e
+
+-- the same of a call that puts a value into its place
+abbrev pub Places : {A : Type 0} → Reading A → Reading A → A → A → List ℕ → List ℕ → Result Bool DecodeError → Type 0
+Places old new before after piece left (Ok true) = Comes old (λ w. Ok (after, w)) piece left
+Places old new before after piece left (Ok false) = Waits (Wire Truncated) old new piece left × (after ≡ before)
+Places old new before after piece left (Err e) = Faults old piece e
+
+-- the same where the place may be empty
+abbrev pub Sets : {A : Type 0} → Reading A → Reading A → Option A → Option A → List ℕ → List ℕ → Result Bool DecodeError → Type 0
+Sets {A = A} old new before after piece left (Ok true) = (x : A) × (after ≡ Some x) × Comes old (λ w. Ok (x, w)) piece left
+Sets old new before after piece left (Ok false) = Waits (Wire Truncated) old new piece left × (after ≡ before)
+Sets old new before after piece left (Err e) = Faults old piece e

@@ -1,0 +1,13 @@
+pub mod Going
+pub mod Values
+pub mod Fields
+pub mod Lists
+pub mod NotShort
+pub mod Tags
+pub mod Logs
+pub mod References
+pub mod Processes
+pub mod Spans
+pub mod Batches
+pub mod Feeding
+pub mod Answers

@@ -1,0 +1,10 @@
+-- A list of structs of which some bytes have come.
+use Rattle.std.specs.Prelude.{ℕ, List}
+use Rattle.wire_pieces.specs.Lists.{list_head_from, items_from}
+use Rattle.batch_codec.specs.Decoding.{Reading, wire}
+use Rattle.batch_feeder.specs.declared.items.ListStep.{ListStep}
+use Rattle.batch_feeder.specs.declared.items.ListStep.TheVariants.{Head, Item}
+
+abbrev pub list_from : {A P : Type 0} → Reading A → (P → Reading A) → List A → ℕ → ListStep P → Reading (List A)
+list_from one resumes items left (Head p) w = list_head_from wire 12 one p w
+list_from one resumes items left (Item p) w = items_from one items left (resumes p) w

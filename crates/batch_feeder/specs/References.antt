@@ -1,0 +1,15 @@
+-- A reference to a span, of which some bytes have come.
+use Rattle.std.specs.Prelude.{Some, Ok}
+use Rattle.thrift_binary.specs.Reading.{◌>>=◌}
+use Rattle.batch_codec.specs.declared.reference.ReferenceSlots.{ReferenceSlots}
+use Rattle.batch_codec.specs.Decoding.{Reading}
+use Rattle.batch_feeder.specs.declared.reference.ReferenceHeld.{ReferenceHeld}
+use Rattle.batch_feeder.specs.declared.reference.ReferenceHeld.TheVariants as held
+use Rattle.batch_feeder.specs.Values.{id_part, kind_part, skip_part}
+
+abbrev pub reference_goes_on : ReferenceSlots → ReferenceHeld → Reading ReferenceSlots
+reference_goes_on s (held.Kind p) w = kind_part p w >>= λ x. Ok (record s { kind = Some x.0 }, x.1)
+reference_goes_on s (held.TraceLow p) w = id_part p w >>= λ x. Ok (record s { trace_low = Some x.0 }, x.1)
+reference_goes_on s (held.TraceHigh p) w = id_part p w >>= λ x. Ok (record s { trace_high = Some x.0 }, x.1)
+reference_goes_on s (held.Id p) w = id_part p w >>= λ x. Ok (record s { id = Some x.0 }, x.1)
+reference_goes_on s (held.Skip p) w = skip_part s p w

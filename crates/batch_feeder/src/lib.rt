@@ -1,0 +1,31 @@
+//! Batches of spans whose bytes come in pieces: `jaeger.thrift` in the Thrift binary protocol.
+//!
+//! A [`Feeder`] is fed piece by piece, and is proved to answer what `batch_codec` decodes of the joined bytes, however
+//! they are cut: [`Feeder::feed`] tells a fault in the piece that holds its last byte, and no other way of cutting
+//! tells another; [`Feeder::finish`] gives the batch. What it keeps grows only by bytes that have come, never by a
+//! size that they claim, and each byte is looked at once. [`decode_pieces`] joins the calls.
+//!
+//! - `going`: values of which some bytes have come, as readings of the bytes still to come (`specs/Going.antt`).
+//! - `values`, `texts`, `enums`, `skipped`: single values.
+//! - `fields`, `structs`, `items`: a struct's fields up to its stop byte, a struct, a list of structs.
+//! - `tag`, `log`, `reference`, `process`, `span`, `batch`: one struct of `jaeger.thrift` each.
+//! - `feeder`: the calls.
+#![tactic(auto)]
+
+mod batch;
+mod enums;
+mod feeder;
+mod fields;
+mod going;
+mod items;
+mod log;
+mod process;
+mod reference;
+mod skipped;
+mod span;
+mod structs;
+mod tag;
+mod texts;
+mod values;
+
+pub use feeder::{Feeder, decode_pieces};

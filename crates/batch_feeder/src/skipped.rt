@@ -1,0 +1,41 @@
+ghost use Rattle.std.specs.Prelude.{◌≡◌, ℕ, List, true};
+ghost use Rattle.thrift_binary.specs.Reading.{lift, is_code};
+ghost use Rattle.thrift_binary.specs.Skipping.{skip_at};
+ghost use Rattle.batch_codec.specs.Decoding.{wire};
+ghost use Rattle.batch_feeder.specs.Values.{skip_from};
+
+use crate::going::{Partial, fault_of};
+use batch_codec::DecodeError;
+use std::alloc::Global;
+use wire_pieces::{Piece, Skipping};
+
+/// A value that is read past.
+#[derive(Drop)]
+pub(crate) struct SkipPart {
+    part: Skipping,
+}
+
+impl SkipPart {
+    /// Before the first byte of a value of the type.
+    pub(crate) fn new(alloc: Global, code: u8) -> Self
+        requires { is_code code ≡ true }
+        ensures { (w : List ℕ) → skip_from result w ≡ lift wire (skip_at code w) }
+    {
+        SkipPart {
+            part: Skipping::new(alloc, code),
+        }
+    }
+}
+
+impl Partial for SkipPart {
+    type Value = ();
+
+    ghost resumes = { skip_from };
+
+    fn more(&mut self, _alloc: Global, piece: &mut Piece<'_>) -> Result<Option<()>, DecodeError> {
+        match self.part.more(piece) {
+            Ok(value) => Ok(value),
+            Err(error) => Err(fault_of(error)),
+        }
+    }
+}

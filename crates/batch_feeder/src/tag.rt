@@ -1,0 +1,129 @@
+ghost use Rattle.std.specs.Prelude.{◌≡◌};
+
+use crate::enums::TypePart;
+use crate::fields::{Slots, required};
+use crate::going::{Fresh, Partial, place, set};
+use crate::skipped::SkipPart;
+use crate::texts::{BinaryPart, TextPart};
+use crate::values::{BoolPart, DoublePart, I64Part};
+use batch_codec::{DecodeError, Part, TagType};
+use jaeger_model::{Seq, Tag, Text, Value};
+use std::alloc::Global;
+use std::marker::Model;
+use thrift_binary::types::{BOOL, DOUBLE, I32, I64, STRING};
+use wire_pieces::Piece;
+
+/// What was gathered of a tag so far.
+#[derive(Drop)]
+pub(crate) struct TagParts {
+    key: Option<Text>,
+    kind: Option<TagType>,
+    text: Text,
+    double: [u8; 8],
+    boolean: bool,
+    long: i64,
+    binary: Seq<u8>,
+}
+
+impl Model for TagParts {
+    ghost use Rattle.batch_codec.specs.declared.tag.TagSlots.{TagSlots};
+
+    ghost Value = { TagSlots };
+
+    ghost view = { λ s. record { key = s.key; kind = s.kind; text = s.text; double = s.double; boolean = s.boolean; long = s.long; binary = s.binary } };
+}
+
+/// The value of a field of a tag, of which some bytes have come.
+#[derive(Drop)]
+pub(crate) enum TagHeld {
+    Key(TextPart),
+    Kind(TypePart),
+    Text(TextPart),
+    Double(DoublePart),
+    Boolean(BoolPart),
+    Long(I64Part),
+    Binary(BinaryPart),
+    Skip(SkipPart),
+}
+
+impl Slots for TagParts {
+    ghost use Rattle.batch_codec.specs.Gathered.{no_tag};
+    ghost use Rattle.batch_codec.specs.TagReading.{take_tag, tag_from};
+    ghost use Rattle.batch_codec.proofs.CutBatches.{take_tag_safe};
+    ghost use Rattle.batch_feeder.specs.Tags.{tag_goes_on};
+    ghost use Rattle.batch_feeder.specs.NotShort.{tag_not_short};
+
+    type Held = TagHeld;
+
+    type Made = Tag;
+
+    ghost takes = { take_tag };
+
+    ghost resumes = { tag_goes_on };
+
+    ghost none = { no_tag };
+
+    ghost makes = { tag_from };
+
+    fn start(alloc: Global) -> Self {
+        TagParts {
+            key: None,
+            kind: None,
+            text: Text::new(alloc),
+            double: [0; 8],
+            boolean: false,
+            long: 0,
+            binary: Seq::new(alloc),
+        }
+    }
+
+    #[tactic(auto, unfolding(batch_codec::specs::TagReading::take_tag))]
+    fn begin(alloc: Global, code: u8, id: i16) -> TagHeld {
+        match (code, id) {
+            (STRING, 1) => TagHeld::Key(TextPart::fresh(alloc)),
+            (I32, 2) => TagHeld::Kind(TypePart::fresh(alloc)),
+            (STRING, 3) => TagHeld::Text(TextPart::fresh(alloc)),
+            (DOUBLE, 4) => TagHeld::Double(DoublePart::fresh(alloc)),
+            (BOOL, 5) => TagHeld::Boolean(BoolPart::fresh(alloc)),
+            (I64, 6) => TagHeld::Long(I64Part::fresh(alloc)),
+            (STRING, 7) => TagHeld::Binary(BinaryPart::fresh(alloc)),
+            _ => TagHeld::Skip(SkipPart::new(alloc, code)),
+        }
+    }
+
+    fn more(
+        &mut self,
+        held: &mut TagHeld,
+        alloc: Global,
+        piece: &mut Piece<'_>,
+    ) -> Result<bool, DecodeError> {
+        match held {
+            TagHeld::Key(part) => set(part, &mut self.key, alloc, piece),
+            TagHeld::Kind(part) => set(part, &mut self.kind, alloc, piece),
+            TagHeld::Text(part) => place(part, &mut self.text, alloc, piece),
+            TagHeld::Double(part) => place(part, &mut self.double, alloc, piece),
+            TagHeld::Boolean(part) => place(part, &mut self.boolean, alloc, piece),
+            TagHeld::Long(part) => place(part, &mut self.long, alloc, piece),
+            TagHeld::Binary(part) => place(part, &mut self.binary, alloc, piece),
+            TagHeld::Skip(part) => place(part, &mut (), alloc, piece),
+        }
+    }
+
+    #[tactic(auto, unfolding(batch_codec::specs::TagReading::tag_from))]
+    fn whole(self) -> Result<Tag, DecodeError> {
+        let key = required(self.key, Part::Tag, 1)?;
+        let kind = required(self.kind, Part::Tag, 2)?;
+        let value = match kind {
+            TagType::Text => Value::Text(self.text),
+            TagType::Double => Value::Double(self.double),
+            TagType::Bool => Value::Bool(self.boolean),
+            TagType::Long => Value::Long(self.long),
+            TagType::Binary => Value::Bytes(self.binary),
+        };
+        Ok(Tag { key, value })
+    }
+
+    ghost safe = { take_tag_safe };
+
+    ghost not_short = { tag_not_short };
+}

@@ -1,0 +1,78 @@
+ghost use Rattle.batch_codec.specs.Decoding.{text_at, binary_at};
+ghost use Rattle.batch_feeder.specs.Values.{text_part, binary_part};
+
+use crate::going::{Fresh, Partial, fault_of};
+use batch_codec::DecodeError;
+use jaeger_model::{Seq, Text};
+use std::alloc::Global;
+use thrift_binary::WireError;
+use wire_pieces::{Piece, StringPart};
+
+/// A string, which has to be UTF-8. It is judged once, when its last byte has come.
+#[derive(Drop)]
+pub(crate) struct TextPart {
+    part: StringPart,
+}
+
+impl Partial for TextPart {
+    type Value = Text;
+
+    ghost resumes = { text_part };
+
+    fn more(&mut self, alloc: Global, piece: &mut Piece<'_>) -> Result<Option<Text>, DecodeError> {
+        match self.part.more(alloc, piece) {
+            Err(error) => Err(fault_of(error)),
+            Ok(None) => Ok(None),
+            Ok(Some(bytes)) => match String::from_utf8(bytes) {
+                Ok(text) => Ok(Some(Text::from_string(text))),
+                Err(_) => Err(DecodeError::Wire(WireError::BadText)),
+            },
+        }
+    }
+}
+
+impl Fresh for TextPart {
+    ghost reads = { text_at };
+
+    #[tactic(auto, unfolding(batch_codec::specs::Decoding::text_at))]
+    fn fresh(_alloc: Global) -> Self {
+        TextPart {
+            part: StringPart::new(),
+        }
+    }
+}
+
+/// A binary: any bytes.
+#[derive(Drop)]
+pub(crate) struct BinaryPart {
+    part: StringPart,
+}
+
+impl Partial for BinaryPart {
+    type Value = Seq<u8>;
+
+    ghost resumes = { binary_part };
+
+    fn more(
+        &mut self,
+        alloc: Global,
+        piece: &mut Piece<'_>,
+    ) -> Result<Option<Seq<u8>>, DecodeError> {
+        match self.part.more(alloc, piece) {
+            Err(error) => Err(fault_of(error)),
+            Ok(None) => Ok(None),
+            Ok(Some(bytes)) => Ok(Some(Seq::from_vec(bytes))),
+        }
+    }
+}
+
+impl Fresh for BinaryPart {
+    ghost reads = { binary_at };
+
+    #[tactic(auto, unfolding(batch_codec::specs::Decoding::binary_at))]
+    fn fresh(_alloc: Global) -> Self {
+        BinaryPart {
+            part: StringPart::new(),
+        }
+    }
+}

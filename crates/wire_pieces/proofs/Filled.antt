@@ -1,0 +1,108 @@
+-- Numbers and heads, whose bytes are gathered until all have come.
+use Rattle.std.proofs.Common.{◌≡◌, ℕ, ◌^◌, ◌<◌, ◌≤◌, true, false, eqb, ltb, ◌&&◌, ◌||◌, List, [], ◌∷◌, ◌++◌, length, Result, Ok, Err, refl, ap, sym, ◌∙◌, arith, append_assoc, length-append, append-nil}
+use Rattle.std.proofs.lemmas.List.{take_at, drop_at}
+use Rattle.std.proofs.lemmas.Bool.{le-ltb, lt-ltb}
+use Rattle.std.specs.Int.{Width, cast_signed}
+use Rattle.byteorder.specs.Endian.{big_number}
+use Rattle.thrift_binary.specs.declared.fault.WireError.TheVariants.{Truncated, BadLength, BadType}
+use Rattle.thrift_binary.specs.Reading.{bytes_at, number_at, signed_at, size_at, list_at, map_at, is_code}
+use Rattle.thrift_binary.proofs.Found.{big_number-take}
+use Rattle.wire_pieces.specs.Pieces.{Comes, Waits, Refuses}
+
+module _ {X E : Type 0} (read : List ℕ → Result X E) where
+  same_bytes : (got g piece left rest : List ℕ) → g ++ left ≡ got ++ piece → got ++ (piece ++ rest) ≡ g ++ (left ++ rest)
+  same_bytes got g piece left rest e = sym (append_assoc got piece rest) ∙ ap (λ (v : List ℕ). v ++ rest) (sym e) ∙ append_assoc g left rest
+
+  -- fewer than n bytes have come
+  pub filled-waits : (short : E) (n : ℕ) → ((w : List ℕ) → length w < n → read w ≡ Err short) → (got new piece left : List ℕ) → (new ≡ got ++ piece) × (left ≡ []) → length new < n
+      → Waits short (λ w. read (got ++ w)) (λ w. read (new ++ w)) piece left
+  filled-waits short n few got new piece left e lt = record {
+    comes = record { same = λ rest. ap read (same_bytes got new piece left rest (rw (e.1, append-nil new) e.0)) };
+    want = ap read (append-nil new) ∙ few new lt;
+    spent = e.1;
+  }
+
+  -- all have come
+  pub filled-comes : (answer : List ℕ → Result X E) (got g piece left : List ℕ) → g ++ left ≡ got ++ piece → ((rest : List ℕ) → read (g ++ rest) ≡ answer rest)
+      → Comes (λ w. read (got ++ w)) answer piece left
+  filled-comes answer got g piece left e same = record { same = λ rest. ap read (same_bytes got g piece left rest e) ∙ same (left ++ rest) }
+
+  pub filled-refuses : (short e : E) (got g piece left : List ℕ) → g ++ left ≡ got ++ piece → (e ≡ short → ⊥) → ((rest : List ℕ) → read (g ++ rest) ≡ Err e)
+      → Refuses short (λ w. read (got ++ w)) piece e
+  filled-refuses short e got g piece left parts isnt same = record { same = λ rest. ap read (same_bytes got g piece left rest parts) ∙ same (left ++ rest); no_want = isnt }
+
+-- ---- the readings
+
+few : (n : ℕ) (w : List ℕ) → length w < n → ltb (length w) n ≡ true
+few n w lt = lt-ltb _ _ lt
+
+enough : (n : ℕ) (g rest : List ℕ) → length g ≡ n → ltb (length (g ++ rest)) n ≡ false
+enough n g rest e = le-ltb _ _ (omega (arith, length-append g rest))
+
+same_number : (n : ℕ) (g rest : List ℕ) → length g ≡ n → big_number n (g ++ rest) ≡ big_number n g
+same_number n g rest e =
+    big_number-take n (g ++ rest) (omega (arith, length-append g rest)) ∙ ap (big_number n) (take_at g rest n e)
+
+pub signed-short : (width : Width) (n : ℕ) (w : List ℕ) → length w < n → signed_at width n w ≡ Err Truncated
+signed-short width n w lt = rw (few n w lt) refl
+
+pub signed-whole : (width : Width) (n : ℕ) (g rest : List ℕ) → length g ≡ n → signed_at width n (g ++ rest) ≡ Ok (cast_signed width (big_number n g), rest)
+signed-whole width n g rest e = rw (enough n g rest e, same_number n g rest e, drop_at g rest n e) refl
+
+pub bytes-short : (n : ℕ) (w : List ℕ) → length w < n → bytes_at n w ≡ Err Truncated
+bytes-short n w lt = rw (few n w lt) refl
+
+pub bytes-whole : (n : ℕ) (g rest : List ℕ) → length g ≡ n → bytes_at n (g ++ rest) ≡ Ok (g, rest)
+bytes-whole n g rest e = rw (enough n g rest e, take_at g rest n e, drop_at g rest n e) refl
+
+number-whole : (n : ℕ) (g rest : List ℕ) → length g ≡ n → number_at n (g ++ rest) ≡ Ok (big_number n g, rest)
+number-whole n g rest e = rw (enough n g rest e, same_number n g rest e, drop_at g rest n e) refl
+
+pub size-short : (w : List ℕ) → length w < 4 → size_at w ≡ Err Truncated
+unfolding size_at
+size-short w lt = rw (few 4 w lt) refl
+
+pub size-whole : (g rest : List ℕ) → length g ≡ 4 → big_number 4 g ≤ 2147483647 → size_at (g ++ rest) ≡ Ok (big_number 4 g, rest)
+unfolding size_at
+size-whole g rest e le = let small : ltb (big_number 4 g) (2 ^ 31) ≡ true = lt-ltb _ _ (omega arith) in rw (number-whole 4 g rest e, small) refl
+
+pub size-bad : (g rest : List ℕ) → length g ≡ 4 → 2147483647 < big_number 4 g → size_at (g ++ rest) ≡ Err BadLength
+unfolding size_at
+size-bad g rest e lt = let large : ltb (big_number 4 g) (2 ^ 31) ≡ false = le-ltb _ _ (omega arith) in rw (number-whole 4 g rest e, large) refl
+
+-- ---- heads
+
+pub list_head-short : (w : List ℕ) → length w < 5 → list_at w ≡ Err Truncated
+unfolding list_at
+list_head-short [] lt = refl
+list_head-short (c ∷ w) lt = let few : size_at w ≡ Err Truncated = size-short w (omega arith) in rw few refl
+
+pub list_head-whole : (c : ℕ) (g rest : List ℕ) → length g ≡ 4 → big_number 4 g ≤ 2147483647 → (eqb (big_number 4 g) 0 || is_code c) ≡ true → list_at ((c ∷ g) ++ rest) ≡ Ok ((c, big_number 4 g), rest)
+unfolding list_at
+list_head-whole c g rest e le good = rw (size-whole g rest e le, good) refl
+
+pub list_head-long : (c : ℕ) (g rest : List ℕ) → length g ≡ 4 → 2147483647 < big_number 4 g → list_at ((c ∷ g) ++ rest) ≡ Err BadLength
+unfolding list_at
+list_head-long c g rest e lt = rw (size-bad g rest e lt) refl
+
+pub list_head-bad : (c : ℕ) (g rest : List ℕ) → length g ≡ 4 → big_number 4 g ≤ 2147483647 → (eqb (big_number 4 g) 0 || is_code c) ≡ false → list_at ((c ∷ g) ++ rest) ≡ Err BadType
+unfolding list_at
+list_head-bad c g rest e le bad = rw (size-whole g rest e le, bad) refl
+
+pub map_head-short : (w : List ℕ) → length w < 6 → map_at w ≡ Err Truncated
+unfolding map_at
+map_head-short [] lt = refl
+map_head-short (k ∷ []) lt = refl
+map_head-short (k ∷ (v ∷ w)) lt = let few : size_at w ≡ Err Truncated = size-short w (omega arith) in rw few refl
+
+pub map_head-whole : (k v : ℕ) (g rest : List ℕ) → length g ≡ 4 → big_number 4 g ≤ 2147483647 → (eqb (big_number 4 g) 0 || (is_code k && is_code v)) ≡ true → map_at ((k ∷ (v ∷ g)) ++ rest) ≡ Ok (((k, v), big_number 4 g), rest)
+unfolding map_at
+map_head-whole k v g rest e le good = rw (size-whole g rest e le, good) refl
+
+pub map_head-long : (k v : ℕ) (g rest : List ℕ) → length g ≡ 4 → 2147483647 < big_number 4 g → map_at ((k ∷ (v ∷ g)) ++ rest) ≡ Err BadLength
+unfolding map_at
+map_head-long k v g rest e lt = rw (size-bad g rest e lt) refl
+
+pub map_head-bad : (k v : ℕ) (g rest : List ℕ) → length g ≡ 4 → big_number 4 g ≤ 2147483647 → (eqb (big_number 4 g) 0 || (is_code k && is_code v)) ≡ false → map_at ((k ∷ (v ∷ g)) ++ rest) ≡ Err BadType
+unfolding map_at
+map_head-bad k v g rest e le bad = rw (size-whole g rest e le, bad) refl

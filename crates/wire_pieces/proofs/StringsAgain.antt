@@ -1,0 +1,113 @@
+-- Bytes that come in pieces, behind a length.
+use Rattle.std.proofs.Common.{◌≡◌, ℕ, ◌≤◌, ◌<◌, ◌+◌, ◌-◌, min, Bool, true, false, ltb, List, [], ◌∷◌, ◌++◌, length, Ok, Err, refl, ap, ◌∙◌, arith, append_assoc, length-append, append-nil}
+use Rattle.std.proofs.Math.Seq.{take-append-add, drop-append-add}
+use Rattle.std.proofs.lemmas.Bool.{lt-ltb}
+use Rattle.thrift_binary.specs.declared.fault.WireError.TheVariants.{Truncated}
+use Rattle.thrift_binary.specs.Reading.{◌>>=◌, Read, bytes_at, size_at, string_at}
+use Rattle.thrift_binary.specs.Skipping.{past, text}
+use Rattle.wire_pieces.specs.Pieces.{Comes, Waits}
+use Rattle.wire_pieces.specs.Strings.{bytes_end}
+
+pub nothing : {A : Type 0} (w : List A) → length w ≡ 0 → w ≡ []
+nothing [] h = refl
+nothing (b ∷ w) h = absurd (omega arith)
+
+lt-part : (a b n : ℕ) → ltb (a + b) (a + n) ≡ ltb b n
+lt-part a b n = grind arith
+
+lt-whole : (b : ℕ) → ltb b 0 ≡ false
+lt-whole b = grind arith
+
+test-part : (front w : List ℕ) (k : ℕ) → ltb (length (front ++ w)) (length front + k) ≡ ltb (length w) k
+test-part front w k = ap (λ n. ltb n (length front + k)) (length-append front w) ∙ lt-part (length front) (length w) k
+
+bytes_end-part : (got front w : List ℕ) (k : ℕ) → bytes_end got (length front + k) (front ++ w) ≡ bytes_end (got ++ front) k w
+unfolding bytes_end
+bytes_end-part got front w k = by (ltb (length w) k) refl
+  where
+    by : (b : Bool) → ltb (length w) k ≡ b → bytes_end got (length front + k) (front ++ w) ≡ bytes_end (got ++ front) k w
+    by true e = rw (test-part front w k, e) refl
+    by false e = rw (test-part front w k, e, take-append-add, drop-append-add, append_assoc) refl
+
+-- where some bytes are still to come
+pub body-waits : (got new front piece left : List ℕ) (n : ℕ) → new ≡ got ++ front → piece ≡ front ++ left → length front ≡ min n (length piece) → 0 < n - length front
+    → Waits Truncated (bytes_end got n) (bytes_end new (n - length front)) piece left
+unfolding bytes_end
+body-waits got new front piece left n is parts size more =
+    let sizes : length piece ≡ length front + length left = rw parts (length-append front left) in
+    let none : length left ≡ 0 = omega arith in
+    let k : n ≡ length front + (n - length front) = omega arith in
+    let few : ltb 0 (n - length front) ≡ true = lt-ltb _ _ more in
+    record {
+      comes = record { same = λ rest. rw (parts, is, append_assoc) (ap (λ m. bytes_end got m (front ++ (left ++ rest))) k ∙ bytes_end-part got front (left ++ rest) (n - length front)) };
+      want = rw few refl;
+      spent = nothing left none;
+    }
+
+-- where all bytes have come
+pub body-whole : (got new front piece left : List ℕ) (n : ℕ) → new ≡ got ++ front → piece ≡ front ++ left → length front ≡ min n (length piece) → n - length front ≤ 0
+    → Comes (bytes_end got n) (λ w. Ok (new, w)) piece left
+unfolding bytes_end
+body-whole got new front piece left n is parts size done =
+    let k : n ≡ length front + 0 = omega arith in
+    record { same = λ rest. rw (parts, is, append_assoc) (ap (λ m. bytes_end got m (front ++ (left ++ rest))) k ∙ bytes_end-part got front (left ++ rest) 0 ∙ last (left ++ rest)) }
+  where
+    last : (w : List ℕ) → bytes_end (got ++ front) 0 w ≡ Ok (got ++ front, w)
+    last w = rw (lt-whole (length w), append-nil) refl
+
+past-part : (front w : List ℕ) (k : ℕ) → past (length front + k) (front ++ w) ≡ past k w
+past-part front w k = by (ltb (length w) k) refl
+  where
+    by : (b : Bool) → ltb (length w) k ≡ b → past (length front + k) (front ++ w) ≡ past k w
+    by true e = rw (test-part front w k, e) refl
+    by false e = rw (test-part front w k, e, drop-append-add) refl
+
+pub past-waits : (front piece left : List ℕ) (n : ℕ) → piece ≡ front ++ left → length front ≡ min n (length piece) → 0 < n - length front
+    → Waits Truncated (past n) (past (n - length front)) piece left
+past-waits front piece left n parts size more =
+    let sizes : length piece ≡ length front + length left = rw parts (length-append front left) in
+    let none : length left ≡ 0 = omega arith in
+    let k : n ≡ length front + (n - length front) = omega arith in
+    let few : ltb 0 (n - length front) ≡ true = lt-ltb _ _ more in
+    record {
+      comes = record { same = λ rest. rw (parts, append_assoc) (ap (λ m. past m (front ++ (left ++ rest))) k ∙ past-part front (left ++ rest) (n - length front)) };
+      want = rw few refl;
+      spent = nothing left none;
+    }
+
+pub past-whole : (front piece left : List ℕ) (n : ℕ) → piece ≡ front ++ left → length front ≡ n → Comes (past n) (λ w. Ok (tt, w)) piece left
+past-whole front piece left n parts size =
+    let k : n ≡ length front + 0 = omega arith in
+    record { same = λ rest. rw (parts, append_assoc) (ap (λ m. past m (front ++ (left ++ rest))) k ∙ past-part front (left ++ rest) 0 ∙ none (left ++ rest)) }
+  where
+    none : (w : List ℕ) → past 0 w ≡ Ok (tt, w)
+    none w = rw (lt-whole (length w)) refl
+
+no_front : (r : Read (List ℕ)) → (r >>= λ t. Ok ([] ++ t.0, t.1)) ≡ r
+no_front (Ok t) = refl
+no_front (Err e) = refl
+
+pub bytes_end-fresh : (n : ℕ) (w : List ℕ) → bytes_end [] n w ≡ bytes_at n w
+unfolding bytes_end
+bytes_end-fresh n w = no_front (bytes_at n w)
+
+pub string-fresh : (w : List ℕ) → (size_at w >>= λ n. bytes_end [] n.0 n.1) ≡ string_at w
+unfolding string_at
+string-fresh w = by (size_at w)
+  where
+    by : (r : Read ℕ) → (r >>= λ n. bytes_end [] n.0 n.1) ≡ (r >>= λ n. bytes_at n.0 n.1)
+    by (Ok n) = bytes_end-fresh n.0 n.1
+    by (Err e) = refl
+
+-- a string that is read past
+pub text-is : (w : List ℕ) → text w ≡ (size_at w >>= λ n. past n.0 n.1)
+unfolding text string_at
+text-is w = by (size_at w)
+  where
+    inner : (n : ℕ) (v : List ℕ) (b : Bool) → ltb (length v) n ≡ b → (bytes_at n v >>= λ x. Ok (tt, x.1)) ≡ past n v
+    inner n v true e = rw e refl
+    inner n v false e = rw e refl
+
+    by : (r : Read ℕ) → ((r >>= λ n. bytes_at n.0 n.1) >>= λ x. Ok (tt, x.1)) ≡ (r >>= λ n. past n.0 n.1)
+    by (Ok n) = inner n.0 n.1 (ltb (length n.1) n.0) refl
+    by (Err e) = refl

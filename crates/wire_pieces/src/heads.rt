@@ -1,0 +1,166 @@
+ghost use Rattle.std.specs.Prelude.{◌≡◌, List, ℕ};
+ghost use Rattle.thrift_binary.specs.Reading.{is_code, field_at, list_at};
+ghost use Rattle.wire_pieces.specs.Pieces.{Goes, OkTakes};
+ghost use Rattle.wire_pieces.specs.Heads.{IsTyped, id_from, head_from, typed_size_from, list_head};
+
+use crate::fault::PieceError;
+use crate::numbers::{I16, Size};
+use crate::piece::Piece;
+use thrift_binary::{WireError, types};
+
+/// The code is one of the table ([`thrift_binary::types`]).
+pub fn is_code(code: u8) -> bool
+    ensures table { result ≡ is_code code }
+{
+    matches!(
+        code,
+        types::BOOL
+            | types::BYTE
+            | types::DOUBLE
+            | types::I16
+            | types::I32
+            | types::I64
+            | types::STRING..=types::LIST
+    )
+}
+
+/// The id behind a field's type.
+#[derive(Drop)]
+pub(crate) struct TypedId {
+    code: u8,
+    id: I16,
+}
+
+impl TypedId {
+    fn more(&mut self, piece: &mut Piece<'_>) -> Result<Option<Option<(u8, i16)>>, PieceError>
+        ensures reads { Goes (λ x. x) (id_from self.old) (id_from self.new) piece.old piece.new result }
+        ensures taken { OkTakes piece.old piece.new result }
+        ensures typed { IsTyped result }
+    {
+        let Some(id) = self.id.more(piece) else {
+            return Ok(None);
+        };
+        if !is_code(self.code) {
+            return Err(PieceError::Wire(WireError::BadType));
+        }
+        Ok(Some(Some((self.code, id))))
+    }
+}
+
+#[derive(Drop)]
+pub(crate) enum HeadStep {
+    First,
+    Id(TypedId),
+}
+
+/// The type and the id of a field; `None` where it is the stop byte.
+#[derive(Drop)]
+pub struct FieldHead {
+    step: HeadStep,
+}
+
+impl FieldHead {
+    /// Before the first byte.
+    pub fn new() -> Self
+        ensures fresh { (w : List ℕ) → head_from result w ≡ field_at w }
+    {
+        FieldHead {
+            step: HeadStep::First,
+        }
+    }
+
+    /// Goes on over a piece.
+    #[tactic(auto, unfolding(thrift_binary::specs::Reading::field_at))]
+    pub fn more(&mut self, piece: &mut Piece<'_>) -> Result<Option<Option<(u8, i16)>>, PieceError>
+        ensures reads { Goes (λ x. x) (head_from self.old) (head_from self.new) piece.old piece.new result }
+        ensures taken { OkTakes piece.old piece.new result }
+        ensures typed { IsTyped result }
+    {
+        match &mut self.step {
+            HeadStep::First => {
+                let Some(code) = piece.next() else {
+                    return Ok(None);
+                };
+                if code == 0 {
+                    return Ok(Some(None));
+                }
+                let mut part = TypedId {
+                    code,
+                    id: I16::new(),
+                };
+                let head = part.more(piece)?;
+                self.step = HeadStep::Id(part);
+                Ok(head)
+            }
+            HeadStep::Id(part) => part.more(piece),
+        }
+    }
+}
+
+/// The size behind the type of a list's elements.
+#[derive(Drop)]
+pub(crate) struct TypedSize {
+    code: u8,
+    size: Size,
+}
+
+impl TypedSize {
+    fn more(&mut self, piece: &mut Piece<'_>) -> Result<Option<(u8, u32)>, PieceError>
+        ensures reads { Goes (λ x. x) (typed_size_from self.old) (typed_size_from self.new) piece.old piece.new result }
+        ensures taken { OkTakes piece.old piece.new result }
+    {
+        let Some(size) = self.size.more(piece)? else {
+            return Ok(None);
+        };
+        if size != 0 && !is_code(self.code) {
+            return Err(PieceError::Wire(WireError::BadType));
+        }
+        Ok(Some((self.code, size)))
+    }
+}
+
+#[derive(Drop)]
+pub(crate) enum ListStep {
+    First,
+    Sized(TypedSize),
+}
+
+/// The type and the number of the elements of a list or set.
+#[derive(Drop)]
+pub struct ListHead {
+    step: ListStep,
+}
+
+impl ListHead {
+    /// Before the first byte.
+    pub fn new() -> Self
+        ensures fresh { (w : List ℕ) → list_head result w ≡ list_at w }
+    {
+        ListHead {
+            step: ListStep::First,
+        }
+    }
+
+    /// Goes on over a piece.
+    #[tactic(auto, unfolding(thrift_binary::specs::Reading::list_at))]
+    pub fn more(&mut self, piece: &mut Piece<'_>) -> Result<Option<(u8, u32)>, PieceError>
+        ensures reads { Goes (λ x. x) (list_head self.old) (list_head self.new) piece.old piece.new result }
+        ensures taken { OkTakes piece.old piece.new result }
+    {
+        match &mut self.step {
+            ListStep::First => {
+                let Some(code) = piece.next() else {
+                    return Ok(None);
+                };
+                let mut part = TypedSize {
+                    code,
+                    size: Size::new(),
+                };
+                let head = part.more(piece)?;
+                self.step = ListStep::Sized(part);
+                Ok(head)
+            }
+            ListStep::Sized(part) => part.more(piece),
+        }
+    }
+}

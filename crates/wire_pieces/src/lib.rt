@@ -1,0 +1,34 @@
+//! Values of the Thrift binary protocol that come in pieces.
+//!
+//! Each part here is a value of which some bytes have come. It is fed [`Piece`]s by its method `more`,
+//! which gives the value once its last byte has come, and nothing before that. Contracts speak of what
+//! a part reads of the bytes that are still to come, in the words of `thrift_binary`: so a part that is
+//! fed a piece and then read with what follows gives what the joined bytes give, faults included, and
+//! a fault is told in the piece that holds its last byte.
+//!
+//! - [`I16`], [`I32`], [`I64`], [`Double`], [`Bool`], [`Size`]: single values.
+//! - [`StringPart`]: a string or binary, which grows only by bytes that have come.
+//! - [`FieldHead`], [`ListHead`], [`MapHead`]: heads. `specs/Heads.antt` and `specs/Lists.antt` say what
+//!   the fields of a struct and the values of a list read from a head or a value on, and
+//!   `proofs/FieldsAgain.antt` and `proofs/ItemsAgain.antt` have the steps of such loops.
+//! - [`Skipping`]: a value of any type that is read past, with at most 64 levels of containers.
+//! - [`PieceError`]: why a piece is refused.
+#![tactic(auto)]
+
+mod fault;
+mod gathered;
+mod heads;
+mod maps;
+mod numbers;
+mod past;
+mod piece;
+mod skip;
+mod strings;
+
+pub use fault::PieceError;
+pub use heads::{FieldHead, ListHead, is_code};
+pub use maps::MapHead;
+pub use numbers::{Bool, Double, I16, I32, I64, Size};
+pub use piece::Piece;
+pub use skip::Skipping;
+pub use strings::StringPart;

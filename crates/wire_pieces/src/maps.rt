@@ -1,0 +1,119 @@
+ghost use Rattle.std.specs.Prelude.{◌≡◌, List, ℕ};
+ghost use Rattle.thrift_binary.specs.Reading.{map_at};
+ghost use Rattle.wire_pieces.specs.Pieces.{Goes, OkTakes};
+ghost use Rattle.wire_pieces.specs.Heads.{pair_size_from, pair_head, map_head};
+
+use crate::fault::PieceError;
+use crate::heads::is_code;
+use crate::numbers::Size;
+use crate::piece::Piece;
+use thrift_binary::WireError;
+
+/// The size behind the types of a map's keys and values.
+#[derive(Drop)]
+pub(crate) struct PairSize {
+    key: u8,
+    value: u8,
+    size: Size,
+}
+
+impl PairSize {
+    fn more(&mut self, piece: &mut Piece<'_>) -> Result<Option<(u8, u8, u32)>, PieceError>
+        ensures reads { Goes (λ x. ((x.0, x.1), x.2)) (pair_size_from self.old) (pair_size_from self.new)
+            piece.old piece.new result }
+        ensures taken { OkTakes piece.old piece.new result }
+    {
+        let Some(size) = self.size.more(piece)? else {
+            return Ok(None);
+        };
+        if size != 0 && !(is_code(self.key) && is_code(self.value)) {
+            return Err(PieceError::Wire(WireError::BadType));
+        }
+        Ok(Some((self.key, self.value, size)))
+    }
+}
+
+#[derive(Drop)]
+pub(crate) enum PairStep {
+    First,
+    Sized(PairSize),
+}
+
+/// What is behind the type of a map's keys.
+#[derive(Drop)]
+pub(crate) struct PairHead {
+    key: u8,
+    step: PairStep,
+}
+
+impl PairHead {
+    fn more(&mut self, piece: &mut Piece<'_>) -> Result<Option<(u8, u8, u32)>, PieceError>
+        ensures reads { Goes (λ x. ((x.0, x.1), x.2)) (pair_head self.old) (pair_head self.new)
+            piece.old piece.new result }
+        ensures taken { OkTakes piece.old piece.new result }
+    {
+        match &mut self.step {
+            PairStep::First => {
+                let Some(value) = piece.next() else {
+                    return Ok(None);
+                };
+                let mut part = PairSize {
+                    key: self.key,
+                    value,
+                    size: Size::new(),
+                };
+                let head = part.more(piece)?;
+                self.step = PairStep::Sized(part);
+                Ok(head)
+            }
+            PairStep::Sized(part) => part.more(piece),
+        }
+    }
+}
+
+#[derive(Drop)]
+pub(crate) enum MapStep {
+    First,
+    Keyed(PairHead),
+}
+
+/// The key type, the value type and the number of the pairs of a map.
+#[derive(Drop)]
+pub struct MapHead {
+    step: MapStep,
+}
+
+impl MapHead {
+    /// Before the first byte.
+    pub fn new() -> Self
+        ensures fresh { (w : List ℕ) → map_head result w ≡ map_at w }
+    {
+        MapHead {
+            step: MapStep::First,
+        }
+    }
+
+    /// Goes on over a piece.
+    #[tactic(auto, unfolding(thrift_binary::specs::Reading::map_at))]
+    pub fn more(&mut self, piece: &mut Piece<'_>) -> Result<Option<(u8, u8, u32)>, PieceError>
+        ensures reads { Goes (λ x. ((x.0, x.1), x.2)) (map_head self.old) (map_head self.new)
+            piece.old piece.new result }
+        ensures taken { OkTakes piece.old piece.new result }
+    {
+        match &mut self.step {
+            MapStep::First => {
+                let Some(key) = piece.next() else {
+                    return Ok(None);
+                };
+                let mut part = PairHead {
+                    key,
+                    step: PairStep::First,
+                };
+                let head = part.more(piece)?;
+                self.step = MapStep::Keyed(part);
+                Ok(head)
+            }
+            MapStep::Keyed(part) => part.more(piece),
+        }
+    }
+}

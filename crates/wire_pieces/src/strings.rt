@@ -1,0 +1,89 @@
+ghost use Rattle.std.specs.Prelude.{◌≡◌, ◌≤◌, List, ℕ, [], length, OnOk};
+ghost use Rattle.thrift_binary.specs.Reading.{string_at};
+ghost use Rattle.wire_pieces.specs.Pieces.{Goes};
+ghost use Rattle.wire_pieces.specs.Strings.{bytes_end, string_from};
+
+use crate::fault::PieceError;
+use crate::numbers::Size;
+use crate::piece::Piece;
+use std::alloc::Global;
+use std::mem;
+
+/// The bytes behind a length, of which some have come.
+#[derive(Drop)]
+pub(crate) struct Body {
+    left: usize,
+    got: Vec<u8>,
+}
+
+impl Body {
+    fn new(alloc: Global, left: usize) -> Self
+        ensures left { result.left ≡ left }
+        ensures got { result.got.items ≡ [] }
+    {
+        Body {
+            left,
+            got: Vec::new(alloc),
+        }
+    }
+
+    fn more(&mut self, alloc: Global, piece: &mut Piece<'_>) -> Result<Option<Vec<u8>>, PieceError>
+        ensures reads { Goes (λ x. x.items) (bytes_end self.old.got.items self.old.left)
+            (bytes_end self.new.got.items self.new.left) piece.old piece.new result }
+        ensures no_longer { OnOk result (length piece.new ≤ length piece.old) }
+    {
+        let front = piece.up_to(self.left);
+        self.got.extend_from_slice(front)?;
+        self.left -= front.len();
+        if self.left > 0 {
+            return Ok(None);
+        }
+        Ok(Some(mem::replace(&mut self.got, Vec::new(alloc))))
+    }
+}
+
+#[derive(Drop)]
+pub(crate) enum StringStep {
+    Size(Size),
+    Body(Body),
+}
+
+/// The bytes of a string or binary. It grows by the bytes that have come, whatever its length says.
+#[derive(Drop)]
+pub struct StringPart {
+    step: StringStep,
+}
+
+impl StringPart {
+    /// Before the first byte.
+    pub fn new() -> Self
+        ensures fresh { (w : List ℕ) → string_from result w ≡ string_at w }
+    {
+        StringPart {
+            step: StringStep::Size(Size::new()),
+        }
+    }
+
+    /// Goes on over a piece.
+    pub fn more(
+        &mut self,
+        alloc: Global,
+        piece: &mut Piece<'_>,
+    ) -> Result<Option<Vec<u8>>, PieceError>
+        ensures reads { Goes (λ x. x.items) (string_from self.old) (string_from self.new) piece.old piece.new result }
+        ensures no_longer { OnOk result (length piece.new ≤ length piece.old) }
+    {
+        match &mut self.step {
+            StringStep::Size(part) => {
+                let Some(size) = part.more(piece)? else {
+                    return Ok(None);
+                };
+                let mut body = Body::new(alloc, size as usize);
+                let bytes = body.more(alloc, piece)?;
+                self.step = StringStep::Body(body);
+                Ok(bytes)
+            }
+            StringStep::Body(body) => body.more(alloc, piece),
+        }
+    }
+}
