@@ -292,10 +292,7 @@ fn has_answer<N: StoreName>(
     number: u64,
     answer: Result<u64, Refusal>,
 ) -> bool {
-    books
-        .accounts
-        .iter()
-        .any(|a| a.seat == seat && a.number == number && a.answer == answer)
+    books.accounts.iter().any(|a| a.seat == seat && a.number == number && a.answer == answer)
 }
 
 /// Whether the ticket has the answer of its job's account, or says that the desk was closed where its job is
