@@ -3,8 +3,6 @@
 #![tactic(auto)]
 
 #[cfg(test)]
-mod ending;
-#[cfg(test)]
 mod house;
 #[cfg(test)]
 mod rows;

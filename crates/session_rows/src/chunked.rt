@@ -267,7 +267,7 @@ fn says(
 ) -> Result<bool, Fail> {
     let bytes = joined(alloc, parts)?;
     let wanted = joined(alloc, responses)?;
-    let (end, output, _) = played(rt, alloc, bytes.as_slice(), (step, 0), (10_000, 10_000));
+    let (end, output, _) = played(rt, alloc, bytes.as_slice(), (step, 0), (10_000, 10_000))?;
     Ok(end == Ok(ended) && output.as_slice() == wanted.as_slice())
 }
 
@@ -325,7 +325,7 @@ fn chunks_are_answered_as_a_whole_body(rt: HostRuntime) -> Result<(), Fail> {
             bytes.as_slice(),
             (step, 0),
             (10_000, step),
-        );
+        )?;
         assert!(rt;
             ended
                 == Ok(Ended {
@@ -350,7 +350,7 @@ fn a_reader_that_fails_inside_chunks(rt: HostRuntime) -> Result<(), Fail> {
             bytes.as_slice(),
             (32, fails_at),
             (10_000, 10_000),
-        );
+        )?;
         let fault = ended.expect_err(&rt, "fault");
         assert!(rt; fault.cause == Cause::Reading);
         assert_eq!(rt; fault.written, 0);
