@@ -6,7 +6,6 @@
 //! * `rings`: `trace_ring`, `trace_assembly`, and which spans the plain store shows.
 //! * `names`: `service_index`, `service_places`, and the names of the plain store.
 //! * `stores`: `span_store`, put the same questions as the plain store of its entries.
-//! * `searches`: searches of `span_store`, their order and their limits.
 //! * `entries`: entries for these.
 #![tactic(auto)]
 
@@ -20,8 +19,6 @@ mod limits;
 mod names;
 #[cfg(test)]
 mod rings;
-#[cfg(test)]
-mod searches;
 #[cfg(test)]
 mod stores;
 #[cfg(test)]

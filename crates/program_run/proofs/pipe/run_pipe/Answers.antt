@@ -23,7 +23,8 @@ returns-in_default g c =
         within = omega arith;
         written = Appends-nil (g.W.Output.contents c.args.output.now);
         count = refl;
-        cause = tt;
+        cause = (c.requires.input_works, c.requires.output_works);
+        unwritten = λ e. refl;
         spared = λ e. absurd (cc e);
       };
       exact = λ _. (refl, refl);
