@@ -34,8 +34,8 @@ pub enum Turn {
 
 /// The clerk of a desk. Contracts see all jobs that it took, and an account of each one.
 ///
-/// Where it goes without [`run`](Self::run), each ticket that still waits is told that no reply
-/// comes.
+/// Where it goes without [`run`](Self::run) or [`leave`](Self::leave), each ticket that still waits is told
+/// that no reply comes.
 #[derive(Drop)]
 pub struct Clerk<N: StoreName> {
     inbox: Inbox<N>,
@@ -190,7 +190,7 @@ impl<N: StoreName> Clerk<N> {
         for _ in rt.forever() {
             let rings = clerk.ending.shared.jobs.rings();
             match clerk.turn(rt, &mut keeper) {
-                Ok(Turn::Ended) => return clerk.close(keeper),
+                Ok(Turn::Ended) => return clerk.leave(keeper),
                 Ok(Turn::Served { .. }) => {}
                 Ok(Turn::Idle) => clerk.ending.shared.jobs.sleep(rt, rings),
                 Err(_) => yield_now(),
@@ -199,8 +199,9 @@ impl<N: StoreName> Clerk<N> {
         unreachable!()
     }
 
-    /// Ends, and counts the answers.
-    fn close(self, keeper: Keeper<N>) -> Books<N>
+    /// Leaves the books at once. Jobs that wait stay in the queue, from where [`Books::take_in`] hands them
+    /// back; their tickets are told that no reply comes, or that the desk was closed.
+    pub fn leave(self, keeper: Keeper<N>) -> Books<N>
         ensures taken { result.inbox.taken ≡ self.taken }
         ensures accounts { result.accounts.items ≡ self.accounts }
         ensures keeper { result.keeper ≡ keeper }
@@ -209,6 +210,7 @@ impl<N: StoreName> Clerk<N> {
         ensures refused { result.refused ≡ refused result.accounts.items }
         ensures left { result.left.items ≡ [] }
         ensures desk { (result.inbox.desk ≡ self.desk) × (result.inbox.ended ≡ self.ended) }
+        ensures books { Balances result.inbox.taken result.accounts.items (map arc_value result.left.items) }
     {
         let Clerk {
             inbox,

@@ -1,7 +1,9 @@
 //! What clients do of a server.
 
 use crate::clients::{ask, hears, parts};
-use crate::requests::{ACCEPTED, BATCH, HUGE, ONE_SERVICE, POST, SERVICES, joined};
+use crate::requests::{
+    ACCEPTED, BATCH, HUGE, NUMBERED, ONE_SERVICE, POST, POST_NUMBERED, SERVICES, joined,
+};
 use std::alloc::Global;
 use std::io;
 use std::io::{Read, Write};
@@ -18,6 +20,8 @@ pub enum Guests {
     TwoSessions,
     /// One hands two batches in, and there is room for one.
     OneTooMany,
+    /// One hands the same numbered batch in twice.
+    Repeats,
     /// What one connection hands in the other finds; both are open before.
     TwoConnections,
     /// Two ask at the same time.
@@ -42,6 +46,7 @@ impl Guests {
             Guests::One => one(rt, alloc, address),
             Guests::TwoSessions => two_sessions(rt, alloc, address),
             Guests::OneTooMany => one_too_many(rt, alloc, address),
+            Guests::Repeats => repeats(rt, alloc, address),
             Guests::TwoConnections => two_connections(rt, alloc, address),
             Guests::TwoAtOnce => two_at_once(rt, alloc, address),
             Guests::Eight => eight(rt, alloc, address),
@@ -93,6 +98,19 @@ fn one_too_many<R: Net<Stream = TcpStream, Listener = TcpListener>>(
     Ok(
         ask(alloc, &mut stream, post.as_slice(), ACCEPTED)?
             && ask(alloc, &mut stream, post.as_slice(), b"HTTP/1.1 503 ")?,
+    )
+}
+
+fn repeats<R: Net<Stream = TcpStream, Listener = TcpListener>>(
+    rt: &R,
+    alloc: Global,
+    address: SocketAddr,
+) -> io::Result<bool> {
+    let mut stream = TcpStream::connect(rt, address)?;
+    let post = joined(alloc, &[POST_NUMBERED, NUMBERED])?;
+    Ok(
+        ask(alloc, &mut stream, post.as_slice(), ACCEPTED)?
+            && ask(alloc, &mut stream, post.as_slice(), ACCEPTED)?,
     )
 }
 

@@ -71,3 +71,11 @@ fn one_batch_too_many(rt: HostRuntime) -> Result<(), Fail> {
     assert!(rt; outcome.is_well(b"\nserved 1\nbooks 1 1 0\n"));
     Ok(())
 }
+
+#[test]
+fn a_batch_sent_twice(rt: HostRuntime) -> Result<(), Fail> {
+    let options = options(&rt, 1, 1, 10, 100);
+    let outcome = visited(&rt, rt.alloc(), &options, &NoGate, Guests::Repeats)?;
+    assert!(rt; outcome.is_well(b"\nserved 1\nbooks 2 0 0\n"));
+    Ok(())
+}

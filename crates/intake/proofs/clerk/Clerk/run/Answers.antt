@@ -16,4 +16,4 @@ loop-preserved-in-Ok-Served g c =
 pub returns-in-Ok-Ended-clause-empty : goal.returns-in-Ok-Ended-clause-empty
 returns-in-Ok-Ended-clause-empty g c =
     let empty = no-job-left c.turn.result (WasEmpty c.loop.clerk.ended c.loop.clerk.taken) (search rules) c.turn.ensures.empty in
-    still-empty c.loop.clerk.ended c.close.result.inbox.ended c.loop.clerk.taken c.close.result.inbox.taken (search rules) (search rules) empty
+    still-empty c.loop.clerk.ended c.leave.result.inbox.ended c.loop.clerk.taken c.leave.result.inbox.taken (search rules) (search rules) empty
