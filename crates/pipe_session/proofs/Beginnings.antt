@@ -51,7 +51,7 @@ Stops bytes s (x ∷ xs) d = (rest : List ℕ) × Asks bytes s x rest × (x.clos
 abbrev pub meant : List Exchange → Due → List ℕ
 meant ys d = responses ys ++ bytes_due d
 
-longer : (y x : Exchange) (some all more behind : List ℕ) → y ≡ x → IsPrefix (some ++ more) (all ++ behind)
+pub longer : (y x : Exchange) (some all more behind : List ℕ) → y ≡ x → IsPrefix (some ++ more) (all ++ behind)
     → IsPrefix ((response_to y ++ some) ++ more) ((response_to x ++ all) ++ behind)
 longer y x some all more behind same begins = (
   begins.0,

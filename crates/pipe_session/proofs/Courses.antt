@@ -52,7 +52,7 @@ not_empty s x rest asks =
 not_empty_at : (bytes : List ℕ) (s : Held) (x : Exchange) (rest : List ℕ) → bytes ≡ [] → Asks bytes s x rest → ⊥
 not_empty_at bytes s x rest none asks = not_empty s x rest (subst (λ (l : List ℕ). Asks l s x rest) none asks)
 
-not_broken : (bytes : List ℕ) (s : Held) (x : Exchange) (rest : List ℕ) (b : Breach) → Asks bytes s x rest → Breaks bytes b → ⊥
+pub not_broken : (bytes : List ℕ) (s : Held) (x : Exchange) (rest : List ℕ) (b : Breach) → Asks bytes s x rest → Breaks bytes b → ⊥
 not_broken bytes s x rest b asks breaks = no_request x.text rest x.head x.body b asks.exchange.spells (subst (λ (l : List ℕ). Breaks l b) asks.front breaks)
 
 not_nothing : (bytes : List ℕ) (b : Breach) → bytes ≡ [] → Breaks bytes b → ⊥

@@ -1,5 +1,6 @@
--- Sessions over a store of one's own in which memory was never wanting.
-use Rattle.std.specs.Prelude.{◌≢◌, ℕ, Bool, List, ◌++◌, All, Option, Some}
+-- Sessions over a store of one's own in which memory was never wanting, or not up to some exchange.
+use Rattle.std.specs.Prelude.{◌≡◌, ◌≢◌, ℕ, ◌⊎◌, Bool, List, ◌++◌, All, Option, Some}
+use mathlib.Core.List.{IsPrefix}
 use Rattle.trace_model.specs.Held.{Held}
 use Rattle.direct_store.specs.Exactly.{DirectSubmits, DirectReads}
 use Rattle.http_session.specs.Sessions.{Exchange, EndsAs, FailsAs, last_of, exchange_due}
@@ -31,3 +32,14 @@ pub record Failed (bytes : List ℕ) (s : Held) (written : List ℕ) : Type 0 wh
   pub fault : SessionFault
   pub fails : FailsAs DirectSubmits DirectReads (Some bytes) left (Some before) (Some (before ++ written)) s held in_failed out_failed fault
   pub memory : NeverWants (fails.opens ++ exchange_due fails.next)
+
+-- one of the two begins the other
+abbrev pub OneBegins : List ℕ → List ℕ → Type 0
+OneBegins w v = IsPrefix w v ⊎ IsPrefix v w
+
+-- A session that had these bytes to read, where s was held, wrote these first; and so does one that fails there,
+-- in which memory was wanting for nothing that it answered.
+pub record WroteFirst (bytes before : List ℕ) (out : Option (List ℕ)) (s : Held) (first : List ℕ) : Type 0 where
+  pub more : List ℕ
+  pub written : out ≡ Some (before ++ (first ++ more))
+  pub failed : Failed bytes s first

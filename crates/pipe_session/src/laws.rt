@@ -1,18 +1,18 @@
 //! Facts about sessions over a store of one's own. Each function does nothing, and its contract is the
 //! fact.
 
-ghost use Rattle.std.specs.Prelude.{◌≡◌, ◌≢◌, ℕ, Bool, List, ◌++◌, Option, Some};
+ghost use Rattle.std.specs.Prelude.{◌≡◌, ◌≢◌, ℕ, Bool, List, ◌∷◌, ◌++◌, Option, Some};
 ghost use mathlib.Core.List.{IsPrefix};
 ghost use Rattle.trace_model.specs.Held.{Held};
 ghost use Rattle.direct_store.specs.Exactly.{DirectSubmits, DirectReads};
 ghost use Rattle.http_requests.specs.Asked.{Asked};
-ghost use Rattle.http_session.specs.Sessions.{EndsAs, FailsAs, last_of, exchange_due};
+ghost use Rattle.http_session.specs.Sessions.{Exchange as Turn, EndsAs, FailsAs, last_of, exchange_due, responses};
 ghost use Rattle.http_session.specs.declared.exchanges.SessionFault.{SessionFault as Fault};
 ghost use Rattle.http_session.specs.Verdicts.{Judges};
 ghost use Rattle.http_session.specs.declared.verdict.Remark.TheVariants.{NoMemory};
 ghost use Rattle.http_session.specs.declared.verdict.Verdict.{Verdict as Judgement};
 ghost use Rattle.http_session.specs.declared.verdict.Verdict.TheVariants.{Say};
-ghost use Rattle.pipe_session.specs.OneFunction.{NeverWants, Finished, Failed};
+ghost use Rattle.pipe_session.specs.OneFunction.{NeverWants, Finished, Failed, OneBegins, WroteFirst};
 
 /// What a request asks is told by the request, unless memory was wanting.
 pub fn a_request_has_one_verdict()
@@ -46,4 +46,28 @@ pub fn bytes_written_are_one_function()
 pub fn a_failed_session_wrote_a_beginning()
     ensures { (bytes : List ℕ) (s : Held) (w v : List ℕ) (t : Held) (n : ℕ) (c : Bool) →
         Failed bytes s w → Finished bytes s v t n c → IsPrefix w v }
+{}
+
+/// Of two sessions that failed over one input, one wrote a beginning of what the other wrote.
+pub fn of_two_failed_sessions_one_wrote_a_beginning()
+    ensures { (bytes : List ℕ) (s : Held) (w v : List ℕ) →
+        Failed bytes s w → Failed bytes s v → OneBegins w v }
+{}
+
+/// The exchanges of a session that ended, before the first for which memory was wanting: their responses were
+/// written first, and are those of a session that failed there. So they begin what any session writes in
+/// which memory never was wanting.
+pub fn what_an_ended_session_wrote_before_memory_was_wanting()
+    ensures { (bytes before : List ℕ) (left out : Option (List ℕ)) (s t : Held) (n : ℕ) (c : Bool)
+        (ends : EndsAs DirectSubmits DirectReads (Some bytes) left (Some before) out s t n c)
+        (xs rest : List Turn) (x : Turn) → ends.opens ++ last_of ends.ending ≡ xs ++ x ∷ rest →
+        NeverWants xs → WroteFirst bytes before out s (responses xs) }
+{}
+
+/// The same of a session that failed.
+pub fn what_a_failed_session_wrote_before_memory_was_wanting()
+    ensures { (bytes before : List ℕ) (left out : Option (List ℕ)) (s t : Held) (i o : Bool) (fault : Fault)
+        (fails : FailsAs DirectSubmits DirectReads (Some bytes) left (Some before) out s t i o fault)
+        (xs rest : List Turn) (x : Turn) → fails.opens ++ exchange_due fails.next ≡ xs ++ x ∷ rest →
+        NeverWants xs → WroteFirst bytes before out s (responses xs) }
 {}

@@ -1,0 +1,87 @@
+-- Of two sessions that failed over one input one wrote a beginning of what the other wrote.
+use Rattle.std.proofs.Common.{◌≡◌, ℕ, false, List, [], ◌∷◌, ◌++◌, take, inl, inr, refl, sym, ap, ◌∙◌, subst, append_assoc, append-nil}
+use mathlib.Core.List.{IsPrefix}
+use Rattle.std.proofs.lemmas.List.{append_cancel_left}
+use Rattle.trace_model.specs.Held.{Held}
+use Rattle.trace_model.proofs.Prefixes.{prefix_self, prefix_trans}
+use Rattle.http_requests.proofs.Once.{one_breach}
+use Rattle.http_session.specs.Sessions.{Exchange, responses, response_to, Due, Due.{none_yet, due, due_parting}, bytes_due}
+use Rattle.pipe_session.specs.Exact.{held_after}
+use Rattle.pipe_session.specs.OneFunction.{Failed, OneBegins}
+use Rattle.pipe_session.proofs.Courses.{same_exchange, not_broken}
+use Rattle.pipe_session.proofs.Beginnings.{Stops, meant, longer, part_begins}
+use Rattle.pipe_session.proofs.OneFunction.{stopped}
+
+-- two beginnings of one list
+both_begin : (w v all : List ℕ) → IsPrefix w all → IsPrefix v all → OneBegins w v
+both_begin [] v all p q = inl (v, refl)
+both_begin (x ∷ xs) [] all p q = inr (x ∷ xs, refl)
+both_begin (x ∷ xs) (y ∷ ys) all p q =
+    let same : x ∷ (xs ++ p.0) ≡ y ∷ (ys ++ q.0) = p.1 ∙ sym q.1 in
+    let first : x ≡ y = cc same in
+    let rest : xs ++ p.0 ≡ ys ++ q.0 = cc same in
+    elim (both_begin xs ys (xs ++ p.0) (p.0, refl) (q.0, sym rest)) [
+      | inl r ↦ inl (r.0, λ i. first i ∷ r.1 i)
+      | inr r ↦ inr (r.0, λ i. sym first i ∷ r.1 i)
+    ]
+
+stops_behind : (s : Held) (x y : Exchange) (rest more : List ℕ) (ys : List Exchange) (d : Due) → x ≡ y → rest ≡ more
+    → Stops more (held_after s y.verdict) ys d → Stops rest (held_after s x.verdict) ys d
+stops_behind s x y rest more ys d same behind stops =
+    subst (λ (z : Exchange). Stops rest (held_after s z.verdict) ys d) (sym same) (subst (λ (l : List ℕ). Stops l (held_after s y.verdict) ys d) (sym behind) stops)
+
+meant_due : (x : Exchange) → meant [] (due x) ≡ response_to x
+meant_due x = refl
+
+-- what is due at the first exchange, beside a session that went on
+due_begins : (bytes : List ℕ) (s : Held) (d : Due) (x : Exchange) (xs : List Exchange) (e : Due) → Stops bytes s [] d → Stops bytes s (x ∷ xs) e → IsPrefix (meant [] d) (meant (x ∷ xs) e)
+due_begins bytes s none_yet x xs e stops other = (meant (x ∷ xs) e, refl)
+due_begins bytes s (due y) x xs e stops other =
+    let same = (same_exchange bytes s y x stops.0 other.0 stops.1 other.1).0 in
+    (responses xs ++ bytes_due e, (λ i. response_to (same i) ++ (responses xs ++ bytes_due e)) ∙ sym (append_assoc (response_to x) (responses xs) (bytes_due e)))
+due_begins bytes s (due_parting b) x xs e stops other = absurd (not_broken bytes s x other.0 b other.1 stops)
+
+-- what is due at one place is one thing, if it is anything
+one_due : (bytes : List ℕ) (s : Held) (d e : Due) → Stops bytes s [] d → Stops bytes s [] e → OneBegins (meant [] d) (meant [] e)
+one_due bytes s none_yet e stops other = inl (meant [] e, refl)
+one_due bytes s (due y) none_yet stops other = inr (meant [] (due y), refl)
+one_due bytes s (due y) (due x) stops other =
+    let same = (same_exchange bytes s y x stops.0 other.0 stops.1 other.1).0 in
+    inl (subst (λ (z : Exchange). IsPrefix (meant [] (due y)) (meant [] (due z))) same (prefix_self (meant [] (due y))))
+one_due bytes s (due y) (due_parting b) stops other = absurd (not_broken bytes s y stops.0 b stops.1 other)
+one_due bytes s (due_parting b) none_yet stops other = inr (meant [] (due_parting b), refl)
+one_due bytes s (due_parting b) (due x) stops other = absurd (not_broken bytes s x other.0 b other.1 stops)
+one_due bytes s (due_parting b) (due_parting a) stops other =
+    inl (subst (λ c. IsPrefix (meant [] (due_parting b)) (meant [] (due_parting c))) (one_breach bytes b a stops other) (prefix_self (meant [] (due_parting b))))
+
+one_meant : (bytes : List ℕ) (s : Held) (ys : List Exchange) (d : Due) (xs : List Exchange) (e : Due) → Stops bytes s ys d → Stops bytes s xs e → OneBegins (meant ys d) (meant xs e)
+one_meant bytes s [] d [] e stops other = one_due bytes s d e stops other
+one_meant bytes s [] d (x ∷ xs) e stops other = inl (due_begins bytes s d x xs e stops other)
+one_meant bytes s (y ∷ ys) d [] e stops other = inr (due_begins bytes s e y ys d other stops)
+one_meant bytes s (y ∷ ys) d (x ∷ xs) e stops other =
+    let now = same_exchange bytes s y x stops.0 other.0 stops.1 other.1 in
+    let later = one_meant stops.0 (held_after s y.verdict) ys d xs e stops.3 (stops_behind s y x stops.0 other.0 xs e now.0 now.1 other.3) in
+    elim later [
+      | inl p ↦ inl (longer y x (responses ys) (responses xs) (bytes_due d) (bytes_due e) now.0 p)
+      | inr p ↦ inr (longer x y (responses xs) (responses ys) (bytes_due e) (bytes_due d) (sym now.0) p)
+    ]
+
+-- what was written begins what was meant
+wrote : (bytes : List ℕ) (s : Held) (w : List ℕ) (f : Failed bytes s w) → IsPrefix w (meant f.fails.opens f.fails.next)
+wrote bytes s w f =
+    let all : List ℕ = meant f.fails.opens f.fails.next in
+    let own : w ≡ responses f.fails.opens ++ take f.fault.written (bytes_due f.fails.next) =
+    append_cancel_left f.before w (responses f.fails.opens ++ take f.fault.written (bytes_due f.fails.next)) f.fails.written in
+    subst (λ (l : List ℕ). IsPrefix l all) (sym own) (part_begins (responses f.fails.opens) (bytes_due f.fails.next) all f.fault.written (prefix_self all))
+
+course : (bytes : List ℕ) (s : Held) (w : List ℕ) (f : Failed bytes s w) → Stops bytes s f.fails.opens f.fails.next
+course bytes s w f = stopped bytes f.before (f.before ++ w) f.left s f.held f.in_failed f.out_failed f.fault f.fails f.memory
+
+pub two_failed : (bytes : List ℕ) (s : Held) (w v : List ℕ) → Failed bytes s w → Failed bytes s v → OneBegins w v
+two_failed bytes s w v one other =
+    let mine = wrote bytes s w one in
+    let theirs = wrote bytes s v other in
+    elim (one_meant bytes s one.fails.opens one.fails.next other.fails.opens other.fails.next (course bytes s w one) (course bytes s v other)) [
+      | inl p ↦ both_begin w v (meant other.fails.opens other.fails.next) (prefix_trans w (meant one.fails.opens one.fails.next) (meant other.fails.opens other.fails.next) mine p) theirs
+      | inr p ↦ both_begin w v (meant one.fails.opens one.fails.next) mine (prefix_trans v (meant other.fails.opens other.fails.next) (meant one.fails.opens one.fails.next) theirs p)
+    ]

@@ -1,0 +1,116 @@
+-- What a session wrote before memory was wanting.
+use Rattle.std.proofs.Common.{◌≡◌, ℕ, ◌+◌, ◌≤◌, Bool, false, List, [], ◌∷◌, ◌++◌, length, refl, sym, ap, ◌∙◌, subst, arith, append_assoc, append-nil, length-append, Option, Some, None, All}
+use Rattle.std.specs.Io.KnownBytes.{Consumes}
+use Rattle.std.proofs.lemmas.Bool.{false≢true}
+use Rattle.std.proofs.lemmas.List.Elements.{All-head, All-tail, All-cons, All-nil}
+use Rattle.std.proofs.lemmas.Grind.{flat_map-append}
+use Rattle.trace_model.specs.Held.{Held}
+use Rattle.direct_store.specs.Exactly.{DirectSubmits, DirectReads}
+use Rattle.http_session.specs.Sessions.{Exchange, IsOpen, texts, Submits, Reads, Run, EndsAs, FailsAs, Ending, Ending.{clean, closing, broken}, last_of, parting, response_to, responses, Due, Due.{none_yet, due, due_parting}, exchange_due, bytes_due}
+use Rattle.http_session.specs.declared.exchanges.Cause.TheVariants.{Memory}
+use Rattle.http_session.specs.declared.exchanges.SessionFault.{SessionFault}
+use Rattle.pipe_session.specs.OneFunction.{NeverWants, Failed, WroteFirst}
+use Rattle.std.specs.Prelude.{take}
+
+-- a run in two parts
+run_parts : {S : Type 0} (submits : Submits S) (reads : Reads S) (s : S) (xs ys : List Exchange) (t : S) → Run submits reads s (xs ++ ys) t → (m : S) × Run submits reads s xs m × Run submits reads m ys t
+run_parts submits reads s [] ys t run = (s, refl, run)
+run_parts submits reads s (x ∷ xs) ys t run =
+    let later = run_parts submits reads run.0 xs ys t run.2 in
+    (later.0, (run.0, run.1, later.1), later.2)
+
+all_front : {X : Type 0} (P : X → Type 0) (xs ys : List X) → All P (xs ++ ys) → All P xs
+all_front P [] ys all = All-nil P
+all_front P (x ∷ xs) ys all = All-cons P x xs (All-head P x (xs ++ ys) all) (all_front P xs ys (All-tail P x (xs ++ ys) all))
+
+-- the exchanges that left the session open, and at most one more: what stands before some other one left it open
+front : (opens last ys zs : List Exchange) (z : Exchange) → length last ≤ 1 → opens ++ last ≡ ys ++ z ∷ zs → (mid : List Exchange) × (opens ≡ ys ++ mid)
+front opens last [] zs z few e = (opens, refl)
+front [] last (y ∷ ys) zs z few e =
+    let long : length last ≡ length (y ∷ (ys ++ z ∷ zs)) = ap length e in
+    let more : length (ys ++ z ∷ zs) ≡ length ys + length (z ∷ zs) = length-append ys (z ∷ zs) in
+    absurd (omega arith)
+front (o ∷ os) last (y ∷ ys) zs z few e =
+    let first : o ≡ y = cc e in
+    let rest = front os last ys zs z few (cc e) in
+    (rest.0, λ i. first i ∷ rest.1 i)
+
+last_few : (e : Ending) → length (last_of e) ≤ 1
+last_few clean = omega arith
+last_few (closing x) = omega arith
+last_few (broken b) = omega arith
+
+due_few : (d : Due) → length (exchange_due d) ≤ 1
+due_few none_yet = omega arith
+due_few (due x) = omega arith
+due_few (due_parting b) = omega arith
+
+responses_parts : (xs ys : List Exchange) → responses (xs ++ ys) ≡ responses xs ++ responses ys
+responses_parts xs ys = flat_map-append response_to xs ys
+
+-- a session up to some exchange is one that failed there, and had written the responses before
+stopped_there : (bytes before taken rest : List ℕ) (left : Option (List ℕ)) (s t : Held) (ys zs : List Exchange) → Consumes (Some bytes) left taken → taken ≡ texts (ys ++ zs) ++ rest → All IsOpen ys
+    → Run DirectSubmits DirectReads s (ys ++ zs) t → NeverWants ys → Failed bytes s (responses ys)
+stopped_there bytes before taken rest left s t ys zs read split opens run memory =
+    let parts = run_parts DirectSubmits DirectReads s ys zs t run in
+    let alone : ys ≡ ys ++ [] = sym (append-nil ys) in
+    record {
+      before = before;
+      left = left;
+      held = parts.0;
+      in_failed = false;
+      out_failed = false;
+      fault = record { answered = length ys; written = 0; cause = Memory };
+      fails = record {
+        taken = taken;
+        opens = ys;
+        next = none_yet;
+        rest = texts zs ++ rest;
+        read = read;
+        split = split ∙ ap (λ (l : List ℕ). l ++ rest) (flat_map-append (λ (x : Exchange). x.text) ys zs) ∙ append_assoc (texts ys) (texts zs) rest
+            ∙ ap (λ (l : List Exchange). texts l ++ (texts zs ++ rest)) alone;
+        each = opens;
+        next_is = tt;
+        run = subst (λ (l : List Exchange). Run DirectSubmits DirectReads s l parts.0) alone parts.1;
+        within = omega arith;
+        written = ap (λ (l : List ℕ). before ++ l) (sym (append-nil (responses ys)));
+        count = refl;
+        cause = (refl, refl);
+        unwritten = λ _. refl;
+        spared = λ e. absurd (false≢true e);
+      };
+      memory = subst NeverWants alone memory;
+    }
+
+pub ended_before : (bytes before : List ℕ) (left out : Option (List ℕ)) (s t : Held) (n : ℕ) (c : Bool) (ends : EndsAs DirectSubmits DirectReads (Some bytes) left (Some before) out s t n c)
+    (ys zs : List Exchange) (z : Exchange) → ends.opens ++ last_of ends.ending ≡ ys ++ z ∷ zs → NeverWants ys → WroteFirst bytes before out s (responses ys)
+ended_before bytes before left None s t n c ends ys zs z e memory = absurd ends.written
+ended_before bytes before left (Some o) s t n c ends ys zs z e memory =
+    let mid = front ends.opens (last_of ends.ending) ys zs z (last_few ends.ending) e in
+    let all_open : All IsOpen ys = all_front IsOpen ys mid.0 (subst (All IsOpen) mid.1 ends.each) in
+    record {
+      more = responses (z ∷ zs) ++ parting ends.ending;
+      written = ap Some (ends.written ∙ ap (λ (l : List ℕ). before ++ l) (
+          ap (λ (l : List Exchange). responses l ++ parting ends.ending) e
+          ∙ ap (λ (l : List ℕ). l ++ parting ends.ending) (responses_parts ys (z ∷ zs))
+          ∙ append_assoc (responses ys) (responses (z ∷ zs)) (parting ends.ending)));
+      failed = stopped_there bytes before ends.taken ends.rest left s t ys (z ∷ zs) ends.read (ends.split ∙ ap (λ (l : List Exchange). texts l ++ ends.rest) e) all_open
+          (subst (λ (l : List Exchange). Run DirectSubmits DirectReads s l t) e ends.run) memory;
+    }
+
+pub failed_before : (bytes before : List ℕ) (left out : Option (List ℕ)) (s t : Held) (i o : Bool) (fault : SessionFault) (fails : FailsAs DirectSubmits DirectReads (Some bytes) left (Some before) out s t i o fault)
+    (ys zs : List Exchange) (z : Exchange) → fails.opens ++ exchange_due fails.next ≡ ys ++ z ∷ zs → NeverWants ys → WroteFirst bytes before out s (responses ys)
+failed_before bytes before left None s t i o fault fails ys zs z e memory = absurd fails.written
+failed_before bytes before left (Some p) s t i o fault fails ys zs z e memory =
+    let mid = front fails.opens (exchange_due fails.next) ys zs z (due_few fails.next) e in
+    let all_open : All IsOpen ys = all_front IsOpen ys mid.0 (subst (All IsOpen) mid.1 fails.each) in
+    let last : List ℕ = take fault.written (bytes_due fails.next) in
+    record {
+      more = responses mid.0 ++ last;
+      written = ap Some (fails.written ∙ ap (λ (l : List ℕ). before ++ l) (
+          ap (λ (l : List Exchange). responses l ++ last) mid.1
+          ∙ ap (λ (l : List ℕ). l ++ last) (responses_parts ys mid.0)
+          ∙ append_assoc (responses ys) (responses mid.0) last));
+      failed = stopped_there bytes before fails.taken fails.rest left s t ys (z ∷ zs) fails.read (fails.split ∙ ap (λ (l : List Exchange). texts l ++ fails.rest) e) all_open
+          (subst (λ (l : List Exchange). Run DirectSubmits DirectReads s l t) e fails.run) memory;
+    }
