@@ -7,6 +7,8 @@ The same realistic batches (those of bench/decode.py) are decoded and let go by 
 temporary folder; what is not installed is left out.
 
   rattle   batch_codec::decode, proved and built by `rt run` in a copy of its crates (the first time takes minutes)
+  pieces   batch_feeder's Feeder over each body in one piece, and `bytes` the same a byte at a time: the same program,
+           so that the crates below are proved once
   rust     bench/compare/plain.rs, a decoder of the same rules in plain Rust, by `rustc`
   apache   bench/compare/apache.cpp, Apache Thrift's, by `thrift` and `g++` (Debian: thrift-compiler libthrift-dev
            libboost-dev); it looks at no UTF-8
@@ -31,14 +33,23 @@ import decode as batches
 HERE = os.path.dirname(os.path.abspath(__file__))
 ROOT = os.path.dirname(HERE)
 COMPARE = os.path.join(HERE, "compare")
-CRATES = {"jaeger_model": "hex", "thrift_binary": "byteorder", "batch_codec": "thrift_binary jaeger_model"}
+CRATES = {
+    "jaeger_model": "hex",
+    "thrift_binary": "byteorder",
+    "batch_codec": "thrift_binary jaeger_model",
+    "wire_pieces": "thrift_binary byteorder",
+    "batch_feeder": "wire_pieces thrift_binary batch_codec jaeger_model",
+}
 
-# The program over `decode`: the same as main of plain.rs.
-MAIN = """//! Decodes the bodies of standard input so many times as its word says, and prints the number of their spans.
+# The program over `decode` and the Feeder: main of plain.rs, with a second word for the way.
+MAIN = """//! Decodes the bodies of standard input so many times as its first word says, and prints the number of their spans. The second
+//! word may be `pieces`, each body fed in one piece, or `bytes`, a byte at a time.
 #![tactic(auto)]
 
 use anyhow::Result;
-use batch_codec::decode;
+use batch_codec::{DecodeError, decode};
+use batch_feeder::Feeder;
+use jaeger_model::Batch;
 use std::alloc::Global;
 use std::env;
 use std::io::Read;
@@ -62,17 +73,39 @@ fn bodies(alloc: Global, input: &[u8]) -> Result<Vec<&[u8]>> {
     Ok(bodies)
 }
 
+/// The batch of a body that is fed in pieces of this size.
+fn fed(alloc: Global, body: &[u8], size: usize) -> Result<Batch, DecodeError> {
+    let mut feeder = Feeder::new(alloc);
+    for piece in body.chunks(size.max(1)) {
+        feeder.feed(alloc, piece)?;
+    }
+    feeder.finish()
+}
+
+/// The batch of a body, decoded whole where the size is 0.
+fn read(alloc: Global, body: &[u8], size: usize) -> Result<Batch, DecodeError> {
+    if size == 0 {
+        return decode(alloc, body);
+    }
+    fed(alloc, body, size)
+}
+
 fn main(rt: HostRuntime) -> Result<()> {
     let alloc = rt.alloc();
     let words: Vec<String> = env::args(&rt)?.collect(alloc)?;
     let rounds: u32 = words.get(1).and_then(|word| word.parse().ok()).unwrap_or(1);
+    let size = match words.get(2) {
+        Some(way) if way.as_str() == "pieces" => usize::MAX,
+        Some(way) if way.as_str() == "bytes" => 1,
+        _ => 0,
+    };
     let mut input = Vec::new(alloc);
     rt.stdin().read_to_end(&mut input)?;
     let bodies = bodies(alloc, &input)?;
     let mut spans = 0_u64;
     for _ in 0..rounds {
         for body in bodies.iter() {
-            spans = spans.wrapping_add(decode(alloc, body)?.spans.len() as u64);
+            spans = spans.wrapping_add(read(alloc, body, size)?.spans.len() as u64);
         }
     }
     println!(&rt; "{spans}")?;
@@ -89,7 +122,7 @@ def build_rattle(folder):
     os.makedirs(source)
     with open(os.path.join(source, "main.rt"), "w") as file:
         file.write(MAIN)
-    lines = [f"{name}: {deps}\n" for name, deps in CRATES.items()] + ["decode_rounds: batch_codec jaeger_model anyhow\n"]
+    lines = [f"{name}: {deps}\n" for name, deps in CRATES.items()] + ["decode_rounds: batch_codec batch_feeder jaeger_model anyhow\n"]
     with open(os.path.join(top, "crates.txt"), "w") as file:
         file.writelines(lines)
     crate = os.path.dirname(source)

@@ -11,6 +11,9 @@ use Rattle.trace_model.specs.Histories.{last_number, span_count}
 use Rattle.trace_model.specs.Refusals.{has_room, refusal_of}
 use Rattle.trace_model.proofs.Legality.{legal_push, span_count_push}
 use Rattle.arrival_journal.specs.Invariants.{IsKept}
+use Rattle.arrival_journal.specs.declared.times.Times.{Times}
+use Rattle.arrival_journal.specs.Times.{times_in}
+use Rattle.std.proofs.lemmas.List.{map_push}
 
 -- what it is that the history takes the entry
 pub record MayFollow (limits : Limits) (h : List Entry) (e : Entry) : Type 0 where
@@ -50,13 +53,17 @@ last_push h e old new last rises noted seat =
     ] refl
     ∙ sym (last_number_push seat h e)
 
-pub kept_push : (limits : Limits) (h : List Entry) (most most' spans : ℕ) (e : Entry) (old new : List ℕ) (seats seats' : ℕ) → IsKept limits h most spans old seats → refusal_of limits h e ≡ None
-    → ((seat : ℕ) → get_or new seat 0 ≡ (if e.seat == seat then e.number else get_or old seat 0)) → most' ≡ most → seats' ≡ seats → IsKept limits (h ++ e ∷ []) most' (spans + length e.batch.spans) new seats'
-kept_push limits h most most' spans e old new seats seats' kept none noted same stays =
+pub kept_push : (limits : Limits) (h : List Entry) (most most' : ℕ) (times times' : List Times) (most_times most_times' spans : ℕ) (e : Entry) (old new : List ℕ) (seats seats' : ℕ)
+    → IsKept limits h most times most_times spans old seats → refusal_of limits h e ≡ None → times' ≡ times ++ times_in e ∷ []
+    → ((seat : ℕ) → get_or new seat 0 ≡ (if e.seat == seat then e.number else get_or old seat 0)) → most' ≡ most → most_times' ≡ most_times → seats' ≡ seats
+    → IsKept limits (h ++ e ∷ []) most' times' most_times' (spans + length e.batch.spans) new seats'
+kept_push limits h most most' times times' most_times most_times' spans e old new seats seats' kept none timed noted same same_times stays =
     let follows = may_follow limits h e none in
     record {
       legal = legal_push limits h e kept.legal follows.rises follows.batches follows.spans;
       room = let room = kept.room in omega arith;
+      timed = timed ∙ ap (λ ts. ts ++ times_in e ∷ []) kept.timed ∙ sym (map_push times_in h e);
+      room_for_times = let room = kept.room_for_times in omega arith;
       counted = ap (λ k. k + length e.batch.spans) kept.counted ∙ sym (span_count_push h e);
       last = last_push h e old new kept.last follows.rises noted;
       seats_fit = let fit = kept.seats_fit in omega arith;

@@ -6,8 +6,10 @@ ghost use Rattle.trace_model.specs.Histories.{span_count, last_number, IsLegal};
 ghost use Rattle.trace_model.specs.Refusals.{followed_by};
 ghost use Rattle.trace_model.specs.Places.{entry_at};
 ghost use Rattle.arrival_journal.specs.Journals.{refusal_by};
+ghost use Rattle.arrival_journal.specs.Times.{times_in};
 
 use crate::seats::{SEATS, note};
+use crate::times::Times;
 use std::alloc::{AllocError, Global};
 use std::marker::Model;
 use std::sync::Arc;
@@ -18,6 +20,8 @@ use trace_model::{Entry, Limits, Refusal};
 pub struct Journal {
     limits: Limits,
     entries: Vec<Arc<Entry>>,
+    /// By entry.
+    times: Vec<Times>,
     spans: u64,
     /// By seat the number of its last entry, 0 where it has none, up to the last seat that has one.
     last_numbers: Vec<u64>,
@@ -35,7 +39,7 @@ impl Model for Journal {
 
     ghost view = { λ j. record { held = record { limits = j.limits; entries = map arc_value j.entries.items } } };
 
-    ghost invariant = { λ j. IsKept j.limits (map arc_value j.entries.items) (vec_capacity j.entries) j.spans j.last_numbers.items (vec_capacity j.last_numbers) };
+    ghost invariant = { λ j. IsKept j.limits (map arc_value j.entries.items) (vec_capacity j.entries) j.times.items (vec_capacity j.times) j.spans j.last_numbers.items (vec_capacity j.last_numbers) };
 }
 
 impl Journal {
@@ -45,10 +49,12 @@ impl Journal {
         ensures { IfOk result (λ journal. journal.held ≡ record { limits = limits; entries = [] }) }
     {
         let entries = Vec::with_capacity(alloc, limits.batches as usize)?;
+        let times = Vec::with_capacity(alloc, limits.batches as usize)?;
         let last_numbers = Vec::with_capacity(alloc, SEATS)?;
         Ok(Journal {
             limits,
             entries,
+            times,
             spans: 0,
             last_numbers,
         })
@@ -98,6 +104,14 @@ impl Journal {
         self.entries.get(before)
     }
 
+    /// When the spans of the entry at a place start, and how long they last. It doesn't look at them.
+    pub fn times(&self, place: u64) -> Option<Times>
+        ensures { result ≡ option_map times_in (entry_at self.now.held.entries place) }
+    {
+        let before = usize::try_from(place.checked_sub(1)?).ok()?;
+        self.times.get(before).copied()
+    }
+
     /// The number of the seat's last entry, 0 if it has none.
     fn last_number(&self, seat: u16) -> u64
         ensures { result ≡ last_number seat self.now.held.entries }
@@ -138,6 +152,7 @@ impl Journal {
     {
         self.spans += entry.batch.spans.len() as u64;
         note(&mut self.last_numbers, entry.seat, entry.number);
+        self.times.push_reserved(Times::of(entry.batch.spans.as_slice()));
         self.entries.push_reserved(entry);
     }
 

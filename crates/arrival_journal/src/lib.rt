@@ -7,10 +7,13 @@
 //! never fails for want of memory.
 //!
 //! * `journal`: the [`Journal`].
+//! * `times`: bounds of the starts and durations of an entry's spans.
 //! * `seats`: the last numbers of seats.
 #![tactic(auto)]
 
 mod journal;
 mod seats;
+mod times;
 
 pub use journal::Journal;
+pub use times::Times;

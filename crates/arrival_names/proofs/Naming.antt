@@ -69,7 +69,7 @@ names_more h e =
     }
 
 -- ---- a list and its last entry
-last_of : (h : List Entry) → 0 < length h → (e : Entry) × (before_last h ++ e ∷ [] ≡ h)
+pub last_of : (h : List Entry) → 0 < length h → (e : Entry) × (before_last h ++ e ∷ [] ≡ h)
 last_of [] some = absurd (omega arith)
 last_of (x ∷ xs) some =
     let h = x ∷ xs in

@@ -15,7 +15,7 @@ use std::io::Write;
 use std::marker::Model;
 use std::sync::Arc;
 use text_lines::LineTaker;
-use trace_model::{Entry, Limits, Refusal};
+use trace_model::{Entry, Limits};
 
 /// The fault of text that isn't hexadecimal.
 fn bad_hex(error: FromHexError) -> Result<LineFault, AllocError>
@@ -74,7 +74,6 @@ fn admit(
     };
     match store.apply(entry) {
         Ok(_) => Ok(None),
-        Err(Refusal::NoMemory) => Err(AllocError),
         Err(refusal) => Ok(Some(LineFault::Refused(refusal))),
     }
 }

@@ -1,3 +1,4 @@
 pub mod Adopting
 pub mod Marking
 pub mod Spots
+pub mod Bounds

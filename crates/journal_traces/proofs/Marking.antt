@@ -1,17 +1,19 @@
 -- The marks of the traces that a search by a service looks at.
-use Rattle.std.proofs.Common.{◌≡◌, ℕ, zero, suc, ◌+◌, ◌-◌, ◌<◌, drop, lt-ltb, ◌≤◌, Bool, true, false, ◌||◌, cond, List, [], ◌∷◌, ◌++◌, map, length, take, get_or, refl, sym, ap, subst, ◌∙◌, arith, Some, None}
-use Rattle.std.specs.Prelude.{filter, slice_get, if◌then◌else◌, not}
+use Rattle.std.proofs.Common.{◌≡◌, ℕ, zero, suc, ◌+◌, ◌-◌, ◌<◌, drop, lt-ltb, ◌≤◌, Bool, true, false, ◌||◌, ◌&&◌, cond, List, [], ◌∷◌, ◌++◌, map, length, take, get_or, refl, sym, ap, subst, ◌∙◌, arith, Some, None}
+use Rattle.std.specs.Prelude.{filter, slice_get, if◌then◌else◌, not, Option}
 use Rattle.std.specs.List.{list_any, position, position_or_len}
 use Rattle.std.proofs.Math.ListN.{set}
 use Rattle.std.proofs.lemmas.Bool.{false≢true}
 use Rattle.std.proofs.lemmas.List.{append-nil, take_more, take_all, flat_map_more, map_push}
-use Rattle.std.proofs.lemmas.List.Elements.{filter-append}
+use Rattle.std.proofs.lemmas.List.Elements.{filter-append, filter_more}
 use Rattle.std.proofs.lemmas.List.Folds.{list_any-append}
 use Rattle.std.proofs.lemmas.List.Quantifiers.{position-Some}
 use Rattle.std.proofs.lemmas.Option.{slice_get-get_or}
 use Rattle.jaeger_model.specs.declared.ids.TraceId.{TraceId}
 use Rattle.jaeger_model.specs.declared.placed.Placed.{Placed}
 use Rattle.jaeger_model.specs.declared.span.Span.{Span}
+use Rattle.jaeger_model.specs.declared.batch.Process.{Process}
+use Rattle.trace_model.specs.declared.query.Find.{Find}
 use Rattle.jaeger_model.specs.Parents.{same_trace}
 use Rattle.trace_model.specs.declared.entry.Entry.{Entry}
 use Rattle.trace_model.specs.Rings.{holds, newest, arrive}
@@ -22,7 +24,7 @@ use Rattle.trace_ring.specs.Windows.{NoneTwice}
 use Rattle.trace_assembly.specs.declared.spot.Spot.{Spot}
 use Rattle.trace_assembly.specs.Rows.{is_of}
 use Rattle.trace_assembly.proofs.Written.{same_swap}
-use Rattle.journal_traces.specs.Picked.{reaches, spans_at, spans_along}
+use Rattle.journal_traces.specs.Picked.{reaches, meets, met, met_at, met_along, same_before}
 
 -- ---- no trace stands in the ring twice
 either_false : (a b : Bool) → (a || b) ≡ false → (a ≡ false) × (b ≡ false)
@@ -133,44 +135,66 @@ or_assoc false b c = refl
 pub marked_none : (p : TraceId → Bool) (r : List TraceId) → map p r ≡ map (λ u. p u || false) r
 marked_none p r = λ i. map (λ u. or_same (p u) i) r
 
-module _ (ss : List Span) (i : ℕ) (s : Span) (le : i < length ss) (is : s ≡ get_or ss i s) where
-  reach_more : (u : TraceId) → reaches (take (i + 1) ss) u ≡ (reaches (take i ss) u || same_trace u s.trace)
-  reach_more u =
-      ap (list_any (is_of u)) (take_more ss i s le) ∙ list_any-append (is_of u) (take i ss) (get_or ss i s ∷ [])
-      ∙ ap (λ b. reaches (take i ss) u || b) (sym (or_same (is_of u (get_or ss i s))) ∙ ap (is_of u) (sym is))
+-- a span that is no news is of the trace before, or doesn't meet the search
+pub no_news : (again meeting : Bool) → (not again && meeting) ≡ false → meeting ≡ true → again ≡ true
+no_news true m e f = refl
+no_news false m e f = absurd (false≢true (sym e ∙ f))
 
-  pub marked_more : (p : TraceId → Bool) (r : List TraceId) → map (λ u. (p u || reaches (take i ss) u) || same_trace u s.trace) r ≡ map (λ u. p u || reaches (take (i + 1) ss) u) r
-  marked_more p r = λ j. map (λ u. (or_assoc (p u) (reaches (take i ss) u) (same_trace u s.trace) ∙ ap (λ b. p u || b) (sym (reach_more u))) j) r
+pub news : (again meeting : Bool) → (not again && meeting) ≡ true → meeting ≡ true
+news true m e = absurd (false≢true e)
+news false m e = e
 
-  still : reaches (take i ss) s.trace ≡ true → (u : TraceId) → reaches (take i ss) u ≡ (reaches (take i ss) u || same_trace u s.trace)
-  still there u = elim (same_trace u s.trace) as (λ b. same_trace u s.trace ≡ b → reaches (take i ss) u ≡ (reaches (take i ss) u || b)) [
-    | true ↦ λ e. ap (reaches (take i ss)) (same_is u s.trace e) ∙ there ∙ sym (or_true (reaches (take i ss) u))
-    | false ↦ λ _. or_same (reaches (take i ss) u)
+pub before_is : (before : Option TraceId) (t : TraceId) → same_before before t ≡ true → before ≡ Some t
+before_is None t e = absurd (false≢true e)
+before_is (Some b) t e = ap Some (same_is b t e)
+
+module _ (q : Find) (o : Process) (ss : List Span) (i : ℕ) (s : Span) (le : i < length ss) (is : s ≡ get_or ss i s) where
+  more : met q o (take (i + 1) ss) ≡ met q o (take i ss) ++ cond (meets q o s) (s ∷ []) []
+  more = filter_more (meets q o) ss i s le ∙ ap (λ (x : Span). met q o (take i ss) ++ cond (meets q o x) (x ∷ []) []) (sym is)
+
+  -- one that meets the search
+  reach_more : meets q o s ≡ true → (u : TraceId) → reaches (met q o (take (i + 1) ss)) u ≡ (reaches (met q o (take i ss)) u || same_trace u s.trace)
+  reach_more m u =
+      ap (list_any (is_of u)) (more ∙ ap (λ b. met q o (take i ss) ++ cond b (s ∷ []) []) m) ∙ list_any-append (is_of u) (met q o (take i ss)) (s ∷ [])
+      ∙ ap (λ b. reaches (met q o (take i ss)) u || b) (sym (or_same (is_of u s)))
+
+  pub marked_more : (p : TraceId → Bool) (r : List TraceId) → meets q o s ≡ true
+      → map (λ u. (p u || reaches (met q o (take i ss)) u) || same_trace u s.trace) r ≡ map (λ u. p u || reaches (met q o (take (i + 1) ss)) u) r
+  marked_more p r m = λ j. map (λ u. (or_assoc (p u) (reaches (met q o (take i ss)) u) (same_trace u s.trace) ∙ ap (λ b. p u || b) (sym (reach_more m u))) j) r
+
+  still : reaches (met q o (take i ss)) s.trace ≡ true → (u : TraceId) → reaches (met q o (take i ss)) u ≡ (reaches (met q o (take i ss)) u || same_trace u s.trace)
+  still there u = elim (same_trace u s.trace) as (λ b. same_trace u s.trace ≡ b → reaches (met q o (take i ss)) u ≡ (reaches (met q o (take i ss)) u || b)) [
+    | true ↦ λ e. ap (reaches (met q o (take i ss))) (same_is u s.trace e) ∙ there ∙ sym (or_true (reaches (met q o (take i ss)) u))
+    | false ↦ λ _. or_same (reaches (met q o (take i ss)) u)
   ] refl
 
-  -- a trace that was marked before
-  pub marked_again : (p : TraceId → Bool) (r : List TraceId) → reaches (take i ss) s.trace ≡ true → map (λ u. p u || reaches (take i ss) u) r ≡ map (λ u. p u || reaches (take (i + 1) ss) u) r
-  marked_again p r there = λ j. map (λ u. p u || (still there u ∙ sym (reach_more u)) j) r
+  -- one that doesn't meet it, or whose trace was marked before
+  same_reach : (meets q o s ≡ true → reaches (met q o (take i ss)) s.trace ≡ true) → (u : TraceId) → reaches (met q o (take (i + 1) ss)) u ≡ reaches (met q o (take i ss)) u
+  same_reach there u = elim (meets q o s) as (λ b. meets q o s ≡ b → reaches (met q o (take (i + 1) ss)) u ≡ reaches (met q o (take i ss)) u) [
+    | true ↦ λ m. reach_more m u ∙ sym (still (there m) u)
+    | false ↦ λ m. ap (list_any (is_of u)) (more ∙ ap (λ b. met q o (take i ss) ++ cond b (s ∷ []) []) m ∙ append-nil (met q o (take i ss)))
+  ] refl
 
-  pub reached_own : (t : TraceId) → s.trace ≡ t → reaches (take (i + 1) ss) t ≡ true
-  reached_own t own = reach_more t ∙ ap (λ x. reaches (take i ss) t || same_trace t x) own ∙ ap (λ b. reaches (take i ss) t || b) (same_self t) ∙ or_true (reaches (take i ss) t)
+  pub marked_again : (p : TraceId → Bool) (r : List TraceId) → (meets q o s ≡ true → reaches (met q o (take i ss)) s.trace ≡ true)
+      → map (λ u. p u || reaches (met q o (take i ss)) u) r ≡ map (λ u. p u || reaches (met q o (take (i + 1) ss)) u) r
+  marked_again p r there = λ j. map (λ u. p u || sym (same_reach there u) j) r
 
-  pub reached_still : (t : TraceId) → reaches (take i ss) t ≡ true → reaches (take (i + 1) ss) t ≡ true
-  reached_still t there = reach_more t ∙ ap (λ b. b || same_trace t s.trace) there
+  pub reached_own : (t : TraceId) → meets q o s ≡ true → s.trace ≡ t → reaches (met q o (take (i + 1) ss)) t ≡ true
+  reached_own t m own = reach_more m t ∙ ap (λ x. reaches (met q o (take i ss)) t || same_trace t x) own ∙ ap (λ b. reaches (met q o (take i ss)) t || b) (same_self t) ∙ or_true (reaches (met q o (take i ss)) t)
 
-pub marked_all : (p : TraceId → Bool) (r : List TraceId) (ss : List Span) (i : ℕ) → length ss ≤ i → map (λ u. p u || reaches (take i ss) u) r ≡ map (λ u. p u || reaches ss u) r
-marked_all p r ss i le = ap (λ (l : List Span). map (λ u. p u || reaches l u) r) (take_all i ss le)
+  pub reached_still : (t : TraceId) → (meets q o s ≡ true → reaches (met q o (take i ss)) s.trace ≡ true) → reaches (met q o (take i ss)) t ≡ true → reaches (met q o (take (i + 1) ss)) t ≡ true
+  reached_still t there before = same_reach there t ∙ before
+
+pub marked_all : (q : Find) (o : Process) (p : TraceId → Bool) (r : List TraceId) (ss : List Span) (i : ℕ) → length ss ≤ i
+    → map (λ u. p u || reaches (met q o (take i ss)) u) r ≡ map (λ u. p u || reaches (met q o ss) u) r
+marked_all q o p r ss i le = ap (λ (l : List Span). map (λ u. p u || reaches (met q o l) u) r) (take_all i ss le)
 
 -- ---- one more of the places
-pub marked_place : (h : List Entry) (r : List TraceId) (ps : List ℕ) (i : ℕ) → i < length ps
-    → map (λ u. reaches (spans_along h (take i ps)) u || reaches (spans_at h (get_or ps i 0)) u) r ≡ map (reaches (spans_along h (take (i + 1) ps))) r
-marked_place h r ps i le = λ j. map (λ u. sym (
-    ap (λ l. reaches (spans_along h l) u) (take_more ps i 0 le)
-    ∙ ap (λ l. reaches l u) (sym (flat_map_more (spans_at h) [] (take i ps) (get_or ps i 0)))
-    ∙ list_any-append (is_of u) (spans_along h (take i ps)) (spans_at h (get_or ps i 0))) j) r
-
-pub marked_places : (h : List Entry) (r : List TraceId) (ps : List ℕ) (i : ℕ) → length ps ≤ i → map (reaches (spans_along h (take i ps))) r ≡ map (reaches (spans_along h ps)) r
-marked_places h r ps i le = ap (λ l. map (reaches (spans_along h l)) r) (take_all i ps le)
+pub marked_place : (q : Find) (h : List Entry) (r : List TraceId) (done : List ℕ) (place : ℕ)
+    → map (λ u. reaches (met_along q h done) u || reaches (met_at q h place) u) r ≡ map (reaches (met_along q h (done ++ place ∷ []))) r
+marked_place q h r done place = λ j. map (λ u. sym (
+    ap (λ l. reaches l u) (sym (flat_map_more (met_at q h) [] done place))
+    ∙ list_any-append (is_of u) (met_along q h done) (met_at q h place)) j) r
 
 -- ---- what was marked is picked
 pub mark_read : (p : TraceId → Bool) (r : List TraceId) (marks : List Bool) (i : ℕ) (d : TraceId) (b : Bool) → i < length r → marks ≡ map p r → get_or marks i b ≡ p (get_or r i d)

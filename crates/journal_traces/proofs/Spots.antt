@@ -1,5 +1,5 @@
 -- The spans that spots name, one by one.
-use Rattle.std.proofs.Common.{◌≡◌, ℕ, ℤ, zero, suc, ◌+◌, ◌<◌, ◌≤◌, Bool, true, false, ◌||◌, cond, List, [], ◌∷◌, ◌++◌, map, length, take, drop, get_or, refl, sym, ap, ◌∙◌, Some, None, Option}
+use Rattle.std.proofs.Common.{◌≡◌, ℕ, ℤ, zero, suc, ◌+◌, ◌<◌, ◌≤◌, Bool, true, false, ◌||◌, cond, List, [], ◌∷◌, ◌++◌, map, length, take, drop, get_or, append_assoc, refl, sym, ap, ◌∙◌, Some, None, Option}
 use denote.Ref.{Bor}
 use Rattle.std.specs.Prelude.{pos, slice_get, slice_index_or, filter, if◌then◌else◌, flat_map}
 use Rattle.std.specs.List.{list_any, cons_option}
@@ -31,56 +31,48 @@ named_is h (s ∷ ss) (p ∷ ps) e =
     let rest : map (span_at h) ss ≡ map Some ps = cc e in
     ap (λ o. cons_option o (spans_named h ss)) first ∙ ap (λ l. p ∷ l) (named_is h ss ps rest)
 
-abbrev pub no_spot : Spot
-no_spot = record { place = 0; index = 0 }
-
 abbrev pub no_id : TraceId
 no_id = record { high = 0; low = 0 }
 
-module _ (h : List Entry) (ss : List Spot) (i : ℕ) (d : Spot) (le : i < length ss) where
-  -- one more spot is behind
-  named_more : spans_named h (take (i + 1) ss) ≡ spans_named h (take i ss) ++ cons_option (span_at h (get_or ss i d)) []
-  named_more = ap (spans_named h) (take_more ss i d le) ∙ filter_map-append (span_at h) (take i ss) (get_or ss i d ∷ [])
+-- ---- one spot less is in front
+pub named_some : (h : List Entry) (done : List Placed) (s : Spot) (ss : List Spot) (p : Placed) → span_at h s ≡ Some p → (done ++ p ∷ []) ++ spans_named h ss ≡ done ++ spans_named h (s ∷ ss)
+named_some h done s ss p e = append_assoc done (p ∷ []) (spans_named h ss) ∙ ap (λ o. done ++ cons_option o (spans_named h ss)) (sym e)
 
-  pub named_some : (p : Placed) → span_at h (get_or ss i d) ≡ Some p → spans_named h (take (i + 1) ss) ≡ spans_named h (take i ss) ++ p ∷ []
-  named_some p e = named_more ∙ ap (λ o. spans_named h (take i ss) ++ cons_option o []) e
+pub named_none : (h : List Entry) (done : List Placed) (s : Spot) (ss : List Spot) → span_at h s ≡ None → done ++ spans_named h ss ≡ done ++ spans_named h (s ∷ ss)
+named_none h done s ss e = ap (λ o. done ++ cons_option o (spans_named h ss)) (sym e)
 
-  pub named_none : span_at h (get_or ss i d) ≡ None → spans_named h (take (i + 1) ss) ≡ spans_named h (take i ss)
-  named_none e = named_more ∙ ap (λ o. spans_named h (take i ss) ++ cons_option o []) e ∙ append-nil (spans_named h (take i ss))
+pub named_end : (h : List Entry) (done : List Placed) (ss : List Spot) → ss ≡ [] → done ≡ done ++ spans_named h ss
+named_end h done ss e = sym (append-nil done) ∙ ap (λ l. done ++ spans_named h l) (sym e)
 
-  -- one spot less is in front
-  pub named_next : spans_named h (drop i ss) ≡ cons_option (span_at h (get_or ss i d)) (spans_named h (drop (i + 1) ss))
-  named_next = ap (spans_named h) (drop_more ss i d le)
+pub first_none : (h : List Entry) (s : Spot) (ss : List Spot) → span_at h s ≡ None → slice_get (spans_named h ss) 0 ≡ slice_get (spans_named h (s ∷ ss)) 0
+first_none h s ss e = ap (λ o. slice_get (cons_option o (spans_named h ss)) 0) (sym e)
 
-  pub first_none : span_at h (get_or ss i d) ≡ None → slice_get (spans_named h (drop (i + 1) ss)) 0 ≡ slice_get (spans_named h (drop i ss)) 0
-  first_none e = sym (ap (λ l. slice_get l 0) (named_next ∙ ap (λ o. cons_option o (spans_named h (drop (i + 1) ss))) e))
+pub first_some : (h : List Entry) (s : Spot) (ss : List Spot) (p : Placed) → span_at h s ≡ Some p → Some p ≡ slice_get (spans_named h (s ∷ ss)) 0
+first_some h s ss p e = ap (λ o. slice_get (cons_option o (spans_named h ss)) 0) (sym e)
 
-  pub first_some : (p : Placed) → span_at h (get_or ss i d) ≡ Some p → Some p ≡ slice_get (spans_named h (drop i ss)) 0
-  first_some p e = sym (ap (λ l. slice_get l 0) (named_next ∙ ap (λ o. cons_option o (spans_named h (drop (i + 1) ss))) e))
+any_next : (h : List Entry) (w : Placed → Bool) (s : Spot) (ss : List Spot) → list_any w (spans_named h (s ∷ ss)) ≡ (list_any w (spans_named h (s ∷ [])) || list_any w (spans_named h ss))
+any_next h w s ss = elim (span_at h s) as (λ o. list_any w (cons_option o (spans_named h ss)) ≡ (list_any w (cons_option o []) || list_any w (spans_named h ss))) [
+  | None ↦ refl
+  | Some p ↦ elim (w p) as (λ b. (b || list_any w (spans_named h ss)) ≡ ((b || false) || list_any w (spans_named h ss))) [ true ↦ refl | false ↦ refl ]
+]
 
-  any_next : (w : Placed → Bool) → list_any w (spans_named h (drop i ss)) ≡ (list_any w (spans_named h (get_or ss i d ∷ [])) || list_any w (spans_named h (drop (i + 1) ss)))
-  any_next w = ap (list_any w) named_next ∙ elim (span_at h (get_or ss i d)) as (λ o. list_any w (cons_option o (spans_named h (drop (i + 1) ss))) ≡ (list_any w (cons_option o []) || list_any w (spans_named h (drop (i + 1) ss)))) [
-    | None ↦ refl
-    | Some p ↦ elim (w p) as (λ b. (b || list_any w (spans_named h (drop (i + 1) ss))) ≡ ((b || false) || list_any w (spans_named h (drop (i + 1) ss)))) [ true ↦ refl | false ↦ refl ]
-  ]
+pub any_here : (h : List Entry) (w : Placed → Bool) (s : Spot) (ss : List Spot) → list_any w (spans_named h (s ∷ [])) ≡ true → true ≡ list_any w (spans_named h (s ∷ ss))
+any_here h w s ss e = sym (any_next h w s ss ∙ ap (λ b. b || list_any w (spans_named h ss)) e)
 
-  pub any_here : (w : Placed → Bool) → list_any w (spans_named h (get_or ss i d ∷ [])) ≡ true → true ≡ list_any w (spans_named h (drop i ss))
-  any_here w e = sym (any_next w ∙ ap (λ b. b || list_any w (spans_named h (drop (i + 1) ss))) e)
+pub any_later : (h : List Entry) (w : Placed → Bool) (s : Spot) (ss : List Spot) → list_any w (spans_named h (s ∷ [])) ≡ false → list_any w (spans_named h ss) ≡ list_any w (spans_named h (s ∷ ss))
+any_later h w s ss e = sym (any_next h w s ss ∙ ap (λ b. b || list_any w (spans_named h ss)) e)
 
-  pub any_later : (w : Placed → Bool) → list_any w (spans_named h (get_or ss i d ∷ [])) ≡ false → list_any w (spans_named h (drop (i + 1) ss)) ≡ list_any w (spans_named h (drop i ss))
-  any_later w e = sym (any_next w ∙ ap (λ b. b || list_any w (spans_named h (drop (i + 1) ss))) e)
-
-pub none_left : (h : List Entry) (ss : List Spot) (i : ℕ) → length ss ≤ i → spans_named h (drop i ss) ≡ []
-none_left h ss i le = ap (spans_named h) (drop_all i ss le)
+pub any_end : (h : List Entry) (w : Placed → Bool) (ss : List Spot) → ss ≡ [] → false ≡ list_any w (spans_named h ss)
+any_end h w ss e = ap (λ l. list_any w (spans_named h l)) (sym e)
 
 -- the trace at a place
-trace_got : (h : List Entry) (ss : List (Bor (List Spot))) (place : ℕ) (s : Bor (List Spot)) → Some s ≡ slice_get ss place → spans_named h s.now ≡ slice_index_or (traces_named h ss) place []
+trace_got : (h : List Entry) (ss : List (List Spot)) (place : ℕ) (s : List Spot) → Some s ≡ slice_get ss place → spans_named h s ≡ slice_index_or (traces_named h ss) place []
 trace_got h [] place s e = absurd cc
-trace_got h (x ∷ ss) zero s e = let same : s ≡ x = cc e in ap (λ (y : Bor (List Spot)). spans_named h y.now) same
+trace_got h (x ∷ ss) zero s e = let same : s ≡ x = cc e in ap (spans_named h) same
 trace_got h (x ∷ ss) (suc place) s e = trace_got h ss place s e
 
-pub trace_there : (h : List Entry) (ss : List (Bor (List Spot))) (place : ℕ) (r : Option (Bor (Bor (List Spot)))) (s : Bor (Bor (List Spot))) → IsItemAt ss place r → r ≡ Some s
-    → spans_named h s.now.now ≡ slice_index_or (traces_named h ss) place []
+pub trace_there : (h : List Entry) (ss : List (List Spot)) (place : ℕ) (r : Option (Bor (List Spot))) (s : Bor (List Spot)) → IsItemAt ss place r → r ≡ Some s
+    → spans_named h s.now ≡ slice_index_or (traces_named h ss) place []
 trace_there h ss place r s looked is = trace_got h ss place s.now (sym (ap option_copied is) ∙ lent_item ss place r looked)
 
 -- ---- the first of the spans

@@ -2,3 +2,4 @@ pub mod Given
 pub mod Picked
 pub mod Standing
 pub mod Looked
+pub mod Pruned

@@ -1,9 +1,13 @@
--- The traces that a service's entries have spans of.
-use Rattle.std.specs.Prelude.{ℕ, Bool, List, [], flat_map, Option, Some, None, slice_get, if◌then◌else◌}
+-- The traces that a service's entries have spans of which meet a search.
+use Rattle.std.specs.Prelude.{ℕ, Bool, false, List, [], flat_map, Option, Some, None, filter, slice_get, if◌then◌else◌}
 use Rattle.std.specs.Option.{option_and_then}
 use Rattle.std.specs.List.{list_any}
 use Rattle.jaeger_model.specs.declared.ids.TraceId.{TraceId}
 use Rattle.jaeger_model.specs.declared.span.Span.{Span}
+use Rattle.jaeger_model.specs.declared.batch.Process.{Process}
+use Rattle.jaeger_model.specs.Parents.{same_trace}
+use Rattle.trace_model.specs.declared.query.Find.{Find}
+use Rattle.trace_model.specs.Searching.{matches}
 use Rattle.trace_model.specs.declared.entry.Entry.{Entry}
 use Rattle.trace_model.specs.Places.{entry_at}
 use Rattle.trace_assembly.specs.Rows.{is_of}
@@ -16,14 +20,27 @@ picked p r k = option_and_then (λ (t : TraceId). if p t then Some t else None) 
 abbrev pub reaches : List Span → TraceId → Bool
 reaches ss t = list_any (is_of t) ss
 
-abbrev pub spans_or_none : Option Entry → List Span
-spans_or_none None = []
-spans_or_none (Some e) = e.batch.spans
+-- the span of this process meets every condition of the search
+abbrev pub meets : Find → Process → Span → Bool
+meets q p s = matches q (record { process = p; span = s })
 
--- the spans of the entry at this place
-abbrev pub spans_at : List Entry → ℕ → List Span
-spans_at h place = spans_or_none (entry_at h place)
+-- those of them that do
+abbrev pub met : Find → Process → List Span → List Span
+met q p ss = filter (meets q p) ss
+
+abbrev pub met_or_none : Find → Option Entry → List Span
+met_or_none q None = []
+met_or_none q (Some e) = met q e.batch.process e.batch.spans
+
+-- those of the entry at this place
+abbrev pub met_at : Find → List Entry → ℕ → List Span
+met_at q h place = met_or_none q (entry_at h place)
 
 -- those of the entries at these places
-abbrev pub spans_along : List Entry → List ℕ → List Span
-spans_along h places = flat_map (spans_at h) places
+abbrev pub met_along : Find → List Entry → List ℕ → List Span
+met_along q h places = flat_map (met_at q h) places
+
+-- the trace is the one before
+abbrev pub same_before : Option TraceId → TraceId → Bool
+same_before None t = false
+same_before (Some b) t = same_trace b t

@@ -1,6 +1,5 @@
 -- Spans and traces where they stand in the entries.
 use Rattle.std.specs.Prelude.{List, map, filter_map}
-use denote.Ref.{Bor}
 use Rattle.jaeger_model.specs.declared.ids.TraceId.{TraceId}
 use Rattle.jaeger_model.specs.declared.placed.Placed.{Placed}
 use Rattle.trace_model.specs.declared.entry.Entry.{Entry}
@@ -15,9 +14,6 @@ spans_named h ss = filter_map (span_at h) ss
 abbrev pub trace_named : List Entry → (TraceId → List Spot) → TraceId → List Placed
 trace_named h spots t = spans_named h (spots t)
 
-abbrev pub spots_in : List (Bor (List Spot)) → List (List Spot)
-spots_in ss = map (λ (s : Bor (List Spot)). s.now) ss
-
 -- the traces that have these spots
-abbrev pub traces_named : List Entry → List (Bor (List Spot)) → List (List Placed)
-traces_named h ss = map (spans_named h) (spots_in ss)
+abbrev pub traces_named : List Entry → List (List Spot) → List (List Placed)
+traces_named h ss = map (spans_named h) ss

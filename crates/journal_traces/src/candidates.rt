@@ -4,7 +4,7 @@ use crate::standing::{first_id, first_start, is_found};
 use arrival_journal::Journal;
 use find_traces::Searched;
 use jaeger_model::TraceId;
-use trace_assembly::Spot;
+use trace_assembly::Spots;
 use trace_model::Find;
 
 /// Traces that a search looks at, by the spots of their spans in the journal.
@@ -12,7 +12,7 @@ use trace_model::Find;
 pub struct Candidates<'a> {
     pub journal: &'a Journal,
     /// The spots of each trace, those of the one opened longest ago first.
-    pub spots: &'a [&'a [Spot]],
+    pub spots: &'a [Spots<'a>],
 }
 
 impl<'a> Searched for Candidates<'a> {
@@ -26,21 +26,21 @@ impl<'a> Searched for Candidates<'a> {
 
     fn start_at(&self, place: usize) -> i64 {
         match self.spots.get(place) {
-            Some(spots) => first_start(self.journal, spots),
+            Some(spots) => first_start(self.journal, spots.again()),
             None => 0,
         }
     }
 
     fn id_at(&self, place: usize) -> Option<TraceId> {
         match self.spots.get(place) {
-            Some(spots) => first_id(self.journal, spots),
+            Some(spots) => first_id(self.journal, spots.again()),
             None => None,
         }
     }
 
     fn is_found_at(&self, place: usize, query: &Find) -> bool {
         match self.spots.get(place) {
-            Some(spots) => is_found(self.journal, spots, query),
+            Some(spots) => is_found(self.journal, spots.again(), query),
             None => false,
         }
     }

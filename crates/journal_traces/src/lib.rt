@@ -3,6 +3,7 @@
 //!
 //! * `standing`: the spans that spots name.
 //! * `gathering`: these spans, copied.
+//! * `pruning`: entries that a search passes over by the bounds of their spans' times.
 //! * `searching`: which traces a search by a service looks at.
 //! * `candidates`: these traces, as a search looks at them.
 //! * `seeing`: the spans of the traces in a window of time.
@@ -10,6 +11,7 @@
 
 mod candidates;
 mod gathering;
+mod pruning;
 mod searching;
 mod seeing;
 mod standing;

@@ -1,19 +1,26 @@
 //! The traces that a search by a service has to look at.
 
-ghost use Rattle.std.specs.Prelude.{◌≡◌, Bool, ◌||◌, Some, IfOk, map, filter, length};
+ghost use Rattle.std.specs.Prelude.{
+    ◌≡◌, Bool, ◌||◌, ◌&&◌, not, [], IfOk, map, filter, length
+};
 ghost use Rattle.std.specs.Bool.{OnTrue};
 ghost use Rattle.jaeger_model.specs.Parents.{same_trace};
 ghost use Rattle.jaeger_model.specs.declared.ids.TraceId.{TraceId as Trace};
 ghost use Rattle.trace_assembly.specs.Rows.{spots_of};
 ghost use Rattle.trace_ring.specs.Windows.{NoneTwice};
-ghost use Rattle.journal_traces.specs.Picked.{reaches, spans_at, spans_along};
-ghost use Rattle.journal_traces.specs.Standing.{spots_in};
+ghost use Rattle.journal_traces.specs.Picked.{
+    reaches, meets, met, met_at, met_along, same_before
+};
 
+use crate::pruning::may_meet;
 use crate::seeing::ring_ids;
 use arrival_journal::Journal;
-use jaeger_model::{Span, TraceId};
+use find_traces::is_match;
+use jaeger_model::{Process, Seen, Span, TraceId};
+use service_places::Places;
 use std::alloc::{AllocError, Global};
-use trace_assembly::{Assembly, Spot};
+use trace_assembly::{Assembly, Spots};
+use trace_model::Find;
 use trace_ring::Ring;
 
 /// Marks a trace, if it stands in the ring. There is a mark for each trace of the ring.
@@ -30,7 +37,7 @@ fn mark_trace(marks: &mut [bool], ring: &Ring, trace: TraceId)
 
 /// The trace is the one before.
 fn is_again(before: Option<TraceId>, trace: TraceId) -> bool
-    ensures { OnTrue result (before ≡ Some trace) }
+    ensures { result ≡ same_before before trace }
 {
     match before {
         Some(before) => before == trace,
@@ -38,48 +45,78 @@ fn is_again(before: Option<TraceId>, trace: TraceId) -> bool
     }
 }
 
-/// Marks the traces of the spans that stand in the ring.
-fn mark_spans(marks: &mut [bool], ring: &Ring, spans: &[Span])
+/// The span meets the search, and its trace is not the one before.
+fn is_news(before: Option<TraceId>, process: &Process, span: &Span, query: &Find) -> bool
+    ensures { result ≡
+        not (same_before before span.now.trace) && meets query.now process.now span.now }
+{
+    !is_again(before, span.trace) && is_match(Seen { process, span }, query)
+}
+
+/// Marks the traces that stand in the ring and of which one of the spans meets the search.
+fn mark_spans(
+    marks: &mut [bool],
+    ring: &Ring,
+    process: &Process,
+    spans: &[Span],
+    query: &Find,
+)
     requires once { NoneTwice ring.now.ids }
     requires size { length marks.old ≡ length ring.now.ids }
-    ensures { (p : Trace → Bool) → marks.old ≡ map p ring.now.ids →
-        marks.new ≡ map (λ t. p t || reaches spans.now t) ring.now.ids }
+    ensures { (p : Trace → Bool) → marks.old ≡ map p ring.now.ids → marks.new ≡
+        map (λ t. p t || reaches (met query.now process.now spans.now) t) ring.now.ids }
 {
     let mut before = None;
     for span in spans {
-        if !is_again(before, span.trace) {
+        if is_news(before, process, span, query) {
             mark_trace(marks, ring, span.trace);
             before = Some(span.trace);
         }
     }
 }
 
-/// The same for the entry at a place.
-fn mark_entry(marks: &mut [bool], ring: &Ring, journal: &Journal, place: u64)
-    requires once { NoneTwice ring.now.ids }
-    requires size { length marks.old ≡ length ring.now.ids }
-    ensures { (p : Trace → Bool) → marks.old ≡ map p ring.now.ids →
-        marks.new ≡ map (λ t. p t || reaches (spans_at journal.now.held.entries place) t) ring.now.ids }
+/// Whether no span of the entry at a place can meet the search, by the bounds of their times alone.
+fn is_passed(journal: &Journal, place: u64, query: &Find) -> bool
+    ensures { OnTrue result (met_at query.now journal.now.held.entries place ≡ []) }
 {
-    if let Some(entry) = journal.entry(place) {
-        mark_spans(marks, ring, entry.batch.spans.as_slice());
+    match journal.times(place) {
+        Some(times) => !may_meet(times, query),
+        None => true,
     }
 }
 
-/// For each trace of the ring whether the entries at these places have spans of it.
+/// The same for the entry at a place.
+fn mark_entry(marks: &mut [bool], ring: &Ring, journal: &Journal, place: u64, query: &Find)
+    requires once { NoneTwice ring.now.ids }
+    requires size { length marks.old ≡ length ring.now.ids }
+    ensures { (p : Trace → Bool) → marks.old ≡ map p ring.now.ids →
+        marks.new ≡ map (λ t. p t || reaches (met_at query.now journal.now.held.entries place) t)
+            ring.now.ids }
+{
+    if is_passed(journal, place, query) {
+        return;
+    }
+    if let Some(entry) = journal.entry(place) {
+        let batch = &entry.batch;
+        mark_spans(marks, ring, &batch.process, batch.spans.as_slice(), query);
+    }
+}
+
+/// For each trace of the ring whether the entries at these places have a span of it that meets the search.
 fn marks_along(
     alloc: Global,
     ring: &Ring,
     journal: &Journal,
-    places: &[u64],
+    places: Places<'_>,
+    query: &Find,
 ) -> Result<Vec<bool>, AllocError>
     requires { NoneTwice ring.now.ids }
     ensures { IfOk result (λ v. v.items ≡
-        map (reaches (spans_along journal.now.held.entries places.now)) ring.now.ids) }
+        map (reaches (met_along query.now journal.now.held.entries places.entry)) ring.now.ids) }
 {
     let mut marks = vec![in alloc; false; ring.len()]?;
     for place in places {
-        mark_entry(&mut marks, ring, journal, *place);
+        mark_entry(&mut marks, ring, journal, place, query);
     }
     Ok(marks)
 }
@@ -90,22 +127,22 @@ fn marked_spots<'a>(
     assembly: &'a Assembly,
     ids: &[TraceId],
     marks: &[bool],
-) -> Result<Vec<&'a [Spot]>, AllocError>
+) -> Result<Vec<Spots<'a>>, AllocError>
     requires { length ids.now ≡ length marks.now }
     ensures { (p : Trace → Bool) → marks.now ≡ map p ids.now →
-        IfOk result (λ v. spots_in v.items ≡ map (spots_of assembly.now) (filter p ids.now)) }
+        IfOk result (λ v. v.items ≡ map (spots_of assembly.now) (filter p ids.now)) }
 {
     let mut spots = Vec::new(alloc);
     for (place, id) in ids.iter().enumerate() {
         if marks[place] {
-            spots.push(assembly.spans_of(*id))?;
+            spots.push(assembly.spots(*id))?;
         }
     }
     Ok(spots)
 }
 
-/// The spots of each trace of the ring that the entries at these places have spans of, those of the
-/// one opened longest ago first. It looks at these entries and at no others.
+/// The spots of each trace of the ring of which the entries at these places have a span that meets the
+/// search, those of the one opened longest ago first. It looks at these entries and at no others.
 ///
 /// # Errors
 ///
@@ -115,13 +152,14 @@ pub fn spots_along<'a>(
     ring: &Ring,
     assembly: &'a Assembly,
     journal: &Journal,
-    places: &[u64],
-) -> Result<Vec<&'a [Spot]>, AllocError>
+    places: Places<'_>,
+    query: &Find,
+) -> Result<Vec<Spots<'a>>, AllocError>
     requires { NoneTwice ring.now.ids }
-    ensures { IfOk result (λ v. spots_in v.items ≡ map (spots_of assembly.now)
-        (filter (reaches (spans_along journal.now.held.entries places.now)) ring.now.ids)) }
+    ensures { IfOk result (λ v. v.items ≡ map (spots_of assembly.now)
+        (filter (reaches (met_along query.now journal.now.held.entries places.entry)) ring.now.ids)) }
 {
-    let marks = marks_along(alloc, ring, journal, places)?;
+    let marks = marks_along(alloc, ring, journal, places, query)?;
     let ids = ring_ids(alloc, ring)?;
     marked_spots(alloc, assembly, &ids, &marks)
 }

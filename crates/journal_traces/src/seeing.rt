@@ -11,16 +11,20 @@ use crate::standing::{reaches_window, seen_at};
 use arrival_journal::Journal;
 use jaeger_model::{Seen, TraceId};
 use std::alloc::{AllocError, Global};
-use trace_assembly::{Assembly, Spot};
+use trace_assembly::{Assembly, Spots};
 use trace_ring::Ring;
 
 /// The spans that the spots name, in their order.
-fn see<'a>(alloc: Global, journal: &'a Journal, spots: &[Spot]) -> Result<Vec<Seen<'a>>, AllocError>
-    ensures { IfOk result (λ v. given_all v.items ≡ spans_named journal.now.held.entries spots.now) }
+fn see<'a>(
+    alloc: Global,
+    journal: &'a Journal,
+    spots: Spots<'_>,
+) -> Result<Vec<Seen<'a>>, AllocError>
+    ensures { IfOk result (λ v. given_all v.items ≡ spans_named journal.now.held.entries spots.entry) }
 {
     let mut spans = Vec::new(alloc);
     for spot in spots {
-        if let Some(seen) = seen_at(journal, *spot) {
+        if let Some(seen) = seen_at(journal, spot) {
             spans.push(seen)?;
         }
     }
@@ -62,8 +66,8 @@ pub fn see_within<'a>(
 {
     let mut traces = Vec::new(alloc);
     for id in ids {
-        let spots = assembly.spans_of(*id);
-        if reaches_window(journal, spots, end_ms, lookback_ms) {
+        let spots = assembly.spots(*id);
+        if reaches_window(journal, spots.again(), end_ms, lookback_ms) {
             traces.push(see(alloc, journal, spots)?)?;
         }
     }

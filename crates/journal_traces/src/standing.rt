@@ -12,7 +12,7 @@ use arrival_journal::Journal;
 use find_traces::is_match;
 use jaeger_model::{Seen, TraceId};
 use span_steps::is_in_window;
-use trace_assembly::Spot;
+use trace_assembly::{Spot, Spots};
 use trace_model::Find;
 
 /// The span that a spot names.
@@ -28,11 +28,11 @@ pub(crate) fn seen_at(journal: &Journal, spot: Spot) -> Option<Seen<'_>>
 }
 
 /// The first span that the spots name.
-fn first_seen<'a>(journal: &'a Journal, spots: &[Spot]) -> Option<Seen<'a>>
-    ensures { option_map given result ≡ slice_get (spans_named journal.now.held.entries spots.now) 0 }
+fn first_seen<'a>(journal: &'a Journal, spots: Spots<'_>) -> Option<Seen<'a>>
+    ensures { option_map given result ≡ slice_get (spans_named journal.now.held.entries spots.entry) 0 }
 {
     for spot in spots {
-        if let Some(seen) = seen_at(journal, *spot) {
+        if let Some(seen) = seen_at(journal, spot) {
             return Some(seen);
         }
     }
@@ -46,8 +46,8 @@ fn start(seen: Seen<'_>) -> i64
 }
 
 /// The start of the first of the spans; 0 where there is none.
-pub(crate) fn first_start(journal: &Journal, spots: &[Spot]) -> i64
-    ensures { result ≡ first_start (spans_named journal.now.held.entries spots.now) }
+pub(crate) fn first_start(journal: &Journal, spots: Spots<'_>) -> i64
+    ensures { result ≡ first_start (spans_named journal.now.held.entries spots.entry) }
 {
     match first_seen(journal, spots) {
         Some(seen) => start(seen),
@@ -56,8 +56,8 @@ pub(crate) fn first_start(journal: &Journal, spots: &[Spot]) -> i64
 }
 
 /// The trace of the first of the spans.
-pub(crate) fn first_id(journal: &Journal, spots: &[Spot]) -> Option<TraceId>
-    ensures { result ≡ first_id (spans_named journal.now.held.entries spots.now) }
+pub(crate) fn first_id(journal: &Journal, spots: Spots<'_>) -> Option<TraceId>
+    ensures { result ≡ first_id (spans_named journal.now.held.entries spots.entry) }
 {
     match first_seen(journal, spots) {
         Some(seen) => Some(seen.span.trace),
@@ -78,12 +78,12 @@ fn is_match_at(journal: &Journal, spot: Spot, query: &Find) -> bool
 
 /// Whether one of the spans meets every condition of the search. None is copied, and none is looked
 /// at after that one.
-pub(crate) fn is_found(journal: &Journal, spots: &[Spot], query: &Find) -> bool
+pub(crate) fn is_found(journal: &Journal, spots: Spots<'_>, query: &Find) -> bool
     ensures { result ≡
-        list_any (matches query.now) (spans_named journal.now.held.entries spots.now) }
+        list_any (matches query.now) (spans_named journal.now.held.entries spots.entry) }
 {
     for spot in spots {
-        if is_match_at(journal, *spot, query) {
+        if is_match_at(journal, spot, query) {
             return true;
         }
     }
@@ -104,15 +104,15 @@ fn starts_within(journal: &Journal, spot: Spot, end_ms: i64, lookback_ms: i64) -
 /// Whether one of the spans starts strictly between the bounds.
 pub(crate) fn reaches_window(
     journal: &Journal,
-    spots: &[Spot],
+    spots: Spots<'_>,
     end_ms: i64,
     lookback_ms: i64,
 ) -> bool
     ensures { result ≡ list_any (in_window end_ms lookback_ms)
-        (spans_named journal.now.held.entries spots.now) }
+        (spans_named journal.now.held.entries spots.entry) }
 {
     for spot in spots {
-        if starts_within(journal, *spot, end_ms, lookback_ms) {
+        if starts_within(journal, spot, end_ms, lookback_ms) {
             return true;
         }
     }

@@ -1,14 +1,14 @@
 //! What is accepted, and two copies of a store that hold beginnings of it. One copy is shown; the other
 //! is brought up to date, and they change their parts.
 
-ghost use Rattle.std.specs.Prelude.{◌≡◌, ◌++◌, [], length, map, None, OnOk, OnErr, IfOk, IfErr};
+ghost use Rattle.std.specs.Prelude.{◌≡◌, ◌++◌, [], length, map, Some, None, OnOk, OnErr, IfOk, IfErr};
 ghost use Rattle.std.specs.Arc.{arc_value};
 ghost use mathlib.Core.List.{IsPrefix};
 ghost use Rattle.trace_model.specs.Answers.{answer};
 ghost use Rattle.trace_model.specs.Histories.{IsLegal};
 ghost use Rattle.trace_model.specs.Refusals.{followed_by};
 ghost use Rattle.trace_model.specs.declared.refusal.Refusal.TheVariants.{NoMemory};
-ghost use Rattle.arrival_journal.specs.Journals.{refusal_by, turned_away_by};
+ghost use Rattle.arrival_journal.specs.Journals.{refusal_by};
 ghost use Rattle.schedule_core.specs.Copied.{all_of, turned, with_pending};
 
 use arrival_journal::Journal;
@@ -69,7 +69,7 @@ impl Copies {
         ensures admissible { OnOk result (refusal_by (all_of self.old) (arc_value entry) ≡ None) }
         ensures admitted { OnOk result (self.new ≡ with_pending self.old (arc_value entry)) }
         ensures unchanged { OnErr result (self.new ≡ self.old) }
-        ensures reason { IfErr result (λ why. why ≡ turned_away_by (all_of self.old) (arc_value entry)) }
+        ensures reason { IfErr result (λ why. Some why ≡ refusal_by (all_of self.old) (arc_value entry)) }
     {
         self.accepted.admit(entry)?;
         Ok(())

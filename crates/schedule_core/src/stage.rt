@@ -22,7 +22,7 @@ use std::alloc::{AllocError, Global};
 use std::hash::RandomState;
 use std::marker::Model;
 use std::sync::Arc;
-use trace_model::{Answer, Entry, Limits, Query, Refusal};
+use trace_model::{Answer, Entry, Limits, Query};
 
 /// The machine with the two copies that it keeps.
 #[derive(Drop)]
@@ -208,7 +208,6 @@ fn judge(copies: &mut Copies, job: Arc<Entry>) -> Result<Outcome, AllocError>
     let (seat, number) = (job.seat, job.number);
     match copies.admit(job) {
         Ok(()) => Ok(Outcome::Taken { seat, number }),
-        Err(Refusal::NoMemory) => Err(AllocError),
         Err(why) => Ok(Outcome::Refused(why)),
     }
 }

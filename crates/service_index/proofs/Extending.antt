@@ -13,7 +13,7 @@ map_agree count f g same (n ∷ numbers) held =
     let rest = map_agree count f g same numbers (λ r below. held (suc r) (omega arith)) in
     λ i. first i ∷ rest i
 
-named_extends : (names more : Names) (t : Table) → Extends names more → IsNamed names t → IsNamed more t
+pub named_extends : (names more : Names) (t : Table) → Extends names more → IsNamed names t → IsNamed more t
 named_extends names more t e h = record {
   numbers = record { held = λ r below. let b = h.numbers.held r below in let c = e.count in omega arith };
   leads = subst (IsTable (start_of t.keys (length t.slots)) t.room t.slots) (sym (map_agree names.count more.at names.at e.same t.numbers h.numbers.held)) h.leads;
@@ -25,7 +25,7 @@ services_extend names more e = record {
   same = λ n below. ap (λ (l : Listed). service_alone l.service) (e.same n below);
 }
 
-owners_extend : (names more : Names) (numbers : List ℕ) → Extends names more → AreNumbers names numbers → owners more numbers ≡ owners names numbers
+pub owners_extend : (names more : Names) (numbers : List ℕ) → Extends names more → AreNumbers names numbers → owners more numbers ≡ owners names numbers
 owners_extend names more numbers e h = map_agree names.count (λ n. (more.at n).service) (λ n. (names.at n).service) (λ n below. ap (λ (l : Listed). l.service) (e.same n below)) numbers h.held
 
 pub indexed_extends : (names more : Names) (index : Index) → Extends names more → IsIndexed names index → IsIndexed more index

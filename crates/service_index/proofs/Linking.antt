@@ -91,7 +91,7 @@ service_new names numbers s r is past =
 abbrev pub Distinct : List (List ℕ) → Type 0
 Distinct services = (i j : ℕ) → i < j → j < length services → get_or services i [] ≡ get_or services j [] → ⊥
 
-distinct : (names : Names) (t : Table) → IsNamed (services_of names) t → Distinct (owners names t.numbers)
+pub distinct : (names : Names) (t : Table) → IsNamed (services_of names) t → Distinct (owners names t.numbers)
 distinct names t h i j below within same =
     let l = length-map t.numbers (services_of names).at in
     let m = length-map t.numbers (λ n. (names.at n).service) in
@@ -151,7 +151,7 @@ or_known true b h = refl
 or_known false true h = h refl
 or_known false false h = refl
 
-linked_known : (rows services : List (List ℕ)) (newest earlier : List ℕ) (s : ℕ) (new : List ℕ) → IsLinked rows services newest earlier → Distinct services → s < length services → get_or services s [] ≡ new
+pub linked_known : (rows services : List (List ℕ)) (newest earlier : List ℕ) (s : ℕ) (new : List ℕ) → IsLinked rows services newest earlier → Distinct services → s < length services → get_or services s [] ≡ new
     → IsLinked (rows ++ new ∷ []) services (set newest s (length rows + 1)) (earlier ++ get_or newest s 0 ∷ [])
 linked_known rows services newest earlier s new h apart within own =
     let a = h.as_many in
@@ -178,10 +178,10 @@ linked_known rows services newest earlier s new h apart within own =
       | inr past ↦ apart s r (omega arith) rn (sym same)
     ]
 
-none_of : (xs : List (List ℕ)) (s : List ℕ) → list_any (same_text s) xs ≡ false → (k : ℕ) → k < length xs → s ≡ get_or xs k [] → ⊥
+pub none_of : (xs : List (List ℕ)) (s : List ℕ) → list_any (same_text s) xs ≡ false → (k : ℕ) → k < length xs → s ≡ get_or xs k [] → ⊥
 none_of xs s none k below is = false≢true (sym none ∙ list_any_at (same_text s) xs k [] below (ap (same_text s) (sym is) ∙ same_self s))
 
-linked_new : (rows services : List (List ℕ)) (newest earlier : List ℕ) (new : List ℕ) → IsLinked rows services newest earlier → list_any (same_text new) services ≡ false
+pub linked_new : (rows services : List (List ℕ)) (newest earlier : List ℕ) (new : List ℕ) → IsLinked rows services newest earlier → list_any (same_text new) services ≡ false
     → IsLinked (rows ++ new ∷ []) (services ++ new ∷ []) (newest ++ (length rows + 1) ∷ []) (earlier ++ 0 ∷ [])
 linked_new rows services newest earlier new h absent =
     let a = h.as_many in

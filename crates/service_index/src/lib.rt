@@ -14,7 +14,7 @@
 //! * `index`: the index that holds its names.
 //! * `name_index`: the index that reads them where they stand.
 //! * `texts`: where names stand.
-//! * `name_table`: numbers by names, open-addressed.
+//! * `name_table`: numbers by names, open-addressed: the [`NameTable`].
 //! * `operation_sets`: the operations of one service, as a set in order.
 //! * `laws`: facts about the definitions of `specs/`.
 #![tactic(auto)]
@@ -28,4 +28,5 @@ mod texts;
 
 pub use index::ServiceIndex;
 pub use name_index::NameIndex;
-pub use texts::Texts;
+pub use name_table::NameTable;
+pub use texts::{Name, Texts};

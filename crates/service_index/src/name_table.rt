@@ -12,7 +12,7 @@ use std::marker::Model;
 /// Numbers of different names, in the order of adding. The row of a number is how many were added
 /// before it.
 #[derive(Drop)]
-pub(crate) struct NameTable {
+pub struct NameTable {
     keys: RandomState,
     room: u32,
     /// A number's row and one more, at the first place that was free from where the hash of its name
@@ -78,7 +78,11 @@ fn walk<T: Texts>(slots: &[u32], numbers: &[u32], start: usize, texts: &T, name:
 
 impl NameTable {
     /// A table with no number and room for so many.
-    pub(crate) fn with_room(alloc: Global, keys: RandomState, room: u32) -> Result<Self, AllocError>
+    ///
+    /// # Errors
+    ///
+    /// Want of memory alone.
+    pub fn with_room(alloc: Global, keys: RandomState, room: u32) -> Result<Self, AllocError>
         ensures numbers { IfOk result (λ table. table.numbers ≡ []) }
         ensures room { IfOk result (λ table. table.room ≡ room) }
         ensures leads { IfOk result (λ table. (names : Names) → IsNamed names table) }
@@ -94,14 +98,14 @@ impl NameTable {
     }
 
     /// The numbers, the row of each its place.
-    pub(crate) fn numbers(&self) -> &[u32]
+    pub fn numbers(&self) -> &[u32]
         ensures { result.now ≡ self.now.numbers }
     {
         &self.numbers
     }
 
     /// The row of a name, or how many rows there are where the name is not known.
-    pub(crate) fn row_of<T: Texts>(&self, texts: &T, name: Name<'_>) -> u32
+    pub fn row_of<T: Texts>(&self, texts: &T, name: Name<'_>) -> u32
         requires { IsNamed (T.names texts.now) self.now }
         ensures { result ≡ row_of (T.names texts.now) self.now.numbers (named name.entry) }
     {
@@ -114,7 +118,7 @@ impl NameTable {
     }
 
     /// Adds a number unless a number of its name is there, and gives the row of the name.
-    pub(crate) fn add<T: Texts>(&mut self, texts: &T, n: u32) -> u32
+    pub fn add<T: Texts>(&mut self, texts: &T, n: u32) -> u32
         requires leads { IsNamed (T.names texts.now) self.old }
         requires held { n < (T.names texts.now).count }
         requires room { length self.old.numbers < self.old.room }

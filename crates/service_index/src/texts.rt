@@ -20,10 +20,10 @@ pub trait Texts {
 
 /// An operation of a service with its kind.
 #[derive(Clone, Copy)]
-pub(crate) struct Name<'a> {
-    pub(crate) service: &'a str,
-    pub(crate) operation: &'a str,
-    pub(crate) kind: &'a str,
+pub struct Name<'a> {
+    pub service: &'a str,
+    pub operation: &'a str,
+    pub kind: &'a str,
 }
 
 /// The name of a number.

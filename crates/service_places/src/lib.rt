@@ -1,14 +1,18 @@
-//! Which entries each service reported, by their places.
+//! Which entries each service reported, by their places, in room taken once.
 //!
 //! A batch has one process, so each entry stands under one service. A search by a service then looks
-//! at the entries of that service and at no others, and an entry more costs the same however many
-//! there are, up to a logarithm of the number of services.
+//! at the entries of that service and at no others. The places follow a list of entries that grows at
+//! its end: each call is given the list, and what they hold of it is a clause of each call (`IsKept`).
+//! Following one more entry takes no memory, and costs the same however many entries there are.
 //!
-//! * `row`: the places of one service.
+//! * `reporters`: the services of entries, where they stand.
+//! * `along`: the places of one service.
 //! * `places`: the [`ServicePlaces`].
 #![tactic(auto)]
 
+mod along;
 mod places;
-mod row;
+mod reporters;
 
+pub use along::Places;
 pub use places::ServicePlaces;

@@ -1,71 +1,100 @@
-ghost use Rattle.std.specs.Prelude.{◌≡◌, ℕ, ◌<◌, [], List, OnOk};
-ghost use Rattle.service_places.specs.Reported.{places_of, room_of, with_place};
+ghost use Rattle.std.specs.Prelude.{◌≡◌, ◌<◌, ◌≤◌, [], map, length, IfOk};
+ghost use Rattle.std.specs.Arc.{arc_value};
+ghost use Rattle.arrival_names.specs.Numbers.{before_last};
+ghost use Rattle.service_places.specs.Reported.{IsKept, places_of};
 
-use crate::row::Row;
-use jaeger_model::Text;
+use crate::along::Places;
+use crate::reporters::Reporters;
+use service_index::{Name, NameTable};
 use std::alloc::{AllocError, Global};
-use std::collections::BTreeMap;
+use std::hash::RandomState;
 use std::marker::Model;
+use std::sync::Arc;
+use trace_model::Entry;
 
-/// The places of the entries of each service, in the order in which they were added.
+/// The places of the entries of each service of a list of entries that grows at its end.
 #[derive(Drop)]
 pub struct ServicePlaces {
-    alloc: Global,
-    rows: BTreeMap<Text, Row>,
+    batches: u32,
+    /// For each service how many entries stand before the first one of it.
+    services: NameTable,
+    /// For each service the place of its newest entry.
+    newest: Vec<u32>,
+    /// For each entry the place of the one of its service before it, 0 where it is the first.
+    earlier: Vec<u32>,
 }
 
 impl Model for ServicePlaces {
-    ghost use Rattle.std.specs.Prelude.{List, ℕ};
-    ghost use Rattle.service_places.specs.Reported.{Row as Kept};
+    ghost use Rattle.std.specs.Prelude.{vec_capacity, ◌≤◌};
+    ghost use Rattle.service_places.specs.Reported.{Reported};
 
-    ghost Value = { List (List ℕ × Kept) };
+    ghost Value = { Reported };
 
-    ghost view = { λ p. p.rows.entries };
+    ghost view = { λ p. record { services = p.services; newest = p.newest.items; earlier = p.earlier.items; batches = p.batches } };
+
+    ghost invariant = { λ p. (p.batches ≤ vec_capacity p.newest) × (p.batches ≤ vec_capacity p.earlier) };
 }
 
 impl ServicePlaces {
-    /// No service has a place.
-    pub fn new(alloc: Global) -> Self
-        ensures { (s : List ℕ) → places_of result s ≡ [] }
+    /// The places of no entry, with room for so many entries. The keys decide where services stand in
+    /// the table that they are found in.
+    ///
+    /// # Errors
+    ///
+    /// Want of memory alone.
+    pub fn with_room(alloc: Global, keys: RandomState, batches: u32) -> Result<Self, AllocError>
+        ensures kept { IfOk result (λ places. IsKept [] places) }
+        ensures batches { IfOk result (λ places. places.batches ≡ batches) }
     {
-        ServicePlaces {
-            alloc,
-            rows: BTreeMap::new(alloc),
+        let services = NameTable::with_room(alloc, keys, batches)?;
+        let newest = Vec::with_capacity(alloc, batches as usize)?;
+        let earlier = Vec::with_capacity(alloc, batches as usize)?;
+        Ok(ServicePlaces {
+            batches,
+            services,
+            newest,
+            earlier,
+        })
+    }
+
+    /// Follows the list, which has one more entry at its end. It takes no memory.
+    pub fn add(&mut self, entries: &[Arc<Entry>])
+        requires some { 0 < length entries.now }
+        requires kept { IsKept (before_last (map arc_value entries.now)) self.old }
+        requires batches { length entries.now ≤ self.old.batches }
+        ensures kept { IsKept (map arc_value entries.now) self.new }
+        ensures batches { self.new.batches ≡ self.old.batches }
+    {
+        let before = (entries.len() - 1) as u32;
+        let service = self.services.add(&Reporters { entries }, before) as usize;
+        if service < self.newest.len() {
+            self.earlier.push_reserved(self.newest[service]);
+            self.newest[service] = before + 1;
+        } else {
+            self.earlier.push_reserved(0);
+            self.newest.push_reserved(before + 1);
         }
     }
 
-    /// The places of a service, in the order in which they were added.
-    pub fn places_of(&self, service: &Text) -> &[u64]
-        ensures { result.now ≡ places_of self.now service.now }
+    /// The places of a service's entries, the newest first.
+    pub fn places_of(&self, entries: &[Arc<Entry>], service: &str) -> Places<'_>
+        requires { IsKept (map arc_value entries.now) self.now }
+        ensures { result ≡ places_of (map arc_value entries.now) service.now }
     {
-        match self.rows.get(service) {
-            Some(row) => row.places(),
-            None => &[],
-        }
-    }
-
-    /// Takes the room for one more place of a service. The places stay in either case.
-    pub fn reserve(&mut self, service: &Text) -> Result<(), AllocError>
-        ensures places { (s : List ℕ) → places_of self.new s ≡ places_of self.old s }
-        ensures ok { OnOk result (0 < room_of self.new service.now) }
-    {
-        if let Some(row) = self.rows.get_mut(service) {
-            return row.reserve();
-        }
-        let mut row = Row::new(self.alloc);
-        row.reserve()?;
-        self.rows.insert(service.clone()?, row)?;
-        Ok(())
-    }
-
-    /// Adds a place to a service, in room that was taken before.
-    pub fn add_reserved(&mut self, service: &Text, place: u64)
-        requires { 0 < room_of self.old service.now }
-        ensures { (s : List ℕ) → places_of self.new s ≡ with_place service.now place (places_of self.old) s }
-    {
-        let Some(row) = self.rows.get_mut(service) else {
-            return;
+        let name = Name {
+            service,
+            operation: "",
+            kind: "",
         };
-        row.push_reserved(place);
+        let row = self.services.row_of(&Reporters { entries }, name) as usize;
+        let at = if row < self.newest.len() {
+            self.newest[row]
+        } else {
+            0
+        };
+        Places {
+            earlier: &self.earlier,
+            at,
+        }
     }
 }

@@ -1,23 +1,21 @@
 -- Ring and spots follow the arrivals.
-use Rattle.std.proofs.Common.{◌≡◌, ℕ, ◌+◌, ◌<◌, ◌≤◌, Bool, true, false, cond, List, [], ◌∷◌, ◌++◌, map, length, take, drop, get_or, Some, None, refl, sym, ap, ◌∙◌, arith, append_assoc}
+use Rattle.std.proofs.Common.{◌≡◌, ℕ, ◌+◌, ◌<◌, ◌≤◌, false, List, [], ◌∷◌, ◌++◌, map, length, take, get_or, Some, None, refl, sym, ap, ◌∙◌, arith, append_assoc}
 use Rattle.std.proofs.lemmas.List.{map_push, map_more, length-take-le, length-map, take_all}
-use Rattle.std.specs.Prelude.{Option, option_map, count_by, IfSome, option_to_list, if◌then◌else◌}
-use Rattle.std.proofs.lemmas.List.Sums.{sum_by-drop_more}
+use Rattle.std.specs.Prelude.{Option, option_map, IfSome, option_to_list}
 use Rattle.jaeger_model.specs.declared.ids.TraceId.{TraceId}
 use Rattle.jaeger_model.specs.declared.placed.Placed.{Placed}
 use Rattle.jaeger_model.specs.declared.span.Span.{Span}
 use Rattle.jaeger_model.specs.declared.batch.Batch.{Batch}
-use Rattle.jaeger_model.specs.Parents.{domain, same_trace, with_parent}
+use Rattle.jaeger_model.specs.Parents.{domain, with_parent}
 use Rattle.trace_model.specs.declared.entry.Entry.{Entry}
 use Rattle.trace_model.specs.Rings.{holds, arrive}
 use Rattle.trace_model.specs.Showing.{trace_of, ring, spans_of_trace, if_any}
 use Rattle.trace_model.specs.Histories.{arrivals}
 use Rattle.trace_model.specs.declared.answer.Shown.{Shown}
 use Rattle.trace_model.proofs.Shows.{ring_push}
-use Rattle.trace_model.proofs.Traces.{same_self}
 use Rattle.trace_ring.specs.Windows.{opened_by}
 use Rattle.trace_assembly.specs.declared.spot.Spot.{Spot}
-use Rattle.trace_assembly.specs.Rows.{with_spot, is_of}
+use Rattle.trace_assembly.specs.Rows.{with_spot}
 use Rattle.trace_assembly.specs.Located.{span_at, located, located_in, spans_in, shown_spots, after_leaving}
 use Rattle.trace_assembly.proofs.Feeding.{after_arrival_law, spans_at_shown_law}
 use Rattle.trace_assembly.proofs.Places.{located_push_law, located_in-push}
@@ -64,23 +62,6 @@ pub all_spans : (h : List Entry) (e : Entry) (place i : ℕ) → place ≡ lengt
 all_spans h e place i at le =
     ap (λ b. located h ++ located_in place 0 (map (placed_from e.batch) b)) (take_all i e.batch.spans le)
     ∙ ap (λ k. located h ++ located_in k 0 (domain e.batch)) at ∙ sym (located_push_law h e)
-
--- how many spans are left to come
-pub left_to_come : (q : Span → Bool) (ss : List Span) (i : ℕ) (d : Span) → i < length ss → count_by q (drop i ss) ≡ (if q (get_or ss i d) then 1 else 0) + count_by q (drop (i + 1) ss)
-left_to_come q ss i d le = sum_by-drop_more (λ x. cond (q x) 1 0) ss i d le
-
--- where there is room for all that are left, there is room for the next one
-pub room_for_next : (own : TraceId) (ss : List Span) (i : ℕ) (s : Span) (room : ℕ) → i < length ss → s ≡ get_or ss i s → own ≡ s.trace → count_by (is_of own) (drop i ss) ≤ room → 0 < room
-room_for_next own ss i s room le is same few =
-    let next : is_of own (get_or ss i s) ≡ true = ap (is_of own) (sym is) ∙ ap (same_trace own) (sym same) ∙ same_self own in
-    let one : ◌≡◌ {A = ℕ} (if is_of own (get_or ss i s) then 1 else 0) 1 = ap (λ b. if b then 1 else 0) next in
-    omega (arith, left_to_come (is_of own) ss i s le, one)
-
-pub room_for_rest : (t : TraceId) (ss : List Span) (i : ℕ) (s : Span) (old new : ℕ) → i < length ss → s ≡ get_or ss i s → count_by (is_of t) (drop i ss) ≤ old → old ≤ new + (if same_trace t s.trace then 1 else 0)
-    → count_by (is_of t) (drop (i + 1) ss) ≤ new
-room_for_rest t ss i s old new le is few room =
-    let same : ◌≡◌ {A = ℕ} (if is_of t (get_or ss i s) then 1 else 0) (if same_trace t s.trace then 1 else 0) = ap (λ (x : Span). if is_of t x then 1 else 0) (sym is) in
-    omega (arith, left_to_come (is_of t) ss i s le, same)
 
 -- ---- what the spots of a trace name
 pub spots_name : (limit n : ℕ) (h : List Entry) (ids : List TraceId) (spots : TraceId → List Spot) (t : TraceId) (found : List Spot)

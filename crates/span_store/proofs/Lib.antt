@@ -1,4 +1,3 @@
 pub mod Following
-pub mod Naming
 pub mod Keeping
 pub mod Picking

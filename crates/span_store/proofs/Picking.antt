@@ -1,12 +1,14 @@
 -- The traces that a search by a service looks at are all that can match.
-use Rattle.std.proofs.Common.{◌≡◌, ℕ, suc, Bool, true, false, ◌||◌, ◌&&◌, cond, List, [], ◌∷◌, ◌++◌, map, length, refl, sym, ap, subst, ◌∙◌, arith, append_assoc, length-append}
+use Rattle.std.proofs.Common.{◌≡◌, ℕ, suc, Bool, true, false, ◌||◌, ◌&&◌, cond, List, [], ◌∷◌, ◌++◌, map, length, get_or, zero, ◌+◌, ◌<◌, ◌≤◌, refl, sym, ap, ◌∙◌, arith}
 use Rattle.std.specs.Prelude.{filter, flat_map, if◌then◌else◌, take, ◌==◌}
 use Rattle.std.specs.List.{list_any, list_all}
 use Rattle.std.specs.Cmp.Lexicographic.{lists_equiv}
 use Rattle.std.specs.Cmp.{nat_eq_equiv}
 use Rattle.std.proofs.Math.Seq.{take-nil}
 use Rattle.std.proofs.lemmas.Bool.{false≢true}
+use Rattle.std.proofs.lemmas.List.{take_more, take_all, get_or-map}
 use Rattle.std.proofs.lemmas.List.Folds.{list_any-append}
+use Rattle.std.proofs.lemmas.Option.{slice_get-get_or}
 use Rattle.jaeger_model.specs.declared.ids.TraceId.{TraceId}
 use Rattle.jaeger_model.specs.declared.placed.Placed.{Placed}
 use Rattle.jaeger_model.specs.declared.batch.Batch.{Batch}
@@ -21,10 +23,11 @@ use Rattle.trace_model.specs.Showing.{ring, shown, spans_of_trace, lasting_after
 use Rattle.trace_model.proofs.NameLaws.{any_filter}
 use Rattle.trace_model.proofs.Parents.{with_parent-trace}
 use Rattle.trace_assembly.specs.Rows.{is_of}
-use Rattle.trace_assembly.proofs.Lists.{slice_get_middle}
+use Rattle.arrival_names.proofs.Numbering.{arrivals_push}
 use Rattle.arrival_names.specs.Kept.{reports_service, reports_operation}
-use Rattle.span_store.specs.Kept.{places_from, places_in}
-use Rattle.journal_traces.specs.Picked.{reaches, spans_or_none, spans_at, spans_along}
+use Rattle.service_places.specs.Reported.{reporters, places_upto, places_of}
+use Rattle.journal_traces.specs.Picked.{reaches, meets, met, met_or_none, met_at, met_along}
+use Rattle.journal_traces.proofs.Adopting.{matches-adopted}
 
 and_true : (a b : Bool) → (a && b) ≡ true → (a ≡ true) × (b ≡ true)
 and_true true b e = (refl, e)
@@ -64,64 +67,81 @@ any_weaker p q h (x ∷ xs) e = elim (p x) as (λ b. p x ≡ b → (b || list_an
   | false ↦ λ _ k. or_right (q x) (list_any q xs) (any_weaker p q h xs k)
 ] refl e
 
--- the span is one of the trace, and the service reported it
-abbrev is_reported : List ℕ → TraceId → Placed → Bool
-is_reported s t p = same_trace t (trace_of p) && same_text p.process.service s
-
-own_spans : (s : List ℕ) (t : TraceId) (b : Batch) (ss : List Span) → list_any (is_reported s t) (map (placed b) ss) ≡ true → (same_text b.process.service s ≡ true) × (list_any (is_of t) ss ≡ true)
-own_spans s t b [] h = absurd (false≢true h)
-own_spans s t b (x ∷ xs) h =
-    elim (is_reported s t (placed b x)) as (λ c. is_reported s t (placed b x) ≡ c → (c || list_any (is_reported s t) (map (placed b) xs)) ≡ true → (same_text b.process.service s ≡ true) × ((is_of t x || list_any (is_of t) xs) ≡ true)) [
-      | true ↦ λ e _.
-          let w = and_true (same_trace t (trace_of (placed b x))) (same_text b.process.service s) e in
-          (w.1, ap (λ c. c || list_any (is_of t) xs) (ap (same_trace t) (sym (with_parent-trace x)) ∙ w.0))
-      | false ↦ λ _ k. let w = own_spans s t b xs k in (w.0, or_right (is_of t x) (list_any (is_of t) xs) w.1)
-    ] refl h
-
-reported : (s : List ℕ) (t : TraceId) (before es : List Entry) → list_any (is_reported s t) (arrivals es) ≡ true
-    → list_any (is_of t) (flat_map (spans_at (before ++ es)) (places_from s (suc (length before)) es)) ≡ true
-reported s t before [] h = h
-reported s t before (e ∷ es) h =
-    let whole : List Entry = before ++ e ∷ es in
-    let own : Bool = same_text e.batch.process.service s in
-    let rest : List ℕ = places_from s (suc (suc (length before))) es in
-    let long : length (before ++ e ∷ []) ≡ suc (length before) = omega (arith, length-append before (e ∷ [])) in
-    let later : list_any (is_reported s t) (arrivals es) ≡ true → list_any (is_of t) (flat_map (spans_at whole) rest) ≡ true =
-    λ k. subst (λ n. list_any (is_of t) (flat_map (spans_at whole) (places_from s (suc n) es)) ≡ true) long
-    (subst (λ l. list_any (is_of t) (flat_map (spans_at l) (places_from s (suc (length (before ++ e ∷ []))) es)) ≡ true) (append_assoc before (e ∷ []) es) (reported s t (before ++ e ∷ []) es k)) in
-    let split : (list_any (is_reported s t) (domain e.batch) || list_any (is_reported s t) (arrivals es)) ≡ true = sym (list_any-append (is_reported s t) (domain e.batch) (arrivals es)) ∙ h in
-    let spans : spans_at whole (suc (length before)) ≡ e.batch.spans = ap spans_or_none (slice_get_middle before e es) in
-    elim own as (λ b. own ≡ b → list_any (is_of t) (flat_map (spans_at whole) (if b then suc (length before) ∷ rest else rest)) ≡ true) [
-      | true ↦ λ _.
-          list_any-append (is_of t) (spans_at whole (suc (length before))) (flat_map (spans_at whole) rest)
-          ∙ ap (λ l. list_any (is_of t) l || list_any (is_of t) (flat_map (spans_at whole) rest)) spans
-          ∙ or_cases (list_any (is_reported s t) (domain e.batch)) (list_any (is_reported s t) (arrivals es)) split
-          (λ k. ap (λ b. b || list_any (is_of t) (flat_map (spans_at whole) rest)) (own_spans s t e.batch e.batch.spans k).1)
-          (λ k. or_right (list_any (is_of t) e.batch.spans) (list_any (is_of t) (flat_map (spans_at whole) rest)) (later k))
-      | false ↦ λ none.
-          or_cases (list_any (is_reported s t) (domain e.batch)) (list_any (is_reported s t) (arrivals es)) split
-          (λ k. absurd (false≢true (sym none ∙ (own_spans s t e.batch e.batch.spans k).0)))
-          later
-    ] refl
+-- the span is one of the trace, and meets the search
+abbrev is_hit : Find → TraceId → Placed → Bool
+is_hit q t p = same_trace t (trace_of p) && matches q p
 
 turned : (a b : List ℕ) → same_text a b ≡ same_text b a
 turned a b = (lists_equiv nat_eq_equiv).symm a b
 
-match_reported : (q : Find) (t : TraceId) (p : Placed) → (same_trace t (trace_of p) && matches q p) ≡ true → is_reported q.service t p ≡ true
-match_reported q t p e =
-    let w = and_true (same_trace t (trace_of p)) (matches q p) e in
-    let named = first_true (is_named q p) (is_timed q p) (list_all (has_tag p) q.tags) w.1 in
-    let own = (and_true (same_text q.service p.process.service) (same_text q.operation [] || same_text q.operation p.span.operation) named).0 in
-    both_true (same_trace t (trace_of p)) (same_text p.process.service q.service) w.0 (turned p.process.service q.service ∙ own)
+-- a span meets no search by another service
+match_reported : (q : Find) (p : Placed) → matches q p ≡ true → same_text p.process.service q.service ≡ true
+match_reported q p e =
+    let named = first_true (is_named q p) (is_timed q p) (list_all (has_tag p) q.tags) e in
+    turned p.process.service q.service ∙ (and_true (same_text q.service p.process.service) (same_text q.operation [] || same_text q.operation p.span.operation) named).0
+
+own_spans : (q : Find) (t : TraceId) (b : Batch) (ss : List Span) → list_any (is_hit q t) (map (placed b) ss) ≡ true
+    → (same_text b.process.service q.service ≡ true) × (reaches (met q b.process ss) t ≡ true)
+own_spans q t b [] h = absurd (false≢true h)
+own_spans q t b (x ∷ xs) h =
+    let bare : Placed = record { process = b.process; span = x } in
+    let same : matches q (placed b x) ≡ meets q b.process x = matches-adopted q bare in
+    let rest : Type 0 = (same_text b.process.service q.service ≡ true) × (list_any (is_of t) (cond (meets q b.process x) (x ∷ met q b.process xs) (met q b.process xs)) ≡ true) in
+    elim (is_hit q t (placed b x)) as (λ c. is_hit q t (placed b x) ≡ c → (c || list_any (is_hit q t) (map (placed b) xs)) ≡ true → rest) [
+      | true ↦ λ e _.
+          let w = and_true (same_trace t (trace_of (placed b x))) (matches q (placed b x)) e in
+          let own : is_of t x ≡ true = ap (same_trace t) (sym (with_parent-trace x)) ∙ w.0 in
+          (match_reported q (placed b x) w.1,
+           ap (λ c. list_any (is_of t) (cond c (x ∷ met q b.process xs) (met q b.process xs))) (sym same ∙ w.1) ∙ ap (λ c. c || list_any (is_of t) (met q b.process xs)) own)
+      | false ↦ λ _ k.
+          let w = own_spans q t b xs k in
+          (w.0, elim (meets q b.process x) as (λ c. list_any (is_of t) (cond c (x ∷ met q b.process xs) (met q b.process xs)) ≡ true) [
+            | true ↦ or_right (is_of t x) (list_any (is_of t) (met q b.process xs)) w.1
+            | false ↦ w.1
+          ])
+    ] refl h
+
+reported : (q : Find) (t : TraceId) (h : List Entry) (d : Entry) (n : ℕ) → n ≤ length h → list_any (is_hit q t) (arrivals (take n h)) ≡ true
+    → list_any (is_of t) (flat_map (met_at q h) (places_upto q.service (reporters h) n)) ≡ true
+reported q t h d zero le e = e
+reported q t h d (suc n) le e =
+    let s : List ℕ = q.service in
+    let x = get_or h n d in
+    let below : n < length h = omega arith in
+    let own : Bool = same_text (get_or (reporters h) n []) s in
+    let is : get_or (reporters h) n [] ≡ x.batch.process.service = get_or-map (λ (y : Entry). y.batch.process.service) h n d [] below in
+    let rest : List ℕ = places_upto s (reporters h) n in
+    let met_here : List Span = met q x.batch.process x.batch.spans in
+    let before : Bool = list_any (is_hit q t) (arrivals (take n h)) in
+    let here : Bool = list_any (is_hit q t) (domain x.batch) in
+    let later : before ≡ true → list_any (is_of t) (flat_map (met_at q h) rest) ≡ true = reported q t h d n (omega arith) in
+    let one : suc n ≡ n + 1 = omega arith in
+    let all : arrivals (take (suc n) h) ≡ arrivals (take n h) ++ domain x.batch = ap (λ k. arrivals (take k h)) one ∙ ap arrivals (take_more h n d below) ∙ arrivals_push (take n h) x in
+    let split : (before || here) ≡ true = sym (ap (list_any (is_hit q t)) all ∙ list_any-append (is_hit q t) (arrivals (take n h)) (domain x.batch)) ∙ e in
+    let spans : met_at q h (suc n) ≡ met_here = ap (met_or_none q) (slice_get-get_or h n d below) in
+    elim own as (λ b. own ≡ b → list_any (is_of t) (flat_map (met_at q h) (if b then suc n ∷ rest else rest)) ≡ true) [
+      | true ↦ λ _.
+          list_any-append (is_of t) (met_at q h (suc n)) (flat_map (met_at q h) rest)
+          ∙ ap (λ l. list_any (is_of t) l || list_any (is_of t) (flat_map (met_at q h) rest)) spans
+          ∙ or_cases before here split
+          (λ k. or_right (list_any (is_of t) met_here) (list_any (is_of t) (flat_map (met_at q h) rest)) (later k))
+          (λ k. ap (λ b. b || list_any (is_of t) (flat_map (met_at q h) rest)) (own_spans q t x.batch x.batch.spans k).1)
+      | false ↦ λ none.
+          or_cases before here split later
+          (λ k. absurd (false≢true (sym none ∙ ap (λ (y : List ℕ). same_text y s) is ∙ (own_spans q t x.batch x.batch.spans k).0)))
+    ] refl
 
 -- a span of a shown trace that matches is an arrival
-matched_arrival : (q : Find) (n : ℕ) (ps : List Placed) (t : TraceId) → list_any (matches q) (spans_of_trace n ps t) ≡ true → list_any (λ p. same_trace t (trace_of p) && matches q p) ps ≡ true
+matched_arrival : (q : Find) (n : ℕ) (ps : List Placed) (t : TraceId) → list_any (matches q) (spans_of_trace n ps t) ≡ true → list_any (is_hit q t) ps ≡ true
 matched_arrival q n ps t e =
     let own : Placed → Bool = λ p. same_trace t (trace_of p) in
     any_lasting (λ p. own p && matches q p) (stands n) [] ps (sym (any_filter (matches q) own (shown n ps)) ∙ e)
 
-covered : (q : Find) (n : ℕ) (h : List Entry) (t : TraceId) → list_any (matches q) (spans_of_trace n (arrivals h) t) ≡ true → reaches (spans_along h (places_in q.service h)) t ≡ true
-covered q n h t e = reported q.service t [] h (any_weaker (λ p. same_trace t (trace_of p) && matches q p) (is_reported q.service t) (match_reported q t) (arrivals h) (matched_arrival q n (arrivals h) t e))
+covered : (q : Find) (n : ℕ) (h : List Entry) (t : TraceId) → list_any (matches q) (spans_of_trace n (arrivals h) t) ≡ true → reaches (met_along q h (places_of h q.service)) t ≡ true
+covered q n [] t e = absurd (false≢true (matched_arrival q n [] t e))
+covered q n (x ∷ xs) t e =
+    let h : List Entry = x ∷ xs in
+    reported q t h x (length h) (omega arith) (ap (λ l. list_any (is_hit q t) (arrivals l)) (take_all (length h) h (omega arith)) ∙ matched_arrival q n (arrivals h) t e)
 
 match_among : (q : Find) (f : TraceId → List Placed) (p : TraceId → Bool) → ((t : TraceId) → list_any (matches q) (f t) ≡ true → p t ≡ true) → (r : List TraceId) → matching q (map f (filter p r)) ≡ matching q (map f r)
 match_among q f p h [] = refl
@@ -138,10 +158,10 @@ match_among q f p h (x ∷ xs) =
 
 -- a search finds the same among the traces of the service as among all
 pub found_among : (q : Find) (n : ℕ) (h : List Entry) (service : List ℕ) (r : List TraceId) → q.service ≡ service
-    → found_in q (map (spans_of_trace n (arrivals h)) (filter (reaches (spans_along h (places_in service h))) r)) ≡ found_in q (map (spans_of_trace n (arrivals h)) r)
+    → found_in q (map (spans_of_trace n (arrivals h)) (filter (reaches (met_along q h (places_of h service))) r)) ≡ found_in q (map (spans_of_trace n (arrivals h)) r)
 found_among q n h service r same =
-    ap (λ s. found_in q (map (spans_of_trace n (arrivals h)) (filter (reaches (spans_along h (places_in s h))) r))) (sym same)
-    ∙ ap (λ l. cut q.limit (ranked first_start l)) (match_among q (spans_of_trace n (arrivals h)) (reaches (spans_along h (places_in q.service h))) (covered q n h) r)
+    ap (λ s. found_in q (map (spans_of_trace n (arrivals h)) (filter (reaches (met_along q h (places_of h s))) r))) (sym same)
+    ∙ ap (λ l. cut q.limit (ranked first_start l)) (match_among q (spans_of_trace n (arrivals h)) (reaches (met_along q h (places_of h q.service))) (covered q n h) r)
 
 -- ---- where no arrival has the service, or the operation of the service, nothing is found
 pub nothing_found : (q : Find) → found_in q [] ≡ []

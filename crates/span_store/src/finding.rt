@@ -25,7 +25,7 @@ fn adjusted_at(
     let Some(spots) = traces.spots.get(place) else {
         return Ok(Seq::new(alloc));
     };
-    let spans = gather(alloc, traces.journal, spots)?;
+    let spans = gather(alloc, traces.journal, spots.again())?;
     let shown = adjusted(alloc, spans, max_skew)?;
     Ok(Seq::from_vec(shown))
 }

@@ -3,7 +3,8 @@
 //!
 //! Contracts see a store as its limits and its list of entries, and nothing else: every answer is
 //! the plain store's answer for that list. What is kept beside the list only makes answers quick,
-//! and one invariant of the type ties it to the list. An entry that is refused changes nothing.
+//! and one invariant of the type ties it to the list. An entry that is refused changes nothing. All room
+//! is taken when a store is opened: applying an entry takes no memory.
 //!
 //! * `arrange`: what one more entry changes in ring and assembly.
 //! * `finding`: searches and calls over traces that stand in the journal.

@@ -17,12 +17,9 @@ fn take(store: &mut SpanStore, entry: &Arc<Entry>) -> Result<(), Refusal>
     ensures taken { OnOk result (store.new ≡ record { limits = store.old.limits; entries = taken store.old.limits store.old.entries (arc_value entry.now) }) }
     ensures reason { IfErr result (λ why. why ≡ NoMemory) }
 {
-    match store.judge(entry) {
+    match store.apply(Arc::try_clone(entry)?) {
+        Ok(_) => Ok(()),
         Err(_) => Ok(()),
-        Ok(()) => {
-            store.apply(Arc::try_clone(entry)?)?;
-            Ok(())
-        }
     }
 }
 

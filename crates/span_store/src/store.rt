@@ -1,4 +1,4 @@
-ghost use Rattle.std.specs.Prelude.{◌≡◌, ◌==◌, [], map, length, None, OnOk, OnErr, IfOk, IfErr};
+ghost use Rattle.std.specs.Prelude.{◌≡◌, ◌==◌, [], map, length, Some, None, OnOk, OnErr, IfOk, IfErr};
 ghost use Rattle.std.specs.Arc.{arc_value};
 ghost use Rattle.std.specs.Bool.{OnFalse};
 ghost use Rattle.std.specs.Result.{result_err};
@@ -8,8 +8,10 @@ ghost use Rattle.trace_model.specs.Answers.{answer, shown_as};
 ghost use Rattle.trace_model.specs.Histories.{IsLegal, arrivals};
 ghost use Rattle.trace_model.specs.Linking.{links};
 ghost use Rattle.trace_model.specs.Searching.{traces, found_in};
+ghost use Rattle.trace_model.specs.Showing.{ring};
 ghost use Rattle.trace_model.specs.Refusals.{followed_by};
-ghost use Rattle.arrival_journal.specs.Journals.{refusal_by, turned_away_by};
+ghost use Rattle.arrival_journal.specs.Journals.{refusal_by};
+ghost use Rattle.trace_assembly.specs.Located.{located, shown_spots};
 ghost use Rattle.journal_traces.specs.Given.{given_traces};
 ghost use Rattle.journal_traces.specs.Standing.{traces_named};
 
@@ -26,7 +28,7 @@ use std::hash::RandomState;
 use std::marker::Model;
 use std::sync::Arc;
 use trace_adjust::adjusted;
-use trace_assembly::{Assembly, Spot};
+use trace_assembly::{Assembly, Spots};
 use trace_model::{Answer, Entry, Find, Limits, Query, Refusal, Shown};
 use trace_ring::Ring;
 
@@ -47,20 +49,22 @@ pub struct SpanStore {
 
 impl Model for SpanStore {
     ghost use Rattle.trace_model.specs.Held.{Held};
-    ghost use Rattle.trace_assembly.specs.Rows.{spots_of};
-    ghost use Rattle.service_places.specs.Reported.{places_of};
     ghost use Rattle.span_store.specs.Kept.{IsKept};
 
     ghost Value = { Held };
 
     ghost view = { λ s. s.journal.held };
 
-    ghost invariant = { λ s. IsKept s.journal.held s.ring (spots_of s.assembly) s.names (places_of s.reported) };
+    ghost invariant = { λ s. IsKept s.journal.held s.ring s.assembly s.names s.reported };
 }
 
 impl SpanStore {
-    /// A store with no entry, and the room that its limits ask for. Its traces are found by a hash
-    /// under these keys, which whoever sends traces doesn't know.
+    /// A store with no entry, and all the room that its limits ask for. Its traces and names are found
+    /// by hashes under these keys, which whoever sends traces doesn't know.
+    ///
+    /// # Errors
+    ///
+    /// Want of memory alone.
     pub fn open(alloc: Global, keys: RandomState, limits: Limits) -> Result<Self, AllocError>
         ensures { IfOk result (λ store. store ≡ record { limits = limits; entries = [] }) }
     {
@@ -68,9 +72,9 @@ impl SpanStore {
             alloc,
             journal: Journal::new(alloc, limits)?,
             ring: Ring::with_room(alloc, keys, limits.traces, limits.spans)?,
-            assembly: Assembly::new(alloc, keys),
+            assembly: Assembly::with_room(alloc, keys, limits.spans)?,
             names: ArrivalNames::with_room(alloc, keys, limits.batches, limits.spans)?,
-            reported: ServicePlaces::new(alloc),
+            reported: ServicePlaces::with_room(alloc, keys, limits.batches)?,
         })
     }
 
@@ -101,40 +105,56 @@ impl SpanStore {
         self.journal.is_empty()
     }
 
-    /// Says whether the entry may follow, as [`apply`](Self::apply) does: its refusals but want of
-    /// memory.
+    /// Says whether the entry may follow, as [`apply`](Self::apply) does.
     pub fn judge(&self, entry: &Entry) -> Result<(), Refusal>
         ensures { result_err result ≡ refusal_by self.now entry.now }
     {
         self.journal.judge(entry)
     }
 
-    /// Adds an entry at the end and gives its place, the first one being 1.
+    /// Adds an entry at the end and gives its place, the first one being 1. It takes no memory.
+    ///
+    /// # Errors
     ///
     /// An entry is refused where its number is not above the last one of its seat
     /// ([`Refusal::Stale`]), then where it or its spans would pass a limit
-    /// ([`Refusal::JournalFull`], with the counts now held), and last for want of memory
-    /// ([`Refusal::NoMemory`]). A refusal leaves the store as it was.
+    /// ([`Refusal::JournalFull`], with the counts now held), and for nothing else. A refusal leaves
+    /// the store as it was.
     pub fn apply(&mut self, entry: Arc<Entry>) -> Result<u64, Refusal>
         ensures admissible { OnOk result (refusal_by self.old (arc_value entry) ≡ None) }
         ensures applied { OnOk result (self.new ≡ followed_by self.old (arc_value entry)) }
         ensures place { IfOk result (λ place. place ≡ length self.new.entries) }
 
         ensures unchanged { OnErr result (self.new ≡ self.old) }
-        ensures reason { IfErr result (λ why. why ≡ turned_away_by self.old (arc_value entry)) }
+        ensures reason { IfErr result (λ why. Some why ≡ refusal_by self.old (arc_value entry)) }
 
         ensures legal { IsLegal self.new.limits self.new.entries }
     {
         self.journal.judge(&entry)?;
-        self.assembly.reserve(entry.batch.spans.as_slice())?;
-        self.reported.reserve(&entry.batch.process.service)?;
         arrange(&self.journal, &mut self.ring, &mut self.assembly, &entry);
-        let place = self.journal.len() + 1;
-        self.reported
-            .add_reserved(&entry.batch.process.service, place);
         self.journal.append(entry);
         self.names.add(self.journal.entries());
+        self.reported.add(self.journal.entries());
         Ok(self.journal.len())
+    }
+
+    /// The traces that are shown, the one opened longest ago first.
+    ///
+    /// # Errors
+    ///
+    /// Want of memory alone.
+    pub fn trace_ids(&self) -> Result<Vec<TraceId>, AllocError>
+        ensures { IfOk result (λ v. v.items ≡ ring self.now.limits.traces (arrivals self.now.entries)) }
+    {
+        ring_ids(self.alloc, &self.ring)
+    }
+
+    /// Where the shown spans of a trace stand in the entries, in the order of their arrival: none where
+    /// the trace isn't shown.
+    pub fn spots(&self, id: TraceId) -> Spots<'_>
+        ensures { result ≡ shown_spots self.now.limits.traces (located self.now.entries) id }
+    {
+        self.assembly.spots(id)
     }
 
     /// What the plain store of the entries answers.
@@ -201,22 +221,26 @@ impl SpanStore {
             .knows_operation(entries, service, query.operation.as_str())
     }
 
-    /// The spots of the shown traces that entries of the search's service have spans of, those of the
-    /// one opened longest ago first: the search finds the same among these traces as among all.
-    fn candidates(&self, query: &Find) -> Result<Vec<&[Spot]>, AllocError>
+    /// The spots of the shown traces of which entries of the search's service have a span that meets the
+    /// search, those of the one opened longest ago first: the search finds the same among these traces as
+    /// among all.
+    fn candidates(&self, query: &Find) -> Result<Vec<Spots<'_>>, AllocError>
         ensures { IfOk result (λ v. found_in query.now (traces_named self.now.entries v.items) ≡
             found_in query.now (traces self.now.limits.traces (arrivals self.now.entries))) }
     {
         if !self.may_find(query) {
             return Ok(Vec::new(self.alloc));
         }
-        let places = self.reported.places_of(&query.service);
+        let places = self
+            .reported
+            .places_of(self.journal.entries(), query.service.as_str());
         let spots = spots_along(
             self.alloc,
             &self.ring,
             &self.assembly,
             &self.journal,
             places,
+            query,
         )?;
         Ok(spots)
     }
@@ -278,7 +302,7 @@ impl SpanStore {
     fn trace(&self, id: TraceId, raw: bool) -> Result<Answer, AllocError>
         ensures { IfOk result (λ a. a ≡ answer self.now.limits self.now.entries (ask.Trace id raw)) }
     {
-        let spots = self.assembly.spans_of(id);
+        let spots = self.assembly.spots(id);
         if spots.is_empty() {
             return Ok(Answer::Trace(None));
         }

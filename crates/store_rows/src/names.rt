@@ -4,7 +4,6 @@ use crate::entries::entry;
 use jaeger_model::{Placed, Text, kind_of};
 use plain_store::{operation_names, operations, plain_answer, services};
 use service_index::ServiceIndex;
-use service_places::ServicePlaces;
 use std::alloc::{AllocError, Global};
 use std::process::Abort;
 use std::sync::Arc;
@@ -148,39 +147,6 @@ fn plain_store_agrees(rt: HostRuntime) -> Result<(), Fail> {
         let (index, spans) = reported(alloc, &mut dice)?;
         expect_same(&rt, alloc, &index, &spans)?;
     }
-    Ok(())
-}
-
-fn text(alloc: Global, text: &str) -> Result<Text, AllocError> {
-    Text::from_str(alloc, text)
-}
-
-fn five_places(alloc: Global) -> Result<ServicePlaces, AllocError> {
-    let mut places = ServicePlaces::new(alloc);
-    for (service, place) in [("a", 1), ("b", 2), ("a", 3), ("", 4), ("ab", 5)] {
-        let service = text(alloc, service)?;
-        places.reserve(&service)?;
-        places.add_reserved(&service, place);
-    }
-    Ok(places)
-}
-
-#[test]
-fn places_by_service(rt: HostRuntime) -> Result<(), Fail> {
-    let alloc = rt.alloc();
-    let mut places = five_places(alloc)?;
-    let none: &[u64] = &[];
-    for (service, want) in [
-        ("a", [1, 3].as_slice()),
-        ("b", [2].as_slice()),
-        ("", [4].as_slice()),
-        ("ab", [5].as_slice()),
-        ("c", none),
-    ] {
-        assert_eq!(rt; places.places_of(&text(alloc, service)?), want, "{service}");
-    }
-    places.reserve(&text(alloc, "c")?)?;
-    assert!(rt; places.places_of(&text(alloc, "c")?).is_empty());
     Ok(())
 }
 

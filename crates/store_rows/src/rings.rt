@@ -57,33 +57,41 @@ fn spot(place: u64) -> Spot {
     Spot { place, index: 7 }
 }
 
+/// Adds a spot, for which there must be room.
+fn add(rt: &impl Abort, assembly: &mut Assembly, trace: TraceId, place: u64) {
+    assert!(rt; assembly.has_room());
+    assembly.add(trace, spot(place));
+}
+
 #[test]
 fn hidden_spots_stay_away(rt: HostRuntime) -> Result<(), Fail> {
-    let mut assembly = Assembly::new(rt.alloc(), RandomState::new(&rt)?);
+    let mut assembly = Assembly::with_room(rt.alloc(), RandomState::new(&rt)?, 4)?;
     for (trace, place) in [(1, 1), (2, 2), (1, 3)] {
-        assembly.add(id(trace), spot(place))?;
+        add(&rt, &mut assembly, id(trace), place);
     }
-    assert_eq!(rt; assembly.spans_of(id(1)), [spot(1), spot(3)].as_slice());
+    assert!(rt; assembly.spots(id(1)).eq([spot(1), spot(3)]));
     assembly.hide(id(1));
     assembly.hide(id(3));
-    assert!(rt; assembly.spans_of(id(1)).is_empty());
-    assembly.add(id(1), spot(4))?;
-    assert_eq!(rt; assembly.spans_of(id(1)), [spot(4)].as_slice());
-    assert_eq!(rt; assembly.spans_of(id(2)), [spot(2)].as_slice());
-    assert!(rt; assembly.spans_of(TraceId { high: 2, low: 2 }).is_empty());
+    assert!(rt; assembly.spots(id(1)).is_empty());
+    add(&rt, &mut assembly, id(1), 4);
+    assert!(rt; assembly.spots(id(1)).eq([spot(4)]));
+    assert!(rt; assembly.spots(id(2)).eq([spot(2)]));
+    assert!(rt; assembly.spots(TraceId { high: 2, low: 2 }).is_empty());
+    assert_eq!(rt; assembly.used(), 4);
+    assert!(rt; !assembly.has_room());
     Ok(())
 }
 
 #[test]
-fn adds_in_room(rt: HostRuntime) -> Result<(), Fail> {
-    let alloc = rt.alloc();
-    let mut assembly = Assembly::new(alloc, RandomState::new(&rt)?);
-    let mut spans = Vec::new(alloc);
-    for trace in [5, 6, 5, 5] {
-        spans.push(span(alloc, trace, 1)?)?;
+fn spots_are_told_again(rt: HostRuntime) -> Result<(), Fail> {
+    let mut assembly = Assembly::with_room(rt.alloc(), RandomState::new(&rt)?, 3)?;
+    for (trace, place) in [(5, 1), (6, 2), (5, 3)] {
+        add(&rt, &mut assembly, id(trace), place);
     }
-    assembly.reserve(&spans)?;
-    assert!(rt; assembly.spans_of(id(5)).is_empty());
+    let mut spots = assembly.spots(id(5));
+    assert_eq!(rt; spots.next(), Some(spot(1)));
+    assert!(rt; spots.again().eq([spot(3)]));
+    assert!(rt; spots.eq([spot(3)]));
     Ok(())
 }
 

@@ -132,23 +132,6 @@ fn same_answers(rt: &impl Abort, alloc: Global, store: &SpanStore, seed: u64) ->
     same_searches(rt, alloc, store, after(after(seed)))
 }
 
-/// Applies the entry. Where memory is wanting the store must be as before, and takes the entry then.
-fn apply(
-    rt: &impl Abort,
-    alloc: Global,
-    store: &mut SpanStore,
-    entry: &Arc<Entry>,
-) -> Result<Result<u64, Refusal>, Fail> {
-    let before = store.len();
-    let answer = store.apply(Arc::try_clone(entry)?);
-    if answer != Err(Refusal::NoMemory) {
-        return Ok(answer);
-    }
-    assert_eq!(rt; store.len(), before);
-    same_answers(rt, alloc, store, before)?;
-    Ok(store.apply(Arc::try_clone(entry)?))
-}
-
 /// Three traces, and the seed behind them.
 fn three_traces(alloc: Global, seed: u64) -> Result<(Vec<u64>, u64), AllocError> {
     let mut seed = seed;
@@ -170,7 +153,7 @@ fn grow(
     seed: u64,
 ) -> Result<u64, Fail> {
     let (traces, seed) = three_traces(alloc, seed)?;
-    let place = apply(rt, alloc, store, &entry_of(alloc, number, &traces)?)?;
+    let place = store.apply(entry_of(alloc, number, &traces)?);
     assert_eq!(rt; place, Ok(number));
     same_answers(rt, alloc, store, seed)?;
     Ok(seed)
@@ -201,7 +184,7 @@ fn many_traces_as_the_plain_store(rt: HostRuntime) -> Result<(), Fail> {
         let mut store = SpanStore::open(alloc, RandomState::new(&rt)?, limits)?;
         for number in 1..31 {
             let traces = [number << 32, number, number / 2];
-            let place = apply(&rt, alloc, &mut store, &entry_of(alloc, number, &traces)?)?;
+            let place = store.apply(entry_of(alloc, number, &traces)?);
             assert_eq!(rt; place, Ok(number));
         }
         for number in 1..31 {
@@ -214,6 +197,76 @@ fn many_traces_as_the_plain_store(rt: HostRuntime) -> Result<(), Fail> {
             }
         }
     }
+    Ok(())
+}
+
+/// A name that few numbers share.
+fn name_of(alloc: Global, number: u64) -> Result<Text, AllocError> {
+    Text::from_str(alloc, format!(in alloc; "{}", number / 2)?.as_str())
+}
+
+/// An entry with one span: its service and its operation have names that few entries share.
+fn named_entry(alloc: Global, number: u64) -> Result<Arc<Entry>, AllocError> {
+    let mut span = span(alloc, number, number)?;
+    span.operation = name_of(alloc, number)?;
+    let mut spans = Vec::new(alloc);
+    spans.push(span)?;
+    entry(
+        alloc,
+        0,
+        number,
+        name_of(alloc, number.saturating_sub(1))?.as_str(),
+        spans,
+    )
+}
+
+/// As many names as there is room for: some of them stand where the hashes of others point.
+#[test]
+fn many_names_as_the_plain_store(rt: HostRuntime) -> Result<(), Fail> {
+    let alloc = rt.alloc();
+    let limits = Limits::new(30, 30, 0, 0).expect(&rt, "limits");
+    let mut store = SpanStore::open(alloc, RandomState::new(&rt)?, limits)?;
+    for number in 1..31 {
+        let place = store.apply(named_entry(alloc, number)?);
+        assert_eq!(rt; place, Ok(number));
+    }
+    same_answer(&rt, alloc, &store, Query::Services)?;
+    for number in 0..34 {
+        let service = name_of(alloc, number)?;
+        same_answer(&rt, alloc, &store, Query::OperationNames { service })?;
+    }
+    Ok(())
+}
+
+/// 51 entries, each with spans of four traces.
+fn entries_of(alloc: Global) -> Result<Vec<Arc<Entry>>, AllocError> {
+    let mut entries = Vec::new(alloc);
+    for number in 1..52 {
+        entries.push(entry_of(alloc, number, &[number, number << 32, 7, number / 2])?)?;
+    }
+    Ok(entries)
+}
+
+/// Hands the entries to the store. It gives how many are taken, and why the next one isn't.
+fn taken(store: &mut SpanStore, entries: Vec<Arc<Entry>>) -> (u64, Option<Refusal>) {
+    for entry in entries {
+        if let Err(refusal) = store.apply(entry) {
+            return (store.len(), Some(refusal));
+        }
+    }
+    (store.len(), None)
+}
+
+/// Once the store is open nothing is allocated, so no allocation that is refused then changes what comes.
+#[test]
+fn apply_without_memory(rt: HostRuntime) -> Result<(), Fail> {
+    let alloc = rt.alloc();
+    let entries = entries_of(alloc)?;
+    let limits = Limits::new(50, 200, 3, 0).expect(&rt, "limits");
+    let mut store = SpanStore::open(alloc, RandomState::new(&rt)?, limits)?;
+    let got = taken(&mut store, entries);
+    let (batches, spans) = (50, 200);
+    assert_eq!(rt; got, (50, Some(Refusal::JournalFull { batches, spans })));
     Ok(())
 }
 
@@ -233,7 +286,7 @@ fn refused_entries_change_nothing(rt: HostRuntime) -> Result<(), Fail> {
         (3, second, Ok(2)),
         (4, second, full(2, 5)),
     ] {
-        let got = apply(&rt, alloc, &mut store, &entry_of(alloc, number, traces)?)?;
+        let got = store.apply(entry_of(alloc, number, traces)?);
         assert_eq!(rt; got, want, "number {number}");
         same_answers(&rt, alloc, &store, number)?;
     }

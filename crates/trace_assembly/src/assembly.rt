@@ -1,124 +1,117 @@
-ghost use Rattle.std.specs.Prelude.{◌≡◌, ℕ, ◌+◌, ◌<◌, ◌≤◌, [], ◌∷◌, ◌++◌, OnOk, OnErr, count_by, if◌then◌else◌};
+ghost use Rattle.std.specs.Prelude.{◌≡◌, ℕ, ◌+◌, ◌<◌, ◌≤◌, [], Some, IfOk, IsTrue, ◌↔◌, length, position};
 ghost use Rattle.jaeger_model.specs.Parents.{same_trace};
 ghost use Rattle.jaeger_model.specs.declared.ids.TraceId.{TraceId as Trace};
-ghost use Rattle.trace_assembly.specs.Rows.{spots_of, room_of, is_of, with_spot, without_spots};
+ghost use Rattle.id_table.specs.Probes.{AreOnce};
+ghost use Rattle.trace_assembly.specs.Rows.{spots_of, spots_in_row, with_spot, without_spots};
 
-use crate::row::Row;
+use crate::chains::{Chains, Spots};
 use crate::spot::Spot;
-use jaeger_model::{Span, TraceId};
+use id_table::IdTable;
+use jaeger_model::TraceId;
 use std::alloc::{AllocError, Global};
-use std::collections::HashMap;
 use std::hash::RandomState;
 use std::marker::Model;
 
 /// The spots of each trace, in the order in which they were added.
 #[derive(Drop)]
 pub struct Assembly {
-    alloc: Global,
-    keys: RandomState,
-    rows: HashMap<(u64, u64), Row, RandomState>,
+    /// Each trace that a spot was ever added to.
+    table: IdTable,
+    /// The spots by the rows of the table.
+    chains: Chains,
 }
 
 impl Model for Assembly {
-    ghost use Rattle.std.specs.Prelude.{List, ℕ};
-    ghost use Rattle.trace_assembly.specs.Rows.{Row as Kept};
+    ghost use Rattle.trace_assembly.specs.Rows.{Assembled, IsAssembled};
 
-    ghost Value = { List ((ℕ × ℕ) × Kept) };
+    ghost Value = { Assembled };
 
-    ghost view = { λ a. a.rows.entries };
+    ghost view = { λ a. record { ids = a.table.ids; chains = a.chains.chains; used = a.chains.used; room = a.chains.room } };
+
+    ghost invariant = { λ a. IsAssembled a.table a.chains };
 }
 
-/// What the trace is looked up by.
-fn key(trace: TraceId) -> (u64, u64)
-    ensures { result ≡ (trace.high, trace.low) }
+/// The row of a trace, which is opened where the trace has none.
+fn row_of(table: &mut IdTable, chains: &mut Chains, trace: TraceId) -> u32
+    requires as_many { length chains.old.chains ≡ length table.old.ids }
+    requires once { AreOnce table.old.ids }
+    requires table_room { length table.old.ids < table.old.room }
+    requires chains_room { length table.old.ids < chains.old.room }
+    ensures row { position (same_trace trace) table.new.ids ≡ Some result }
+    ensures spots { (t : Trace) → spots_in_row chains.new.chains (position (same_trace t) table.new.ids) ≡ spots_in_row chains.old.chains (position (same_trace t) table.old.ids) }
+    ensures as_many { length chains.new.chains ≡ length table.new.ids }
+    ensures once { AreOnce table.new.ids }
+    ensures few { length table.new.ids ≤ length table.old.ids + 1 }
+    ensures table_room { table.new.room ≡ table.old.room }
+    ensures used { chains.new.used ≡ chains.old.used }
+    ensures room { chains.new.room ≡ chains.old.room }
 {
-    (trace.high, trace.low)
+    match table.find(trace) {
+        Some(row) => row,
+        None => {
+            chains.open();
+            table.add(trace)
+        }
+    }
 }
 
 impl Assembly {
-    /// An assembly with no spots. The keys are those of the hash by which a trace is found.
-    pub fn new(alloc: Global, keys: RandomState) -> Self
-        ensures { (t : Trace) → spots_of result t ≡ [] }
+    /// An assembly with no spots, and room for so many, those that are hidden too. The keys are those of
+    /// the hash by which a trace is found.
+    pub fn with_room(alloc: Global, keys: RandomState, room: u32) -> Result<Self, AllocError>
+        ensures spots { IfOk result (λ assembly. (t : Trace) → spots_of assembly t ≡ []) }
+        ensures used { IfOk result (λ assembly. assembly.used ≡ 0) }
+        ensures room { IfOk result (λ assembly. assembly.room ≡ room) }
     {
-        Assembly {
-            alloc,
-            keys,
-            rows: HashMap::with_hasher(alloc, keys),
-        }
+        let table = IdTable::with_room(alloc, keys, room)?;
+        let chains = Chains::with_room(alloc, room)?;
+        Ok(Assembly { table, chains })
+    }
+
+    /// How many spots were added, hidden ones too.
+    pub fn used(&self) -> u32
+        ensures used { result ≡ self.now.used }
+        ensures within { result ≤ self.now.room }
+    {
+        self.chains.used()
+    }
+
+    /// One more spot may be added.
+    pub fn has_room(&self) -> bool
+        ensures { IsTrue result ↔ (self.now.used < self.now.room) }
+    {
+        self.chains.has_room()
     }
 
     /// The spots of a trace, in the order in which they were added since it was hidden last.
-    pub fn spans_of(&self, trace: TraceId) -> &[Spot]
-        ensures { result.now ≡ spots_of self.now trace }
+    pub fn spots(&self, trace: TraceId) -> Spots<'_>
+        ensures { result ≡ spots_of self.now trace }
     {
-        match self.rows.get(&key(trace)) {
-            Some(row) => row.spots(),
-            None => &[],
+        match self.table.find(trace) {
+            Some(row) => self.chains.spots(row),
+            None => Spots::none(),
         }
     }
 
-    /// Takes the room for so many more spots of a trace.
-    fn make_room(&mut self, trace: TraceId, additional: usize) -> Result<(), AllocError>
-        ensures spots { (t : Trace) → spots_of self.new t ≡ spots_of self.old t }
-        ensures room { (t : Trace) → room_of self.old t ≤ room_of self.new t }
-        ensures ok { OnOk result (additional ≤ room_of self.new trace) }
-    {
-        if let Some(row) = self.rows.get_mut(&key(trace)) {
-            return row.reserve(additional);
-        }
-        let mut row = Row::new(self.alloc);
-        row.reserve(additional)?;
-        self.rows.insert(key(trace), row)?;
-        Ok(())
-    }
-
-    /// Takes the room for one more spot of each of these spans. The spots stay in either case.
-    pub fn reserve(&mut self, spans: &[Span]) -> Result<(), AllocError>
-        ensures spots { (t : Trace) → spots_of self.new t ≡ spots_of self.old t }
-        ensures room { (t : Trace) → room_of self.old t ≤ room_of self.new t }
-        ensures ok { OnOk result ((t : Trace) → count_by (is_of t) spans.now ≤ room_of self.new t) }
-    {
-        let mut counts: HashMap<(u64, u64), usize, RandomState> = HashMap::with_hasher(
-            self.alloc, self.keys,
-        );
-        for span in spans {
-            let count = counts.get(&key(span.trace)).copied().unwrap_or(0) + 1;
-            counts.insert(key(span.trace), count)?;
-            self.make_room(span.trace, count)?;
-        }
-        Ok(())
-    }
-
-    /// Adds a spot to a trace, in room that was taken before.
-    pub fn add_reserved(&mut self, trace: TraceId, spot: Spot)
-        requires { 0 < room_of self.old trace }
+    /// Adds a spot to a trace. No memory is taken.
+    pub fn add(&mut self, trace: TraceId, spot: Spot)
+        requires { self.old.used < self.old.room }
         ensures spots { (t : Trace) → spots_of self.new t ≡ with_spot trace spot (spots_of self.old) t }
-        ensures room { (t : Trace) → room_of self.old t ≡ room_of self.new t + (if same_trace t trace then 1 else 0) }
+        ensures used { self.new.used ≡ self.old.used + 1 }
+        ensures room { self.new.room ≡ self.old.room }
     {
-        let Some(row) = self.rows.get_mut(&key(trace)) else {
-            return;
-        };
-        row.push_reserved(spot);
+        let row = row_of(&mut self.table, &mut self.chains, trace);
+        self.chains.add(row, spot);
     }
 
-    /// Adds a spot to a trace, after taking the room. Where that is refused all spots stay as they were.
-    pub fn add(&mut self, trace: TraceId, spot: Spot) -> Result<(), AllocError>
-        ensures ok { OnOk result ((t : Trace) → spots_of self.new t ≡ with_spot trace spot (spots_of self.old) t) }
-        ensures err { OnErr result ((t : Trace) → spots_of self.new t ≡ spots_of self.old t) }
-    {
-        self.make_room(trace, 1)?;
-        self.add_reserved(trace, spot);
-        Ok(())
-    }
-
-    /// Forgets the spots of a trace, and keeps the room that it has.
+    /// Forgets the spots of a trace. Their room isn't given back.
     pub fn hide(&mut self, trace: TraceId)
         ensures spots { (t : Trace) → spots_of self.new t ≡ without_spots trace (spots_of self.old) t }
-        ensures room { (t : Trace) → room_of self.old t ≤ room_of self.new t }
+        ensures used { self.new.used ≡ self.old.used }
+        ensures room { self.new.room ≡ self.old.room }
     {
-        let Some(row) = self.rows.get_mut(&key(trace)) else {
-            return;
-        };
-        row.clear();
+        if let Some(row) = self.table.find(trace) {
+            self.chains.hide(row);
+        }
     }
 }

@@ -1,6 +1,6 @@
-use Rattle.std.proofs.Common.{◌≡◌, take}
+use Rattle.std.proofs.Common.{◌≡◌, ◌++◌}
 use Rattle.journal_traces.specs.Standing.{spans_named}
 use Rattle.journal_traces.proofs.gathering.gather.Given as goal
 
 abbrev pub invariant-loop-spot : goal.invariant-loop-spot
-invariant-loop-spot l = l.spans.items ≡ spans_named l.journal.held.entries (take l.spot-index l.spots)
+invariant-loop-spot l = l.spans.items ++ spans_named l.journal.held.entries l.spot-iterator ≡ spans_named l.journal.held.entries l.fn.spots

@@ -1,9 +1,9 @@
-use Rattle.std.proofs.Common.{◌≡◌, ◌∙◌, ◌||◌, sym, take, get_or, Some}
-use Rattle.std.proofs.lemmas.Bool.{OnTrue_at}
-use Rattle.journal_traces.specs.Picked.{reaches}
-use Rattle.journal_traces.proofs.Marking.{marked_none, marked_more, marked_again, marked_all, reached_own, reached_still}
+use Rattle.std.proofs.Common.{◌≡◌, ◌∙◌, ◌||◌, ap, sym, take, get_or, true, Some}
+use Rattle.trace_model.proofs.Traces.{same_is}
+use Rattle.journal_traces.specs.Picked.{reaches, meets, met, same_before}
+use Rattle.journal_traces.proofs.Marking.{marked_none, marked_more, marked_again, marked_all, reached_own, reached_still, news, no_news, before_is}
 use Rattle.journal_traces.proofs.searching.mark_spans.Goals as goal
-use Rattle.journal_traces.proofs.searching.mark_spans.Goals.{then-not-is_again, else-not-is_again}
+use Rattle.journal_traces.proofs.searching.mark_spans.Goals.{then-is_news, else-is_news}
 
 pub loop-span-init : goal.loop-span-init
 loop-span-init c = record {
@@ -13,24 +13,30 @@ loop-span-init c = record {
 
 pub loop-span-preserved : goal.loop-span-preserved
 loop-span-preserved c =
+    let q = c.args.query.now in
+    let o = c.args.process.now in
     let ss = c.args.spans.now in
     let i = c.loop-span.span-index in
     let s = c.span-item.result in
     let le = c.loop-span-test.true in
     let is : s ≡ get_or ss i s = c.span-item.is in
     let r = c.args.ring.now.ids in
-    elim c.if-not-is_again.branch [
-      | then-not-is_again w ↦ record {
-        marks = λ p e. w.marks-is ∙ w.mark_trace.ensures (λ t. p t || reaches (take i ss) t) (c.loop-span.invariant.marks p e) ∙ marked_more ss i s le is p r;
-        before = λ t e. let own : Some s.trace ≡ Some t = sym w.before-is ∙ e in reached_own ss i s le is t (cc own);
-      }
-      | else-not-is_again w ↦ record {
-        marks = λ p e.
-            let again : c.loop-span.before ≡ Some s.trace = OnTrue_at w.if-not-is_again.false c.is_again.ensures in
-            w.marks-is ∙ c.loop-span.invariant.marks p e ∙ marked_again ss i s le is p r (c.loop-span.invariant.before s.trace again);
-        before = λ t e. reached_still ss i s le is t (c.loop-span.invariant.before t (sym w.before-is ∙ e));
-      }
+    let again = same_before c.loop-span.before s.trace in
+    elim c.if-is_news.branch [
+      | then-is_news w ↦
+          let meeting : meets q o s ≡ true = news again (meets q o s) (sym c.is_news.ensures ∙ w.if-is_news.true) in
+          record {
+            marks = λ p e. w.marks-is ∙ w.mark_trace.ensures (λ t. p t || reaches (met q o (take i ss)) t) (c.loop-span.invariant.marks p e) ∙ marked_more q o ss i s le is p r meeting;
+            before = λ t e. let own : Some s.trace ≡ Some t = sym w.before-is ∙ e in reached_own q o ss i s le is t meeting (cc own);
+          }
+      | else-is_news w ↦
+          let there : meets q o s ≡ true → reaches (met q o (take i ss)) s.trace ≡ true =
+          λ m. c.loop-span.invariant.before s.trace (before_is c.loop-span.before s.trace (no_news again (meets q o s) (sym c.is_news.ensures ∙ w.if-is_news.false) m)) in
+          record {
+            marks = λ p e. w.marks-is ∙ c.loop-span.invariant.marks p e ∙ marked_again q o ss i s le is p r there;
+            before = λ t e. reached_still q o ss i s le is t there (c.loop-span.invariant.before t (sym w.before-is ∙ e));
+          }
     ]
 
 pub returns : goal.returns
-returns c = λ p e. c.loop-span.invariant.marks p e ∙ marked_all p c.args.ring.now.ids c.args.spans.now c.loop-span.span-index c.loop-span-test.false
+returns c = λ p e. c.loop-span.invariant.marks p e ∙ marked_all c.args.query.now c.args.process.now p c.args.ring.now.ids c.args.spans.now c.loop-span.span-index c.loop-span-test.false

@@ -1,9 +1,5 @@
-use Rattle.std.proofs.Common.{◌∙◌, ◌++◌, ◌∷◌, [], List, false, sym, ap}
-use Rattle.std.proofs.lemmas.List.{map_push}
-use denote.Ref.{Bor}
-use Rattle.trace_assembly.specs.declared.spot.Spot.{Spot}
+use Rattle.std.proofs.Common.{◌∙◌, ◌++◌, ◌∷◌, [], false, sym, ap}
 use Rattle.trace_assembly.specs.Rows.{spots_of}
-use Rattle.journal_traces.specs.Standing.{spots_in}
 use Rattle.journal_traces.proofs.Marking.{mark_read, picked, passed}
 use Rattle.journal_traces.proofs.Spots.{no_id}
 use Rattle.journal_traces.proofs.searching.marked_spots.Goals as goal
@@ -18,7 +14,7 @@ loop-place-preserved c = λ p e.
     let read = mark_read p ids c.args.marks.now i no_id false le e in
     elim c.if-marks-place.branch [
       | then-marks-place+in_ok-push w ↦
-          ap (λ v. spots_in v.items) w.spots-is ∙ ap spots_in w.in_ok-push.ensures.items ∙ map_push (λ (s : Bor (List Spot)). s.now) c.loop-place.spots.items w.spans_of.result
-          ∙ (λ j. c.loop-place.invariant p e j ++ w.spans_of.ensures j ∷ []) ∙ sym (picked f p ids i no_id le (sym read ∙ w.if-marks-place.true))
-      | else-marks-place w ↦ ap (λ v. spots_in v.items) w.spots-is ∙ c.loop-place.invariant p e ∙ sym (passed f p ids i no_id le (sym read ∙ w.if-marks-place.false))
+          ap (λ v. v.items) w.spots-is ∙ w.in_ok-push.ensures.items
+          ∙ (λ j. c.loop-place.invariant p e j ++ w.spots.ensures j ∷ []) ∙ sym (picked f p ids i no_id le (sym read ∙ w.if-marks-place.true))
+      | else-marks-place w ↦ ap (λ v. v.items) w.spots-is ∙ c.loop-place.invariant p e ∙ sym (passed f p ids i no_id le (sym read ∙ w.if-marks-place.false))
     ]

@@ -1,28 +1,37 @@
-use Rattle.std.proofs.Common.{◌≡◌, ◌∙◌, ap, sym, length, take, false, arith}
+use Rattle.std.proofs.Common.{◌≡◌, ◌∙◌, ℕ, List, [], ◌∷◌, ◌++◌, ap, sym, length, false, arith, map, append_assoc}
 use Rattle.std.proofs.lemmas.Simd.{splat_is_map}
-use Rattle.std.proofs.lemmas.List.{length-map, take-append-le, take_all}
-use Rattle.journal_traces.specs.Picked.{reaches, spans_along}
-use Rattle.journal_traces.proofs.Marking.{marked_place, marked_places}
+use Rattle.std.proofs.lemmas.List.{length-map, take-append-le, take_all, append-nil}
+use Rattle.journal_traces.specs.Picked.{reaches, met_along}
+use Rattle.journal_traces.proofs.Marking.{marked_place}
 use Rattle.journal_traces.proofs.searching.marks_along.Goals as goal
 
 pub loop-place-init : goal.loop-place-init
-loop-place-init c = c.in_ok-marks.ensures.items_if_clones_equal (λ y e. e) ∙ splat_is_map c.args.ring.now.ids c.len.result false (sym c.len.ensures.length)
+loop-place-init c = (
+  [],
+  sym c.into_iter-place-iterator.ensures.into_iter_gives,
+  c.in_ok-marks.ensures.items_if_clones_equal (λ y e. e) ∙ splat_is_map c.args.ring.now.ids c.len.result false (sym c.len.ensures.length),
+)
 
 pub mark_entry-requires-clause-size : goal.mark_entry-requires-clause-size
 mark_entry-requires-clause-size c =
-    ap length (c.deref_mut.ensures.value ∙ c.loop-place.invariant)
-    ∙ length-map c.args.ring.now.ids (reaches (spans_along c.args.journal.now.held.entries (take c.loop-place.place-index c.args.places.now)))
+    ap length (c.deref_mut.ensures.value ∙ c.loop-place.invariant.2) ∙ length-map c.args.ring.now.ids (reaches (met_along c.args.query.now c.args.journal.now.held.entries c.loop-place.invariant.0))
 
 pub loop-place-preserved : goal.loop-place-preserved
 loop-place-preserved c =
     let h = c.args.journal.now.held.entries in
-    let ps = c.args.places.now in
-    let i = c.loop-place.place-index in
+    let done = c.loop-place.invariant.0 in
+    let place = c.in-Some.place in
     let marks = c.mark_entry.new.marks in
-    let long : length marks ≡ c.loop-place.marks.len = c.mark_entry.auto.marks ∙ c.deref_mut.ensures.len in
-    take-append-le c.loop-place.marks.len marks _ (omega (arith, long)) ∙ take_all c.loop-place.marks.len marks (omega (arith, long))
-    ∙ c.mark_entry.ensures (reaches (spans_along h (take i ps))) (c.deref_mut.ensures.value ∙ c.loop-place.invariant)
-    ∙ marked_place h c.args.ring.now.ids ps i c.loop-place-test.true
+    let long : length marks ≡ c.loop-place.marks.len = c.mark_entry.auto.marks ∙ c.deref_mut.ensures.len in (
+      done ++ place ∷ [],
+      c.loop-place.invariant.1 ∙ ap (λ (r : List ℕ). done ++ r) c.in-Some.ensures.steps ∙ sym (append_assoc done (place ∷ []) c.next.new.self),
+      take-append-le c.loop-place.marks.len marks _ (omega (arith, long)) ∙ take_all c.loop-place.marks.len marks (omega (arith, long))
+          ∙ c.mark_entry.ensures (reaches (met_along c.args.query.now h done)) (c.deref_mut.ensures.value ∙ c.loop-place.invariant.2)
+          ∙ marked_place c.args.query.now h c.args.ring.now.ids done place,
+    )
 
 pub returns : goal.returns
-returns c = c.loop-place.invariant ∙ marked_places c.args.journal.now.held.entries c.args.ring.now.ids c.args.places.now c.loop-place.place-index c.loop-place-test.false
+returns c =
+    let done = c.loop-place.invariant.0 in
+    let all : c.args.places ≡ done = c.loop-place.invariant.1 ∙ ap (λ (r : List ℕ). done ++ r) c.in-None.ensures.steps.0 ∙ append-nil done in
+    c.loop-place.invariant.2 ∙ ap (λ ps. map (reaches (met_along c.args.query.now c.args.journal.now.held.entries ps)) c.args.ring.now.ids) (sym all)

@@ -1,23 +1,14 @@
-use Rattle.std.proofs.Common.{◌∙◌, ◌++◌, ◌∷◌, [], sym, ap}
-use Rattle.std.proofs.lemmas.List.{take_all, map_push}
-use Rattle.journal_traces.specs.Given.{given, given_all}
+use Rattle.std.proofs.Common.{◌∙◌, ◌++◌, sym, ap}
+use Rattle.journal_traces.specs.Given.{given_all}
 use Rattle.journal_traces.specs.Standing.{spans_named}
-use Rattle.journal_traces.proofs.Spots.{no_spot, named_some, named_none}
+use Rattle.journal_traces.proofs.Spots.{named_none, named_end}
 use Rattle.journal_traces.proofs.seeing.see.Goals as goal
-use Rattle.journal_traces.proofs.seeing.see.Goals.{in-Some+in_ok-push, in_default}
 
 pub loop-spot-preserved : goal.loop-spot-preserved
 loop-spot-preserved c =
     let h = c.args.journal.now.held.entries in
-    let ss = c.args.spots.now in
-    let i = c.loop-spot.spot-index in
-    elim c.match-seen_at.branch [
-      | in-Some+in_ok-push w ↦
-          ap (λ v. given_all v.items) w.spans-is ∙ ap given_all w.in_ok-push.ensures.items ∙ map_push given c.loop-spot.spans.items w.in-Some.seen
-          ∙ ap (λ l. l ++ given w.in-Some.seen ∷ []) c.loop-spot.invariant
-          ∙ sym (named_some h ss i no_spot c.loop-spot-test.true (given w.in-Some.seen) (sym w.in-Some.ensures))
-      | in_default w ↦ ap (λ v. given_all v.items) w.spans-is ∙ c.loop-spot.invariant ∙ sym (named_none h ss i no_spot c.loop-spot-test.true (sym w.in_default.ensures))
-    ]
+    let done = given_all c.loop-spot.spans.items in
+    named_none h done c.in-Some.spot c.next.new.self (sym c.in_default.ensures) ∙ ap (λ l. done ++ spans_named h l) (sym c.in-Some.ensures.steps) ∙ c.loop-spot.invariant
 
 pub returns : goal.returns
-returns c = c.loop-spot.invariant ∙ ap (spans_named c.args.journal.now.held.entries) (take_all c.loop-spot.spot-index c.args.spots.now c.loop-spot-test.false)
+returns c = named_end c.args.journal.now.held.entries (given_all c.loop-spot.spans.items) c.loop-spot.spot-iterator c.in-None.ensures.steps.0 ∙ c.loop-spot.invariant

@@ -21,10 +21,10 @@ loop-id-preserved c =
     let f : TraceId → List Placed = trace_named h (spots_of c.args.assembly.now) in
     let w : List Placed → Bool = list_any (in_window c.args.end_ms c.args.lookback_ms) in
     let i = c.loop-id.id-index in
-    let spots = ap (spans_named h) c.spans_of-spots.ensures in
+    let spots = ap (spans_named h) c.spots-spots.ensures in
     let e = to_z-of_z w64 c.args.end_ms c.ranges.end_ms in
     let l = to_z-of_z w64 c.args.lookback_ms c.ranges.lookback_ms in
-    let told : c.reaches_window.result ≡ w (f (get_or c.args.ids.now i no_id)) = (rw (e, l) at c.reaches_window.ensures) ∙ ap w spots in
+    let told : c.reaches_window.result ≡ w (f (get_or c.args.ids.now i no_id)) = (rw (e, l) at c.reaches_window.ensures) ∙ ap (λ ss. w (spans_named h ss)) c.again.ensures ∙ ap w spots in
     let before : given_traces c.loop-id.traces.items ≡ filter w (map f (take i c.args.ids.now)) = rw (e, l) at c.loop-id.invariant in
     rw (e, l) (elim c.if-reaches_window.branch [
       | then-reaches_window+in_ok-see+in_ok-push v ↦

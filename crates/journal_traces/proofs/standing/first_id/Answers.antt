@@ -3,7 +3,7 @@ use Rattle.journal_traces.proofs.Spots.{first_trace, no_trace}
 use Rattle.journal_traces.proofs.standing.first_id.Goals as goal
 
 pub returns-in-Some : goal.returns-in-Some
-returns-in-Some c = first_trace (spans_named c.args.journal.now.held.entries c.args.spots.now) c.in-Some.seen c.in-Some.ensures
+returns-in-Some c = first_trace (spans_named c.args.journal.now.held.entries c.args.spots) c.in-Some.seen c.in-Some.ensures
 
 pub returns-in-None : goal.returns-in-None
-returns-in-None c = no_trace (spans_named c.args.journal.now.held.entries c.args.spots.now) c.in-None.ensures
+returns-in-None c = no_trace (spans_named c.args.journal.now.held.entries c.args.spots) c.in-None.ensures

@@ -1,16 +1,13 @@
 use Rattle.std.proofs.Common.{◌∙◌, sym, ap}
 use Rattle.std.specs.Prelude.{slice_get}
-use Rattle.journal_traces.specs.Given.{given}
-use Rattle.journal_traces.proofs.Spots.{no_spot, first_some, first_none, none_left}
+use Rattle.journal_traces.specs.Standing.{spans_named}
+use Rattle.journal_traces.proofs.Spots.{first_none}
 use Rattle.journal_traces.proofs.standing.first_seen.Goals as goal
 
 pub loop-spot-preserved : goal.loop-spot-preserved
-loop-spot-preserved c = first_none c.args.journal.now.held.entries c.args.spots.now c.loop-spot.spot-index no_spot c.loop-spot-test.true (sym c.in_default.ensures) ∙ c.loop-spot.invariant
-
-pub returns-in-Some : goal.returns-in-Some
-returns-in-Some c =
-    first_some c.args.journal.now.held.entries c.args.spots.now c.loop-spot.spot-index no_spot c.loop-spot-test.true (given c.in-Some.seen) (sym c.in-Some.ensures)
-    ∙ c.loop-spot.invariant
+loop-spot-preserved c =
+    let h = c.args.journal.now.held.entries in
+    first_none h c.in-Some.spot c.next.new.self (sym c.in_default.ensures) ∙ ap (λ l. slice_get (spans_named h l) 0) (sym c.in-Some.ensures.steps) ∙ c.loop-spot.invariant
 
 pub returns : goal.returns
-returns c = sym (ap (λ l. slice_get l 0) (none_left c.args.journal.now.held.entries c.args.spots.now c.loop-spot.spot-index c.loop-spot-test.false)) ∙ c.loop-spot.invariant
+returns c = ap (λ l. slice_get (spans_named c.args.journal.now.held.entries l) 0) (sym c.in-None.ensures.steps.0) ∙ c.loop-spot.invariant

@@ -2,10 +2,10 @@ use Rattle.std.proofs.Common.{◌≡◌, ◌+◌, ◌<◌, ◌≤◌, ◌++◌, 
 use Rattle.jaeger_model.specs.declared.span.Span.{Span}
 use Rattle.jaeger_model.specs.Parents.{domain}
 use Rattle.trace_model.proofs.Parents.{with_parent-trace}
-use Rattle.trace_assembly.specs.Rows.{spots_of, room_of}
+use Rattle.trace_assembly.specs.Rows.{spots_of}
 use Rattle.trace_assembly.specs.Located.{located, located_in}
 use Rattle.span_store.specs.Kept.{Follows}
-use Rattle.span_store.proofs.Following.{one_more_span, all_spans, first_spans, placed_from, room_for_rest}
+use Rattle.span_store.proofs.Following.{one_more_span, all_spans, first_spans, placed_from}
 use Rattle.span_store.proofs.arrange.arrange.Goals as goal
 
 pub loop-span-preserved : goal.loop-span-preserved
@@ -28,7 +28,8 @@ loop-span-preserved c =
       follows = subst (λ l. Follows c.args.ring.now.limit l c.let_in.new.ring.ids (spots_of c.let_in.new.assembly)) (ap (λ k. ls ++ (record { place = place; index = k }, p) ∷ []) c.loop-span.invariant.index ∙ one_more_span (located h) place b i s le is) g;
       ring_room = c.let_in.ensures.ring_room ∙ c.loop-span.invariant.ring_room;
       seen = let now = c.let_in.ensures.seen in let then = c.loop-span.invariant.seen in omega arith;
-      assembly_room = λ t. room_for_rest t b.spans i s (room_of c.loop-span.assembly t) (room_of c.let_in.new.assembly t) le is (c.loop-span.invariant.assembly_room t) (c.let_in.ensures.assembly_room t);
+      assembly_room = c.let_in.ensures.assembly_room ∙ c.loop-span.invariant.assembly_room;
+      used = let now = c.let_in.ensures.used in let then = c.loop-span.invariant.used in omega arith;
     }
 
 pub returns-clause-follows : goal.returns-clause-follows
@@ -48,3 +49,16 @@ returns-clause-ring_room c = c.loop-span.invariant.ring_room
 
 pub returns-clause-seen : goal.returns-clause-seen
 returns-clause-seen c = omega (arith, c.loop-span.invariant.seen)
+
+pub let_in-requires-clause-assembly_room : goal.let_in-requires-clause-assembly_room
+let_in-requires-clause-assembly_room c =
+    let le : c.loop-span.span-index < length c.args.entry.now.batch.spans = subst (λ (ss : List Span). c.loop-span.span-index < length ss) c.as_slice-span-items.ensures c.loop-span-test.true in
+    omega (arith, c.requires.assembly_room, c.loop-span.invariant.assembly_room, c.loop-span.invariant.used)
+
+pub returns-clause-assembly_room : goal.returns-clause-assembly_room
+returns-clause-assembly_room c = c.loop-span.invariant.assembly_room
+
+pub returns-clause-used : goal.returns-clause-used
+returns-clause-used c =
+    let past : length c.args.entry.now.batch.spans ≤ c.loop-span.span-index = subst (λ (ss : List Span). length ss ≤ c.loop-span.span-index) c.as_slice-span-items.ensures c.loop-span-test.false in
+    omega (arith, c.loop-span.invariant.used)

@@ -9,5 +9,5 @@ pub returns-clause-follows : goal.returns-clause-follows
 returns-clause-follows c = λ ls p f same.
     let came = c.arrive-arrived.ensures in
     follows_more c.args.ring.now.limit ls c.args.spot p c.args.trace c.arrive-arrived.result.left c.args.ring.now.ids c.arrive-arrived.new.self.ids
-    (spots_of c.args.assembly.now) (spots_of c.add_reserved.new.self) f same came.ids came.left came.gone
-    (λ t. c.add_reserved.ensures.spots t ∙ ap (λ k. if same_trace t c.args.trace then k ++ c.args.spot ∷ [] else k) (c.hide_left.ensures.spots t))
+    (spots_of c.args.assembly.now) (spots_of c.add.new.self) f same came.ids came.left came.gone
+    (λ t. c.add.ensures.spots t ∙ ap (λ k. if same_trace t c.args.trace then k ++ c.args.spot ∷ [] else k) (c.hide_left.ensures.spots t))

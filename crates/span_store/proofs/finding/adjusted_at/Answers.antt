@@ -1,5 +1,6 @@
 use Rattle.std.proofs.Common.{◌∙◌, ap}
 use Rattle.trace_model.specs.Adjusting.{adjusted}
+use Rattle.journal_traces.specs.Standing.{spans_named}
 use Rattle.journal_traces.proofs.Spots.{trace_there}
 use Rattle.span_store.proofs.finding.adjusted_at.Goals as goal
 
@@ -7,4 +8,4 @@ pub returns : goal.returns
 returns c =
     let traces = c.args.traces.now in
     c.from_vec.ensures ∙ c.in_ok-shown.ensures
-    ∙ ap (adjusted c.args.max_skew) (c.in_ok-spans.ensures ∙ trace_there traces.journal.now.held.entries traces.spots.now c.args.place c.get.result c.in-Some.spots c.get.ensures.lookup c.in-Some.is)
+    ∙ ap (adjusted c.args.max_skew) (c.in_ok-spans.ensures ∙ ap (spans_named traces.journal.now.held.entries) c.again.ensures ∙ trace_there traces.journal.now.held.entries traces.spots.now c.args.place c.get.result c.in-Some.spots c.get.ensures.lookup c.in-Some.is)

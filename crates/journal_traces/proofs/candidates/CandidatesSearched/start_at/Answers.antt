@@ -1,7 +1,7 @@
 use Rattle.std.proofs.Common.{rules, ◌≡◌, ◌∙◌, ap}
 use Rattle.trace_model.specs.Searching.{first_start}
 use Rattle.find_traces.specs.Places.{trace_at}
-use Rattle.journal_traces.specs.Standing.{traces_named}
+use Rattle.journal_traces.specs.Standing.{spans_named, traces_named}
 use Rattle.journal_traces.proofs.Spots.{trace_there}
 use Rattle.journal_traces.proofs.candidates.CandidatesSearched.start_at.Goals as goal
 
@@ -9,5 +9,5 @@ pub returns-in-Some : goal.returns-in-Some
 returns-in-Some c =
     let traces = c.args.self.now in
     let e : c.first_start.result ≡ first_start (trace_at (traces_named traces.journal.now.held.entries traces.spots.now) c.args.place) =
-    c.first_start.ensures ∙ ap first_start (trace_there traces.journal.now.held.entries traces.spots.now c.args.place c.get.result c.in-Some.spots c.get.ensures.lookup c.in-Some.is) in
+    c.first_start.ensures ∙ ap first_start (ap (spans_named traces.journal.now.held.entries) c.again.ensures ∙ trace_there traces.journal.now.held.entries traces.spots.now c.args.place c.get.result c.in-Some.spots c.get.ensures.lookup c.in-Some.is) in
     search rules

@@ -9,8 +9,7 @@ use Rattle.trace_model.specs.Showing.{spans_of_trace}
 use Rattle.trace_ring.specs.Windows.{NoneTwice}
 use Rattle.trace_assembly.specs.Rows.{spots_of}
 use Rattle.service_places.specs.Reported.{places_of}
-use Rattle.span_store.specs.Kept.{places_in}
-use Rattle.journal_traces.specs.Picked.{reaches, spans_along}
+use Rattle.journal_traces.specs.Picked.{reaches, met_along}
 use Rattle.journal_traces.specs.Standing.{spans_named, traces_named}
 use Rattle.journal_traces.proofs.Adopting.{map_map}
 use Rattle.span_store.proofs.Following.{trace_stands}
@@ -27,7 +26,7 @@ returns-then-not-may_find c =
 pub spots_along-requires : goal.spots_along-requires
 spots_along-requires c =
     let was = c.self.inside in
-    subst NoneTwice (sym (kept_ring was.journal.held was.ring (spots_of was.assembly) was.names (places_of was.reported) c.self.invariant)) (ring_once was.journal.held.limits.traces (arrivals was.journal.held.entries))
+    subst NoneTwice (sym (kept_ring was.journal.held was.ring was.assembly was.names was.reported c.self.invariant)) (ring_once was.journal.held.limits.traces (arrivals was.journal.held.entries))
 
 pub returns : goal.returns
 returns c =
@@ -36,13 +35,13 @@ returns c =
     let q = c.args.query.now in
     let spots = spots_of was.assembly in
     let f : TraceId → List Placed = spans_of_trace h.limits.traces (arrivals h.entries) in
-    let stands = trace_stands h.limits.traces h.entries spots (kept_spots h was.ring spots was.names (places_of was.reported) c.self.invariant) in
-    let ids : List TraceId = filter (reaches (spans_along h.entries c.places_of-places.result.now)) was.ring.ids in
-    let at : c.places_of-places.result.now ≡ places_in q.service h.entries = c.places_of-places.ensures ∙ c.self.invariant.places q.service in
+    let stands = trace_stands h.limits.traces h.entries spots (kept_spots h was.ring was.assembly was.names was.reported c.self.invariant) in
+    let ids : List TraceId = filter (reaches (met_along q h.entries c.places_of-places.result)) was.ring.ids in
+    let at : c.places_of-places.result ≡ places_of h.entries q.service = c.places_of-places.ensures ∙ (λ i. places_of (c.entries.ensures i) (c.as_str.ensures.value i)) in
     let all : found_in q (traces_named h.entries c.in_ok-spots.spots.items) ≡ found_in q (traces h.limits.traces (arrivals h.entries)) =
     ap (λ ss. found_in q (map (spans_named h.entries) ss)) c.in_ok-spots.ensures
     ∙ ap (found_in q) (map_map (spans_named h.entries) spots ids ∙ (λ i. map (λ t. stands t i) ids))
-    ∙ ap (λ (ps : List ℕ). found_in q (map f (filter (reaches (spans_along h.entries ps)) was.ring.ids))) at
+    ∙ ap (λ (ps : List ℕ). found_in q (map f (filter (reaches (met_along q h.entries ps)) was.ring.ids))) at
     ∙ found_among q h.limits.traces h.entries q.service was.ring.ids refl
-    ∙ ap (found_in q) (kept_traces h was.ring spots was.names (places_of was.reported) c.self.invariant) in
+    ∙ ap (found_in q) (kept_traces h was.ring was.assembly was.names was.reported c.self.invariant) in
     subst (λ (v : Held). found_in q (traces_named v.entries c.in_ok-spots.spots.items) ≡ found_in q (traces v.limits.traces (arrivals v.entries))) c.self.view_is all

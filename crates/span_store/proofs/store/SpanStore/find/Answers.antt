@@ -1,5 +1,4 @@
 use Rattle.std.proofs.Common.{◌∙◌, ap, map, List}
-use denote.Ref.{Bor}
 use Rattle.trace_assembly.specs.declared.spot.Spot.{Spot}
 use Rattle.trace_model.specs.declared.limits.Limits.{Limits}
 use Rattle.trace_model.specs.declared.answer.Answer.TheVariants as say
@@ -17,6 +16,6 @@ returns c =
     c.from_vec.ensures ∙ c.in_ok-found.ensures
     ∙ ap (λ (l : Limits). map (adjusted l.max_skew) (found_in q (traces_named c.self.inside.journal.held.entries c.deref.result.now))) c.limits.ensures
     ∙ ap (λ (v : Held). map (adjusted skew) (found_in q (traces_named v.entries c.deref.result.now))) c.self.view_is
-    ∙ ap (λ (ss : List (Bor (List Spot))). map (adjusted skew) (found_in q (traces_named c.args.self.now.entries ss))) c.deref.ensures.value
+    ∙ ap (λ (ss : List (List Spot)). map (adjusted skew) (found_in q (traces_named c.args.self.now.entries ss))) c.deref.ensures.value
     ∙ ap (map (adjusted skew)) c.in_ok-spots.ensures
     )

@@ -1,5 +1,4 @@
 use Rattle.std.proofs.Common.{◌∙◌, ap, List}
-use denote.Ref.{Bor}
 use Rattle.trace_assembly.specs.declared.spot.Spot.{Spot}
 use Rattle.trace_model.specs.declared.answer.Answer.TheVariants as say
 use Rattle.trace_model.specs.Held.{Held}
@@ -13,6 +12,6 @@ returns c =
     ap say.Ids (
     c.from_vec.ensures ∙ c.in_ok-ids.ensures
     ∙ ap (λ (v : Held). ids_of (found_in q (traces_named v.entries c.deref.result.now))) c.self.view_is
-    ∙ ap (λ (ss : List (Bor (List Spot))). ids_of (found_in q (traces_named c.args.self.now.entries ss))) c.deref.ensures.value
+    ∙ ap (λ (ss : List (List Spot)). ids_of (found_in q (traces_named c.args.self.now.entries ss))) c.deref.ensures.value
     ∙ ap ids_of c.in_ok-spots.ensures
     )

@@ -12,18 +12,18 @@ use Rattle.span_store.proofs.store.SpanStore.trace.Goals as goal
 pub returns-then-is_empty : goal.returns-then-is_empty
 returns-then-is_empty c =
     let held = c.self.inside.journal.held in
-    let spots = c.spans_of-spots.result.now in
+    let spots = c.spots-spots.result in
     let none : length spots ≡ 0 = search rules in
-    let named = spots_name c.self.inside.ring.limit held.limits.traces held.entries c.self.inside.ring.ids (spots_of c.self.inside.assembly) c.args.id spots c.self.invariant.follows c.self.invariant.limit c.spans_of-spots.ensures in
+    let named = spots_name c.self.inside.ring.limit held.limits.traces held.entries c.self.inside.ring.ids (spots_of c.self.inside.assembly) c.args.id spots c.self.invariant.follows c.self.invariant.limit c.spots-spots.ensures in
     subst (λ (v : Held). Trace None ≡ Trace (option_map (shown_as v.limits c.args.raw) (trace_found v.limits.traces (arrivals v.entries) c.args.id))) c.self.view_is
     (ap Trace (none_found (shown_as held.limits c.args.raw) held.entries spots (spans_of_trace held.limits.traces (arrivals held.entries) c.args.id) named none))
 
 pub returns : goal.returns
 returns c =
     let held = c.self.inside.journal.held in
-    let spots = c.spans_of-spots.result.now in
+    let spots = c.spots-spots.result in
     let some : 0 < length spots = search rules in
-    let named = spots_name c.self.inside.ring.limit held.limits.traces held.entries c.self.inside.ring.ids (spots_of c.self.inside.assembly) c.args.id spots c.self.invariant.follows c.self.invariant.limit c.spans_of-spots.ensures in
+    let named = spots_name c.self.inside.ring.limit held.limits.traces held.entries c.self.inside.ring.ids (spots_of c.self.inside.assembly) c.args.id spots c.self.invariant.follows c.self.invariant.limit c.spots-spots.ensures in
     let shown : c.in_ok-shown.shown ≡ shown_as held.limits c.args.raw c.in_ok-spans.spans.items = c.in_ok-shown.ensures ∙ ap (λ l. shown_as l c.args.raw c.in_ok-spans.spans.items) (c.limits.ensures ∙ ap (λ (v : Held). v.limits) (sym c.self.view_is)) in
     subst (λ (v : Held). Trace (Some c.in_ok-shown.shown) ≡ Trace (option_map (shown_as v.limits c.args.raw) (trace_found v.limits.traces (arrivals v.entries) c.args.id))) c.self.view_is
     (ap Trace (some_found (shown_as held.limits c.args.raw) held.entries spots (spans_of_trace held.limits.traces (arrivals held.entries) c.args.id) c.in_ok-spans.spans.items c.in_ok-shown.shown named c.in_ok-spans.ensures some shown))

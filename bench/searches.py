@@ -1,0 +1,315 @@
+#!/usr/bin/env python3
+"""What searches, dependencies and applying cost, beside a plain scan over the same data, in one run on one machine.
+
+    bench/searches.py [--bin PATH | --folder PATH] [--spans 100000] [--rounds 15] [--load]
+
+Traces of 10 to 50 spans, each span with 5 to 15 tags, are handed in by batches of up to 10 spans of one service, the traces mixed in time. Then each
+question is asked in turn by two programs, each a process of its own:
+
+  store  `SpanStore::answer` of the store of one thread, proved and built by `rt run` in a copy of the crates that it stands on (from a plain clone
+         that takes long: the crates below are proved first; `--folder PATH` keeps the copy, and `--bin PATH` names a program that was built so)
+  scan   bench/compare/scan.rs, plain Rust without proofs: a list of batches that each question walks over from the front
+
+The bodies are the same, and so are the answers: the script compares how many traces or links each program found. A time is that of the
+machine's monotonic clock around one question, the least of the rounds, in milliseconds. `with JSON` has the JSON of the answer. With `--load` it
+prints what applying costs by number of spans held instead: microseconds a batch of 10 spans, the median of the last 200.
+"""
+import argparse
+import os
+import random
+import statistics
+import struct
+import subprocess
+import sys
+import tempfile
+
+from copies import below
+from decode import ROOT, field, span, text
+import shutil
+
+SERVICES = ["frontend", "orders", "billing", "catalogue", "shipping"]
+QUESTIONS = ["one of a common service", "20 of a common service", "20 of a common service, with JSON", "all of a common service", "a rare service",
+             "no such service", "no such operation", "no such tag", "no such duration", "no such start", "links of a hundredth", "links of all time"]
+
+# The program.
+MAIN = """//! Asks a store that holds the bodies of standard input each question so many times as its word says, and prints the nanoseconds of each and
+//! how much was found. A second word `load` has it print the nanoseconds of each batch that is applied instead.
+#![tactic(auto)]
+
+use anyhow::{Result, bail};
+use batch_codec::decode;
+use jaeger_model::{Seq, Text};
+use query_json::answer_text;
+use span_store::SpanStore;
+use std::alloc::Global;
+use std::env;
+use std::hash::RandomState;
+use std::io::Read;
+use std::sync::Arc;
+use std::time::Clock;
+use trace_model::{Answer, Entry, Find, Limits, Query};
+
+/// Nanoseconds since some moment.
+fn now<R: Clock>(rt: &R) -> u64 {
+    match rt.monotonic() {
+        Ok(time) => u64::try_from(time.as_nanos()).unwrap_or(0),
+        Err(_) => 0,
+    }
+}
+
+/// The entries of the bodies, which are a length of four bytes and then that many bytes, each.
+fn entries(alloc: Global, input: &[u8]) -> Result<Vec<Arc<Entry>>> {
+    let mut entries = Vec::new(alloc);
+    let mut rest = input;
+    for before in 0..1_000_000u64 {
+        let [a, b, c, d, tail @ ..] = rest else {
+            break;
+        };
+        let length = u32::from_be_bytes([*a, *b, *c, *d]) as usize;
+        if tail.len() < length {
+            break;
+        }
+        let (body, after) = tail.split_at(length);
+        let batch = decode(alloc, body)?;
+        let number = before + 1;
+        let entry = Entry {
+            seat: 0,
+            number,
+            batch,
+        };
+        entries.push(Arc::new(alloc, entry)?)?;
+        rest = after;
+    }
+    Ok(entries)
+}
+
+/// All traces of a service, so many at most.
+fn of_service(alloc: Global, service: &str, limit: u64) -> Result<Find> {
+    Ok(Find {
+        service: Text::from_str(alloc, service)?,
+        operation: Text::new(alloc),
+        tags: Seq::new(alloc),
+        start_min: None,
+        start_max: None,
+        duration_min: 0,
+        duration_max: 0,
+        limit,
+    })
+}
+
+/// The question of this number. Dependencies are asked of a window that ends at this millisecond.
+fn question(alloc: Global, number: u32, end_ms: i64) -> Result<Query> {
+    let mut find = of_service(alloc, "orders", 20)?;
+    match number {
+        0 => find.limit = 1,
+        1 | 2 => {}
+        3 => find.limit = 0,
+        4 => find.service = Text::from_str(alloc, "rare")?,
+        5 => find.service = Text::from_str(alloc, "nowhere")?,
+        6 => find.operation = Text::from_str(alloc, "nothing")?,
+        7 => {
+            let tag = (Text::from_str(alloc, "error")?, Text::from_str(alloc, "never")?);
+            find.tags = Seq::from_vec(vec![in alloc; tag]?);
+        }
+        8 => find.duration_min = 4_000_000_000_000_000_000,
+        9 => find.start_min = Some(4_000_000_000_000_000_000),
+        10 => {
+            return Ok(Query::Links {
+                end_ms,
+                lookback_ms: 10_000,
+            });
+        }
+        _ => {
+            return Ok(Query::Links {
+                end_ms: 4_000_000_000_000,
+                lookback_ms: 4_000_000_000_000,
+            });
+        }
+    }
+    Ok(Query::Find(find))
+}
+
+/// How many traces or links there are.
+fn size_of(answer: &Answer) -> usize {
+    match answer {
+        Answer::Traces(traces) => traces.len(),
+        Answer::Links(links) => links.len(),
+        _ => 0,
+    }
+}
+
+/// Nanoseconds of one answer, and how much was found.
+fn asked<R: Clock>(rt: &R, alloc: Global, store: &SpanStore, query: &Query, json: bool) -> Result<(u64, usize)> {
+    let begin = now(rt);
+    let answer = match store.answer(query) {
+        Ok(answer) => answer,
+        Err(why) => bail!("{why}"),
+    };
+    let mut bytes = 0;
+    if json {
+        bytes = answer_text(alloc, &answer)?.len();
+    }
+    let took = now(rt).saturating_sub(begin);
+    if json && bytes == 0 {
+        bail!("no text");
+    }
+    Ok((took, size_of(&answer)))
+}
+
+/// Applies the entries; nanoseconds of each.
+fn filled<R: Clock>(rt: &R, alloc: Global, store: &mut SpanStore, entries: Vec<Arc<Entry>>) -> Result<Vec<u64>> {
+    let mut times = Vec::new(alloc);
+    for entry in entries {
+        let begin = now(rt);
+        if let Err(why) = store.apply(entry) {
+            bail!("{why}");
+        }
+        times.push(now(rt).saturating_sub(begin))?;
+    }
+    Ok(times)
+}
+
+fn main(rt: HostRuntime) -> Result<()> {
+    let alloc = rt.alloc();
+    let words: Vec<String> = env::args(&rt)?.collect(alloc)?;
+    let rounds: u32 = words.get(1).and_then(|word| word.parse().ok()).unwrap_or(0);
+    let end_ms: i64 = words.get(2).and_then(|word| word.parse().ok()).unwrap_or(0);
+    let keys = RandomState::new(&rt)?;
+    let mut input = Vec::new(alloc);
+    rt.stdin().read_to_end(&mut input)?;
+    let Some(limits) = Limits::new(1_000_000, 10_000_000, 0, 0) else {
+        bail!("limits out of their ranges");
+    };
+    let mut store = SpanStore::open(alloc, keys, limits)?;
+    let times = filled(&rt, alloc, &mut store, entries(alloc, &input)?)?;
+    if rounds == 0 {
+        for took in times.iter() {
+            println!(&rt; "apply {took} 0")?;
+        }
+        return Ok(());
+    }
+    for number in 0..12u32 {
+        let query = question(alloc, number, end_ms)?;
+        for _ in 0..rounds {
+            let (took, size) = asked(&rt, alloc, &store, &query, number == 2)?;
+            println!(&rt; "{number} {took} {size}")?;
+        }
+    }
+    Ok(())
+}
+"""
+
+DEPS = "span_store query_json batch_codec jaeger_model trace_model serde_json anyhow"
+
+
+def build_store(top):
+    """Proves and builds the program in a copy below this folder."""
+    with open(os.path.join(ROOT, "crates.txt")) as file:
+        lines = [line.partition(":") for line in file if ":" in line and not line.startswith("#")]
+    lists = {name.split()[0]: deps.split() for name, _, deps in lines}
+    names = below(DEPS.split(), lists)
+    for name in names:
+        there = os.path.join(top, "crates", name)
+        if not os.path.exists(there):
+            shutil.copytree(os.path.join(ROOT, "crates", name), there, symlinks=True)
+    shutil.copy(os.path.join(ROOT, "HANDLES"), top)
+    with open(os.path.join(top, "crates.txt"), "w") as file:
+        file.writelines(f"{name}: {' '.join(lists[name])}\n" for name in lists if name in names)
+        file.write(f"searches_times: {DEPS}\n")
+    source = os.path.join(top, "crates", "searches_times", "src")
+    os.makedirs(source, exist_ok=True)
+    with open(os.path.join(source, "main.rt"), "w") as file:
+        file.write(MAIN)
+    crate = os.path.dirname(source)
+    subprocess.run(["rt", "run", "--jobs", "1"], cwd=crate, check=True, stdin=subprocess.DEVNULL, stdout=sys.stderr)
+    return os.path.join(crate, "out", "searches_times")
+
+
+def build_scan(folder):
+    program = os.path.join(folder, "scan")
+    source = os.path.join(ROOT, "bench", "compare", "scan.rs")
+    subprocess.run(["rustc", "--edition", "2021", "-C", "opt-level=3", "-o", program, source], check=True)
+    return program
+
+
+def write_bodies(rng, path, spans):
+    """Batches of up to 10 spans of one service, those of some traces mixed; the middle of all starts in milliseconds."""
+    pieces, count, trace = [], 0, 0
+    while count < spans:
+        trace += 1
+        size = rng.randint(10, 50)
+        begin = 1_600_000_000_000_000 + trace * 300_000
+        parts = {}
+        for number in range(1, size + 1):
+            service = "rare" if trace % 1000 == 7 and number == 3 else rng.choice(SERVICES)
+            parts.setdefault(service, []).append(number)
+        for service, numbers in parts.items():
+            for at in range(0, len(numbers), 10):
+                pieces.append((trace + rng.random() * 3, trace, service, numbers[at:at + 10]))
+        count += size
+    pieces.sort()
+    with open(path, "wb") as file:
+        for _, trace, service, numbers in pieces:
+            body = field(12, 1) + field(11, 1) + text(service) + b"\0" + field(15, 2) + b"\x0c" + struct.pack(">i", len(numbers))
+            for number in numbers:
+                one = span(rng, trace, number, number // 2)
+                start = one.index(field(10, 8)) + 3
+                body += one[:start] + struct.pack(">q", 1_600_000_000_000_000 + trace * 300_000 + number) + one[start + 8:]
+            body += b"\0"
+            file.write(struct.pack(">I", len(body)) + body)
+    return 1_600_000_000_000 + (trace // 2) * 300
+
+
+def ask(program, path, rounds, end_ms):
+    """The least nanoseconds of each question, and what was found."""
+    with open(path, "rb") as stdin:
+        run = subprocess.run([program, str(rounds), str(end_ms)], stdin=stdin, capture_output=True, text=True, check=True)
+    least, found = {}, {}
+    for line in run.stdout.splitlines():
+        number, took, size = line.split()
+        if number == "apply":
+            least.setdefault("apply", []).append(int(took))
+            continue
+        least[int(number)] = min(int(took), least.get(int(number), 1 << 62))
+        found[int(number)] = int(size)
+    return least, found
+
+
+def load():
+    with open("/proc/loadavg") as file:
+        return file.read().split()[0]
+
+
+def main():
+    asked = argparse.ArgumentParser(description=__doc__, formatter_class=argparse.RawDescriptionHelpFormatter)
+    asked.add_argument("--bin", help="a program that was built by this script")
+    asked.add_argument("--folder", help="where the program is built, and stays")
+    asked.add_argument("--spans", type=int, default=100_000)
+    asked.add_argument("--rounds", type=int, default=15)
+    asked.add_argument("--load", action="store_true", help="what applying costs")
+    options = asked.parse_args()
+    with tempfile.TemporaryDirectory() as folder:
+        program = options.bin or build_store(os.path.abspath(options.folder) if options.folder else os.path.join(folder, "repository"))
+        path = os.path.join(folder, "bodies")
+        print(f"load at the start {load()}")
+        if options.load:
+            for size in (1000, 10_000, 100_000, 1_000_000):
+                write_bodies(random.Random(1), path, size)
+                times, _ = ask(program, path, 0, 0)
+                print(f"{size:>9} spans: {statistics.median(times['apply'][-200:]) / 1000:8.2f} us a batch", flush=True)
+            return
+        end_ms = write_bodies(random.Random(1), path, options.spans)
+        store, in_store = ask(program, path, options.rounds, end_ms)
+        scan, in_scan = ask(build_scan(folder), path, options.rounds, end_ms)
+        print(f"{options.spans:,} spans; milliseconds, the least of {options.rounds}")
+        print("| Question | found | store | scan | store of scan |")
+        print("|---|---|---|---|---|")
+        for number, name in enumerate(QUESTIONS):
+            assert in_store[number] == in_scan[number], (name, in_store[number], in_scan[number])
+            one, other = store[number] / 1e6, scan[number] / 1e6
+            print(f"| {name} | {in_store[number]} | {one:.4f} | {other:.4f} | {one / other:.3f} |")
+        print(f"load at the end {load()}")
+
+
+if __name__ == "__main__":
+    main()

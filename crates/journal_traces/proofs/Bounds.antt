@@ -1,0 +1,101 @@
+-- Where the bounds of the spans' times don't meet those of the search, no span meets the search.
+use Rattle.std.proofs.Common.{◌≡◌, ℤ, ◌≤ℤ◌, Bool, true, false, ◌&&◌, cond, List, [], ◌∷◌, map, refl, sym, ap, ◌∙◌, arith}
+use Rattle.std.specs.Prelude.{Option, Some, None, int_le, not, option_map}
+use Rattle.std.specs.List.{list_all, AllByRecursion}
+use Rattle.std.proofs.lemmas.Bool.{false≢true}
+use Rattle.std.proofs.lemmas.Int.{fold-int_min_bounds, fold-int_max_bounds, ints}
+use Rattle.std.proofs.lemmas.List.Elements.{recursion_from_All}
+use Rattle.jaeger_model.specs.declared.placed.Placed.{Placed}
+use Rattle.jaeger_model.specs.declared.batch.Process.{Process}
+use Rattle.jaeger_model.specs.declared.span.Span.{Span}
+use Rattle.trace_model.specs.declared.query.Find.{Find}
+use Rattle.trace_model.specs.Searching.{is_named, is_timed, has_tag, at_least, at_most, bound}
+use Rattle.arrival_journal.specs.declared.times.Times.{Times}
+use Rattle.arrival_journal.specs.Times.{times_of, times_in, starts, durations, latest, earliest}
+use Rattle.trace_model.specs.declared.entry.Entry.{Entry}
+use Rattle.journal_traces.specs.Picked.{meets, met, met_or_none}
+use Rattle.journal_traces.specs.Pruned.{may_meet}
+
+-- the span's start and duration lie in these bounds
+record Within (t : Times) (s : Span) : Type 0 where
+  start_low : t.start_min ≤ℤ s.start
+  start_high : s.start ≤ℤ t.start_max
+  duration_low : t.duration_min ≤ℤ s.duration
+  duration_high : s.duration ≤ℤ t.duration_max
+
+each_within : (t : Times) (ss : List Span)
+    → AllByRecursion (λ x. t.start_min ≤ℤ x) (starts ss) → AllByRecursion (λ x. x ≤ℤ t.start_max) (starts ss)
+    → AllByRecursion (λ x. t.duration_min ≤ℤ x) (durations ss) → AllByRecursion (λ x. x ≤ℤ t.duration_max) (durations ss)
+    → AllByRecursion (Within t) ss
+each_within t [] a b c d = tt
+each_within t (s ∷ ss) a b c d = (record { start_low = a.0; start_high = b.0; duration_low = c.0; duration_high = d.0 }, each_within t ss a.1 b.1 c.1 d.1)
+
+all_within : (ss : List Span) → AllByRecursion (Within (times_of ss)) ss
+all_within ss =
+    let t = times_of ss in
+    each_within t ss
+    (recursion_from_All (λ x. t.start_min ≤ℤ x) (starts ss) (fold-int_min_bounds latest (starts ss) t.start_min refl).1)
+    (recursion_from_All (λ x. x ≤ℤ t.start_max) (starts ss) (fold-int_max_bounds earliest (starts ss) t.start_max refl).1)
+    (recursion_from_All (λ x. t.duration_min ≤ℤ x) (durations ss) (fold-int_min_bounds latest (durations ss) t.duration_min refl).1)
+    (recursion_from_All (λ x. x ≤ℤ t.duration_max) (durations ss) (fold-int_max_bounds earliest (durations ss) t.duration_max refl).1)
+
+both : (a b : Bool) → (a && b) ≡ true → (a ≡ true) × (b ≡ true)
+both true b e = (refl, e)
+both false b e = absurd (false≢true e)
+
+raised : (low : Option ℤ) (x y : ℤ) → x ≤ℤ y → at_least low x ≡ true → at_least low y ≡ true
+raised None x y le e = refl
+raised (Some l) x y le e = by (int_le l y) refl
+  where
+    by : (b : Bool) → int_le l y ≡ b → b ≡ true
+    by true f = refl
+    by false f = absurd (omega (arith, ints))
+
+lowered : (high : Option ℤ) (x y : ℤ) → y ≤ℤ x → at_most high x ≡ true → at_most high y ≡ true
+lowered None x y le e = refl
+lowered (Some h) x y le e = by (int_le y h) refl
+  where
+    by : (b : Bool) → int_le y h ≡ b → b ≡ true
+    by true f = refl
+    by false f = absurd (omega (arith, ints))
+
+meeting : (q : Find) (o : Process) (t : Times) (s : Span) → Within t s → meets q o s ≡ true → may_meet q t ≡ true
+meeting q o t s w m =
+    let p : Placed = record { process = o; span = s } in
+    let timed = (both (is_named q p) (is_timed q p) (both (is_named q p && is_timed q p) (list_all (has_tag p) q.tags) m).0).1 in
+    let long : Bool = at_least (bound q.duration_min) s.duration in
+    let short : Bool = at_most (bound q.duration_max) s.duration in
+    let late : Bool = at_least q.start_min s.start in
+    let early : Bool = at_most q.start_max s.start in
+    let d = both (long && short && late) early timed in
+    let c = both (long && short) late d.0 in
+    let ab = both long short c.0 in
+    let a' = raised (bound q.duration_min) s.duration t.duration_max w.duration_high ab.0 in
+    let b' = lowered (bound q.duration_max) s.duration t.duration_min w.duration_low ab.1 in
+    let c' = raised q.start_min s.start t.start_max w.start_high c.1 in
+    let d' = lowered q.start_max s.start t.start_min w.start_low d.1 in
+    λ i. (a' i && b' i) && (c' i && d' i)
+
+none_met : (q : Find) (o : Process) (t : Times) (ss : List Span) → AllByRecursion (Within t) ss → may_meet q t ≡ false → met q o ss ≡ []
+none_met q o t [] w none = refl
+none_met q o t (s ∷ ss) w none = elim (meets q o s) as (λ b. meets q o s ≡ b → cond b (s ∷ met q o ss) (met q o ss) ≡ []) [
+  | true ↦ λ m. absurd (false≢true (sym none ∙ meeting q o t s w.0 m))
+  | false ↦ λ _. none_met q o t ss w.1 none
+] refl
+
+-- no span of these meets the search
+pub passed : (q : Find) (o : Process) (ss : List Span) → may_meet q (times_of ss) ≡ false → met q o ss ≡ []
+passed q o ss none = none_met q o (times_of ss) ss (all_within ss) none
+
+-- ---- at a place
+pub passed_there : (q : Find) (e : Option Entry) (t : Times) → Some t ≡ option_map times_in e → may_meet q t ≡ false → met_or_none q e ≡ []
+passed_there q None t e none = absurd (cc e)
+passed_there q (Some x) t e none = let same : t ≡ times_in x = cc e in passed q x.batch.process x.batch.spans (ap (may_meet q) (sym same) ∙ none)
+
+pub none_there : (q : Find) (e : Option Entry) → None ≡ option_map times_in e → met_or_none q e ≡ []
+none_there q None e = refl
+none_there q (Some x) e = absurd (cc e)
+
+pub denied : (b : Bool) → not b ≡ true → b ≡ false
+denied true e = absurd (false≢true e)
+denied false e = refl

@@ -1,0 +1,82 @@
+-- The places along a chain are those of the service.
+use Rattle.std.proofs.Common.{◌≡◌, ℕ, suc, zero, ◌-◌, ◌<◌, ◌≤◌, true, false, List, [], ◌∷◌, length, get_or, refl, sym, ap, subst, ◌∙◌, inl, inr, arith}
+use Rattle.std.specs.Prelude.{if◌then◌else◌}
+use Rattle.std.specs.Ordering.{is_eq}
+use Rattle.std.specs.Cmp.{tied_itself}
+use Rattle.std.specs.Cmp.Lexicographic.{texts_ties}
+use Rattle.std.proofs.lemmas.Bool.{cases_eq}
+use Rattle.jaeger_model.specs.Texts.{same_text, text_cmp}
+use Rattle.trace_model.proofs.NameLaws.{text_total, text_exact}
+use Rattle.service_index.specs.Indexes.{IsNewest, IsChain}
+use Rattle.service_index.proofs.Probing.{is_equal}
+use Rattle.service_places.specs.Along.{along, IsBack}
+use Rattle.service_places.specs.Reported.{places_upto}
+
+along_none : (n : ℕ) (earlier : List ℕ) → along n earlier 0 ≡ []
+along_none zero earlier = refl
+along_none (suc n) earlier = refl
+
+-- more steps than the place says change nothing
+along_enough : (earlier : List ℕ) → ((k : ℕ) → k < length earlier → get_or earlier k 0 ≤ k) → (n m at : ℕ) → at ≤ n → at ≤ m → at ≤ length earlier → along n earlier at ≡ along m earlier at
+along_enough earlier back n m zero a b w = along_none n earlier ∙ sym (along_none m earlier)
+along_enough earlier back zero m (suc k) a b w = absurd (omega arith)
+along_enough earlier back (suc n) zero (suc k) a b w = absurd (omega arith)
+along_enough earlier back (suc n) (suc m) (suc k) a b w =
+    let less = back k (omega arith) in
+    ap (λ l. suc k ∷ l) (along_enough earlier back n m (get_or earlier k 0) (omega arith) (omega arith) (omega arith))
+
+-- one step
+pub along_end : (earlier : List ℕ) (at : ℕ) → at ≡ 0 → along at earlier at ≡ []
+along_end earlier at e = ap (λ k. along k earlier k) e
+
+pub along_step : (earlier : List ℕ) (at next : ℕ) → IsBack earlier at → 0 < at → next ≡ get_or earlier (at - 1) 0 → along at earlier at ≡ at ∷ along next earlier next
+along_step earlier zero next h pos e = absurd (omega arith)
+along_step earlier (suc k) next h pos e =
+    let w = h.within in
+    let less = h.back k (omega arith) in
+    let same : suc k - 1 ≡ k = omega arith in
+    let is : next ≡ get_or earlier k 0 = e ∙ ap (λ j. get_or earlier j 0) same in
+    ap (λ l. suc k ∷ l) (along_enough earlier h.back k (get_or earlier k 0) (get_or earlier k 0) less (omega arith) (omega arith) ∙ ap (λ j. along j earlier j) (sym is))
+
+pub back_step : (earlier : List ℕ) (at next : ℕ) → IsBack earlier at → 0 < at → next ≡ get_or earlier (at - 1) 0 → IsBack earlier next
+back_step earlier at next h pos e =
+    let w = h.within in
+    let less = h.back (at - 1) (omega arith) in
+    record { within = omega arith; back = h.back }
+
+-- services
+same_self : (s : List ℕ) → same_text s s ≡ true
+same_self s = texts_ties s s ∙ ap is_eq (tied_itself text_total s)
+
+differ : (a b : List ℕ) → (a ≡ b → ⊥) → same_text a b ≡ false
+differ a b other = elim (same_text a b) as (λ t. same_text a b ≡ t → t ≡ false) [
+  | true ↦ λ e. absurd (other (text_exact a b (is_equal (text_cmp a b) (sym (texts_ties a b) ∙ e))))
+  | false ↦ λ _. refl
+] refl
+
+-- entries of other services between
+skip : (s : List ℕ) (rows : List (List ℕ)) (k m : ℕ) → k ≤ m → ((j : ℕ) → k ≤ j → j < m → get_or rows j [] ≡ s → ⊥) → places_upto s rows m ≡ places_upto s rows k
+skip s rows k zero le none = let same : zero ≡ k = omega arith in ap (places_upto s rows) same
+skip s rows k (suc m) le none = elim (cases_eq k (suc m)) [
+  | inl e ↦ ap (places_upto s rows) (sym e)
+  | inr other ↦
+      ap (λ b. if b then suc m ∷ places_upto s rows m else places_upto s rows m) (differ (get_or rows m []) s (none m (omega arith) (omega arith)))
+      ∙ skip s rows k m (omega arith) (λ j low below. none j low (omega arith))
+]
+
+pub walked : (s : List ℕ) (rows : List (List ℕ)) (earlier : List ℕ) → IsChain rows earlier → (n at below : ℕ) → at ≤ n → below ≤ length rows → IsNewest rows s at below
+    → along n earlier at ≡ places_upto s rows below
+walked s rows earlier chain n zero below a w h = along_none n earlier ∙ sym (skip s rows 0 below (omega arith) h.none)
+walked s rows earlier chain zero (suc k) below a w h = absurd (omega arith)
+walked s rows earlier chain (suc n) (suc k) below a w h =
+    let v = h.within in
+    let same : suc k - 1 ≡ k = omega arith in
+    let own : get_or rows k [] ≡ s = ap (λ j. get_or rows j []) (sym same) ∙ h.own (omega arith) in
+    let next : IsNewest rows s (get_or earlier k 0) k = subst (λ (x : List ℕ). IsNewest rows x (get_or earlier k 0) k) own (chain.before k (omega arith)) in
+    let less = next.within in
+    ap (λ l. suc k ∷ l) (walked s rows earlier chain n (get_or earlier k 0) k (omega arith) (omega arith) next)
+    ∙ sym (skip s rows (suc k) below v h.none ∙ ap (λ b. if b then suc k ∷ places_upto s rows k else places_upto s rows k) (ap (λ (x : List ℕ). same_text x s) own ∙ same_self s))
+
+-- a chain leads back
+pub chain_back : (rows : List (List ℕ)) (earlier : List ℕ) (k : ℕ) → IsChain rows earlier → k < length earlier → get_or earlier k 0 ≤ k
+chain_back rows earlier k chain below = let m = chain.as_many in (chain.before k (omega arith)).within

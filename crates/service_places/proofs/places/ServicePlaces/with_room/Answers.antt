@@ -1,0 +1,20 @@
+use Rattle.std.proofs.Common.{◌≡◌, ◌≤◌, ◌∙◌, List, ℕ, [], length, refl, ap, sym, subst, arith}
+use Rattle.service_index.specs.Indexes.{owners, IsLinked}
+use Rattle.service_index.proofs.Linking.{linked_empty}
+use Rattle.service_places.specs.Reported.{names_of}
+use Rattle.service_places.proofs.places.ServicePlaces.with_room.Goals as goal
+
+pub returns-clause-kept : goal.returns-clause-kept
+returns-clause-kept c =
+    let numbers : c.in_ok-services.services.numbers ≡ [] = c.in_ok-services.ensures.numbers in
+    let count = ap (λ (ns : List ℕ). length ns) numbers in
+    record {
+      fits = omega (arith, c.ranges.batches.fits);
+      room = c.in_ok-services.ensures.room;
+      few = omega arith;
+      named = c.in_ok-services.ensures.leads (names_of []);
+      linked =
+          subst (λ (ns : List ℕ). IsLinked [] (owners (names_of []) ns) c.in_ok-newest.newest.items c.in_ok-earlier.earlier.items) (sym numbers)
+          (subst (λ (x : List ℕ). IsLinked [] [] x c.in_ok-earlier.earlier.items) (sym c.in_ok-newest.ensures.items)
+          (subst (λ (x : List ℕ). IsLinked [] [] [] x) (sym c.in_ok-earlier.ensures.items) linked_empty));
+    }
