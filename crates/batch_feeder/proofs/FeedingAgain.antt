@@ -1,17 +1,16 @@
 -- The steps of a feeder.
-use Rattle.std.proofs.Common.{◌≡◌, ℕ, suc, List, [], ◌∷◌, ◌++◌, length, eqb, Option, Some, None, Result, Ok, Err, Bool, true, false, not, refl, ap, sym, ◌∙◌, arith, append-nil}
+use Rattle.std.proofs.Common.{◌≡◌, ℕ, List, [], ◌∷◌, ◌++◌, length, eqb, Result, Ok, Err, true, false, not, refl, ap, sym, ◌∙◌, arith, append-nil}
 use Rattle.std.proofs.lemmas.Bool.{ne_eqb}
-use Rattle.thrift_binary.specs.declared.fault.WireError.{WireError}
 use Rattle.thrift_binary.specs.declared.fault.WireError.TheVariants.{Truncated, BadLength, BadType, TooDeep, BadBool, BadText}
 use Rattle.thrift_binary.specs.Reading.{◌>>=◌}
 use Rattle.thrift_binary.specs.Fields.{fields_in, fields_at}
 use Rattle.wire_pieces.specs.Pieces.{Comes, Waits}
-use Rattle.wire_pieces.proofs.Steps.{comes-trans, comes-inside, waits-inside}
+use Rattle.wire_pieces.proofs.Steps.{comes-inside, waits-inside}
 use Rattle.jaeger_model.specs.declared.batch.Batch.{Batch}
 use Rattle.batch_codec.specs.declared.batch.BatchSlots.{BatchSlots}
 use Rattle.batch_codec.specs.declared.fault.DecodeError.{DecodeError}
 use Rattle.batch_codec.specs.declared.fault.DecodeError.TheVariants.{Wire, Missing, BadEnum, Trailing, Memory}
-use Rattle.batch_codec.specs.Decoding.{Reading, Fails, Gives}
+use Rattle.batch_codec.specs.Decoding.{Reading, Fails}
 use Rattle.batch_codec.specs.Gathered.{no_batch}
 use Rattle.batch_codec.specs.BatchReading.{take_batch, batch_from, batch_at, at_end, decoded}
 use Rattle.batch_feeder.specs.declared.fields.Step.{Step}

@@ -1,5 +1,5 @@
 -- The steps of a struct that comes in pieces.
-use Rattle.std.proofs.Common.{◌≡◌, ℕ, ℤ, List, Option, Some, None, Result, Ok, Err, refl, ap, sym, ◌∙◌}
+use Rattle.std.proofs.Common.{◌≡◌, ℕ, ℤ, List, Some, None, Result, Ok, Err, refl, ap, sym, ◌∙◌}
 use Rattle.thrift_binary.specs.declared.fault.WireError.TheVariants.{Truncated}
 use Rattle.thrift_binary.specs.Reading.{◌>>=◌, field_at}
 use Rattle.thrift_binary.specs.Fields.{Take, behind_field, fields_at}
@@ -7,16 +7,18 @@ use Rattle.thrift_binary.specs.Cuts.{IsCutSafe}
 use Rattle.wire_pieces.specs.declared.fault.PieceError.{PieceError}
 use Rattle.wire_pieces.specs.declared.heads.FieldHead.{FieldHead}
 use Rattle.wire_pieces.specs.Pieces.{Comes, Waits, Refused}
-use Rattle.wire_pieces.specs.Heads.{head_from}
+use Rattle.wire_pieces.specs.Heads.{head_from, fields_value}
 use Rattle.wire_pieces.proofs.Steps.{comes-is, comes-trans, comes-waits, comes-inside, waits-inside}
 use Rattle.wire_pieces.proofs.FieldsAgain as wires
 use Rattle.batch_codec.specs.declared.fault.DecodeError.{DecodeError}
 use Rattle.batch_codec.specs.declared.fault.DecodeError.TheVariants.{Wire}
 use Rattle.batch_codec.specs.Decoding.{Reading, wire}
+use Rattle.batch_feeder.specs.declared.fields.Field.{Field}
+use Rattle.batch_feeder.specs.declared.fields.Field.TheVariants as field
 use Rattle.batch_feeder.specs.declared.fields.Step.{Step}
 use Rattle.batch_feeder.specs.declared.fields.Step.TheVariants.{Head, Value}
 use Rattle.batch_feeder.specs.Going.{fault_of, Faults}
-use Rattle.batch_feeder.specs.Fields.{fields_from, struct_at, struct_from}
+use Rattle.batch_feeder.specs.Fields.{Passes, fields_from, struct_at, struct_from}
 use Rattle.batch_feeder.proofs.GoingAgain.{faults-lift, faults-inside, comes-faults}
 
 module _ {S V : Type 0} (take : Take S DecodeError) (res : S → V → Reading S) {a : List ℕ → Result (S × List ℕ) DecodeError} {p : List ℕ} where
@@ -29,18 +31,34 @@ module _ {S V : Type 0} (take : Take S DecodeError) (res : S → V → Reading S
   pub head-stop : (s : S) (step : Step V) (h : FieldHead) (w v : List ℕ) → step ≡ Head h → Comes (head_from h) (λ u. Ok (None, u)) w v → Comes a (fields_from take res s step) p w → Comes a (λ u. Ok (s, u)) p v
   head-stop s step h w v is g inv = comes-trans (rw is at inv) (wires.head-stop wire take s h w v g)
 
-  pub head-value : (s : S) (step : Step V) (h : FieldHead) (c : ℕ) (i : ℤ) (held : V) (w v : List ℕ) → step ≡ Head h → Comes (head_from h) (λ u. Ok (Some (c, i), u)) w v → ((t : S) (u : List ℕ) → res t held u ≡ take t c i u) → Comes a (fields_from take res s step) p w → Comes a (fields_from take res s (Value held)) p v
-  head-value s step h c i held w v is g same inv = comes-trans (rw is at inv) (wires.head-value wire take s h w v c i (res s held) g (same s))
+  -- the head of a field, and what follows it
+  pub head-typed : (s : S) (step : Step V) (h : FieldHead) (c : ℕ) (i : ℤ) (w v : List ℕ) → step ≡ Head h → Comes (head_from h) (λ u. Ok (Some (c, i), u)) w v → Comes a (fields_from take res s step) p w → Comes a (fields_value wire take (take s c i)) p v
+  head-typed s step h c i w v is g inv = comes-trans (rw is at inv) (wires.head-value wire take s h w v c i (take s c i) g (λ u. refl))
+
+  -- the value of a field that began
+  pub value-bad : (now : Reading S) (v : List ℕ) (e : DecodeError) → Comes a (fields_value wire take now) p v → Faults now v e → Faults a p e
+  value-bad now v e inv g = comes-faults a (fields_value wire take now) p v e inv (faults-inside (λ x. fields_at wire take x.0 x.1) now v e g)
+
+  pub value-part : (now : Reading S) (t : S) (held : V) (v q : List ℕ) → Comes a (fields_value wire take now) p v → Waits (Wire Truncated) now (res t held) v q → Waits (Wire Truncated) a (fields_from take res t (Value held)) p q
+  value-part now t held v q inv g = comes-waits inv (waits-inside (λ x. fields_at wire take x.0 x.1) g)
+
+  pub value-whole : (now : Reading S) (t : S) (v q : List ℕ) → Comes a (fields_value wire take now) p v → Comes now (λ u. Ok (t, u)) v q → Comes a (fields_at wire take t) p q
+  value-whole now t v q inv g = comes-trans inv (comes-inside (λ x. fields_at wire take x.0 x.1) g)
 
   pub value-waits : (s t : S) (step : Step V) (h k : V) (w v : List ℕ) → step ≡ Value h → Waits (Wire Truncated) (res s h) (res t k) w v → Comes a (fields_from take res s step) p w → Waits (Wire Truncated) a (fields_from take res t (Value k)) p v
   value-waits s t step h k w v is g inv = comes-waits (rw is at inv) (wires.value-waits wire take (res s h) (res t k) w v g)
 
-  pub value-faults : (s : S) (step : Step V) (h : V) (w : List ℕ) (e : DecodeError) → step ≡ Value h → Faults (res s h) w e → Comes a (fields_from take res s step) p w → Faults a p e
-  value-faults s step h w e is g inv = comes-faults a (fields_from take res s (Value h)) p w e (rw is at inv) (faults-inside (λ x. fields_at wire take x.0 x.1) (res s h) w e g)
-
   module _ (safe : (s : S) (c : ℕ) (i : ℤ) → IsCutSafe (Wire Truncated) (take s c i)) where
-    pub value-whole : (s t : S) (step : Step V) (h : V) (k : FieldHead) (w v : List ℕ) → step ≡ Value h → ((u : List ℕ) → head_from k u ≡ field_at u) → Comes (res s h) (λ u. Ok (t, u)) w v → Comes a (fields_from take res s step) p w → Comes a (fields_from take res t (Head k)) p v
-    value-whole s t step h k w v is fresh g inv = comes-trans (rw is at inv) (wires.value-whole wire take safe t k (res s h) w v fresh g)
+    -- before the first byte of a head
+    pub at-head : (s : S) (h : FieldHead) (w : List ℕ) → ((u : List ℕ) → head_from h u ≡ field_at u) → Comes a (fields_at wire take s) p w → Comes a (fields_from take res s (Head h)) p w
+    at-head s h w fresh inv = comes-trans inv (comes-is (fields_at wire take s) (fields_from take res s (Head h)) w (λ u. sym (wires.head-fresh wire take safe s h fresh u)))
+
+  -- what a field came to, behind other bytes
+  pub passes-after : (b : Reading S) (t : S) (next : Step V) (w v : List ℕ) (r : Result Field DecodeError) → Comes a b p w → Passes take res b t next w v r → Passes take res a t next p v r
+  passes-after b t next w v (Ok field.Open) f g = comes-waits f g
+  passes-after b t next w v (Ok field.Whole) f g = comes-trans f g
+  passes-after b t next w v (Ok field.Stop) f g = comes-trans f g
+  passes-after b t next w v (Err e) f g = comes-faults a b p w e f g
 
 module _ {S V A : Type 0} (take : Take S DecodeError) (res : S → V → Reading S) (makes : S → Result A DecodeError) where
   abbrev made : S × List ℕ → Result (A × List ℕ) DecodeError

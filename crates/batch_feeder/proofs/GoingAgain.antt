@@ -1,17 +1,18 @@
 -- What calls gave, in larger readings.
-use Rattle.std.proofs.Common.{◌≡◌, ℕ, List, ◌++◌, Option, Some, None, Result, Ok, Err, Bool, true, false, refl, ap, sym, ◌∙◌}
+use Rattle.std.proofs.Common.{◌≡◌, ℕ, List, ◌++◌, Option, Some, None, Result, Ok, Err, Bool, true, false, refl, sym, ◌∙◌}
 use Rattle.thrift_binary.specs.declared.fault.WireError.{WireError}
 use Rattle.thrift_binary.specs.declared.fault.WireError.TheVariants.{Truncated}
 use Rattle.thrift_binary.specs.Reading.{◌>>=◌, lift}
 use Rattle.wire_pieces.specs.declared.fault.PieceError.{PieceError}
 use Rattle.wire_pieces.specs.declared.fault.PieceError.TheVariants as piece
-use Rattle.wire_pieces.specs.Pieces.{Comes, Waits, Refuses, Refused, Reaches}
-use Rattle.wire_pieces.specs.Pieces as wires
-use Rattle.wire_pieces.proofs.Steps.{comes-trans, comes-inside, waits-inside, refuses-inside, comes-refuses, comes-lift, waits-lift, refuses-lift}
+use Rattle.wire_pieces.specs.Pieces.{Comes, Waits, Refused, Reaches}
+use Rattle.wire_pieces.proofs.Steps.{comes-trans, comes-waits, comes-inside, waits-inside, refuses-inside, comes-refuses, comes-lift, waits-lift, refuses-lift}
 use Rattle.batch_codec.specs.declared.fault.DecodeError.{DecodeError}
-use Rattle.batch_codec.specs.declared.fault.DecodeError.TheVariants.{Wire, Memory}
+use Rattle.batch_codec.specs.declared.fault.DecodeError.TheVariants.{Wire}
 use Rattle.batch_codec.specs.Decoding.{Reading, wire}
-use Rattle.batch_feeder.specs.Going.{fault_of, Faults, Goes, GoesTo, Places, Sets}
+use Rattle.batch_feeder.specs.declared.going.Begun.{Begun}
+use Rattle.batch_feeder.specs.declared.going.Begun.TheVariants.{Whole, Part}
+use Rattle.batch_feeder.specs.Going.{Begins, fault_of, Faults, GoesTo, Places, Sets}
 
 pub one_wire : (e f : WireError) → wire e ≡ wire f → e ≡ f
 one_wire e f h = cc
@@ -42,6 +43,30 @@ ends-faults a then x p q e apart same g = λ n. record { same = λ rest. (comes-
 -- a value that makes another
 pub ends-comes : {A X : Type 0} (a : Reading A) (then : A × List ℕ → Result (X × List ℕ) DecodeError) (x : A) (y : X) (p q : List ℕ) → ((rest : List ℕ) → then (x, rest) ≡ Ok (y, rest)) → Comes a (λ w. Ok (x, w)) p q → Comes (λ w. a w >>= then) (λ w. Ok (y, w)) p q
 ends-comes a then x y p q same g = comes-trans (comes-inside then g) (record { same = λ rest. same (q ++ rest) })
+
+-- ---- before the first byte
+
+module _ {X : Type 0} (a reads : List ℕ → Result X DecodeError) (same : (w : List ℕ) → a w ≡ reads w) where
+  pub same-comes : (b : List ℕ → Result X DecodeError) (p q : List ℕ) → Comes a b p q → Comes reads b p q
+  same-comes b p q g = record { same = λ rest. sym (same (p ++ rest)) ∙ g.same rest }
+
+  pub same-waits : (b : List ℕ → Result X DecodeError) (p q : List ℕ) → Waits (Wire Truncated) a b p q → Waits (Wire Truncated) reads b p q
+  same-waits b p q g = record { comes = same-comes b p q g.comes; want = g.want; spent = g.spent }
+
+  pub same-faults : (p : List ℕ) (e : DecodeError) → Faults a p e → Faults reads p e
+  same-faults p e g = λ n. record { same = λ rest. sym (same (p ++ rest)) ∙ (g n).same rest; no_want = (g n).no_want }
+
+-- a call that began a value, behind other bytes
+pub begins-after : {A P : Type 0} (a b : Reading A) (res : P → Reading A) (p w v : List ℕ) (r : Result (Begun A P) DecodeError) → Comes a b p w → Begins b res w v r → Begins a res p v r
+begins-after a b res p w v (Ok (Whole x)) f g = comes-trans f g
+begins-after a b res p w v (Ok (Part q)) f g = comes-waits f g
+begins-after a b res p w v (Err e) f g = comes-faults a b p w e f g
+
+-- a call that went on, behind other bytes
+pub goes-to-after : {X : Type 0} (x : X) (a b c : Reading X) (p w v : List ℕ) (r : Result Bool DecodeError) → Comes a b p w → GoesTo x b c w v r → GoesTo x a c p v r
+goes-to-after x a b c p w v (Ok true) f g = comes-trans f g
+goes-to-after x a b c p w v (Ok false) f g = comes-waits f g
+goes-to-after x a b c p w v (Err e) f g = comes-faults a b p w e f g
 
 -- ---- slots
 

@@ -1,29 +1,78 @@
 -- The steps of a list of structs that comes in pieces.
-use Rattle.std.proofs.Common.{◌≡◌, ℕ, suc, ◌<◌, ◌-◌, Bool, true, false, eqb, ◌||◌, List, [], ◌∷◌, ◌++◌, Result, Ok, Err, refl, ap, sym, ◌∙◌, arith}
+use Rattle.std.proofs.Common.{◌≡◌, ℕ, suc, ◌<◌, ◌-◌, false, eqb, List, [], ◌∷◌, ◌++◌, Result, Ok, Err, refl, ap, arith, append_assoc, append-nil}
 use Rattle.std.proofs.lemmas.Bool.{ne_eqb}
-use Rattle.thrift_binary.specs.declared.fault.WireError.{WireError}
 use Rattle.thrift_binary.specs.declared.fault.WireError.TheVariants.{Truncated, BadType}
-use Rattle.thrift_binary.specs.Reading.{◌>>=◌, lift, list_at}
-use Rattle.thrift_binary.specs.Lists.{items_at, list_of}
+use Rattle.thrift_binary.specs.Reading.{◌>>=◌}
+use Rattle.thrift_binary.specs.Lists.{items_at}
 use Rattle.wire_pieces.specs.declared.fault.PieceError.{PieceError}
 use Rattle.wire_pieces.specs.declared.heads.ListHead.{ListHead}
-use Rattle.wire_pieces.specs.Pieces.{Comes, Waits, Refuses, Refused}
+use Rattle.wire_pieces.specs.Pieces.{Comes, Waits, Refused}
 use Rattle.wire_pieces.specs.Heads.{list_head}
-use Rattle.wire_pieces.specs.Lists.{items_from, behind_head, list_head_from}
-use Rattle.wire_pieces.proofs.Steps.{comes-trans}
-use Rattle.wire_pieces.proofs.ItemsAgain.{items-refuses, list-waits, list-empty, list-bad, list-begins}
+use Rattle.wire_pieces.specs.Lists.{items_from, with_front, behind_head}
+use Rattle.wire_pieces.proofs.Steps.{comes-trans, comes-is, comes-inside, comes-lift}
+use Rattle.wire_pieces.proofs.ItemsAgain.{items-refuses, list-waits}
 use Rattle.batch_codec.specs.declared.fault.DecodeError.{DecodeError}
 use Rattle.batch_codec.specs.declared.fault.DecodeError.TheVariants.{Wire}
 use Rattle.batch_codec.specs.Decoding.{Reading, wire}
 use Rattle.batch_feeder.specs.declared.items.ListStep.{ListStep}
-use Rattle.batch_feeder.specs.declared.items.ListStep.TheVariants.{Head, Item}
+use Rattle.batch_feeder.specs.declared.items.ListStep.TheVariants.{Head}
 use Rattle.batch_feeder.specs.Going.{fault_of, Faults}
-use Rattle.batch_feeder.specs.Lists.{list_from}
-use Rattle.batch_feeder.proofs.GoingAgain.{one_wire, faults-lift, faults-inside, comes-faults}
+use Rattle.batch_feeder.specs.Lists.{items_behind, list_from}
+use Rattle.batch_feeder.proofs.GoingAgain.{faults-lift, faults-inside}
 
 module _ {A : Type 0} (one : Reading A) where
   pub items-faults : (items : List A) (n : ℕ) (now : Reading A) (w : List ℕ) (e : DecodeError) → Faults now w e → Faults (items_from one items n now) w e
   items-faults items n now w e g = λ apart. items-refuses one (Wire Truncated) items n now w e (g apart)
+
+-- what n items make behind those that have come
+module _ {A : Type 0} (one : Reading A) where
+  behind-of : (items : List A) (x : A) (r : Result (List A × List ℕ) DecodeError) → with_front items (r >>= λ z. Ok (x ∷ z.0, z.1)) ≡ with_front (items ++ x ∷ []) r
+  behind-of items x (Err e) = refl
+  behind-of items x (Ok z) = ap (λ (zs : List A). Ok (zs, z.1)) (simp append_assoc)
+
+  behind-next : (items : List A) (m : ℕ) (r : Result (A × List ℕ) DecodeError) → with_front items (r >>= λ y. items_at one m y.1 >>= λ z. Ok (y.0 ∷ z.0, z.1)) ≡ (r >>= λ x. with_front (items ++ x.0 ∷ []) (items_at one m x.1))
+  behind-next items m (Err e) = refl
+  behind-next items m (Ok y) = behind-of items y.0 (items_at one m y.1)
+
+  behind-is : (items : List A) (n m : ℕ) (w : List ℕ) → n ≡ suc m → items_behind one items n w ≡ items_from one items m one w
+  unfolding items_from items_at
+  behind-is items n m w is = rw is (behind-next items m (one w))
+
+  -- the first of n items
+  pub behind-opens : (a : Reading (List A)) (items : List A) (n m : ℕ) (p w : List ℕ) → 0 < n → m ≡ n - 1 → Comes a (items_behind one items n) p w → Comes a (items_from one items m one) p w
+  behind-opens a items n m p w lt is inv =
+      let k : n ≡ suc m = omega (arith, is) in
+      comes-trans inv (comes-is (items_behind one items n) (items_from one items m one) w (λ u. behind-is items n m u k))
+
+  -- an item that is whole
+  pub item-done : (now : Reading A) (items next : List A) (m : ℕ) (x : A) (w v : List ℕ) → next ≡ items ++ x ∷ [] → Comes now (λ u. Ok (x, u)) w v → Comes (items_from one items m now) (items_behind one next m) w v
+  unfolding items_from
+  item-done now items next m x w v is g = rw is (comes-inside (λ y. with_front (items ++ y.0 ∷ []) (items_at one m y.1)) g)
+
+  -- no more items
+  pub behind-none : (a : Reading (List A)) (items : List A) (n : ℕ) (p w : List ℕ) → n ≡ 0 → Comes a (items_behind one items n) p w → Comes a (λ u. Ok (items, u)) p w
+  unfolding items_at
+  behind-none a items n p w is inv = comes-trans inv (record { same = λ rest. rw (is, append-nil items) refl })
+
+  no_front : (r : Result (List A × List ℕ) DecodeError) → r ≡ with_front [] r
+  no_front (Ok z) = refl
+  no_front (Err e) = refl
+
+  -- behind the head of a list
+  pub head-none : (c n : ℕ) (w : List ℕ) → n ≡ 0 → Comes (behind_head wire 12 one (c, n)) (λ u. Ok ([], u)) w w
+  unfolding items_at
+  head-none c n w is = record { same = λ rest. rw is refl }
+
+  pub head-other : (c n : ℕ) (w : List ℕ) → (n ≡ 0 → ⊥) → (c ≡ 12 → ⊥) → Faults (behind_head wire 12 one (c, n)) w (Wire BadType)
+  head-other c n w some other =
+      let n0 : eqb n 0 ≡ false = ne_eqb n 0 some in
+      let c12 : eqb c 12 ≡ false = ne_eqb c 12 other in
+      λ apart. record { same = λ rest. rw (n0, c12) refl; no_want = λ h. absurd (let k : Wire BadType ≡ Wire Truncated = h in cc) }
+
+  pub head-items : (c n : ℕ) (none : List A) (w : List ℕ) → (n ≡ 0 → ⊥) → c ≡ 12 → none ≡ [] → Comes (behind_head wire 12 one (c, n)) (items_behind one none n) w w
+  head-items c n none w some is empty =
+      let n0 : eqb n 0 ≡ false = ne_eqb n 0 some in
+      record { same = λ rest. rw (n0, is, empty) (no_front (items_at one n (w ++ rest))) }
 
 module _ {A P : Type 0} (one : Reading A) (res : P → Reading A) (items : List A) (left : ℕ) (step : ListStep P) (p : ListHead) (is : step ≡ Head p) where
   pub head-faults : (w : List ℕ) (e : PieceError) → Refused (list_head p) w e → Faults (list_from one res items left step) w (fault_of e)
@@ -32,16 +81,5 @@ module _ {A P : Type 0} (one : Reading A) (res : P → Reading A) (items : List 
   pub head-waits : (q : ListHead) (w v : List ℕ) → Waits Truncated (list_head p) (list_head q) w v → Waits (Wire Truncated) (list_from one res items left step) (list_from one res items left (Head q)) w v
   head-waits q w v g = rw is (list-waits one wire 12 p q w v g)
 
-  pub head-empty : (w v : List ℕ) (d n : ℕ) → n ≡ 0 → Comes (list_head p) (λ u. Ok ((d, n), u)) w v → Comes (list_from one res items left step) (λ u. Ok ([], u)) w v
-  head-empty w v d n none g = rw is (list-empty one wire 12 p w v d n none g)
-
-  pub head-bad : (w v : List ℕ) (d n : ℕ) → (n ≡ 0 → ⊥) → (d ≡ 12 → ⊥) → Comes (list_head p) (λ u. Ok ((d, n), u)) w v → Faults (list_from one res items left step) w (Wire BadType)
-  head-bad w v d n some other g =
-      let n0 : eqb n 0 ≡ false = ne_eqb n 0 some in
-      let d12 : eqb d 12 ≡ false = ne_eqb d 12 other in
-      λ apart. rw is (list-bad one wire 12 p w v d n (rw (n0, d12) refl) (λ h. absurd (let k : BadType ≡ Truncated = h in cc)) (one_wire BadType Truncated) g)
-
-  pub head-begins : (w v : List ℕ) (d n k : ℕ) (none : List A) (fresh : P) → (n ≡ 0 → ⊥) → d ≡ 12 → k ≡ n - 1 → none ≡ [] → ((u : List ℕ) → res fresh u ≡ one u) → Comes (list_head p) (λ u. Ok ((d, n), u)) w v → Comes (list_from one res items left step) (items_from one none k (res fresh)) w v
-  head-begins w v d n k none fresh some is12 less empty same g =
-      let n0 : eqb n 0 ≡ false = ne_eqb n 0 some in
-      rw (is, less) (list-begins one wire 12 p w v d n none (res fresh) (rw (n0, is12) refl) (omega arith) empty same g)
+  pub head-behind : (w v : List ℕ) (d n : ℕ) → Comes (list_head p) (λ u. Ok ((d, n), u)) w v → Comes (list_from one res items left step) (behind_head wire 12 one (d, n)) w v
+  head-behind w v d n g = rw is (comes-inside (λ h. behind_head wire 12 one h.0 h.1) (comes-lift wire g))

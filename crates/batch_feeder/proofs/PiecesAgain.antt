@@ -1,10 +1,9 @@
 -- The pieces that a feeder was given.
-use Rattle.std.proofs.Common.{◌≡◌, ℕ, suc, ◌+◌, ◌<◌, ◌≤◌, List, [], ◌∷◌, ◌++◌, length, drop, get_or, Result, Ok, Err, refl, ap, sym, ◌∙◌, arith, drop-cons, append-nil, append_assoc}
+use Rattle.std.proofs.Common.{◌≡◌, ℕ, suc, ◌<◌, ◌≤◌, List, [], ◌∷◌, ◌++◌, length, drop, get_or, Result, ap, sym, ◌∙◌, drop-cons, append-nil}
 use Rattle.std.specs.Prelude.{flat_map}
 use Rattle.std.proofs.Math.ListN.{drop_of_length-le}
 use Rattle.jaeger_model.specs.declared.batch.Batch.{Batch}
 use Rattle.batch_codec.specs.declared.fault.DecodeError.{DecodeError}
-use Rattle.batch_codec.specs.declared.fault.DecodeError.TheVariants.{Memory}
 use Rattle.batch_codec.specs.Decoding.{Fails, Gives}
 use Rattle.batch_feeder.specs.Going.{Faults}
 use Rattle.batch_feeder.proofs.FeedingAgain.{fails-unless}

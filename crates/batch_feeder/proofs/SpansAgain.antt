@@ -1,5 +1,5 @@
 -- The fields of a span by their types.
-use Rattle.std.proofs.Common.{◌≡◌, ℕ, ℤ, pos, List, eqb, false, refl}
+use Rattle.std.proofs.Common.{◌≡◌, ℕ, ℤ, List, eqb, false, refl}
 use Rattle.std.proofs.lemmas.Bool.{ne_eqb}
 use Rattle.batch_codec.specs.declared.span.SpanSlots.{SpanSlots}
 use Rattle.batch_codec.specs.SpanReading.{take_span}

@@ -1,6 +1,5 @@
 -- What a call gave that went on over a piece.
 use Rattle.std.specs.Prelude.{◌≡◌, ℕ, List, Option, Some, None, Result, Ok, Err, Bool, true, false}
-use Rattle.thrift_binary.specs.declared.fault.WireError.{WireError}
 use Rattle.thrift_binary.specs.declared.fault.WireError.TheVariants.{Truncated}
 use Rattle.wire_pieces.specs.declared.fault.PieceError.{PieceError}
 use Rattle.wire_pieces.specs.declared.fault.PieceError.TheVariants as piece
@@ -8,6 +7,8 @@ use Rattle.wire_pieces.specs.Pieces.{Comes, Waits, Refuses, Reaches}
 use Rattle.batch_codec.specs.declared.fault.DecodeError.{DecodeError}
 use Rattle.batch_codec.specs.declared.fault.DecodeError.TheVariants.{Wire, Memory}
 use Rattle.batch_codec.specs.Decoding.{Reading}
+use Rattle.batch_feeder.specs.declared.going.Begun.{Begun}
+use Rattle.batch_feeder.specs.declared.going.Begun.TheVariants.{Whole, Part}
 
 -- the fault of a part is that of the whole
 abbrev pub fault_of : PieceError → DecodeError
@@ -40,3 +41,27 @@ abbrev pub Sets : {A : Type 0} → Reading A → Reading A → Option A → Opti
 Sets {A = A} old new before after piece left (Ok true) = (x : A) × (after ≡ Some x) × Comes old (λ w. Ok (x, w)) piece left
 Sets old new before after piece left (Ok false) = Waits (Wire Truncated) old new piece left × (after ≡ before)
 Sets old new before after piece left (Err e) = Faults old piece e
+
+-- a value that began, or the part of it that has come, or a fault
+abbrev pub Begins : {A P : Type 0} → Reading A → (P → Reading A) → List ℕ → List ℕ → Result (Begun A P) DecodeError → Type 0
+Begins reads resumes piece left (Ok (Whole x)) = Comes reads (λ w. Ok (x, w)) piece left
+Begins reads resumes piece left (Ok (Part p)) = Waits (Wire Truncated) reads (resumes p) piece left
+Begins reads resumes piece left (Err e) = Faults reads piece e
+
+-- the same of a call that puts a whole value into its place
+abbrev pub PlacesFirst : {A P : Type 0} → Reading A → (P → Reading A) → A → A → List ℕ → List ℕ → Result (Option P) DecodeError → Type 0
+PlacesFirst reads resumes before after piece left (Ok None) = Comes reads (λ w. Ok (after, w)) piece left
+PlacesFirst reads resumes before after piece left (Ok (Some p)) = Waits (Wire Truncated) reads (resumes p) piece left × (after ≡ before)
+PlacesFirst reads resumes before after piece left (Err e) = Faults reads piece e
+
+-- the same where the place may be empty
+abbrev pub SetsFirst : {A P : Type 0} → Reading A → (P → Reading A) → Option A → Option A → List ℕ → List ℕ → Result (Option P) DecodeError → Type 0
+SetsFirst {A = A} reads resumes before after piece left (Ok None) = (x : A) × (after ≡ Some x) × Comes reads (λ w. Ok (x, w)) piece left
+SetsFirst reads resumes before after piece left (Ok (Some p)) = Waits (Wire Truncated) reads (resumes p) piece left × (after ≡ before)
+SetsFirst reads resumes before after piece left (Err e) = Faults reads piece e
+
+-- the same of a call that changes what was gathered: a part waits where it isn't whole
+abbrev pub Enters : {X V : Type 0} → X → Reading X → (V → Reading X) → List ℕ → List ℕ → Result (Option V) DecodeError → Type 0
+Enters x reads resumes piece left (Ok None) = Comes reads (λ w. Ok (x, w)) piece left
+Enters x reads resumes piece left (Ok (Some v)) = Waits (Wire Truncated) reads (resumes v) piece left
+Enters x reads resumes piece left (Err e) = Faults reads piece e

@@ -2,7 +2,6 @@
 use Rattle.std.specs.Prelude.{◌≡◌, ℕ, Option, Some, None, Result, Ok, Err}
 use Rattle.thrift_binary.specs.declared.fault.WireError.TheVariants.{Truncated}
 use Rattle.thrift_binary.specs.Reading.{◌>>=◌}
-use Rattle.jaeger_model.specs.declared.tag.Tag.{Tag}
 use Rattle.batch_codec.specs.declared.fault.DecodeError.{DecodeError}
 use Rattle.batch_codec.specs.declared.fault.DecodeError.TheVariants.{Wire, Missing}
 use Rattle.batch_codec.specs.declared.fault.Part.{Part}

@@ -1,5 +1,5 @@
 -- A span of which some bytes have come.
-use Rattle.std.specs.Prelude.{◌≡◌, pos, Some, Ok, ◌&&◌, ◌==◌, if◌then◌else◌}
+use Rattle.std.specs.Prelude.{pos, Some, Ok, ◌&&◌, ◌==◌, if◌then◌else◌}
 use Rattle.std.specs.Ordering.{int_eq}
 use Rattle.thrift_binary.specs.Fields.{Take}
 use Rattle.batch_codec.specs.declared.fault.DecodeError.{DecodeError}

@@ -1,5 +1,5 @@
 use crate::fields::{Slots, required};
-use crate::going::{Fresh, place, set};
+use crate::going::{begin_set, held, place, set};
 use crate::items::ListPart;
 use crate::process::ProcessParts;
 use crate::skipped::SkipPart;
@@ -66,12 +66,21 @@ impl Slots for BatchParts {
     }
 
     #[tactic(auto, unfolding(batch_codec::specs::BatchReading::take_batch, batch_codec::specs::ProcessReading::process_at, batch_codec::specs::SpanReading::span_at))]
-    fn begin(alloc: Global, code: u8, id: i16) -> BatchHeld {
+    fn enter(
+        &mut self,
+        code: u8,
+        id: i16,
+        alloc: Global,
+        piece: &mut Piece<'_>,
+    ) -> Result<Option<BatchHeld>, DecodeError> {
         match (code, id) {
-            (STRUCT, 1) => BatchHeld::Process(Struct::fresh(alloc)),
-            (LIST, 2) => BatchHeld::Spans(ListPart::fresh(alloc)),
-            (I64, 3) => BatchHeld::SeqNo(I64Part::fresh(alloc)),
-            _ => BatchHeld::Skip(SkipPart::new(alloc, code)),
+            (STRUCT, 1) => held!(
+                begin_set(&mut self.process, alloc, piece),
+                BatchHeld::Process
+            ),
+            (LIST, 2) => held!(begin_set(&mut self.spans, alloc, piece), BatchHeld::Spans),
+            (I64, 3) => held!(begin_set(&mut self.seq_no, alloc, piece), BatchHeld::SeqNo),
+            _ => held!(SkipPart::begin(alloc, code, piece), BatchHeld::Skip),
         }
     }
 

@@ -2,7 +2,7 @@ ghost use Rattle.batch_codec.specs.TagReading.{type_at};
 ghost use Rattle.batch_codec.specs.ReferenceReading.{kind_at};
 ghost use Rattle.batch_feeder.specs.Values.{type_part, kind_part};
 
-use crate::going::{Fresh, Partial};
+use crate::going::{Begun, Fresh, Partial, begin_part};
 use batch_codec::{DecodeError, TagType};
 use jaeger_model::RefKind;
 use std::alloc::Global;
@@ -42,8 +42,8 @@ impl Fresh for TypePart {
     ghost reads = { type_at };
 
     #[tactic(auto, unfolding(batch_codec::specs::TagReading::type_at, batch_codec::specs::Decoding::i32_at))]
-    fn fresh(_alloc: Global) -> Self {
-        TypePart { part: I32::new() }
+    fn begin(alloc: Global, piece: &mut Piece<'_>) -> Result<Begun<TagType, Self>, DecodeError> {
+        begin_part(TypePart { part: I32::new() }, alloc, piece)
     }
 }
 
@@ -78,7 +78,7 @@ impl Fresh for KindPart {
     ghost reads = { kind_at };
 
     #[tactic(auto, unfolding(batch_codec::specs::ReferenceReading::kind_at, batch_codec::specs::Decoding::i32_at))]
-    fn fresh(_alloc: Global) -> Self {
-        KindPart { part: I32::new() }
+    fn begin(alloc: Global, piece: &mut Piece<'_>) -> Result<Begun<RefKind, Self>, DecodeError> {
+        begin_part(KindPart { part: I32::new() }, alloc, piece)
     }
 }

@@ -1,10 +1,11 @@
 ghost use Rattle.std.specs.Prelude.{◌≡◌, List, ℕ, [], flat_map};
 ghost use Rattle.batch_codec.specs.BatchReading.{decoded};
 ghost use Rattle.batch_codec.specs.Decoding.{Gives};
+ghost use Rattle.batch_feeder.specs.declared.feeder.State.TheVariants.{Whole, Refused};
 ghost use Rattle.batch_feeder.specs.Feeding.{IsSettled, Ends, Advances, Feeds};
 
 use crate::batch::BatchParts;
-use crate::going::{Fresh, Partial};
+use crate::going::Partial;
 use crate::structs::Struct;
 use batch_codec::DecodeError;
 use jaeger_model::Batch;
@@ -20,10 +21,20 @@ pub(crate) enum State {
     Refused(DecodeError),
 }
 
-fn set(state: &mut State, next: State)
-    ensures { state.new ≡ next }
+/// The batch is whole. It stands apart, so that a call that goes on has no place for a state on its stack.
+#[inline(never)]
+fn complete(state: &mut State, batch: Batch)
+    ensures { state.new ≡ Whole batch }
 {
-    *state = next;
+    *state = State::Whole(batch);
+}
+
+/// The bytes are refused. It stands apart as `complete` does.
+#[inline(never)]
+fn refuse(state: &mut State, error: DecodeError)
+    ensures { state.new ≡ Refused error }
+{
+    *state = State::Refused(error);
 }
 
 /// Nothing follows the batch.
@@ -44,10 +55,12 @@ fn advance(state: &mut State, alloc: Global, piece: &[u8]) -> Result<(), DecodeE
     let mut left = Piece::new(piece);
     match state {
         State::Reading(reading) => {
-            let Some(batch) = reading.more(alloc, &mut left)? else {
-                return Ok(());
+            let batch = match reading.more(alloc, &mut left) {
+                Err(error) => return Err(error),
+                Ok(None) => return Ok(()),
+                Ok(Some(batch)) => batch,
             };
-            set(state, State::Whole(batch));
+            complete(state, batch);
             end_of(&left)
         }
         State::Whole(_) => end_of(&left),
@@ -70,7 +83,7 @@ impl Feeder {
         ensures decodes { (w : List ℕ) → answers result w ≡ decoded w }
     {
         Feeder {
-            state: State::Reading(Struct::fresh(alloc)),
+            state: State::Reading(Struct::new(alloc)),
         }
     }
 
@@ -85,7 +98,7 @@ impl Feeder {
     {
         let result = advance(&mut self.state, alloc, piece);
         if let Err(error) = result {
-            set(&mut self.state, State::Refused(error));
+            refuse(&mut self.state, error);
         }
         result
     }

@@ -1,5 +1,5 @@
 use crate::fields::{Slots, required};
-use crate::going::{Fresh, place, set};
+use crate::going::{begin_set, held, place, set};
 use crate::items::ListPart;
 use crate::skipped::SkipPart;
 use crate::structs::Struct;
@@ -62,11 +62,17 @@ impl Slots for LogParts {
     }
 
     #[tactic(auto, unfolding(batch_codec::specs::LogReading::take_log, batch_codec::specs::TagReading::tag_at))]
-    fn begin(alloc: Global, code: u8, id: i16) -> LogHeld {
+    fn enter(
+        &mut self,
+        code: u8,
+        id: i16,
+        alloc: Global,
+        piece: &mut Piece<'_>,
+    ) -> Result<Option<LogHeld>, DecodeError> {
         match (code, id) {
-            (I64, 1) => LogHeld::At(I64Part::fresh(alloc)),
-            (LIST, 2) => LogHeld::Fields(ListPart::fresh(alloc)),
-            _ => LogHeld::Skip(SkipPart::new(alloc, code)),
+            (I64, 1) => held!(begin_set(&mut self.at, alloc, piece), LogHeld::At),
+            (LIST, 2) => held!(begin_set(&mut self.fields, alloc, piece), LogHeld::Fields),
+            _ => held!(SkipPart::begin(alloc, code, piece), LogHeld::Skip),
         }
     }
 

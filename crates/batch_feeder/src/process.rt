@@ -1,5 +1,5 @@
 use crate::fields::{Slots, required};
-use crate::going::{Fresh, place, set};
+use crate::going::{begin_place, begin_set, held, place, set};
 use crate::items::ListPart;
 use crate::skipped::SkipPart;
 use crate::structs::Struct;
@@ -62,11 +62,20 @@ impl Slots for ProcessParts {
     }
 
     #[tactic(auto, unfolding(batch_codec::specs::ProcessReading::take_process, batch_codec::specs::TagReading::tag_at))]
-    fn begin(alloc: Global, code: u8, id: i16) -> ProcessHeld {
+    fn enter(
+        &mut self,
+        code: u8,
+        id: i16,
+        alloc: Global,
+        piece: &mut Piece<'_>,
+    ) -> Result<Option<ProcessHeld>, DecodeError> {
         match (code, id) {
-            (STRING, 1) => ProcessHeld::Service(TextPart::fresh(alloc)),
-            (LIST, 2) => ProcessHeld::Tags(ListPart::fresh(alloc)),
-            _ => ProcessHeld::Skip(SkipPart::new(alloc, code)),
+            (STRING, 1) => held!(
+                begin_set(&mut self.service, alloc, piece),
+                ProcessHeld::Service
+            ),
+            (LIST, 2) => held!(begin_place(&mut self.tags, alloc, piece), ProcessHeld::Tags),
+            _ => held!(SkipPart::begin(alloc, code, piece), ProcessHeld::Skip),
         }
     }
 

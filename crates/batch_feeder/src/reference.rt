@@ -1,6 +1,6 @@
 use crate::enums::KindPart;
 use crate::fields::{Slots, required};
-use crate::going::{Fresh, place, set};
+use crate::going::{begin_set, held, place, set};
 use crate::skipped::SkipPart;
 use crate::values::IdPart;
 use batch_codec::{DecodeError, Part};
@@ -66,13 +66,25 @@ impl Slots for ReferenceParts {
     }
 
     #[tactic(auto, unfolding(batch_codec::specs::ReferenceReading::take_reference))]
-    fn begin(alloc: Global, code: u8, id: i16) -> ReferenceHeld {
+    fn enter(
+        &mut self,
+        code: u8,
+        id: i16,
+        alloc: Global,
+        piece: &mut Piece<'_>,
+    ) -> Result<Option<ReferenceHeld>, DecodeError> {
         match (code, id) {
-            (I32, 1) => ReferenceHeld::Kind(KindPart::fresh(alloc)),
-            (I64, 2) => ReferenceHeld::TraceLow(IdPart::fresh(alloc)),
-            (I64, 3) => ReferenceHeld::TraceHigh(IdPart::fresh(alloc)),
-            (I64, 4) => ReferenceHeld::Id(IdPart::fresh(alloc)),
-            _ => ReferenceHeld::Skip(SkipPart::new(alloc, code)),
+            (I32, 1) => held!(begin_set(&mut self.kind, alloc, piece), ReferenceHeld::Kind),
+            (I64, 2) => held!(
+                begin_set(&mut self.trace_low, alloc, piece),
+                ReferenceHeld::TraceLow
+            ),
+            (I64, 3) => held!(
+                begin_set(&mut self.trace_high, alloc, piece),
+                ReferenceHeld::TraceHigh
+            ),
+            (I64, 4) => held!(begin_set(&mut self.id, alloc, piece), ReferenceHeld::Id),
+            _ => held!(SkipPart::begin(alloc, code, piece), ReferenceHeld::Skip),
         }
     }
 

@@ -1,9 +1,10 @@
-ghost use Rattle.std.specs.Prelude.{◌≡◌, ℕ, List, true};
+ghost use Rattle.std.specs.Prelude.{◌≡◌, ◌≤◌, true, length, OnOk};
 ghost use Rattle.thrift_binary.specs.Reading.{is_code};
 ghost use Rattle.batch_codec.specs.declared.span.SpanSlots.{SpanSlots};
+ghost use Rattle.batch_feeder.specs.Going.{Enters};
 
 use crate::fields::{Slots, required};
-use crate::going::{Fresh, place, set};
+use crate::going::{begin_place, begin_set, held, place, set};
 use crate::items::ListPart;
 use crate::log::LogParts;
 use crate::reference::ReferenceParts;
@@ -70,49 +71,83 @@ pub(crate) enum SpanHeld {
     Skip(SkipPart),
 }
 
-impl SpanHeld {
+impl SpanParts {
     ghost use Rattle.batch_codec.specs.SpanReading.{take_span};
     ghost use Rattle.batch_feeder.specs.Spans.{span_goes_on, take_other};
 
-    /// Before the first byte of a number of 64 bits.
+    /// Begins a number of 64 bits.
     #[tactic(auto, unfolding(batch_codec::specs::SpanReading::take_span))]
-    fn long(alloc: Global, id: i16) -> Self
-        ensures { (s : SpanSlots) (w : List ℕ) → span_goes_on s result w ≡ take_span s 10 id w }
+    fn enter_long(
+        &mut self,
+        id: i16,
+        alloc: Global,
+        piece: &mut Piece<'_>,
+    ) -> Result<Option<SpanHeld>, DecodeError>
+        ensures goes { Enters self.new (take_span self.old 10 id) (span_goes_on self.new) piece.old piece.new result }
+        ensures no_longer { OnOk result (length piece.new ≤ length piece.old) }
     {
         match id {
-            1 => SpanHeld::TraceLow(IdPart::fresh(alloc)),
-            2 => SpanHeld::TraceHigh(IdPart::fresh(alloc)),
-            3 => SpanHeld::Id(IdPart::fresh(alloc)),
-            4 => SpanHeld::Parent(IdPart::fresh(alloc)),
-            8 => SpanHeld::Start(I64Part::fresh(alloc)),
-            9 => SpanHeld::Duration(I64Part::fresh(alloc)),
-            _ => SpanHeld::Skip(SkipPart::new(alloc, I64)),
+            1 => held!(
+                begin_set(&mut self.trace_low, alloc, piece),
+                SpanHeld::TraceLow
+            ),
+            2 => held!(
+                begin_set(&mut self.trace_high, alloc, piece),
+                SpanHeld::TraceHigh
+            ),
+            3 => held!(begin_set(&mut self.id, alloc, piece), SpanHeld::Id),
+            4 => held!(begin_set(&mut self.parent, alloc, piece), SpanHeld::Parent),
+            8 => held!(begin_set(&mut self.start, alloc, piece), SpanHeld::Start),
+            9 => held!(
+                begin_set(&mut self.duration, alloc, piece),
+                SpanHeld::Duration
+            ),
+            _ => held!(SkipPart::begin(alloc, I64, piece), SpanHeld::Skip),
         }
     }
 
-    /// Before the first byte of a list.
-    #[tactic(auto, unfolding(batch_codec::specs::SpanReading::take_span))]
-    fn list(alloc: Global, id: i16) -> Self
-        ensures { (s : SpanSlots) (w : List ℕ) → span_goes_on s result w ≡ take_span s 15 id w }
+    /// Begins a list.
+    #[tactic(auto, unfolding(batch_codec::specs::SpanReading::take_span, batch_codec::specs::TagReading::tag_at, batch_codec::specs::LogReading::log_at, batch_codec::specs::ReferenceReading::reference_at))]
+    fn enter_list(
+        &mut self,
+        id: i16,
+        alloc: Global,
+        piece: &mut Piece<'_>,
+    ) -> Result<Option<SpanHeld>, DecodeError>
+        ensures goes { Enters self.new (take_span self.old 15 id) (span_goes_on self.new) piece.old piece.new result }
+        ensures no_longer { OnOk result (length piece.new ≤ length piece.old) }
     {
         match id {
-            6 => SpanHeld::References(ListPart::fresh(alloc)),
-            10 => SpanHeld::Tags(ListPart::fresh(alloc)),
-            11 => SpanHeld::Logs(ListPart::fresh(alloc)),
-            _ => SpanHeld::Skip(SkipPart::new(alloc, LIST)),
+            6 => held!(
+                begin_place(&mut self.references, alloc, piece),
+                SpanHeld::References
+            ),
+            10 => held!(begin_place(&mut self.tags, alloc, piece), SpanHeld::Tags),
+            11 => held!(begin_place(&mut self.logs, alloc, piece), SpanHeld::Logs),
+            _ => held!(SkipPart::begin(alloc, LIST, piece), SpanHeld::Skip),
         }
     }
 
-    /// Before the first byte of a value of another type.
+    /// Begins a value of another type.
     #[tactic(auto, unfolding(crate::specs::Spans::take_other))]
-    fn other(alloc: Global, code: u8, id: i16) -> Self
+    fn enter_other(
+        &mut self,
+        code: u8,
+        id: i16,
+        alloc: Global,
+        piece: &mut Piece<'_>,
+    ) -> Result<Option<SpanHeld>, DecodeError>
         requires { is_code code ≡ true }
-        ensures { (s : SpanSlots) (w : List ℕ) → span_goes_on s result w ≡ take_other s code id w }
+        ensures goes { Enters self.new (take_other self.old code id) (span_goes_on self.new) piece.old piece.new result }
+        ensures no_longer { OnOk result (length piece.new ≤ length piece.old) }
     {
         match (code, id) {
-            (STRING, 5) => SpanHeld::Operation(TextPart::fresh(alloc)),
-            (I32, 7) => SpanHeld::Flags(I32Part::fresh(alloc)),
-            _ => SpanHeld::Skip(SkipPart::new(alloc, code)),
+            (STRING, 5) => held!(
+                begin_set(&mut self.operation, alloc, piece),
+                SpanHeld::Operation
+            ),
+            (I32, 7) => held!(begin_set(&mut self.flags, alloc, piece), SpanHeld::Flags),
+            _ => held!(SkipPart::begin(alloc, code, piece), SpanHeld::Skip),
         }
     }
 }
@@ -152,11 +187,17 @@ impl Slots for SpanParts {
         }
     }
 
-    fn begin(alloc: Global, code: u8, id: i16) -> SpanHeld {
+    fn enter(
+        &mut self,
+        code: u8,
+        id: i16,
+        alloc: Global,
+        piece: &mut Piece<'_>,
+    ) -> Result<Option<SpanHeld>, DecodeError> {
         match code {
-            I64 => SpanHeld::long(alloc, id),
-            LIST => SpanHeld::list(alloc, id),
-            _ => SpanHeld::other(alloc, code, id),
+            I64 => self.enter_long(id, alloc, piece),
+            LIST => self.enter_list(id, alloc, piece),
+            _ => self.enter_other(code, id, alloc, piece),
         }
     }
 

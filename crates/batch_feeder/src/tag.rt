@@ -2,7 +2,7 @@ ghost use Rattle.std.specs.Prelude.{◌≡◌};
 
 use crate::enums::TypePart;
 use crate::fields::{Slots, required};
-use crate::going::{Fresh, Partial, place, set};
+use crate::going::{begin_place, begin_set, held, place, set};
 use crate::skipped::SkipPart;
 use crate::texts::{BinaryPart, TextPart};
 use crate::values::{BoolPart, DoublePart, I64Part};
@@ -78,16 +78,25 @@ impl Slots for TagParts {
     }
 
     #[tactic(auto, unfolding(batch_codec::specs::TagReading::take_tag))]
-    fn begin(alloc: Global, code: u8, id: i16) -> TagHeld {
+    fn enter(
+        &mut self,
+        code: u8,
+        id: i16,
+        alloc: Global,
+        piece: &mut Piece<'_>,
+    ) -> Result<Option<TagHeld>, DecodeError> {
         match (code, id) {
-            (STRING, 1) => TagHeld::Key(TextPart::fresh(alloc)),
-            (I32, 2) => TagHeld::Kind(TypePart::fresh(alloc)),
-            (STRING, 3) => TagHeld::Text(TextPart::fresh(alloc)),
-            (DOUBLE, 4) => TagHeld::Double(DoublePart::fresh(alloc)),
-            (BOOL, 5) => TagHeld::Boolean(BoolPart::fresh(alloc)),
-            (I64, 6) => TagHeld::Long(I64Part::fresh(alloc)),
-            (STRING, 7) => TagHeld::Binary(BinaryPart::fresh(alloc)),
-            _ => TagHeld::Skip(SkipPart::new(alloc, code)),
+            (STRING, 1) => held!(begin_set(&mut self.key, alloc, piece), TagHeld::Key),
+            (I32, 2) => held!(begin_set(&mut self.kind, alloc, piece), TagHeld::Kind),
+            (STRING, 3) => held!(begin_place(&mut self.text, alloc, piece), TagHeld::Text),
+            (DOUBLE, 4) => held!(begin_place(&mut self.double, alloc, piece), TagHeld::Double),
+            (BOOL, 5) => held!(
+                begin_place(&mut self.boolean, alloc, piece),
+                TagHeld::Boolean
+            ),
+            (I64, 6) => held!(begin_place(&mut self.long, alloc, piece), TagHeld::Long),
+            (STRING, 7) => held!(begin_place(&mut self.binary, alloc, piece), TagHeld::Binary),
+            _ => held!(SkipPart::begin(alloc, code, piece), TagHeld::Skip),
         }
     }
 

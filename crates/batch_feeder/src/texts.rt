@@ -1,7 +1,7 @@
 ghost use Rattle.batch_codec.specs.Decoding.{text_at, binary_at};
 ghost use Rattle.batch_feeder.specs.Values.{text_part, binary_part};
 
-use crate::going::{Fresh, Partial, fault_of};
+use crate::going::{Begun, Fresh, Partial, begin_part, fault_of};
 use batch_codec::DecodeError;
 use jaeger_model::{Seq, Text};
 use std::alloc::Global;
@@ -35,10 +35,14 @@ impl Fresh for TextPart {
     ghost reads = { text_at };
 
     #[tactic(auto, unfolding(batch_codec::specs::Decoding::text_at))]
-    fn fresh(_alloc: Global) -> Self {
-        TextPart {
-            part: StringPart::new(),
-        }
+    fn begin(alloc: Global, piece: &mut Piece<'_>) -> Result<Begun<Text, Self>, DecodeError> {
+        begin_part(
+            TextPart {
+                part: StringPart::new(),
+            },
+            alloc,
+            piece,
+        )
     }
 }
 
@@ -70,9 +74,13 @@ impl Fresh for BinaryPart {
     ghost reads = { binary_at };
 
     #[tactic(auto, unfolding(batch_codec::specs::Decoding::binary_at))]
-    fn fresh(_alloc: Global) -> Self {
-        BinaryPart {
-            part: StringPart::new(),
-        }
+    fn begin(alloc: Global, piece: &mut Piece<'_>) -> Result<Begun<Seq<u8>, Self>, DecodeError> {
+        begin_part(
+            BinaryPart {
+                part: StringPart::new(),
+            },
+            alloc,
+            piece,
+        )
     }
 }

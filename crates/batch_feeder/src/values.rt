@@ -1,7 +1,7 @@
 ghost use Rattle.batch_codec.specs.Decoding.{bool_at, double_at, i32_at, i64_at, id_at};
 ghost use Rattle.batch_feeder.specs.Values.{bool_from, double_part, i32_part, i64_part, id_part};
 
-use crate::going::{Fresh, Partial, fault_of};
+use crate::going::{Begun, Fresh, Partial, begin_part, fault_of};
 use batch_codec::DecodeError;
 use std::alloc::Global;
 use wire_pieces::{Bool, Double, I32, I64, Piece};
@@ -29,8 +29,8 @@ impl Fresh for BoolPart {
     ghost reads = { bool_at };
 
     #[tactic(auto, unfolding(batch_codec::specs::Decoding::bool_at))]
-    fn fresh(_alloc: Global) -> Self {
-        BoolPart { part: Bool::new() }
+    fn begin(alloc: Global, piece: &mut Piece<'_>) -> Result<Begun<bool, Self>, DecodeError> {
+        begin_part(BoolPart { part: Bool::new() }, alloc, piece)
     }
 }
 
@@ -58,10 +58,14 @@ impl Fresh for DoublePart {
     ghost reads = { double_at };
 
     #[tactic(auto, unfolding(batch_codec::specs::Decoding::double_at))]
-    fn fresh(_alloc: Global) -> Self {
-        DoublePart {
-            part: Double::new(),
-        }
+    fn begin(alloc: Global, piece: &mut Piece<'_>) -> Result<Begun<[u8; 8], Self>, DecodeError> {
+        begin_part(
+            DoublePart {
+                part: Double::new(),
+            },
+            alloc,
+            piece,
+        )
     }
 }
 
@@ -85,8 +89,8 @@ impl Fresh for I32Part {
     ghost reads = { i32_at };
 
     #[tactic(auto, unfolding(batch_codec::specs::Decoding::i32_at))]
-    fn fresh(_alloc: Global) -> Self {
-        I32Part { part: I32::new() }
+    fn begin(alloc: Global, piece: &mut Piece<'_>) -> Result<Begun<i32, Self>, DecodeError> {
+        begin_part(I32Part { part: I32::new() }, alloc, piece)
     }
 }
 
@@ -110,8 +114,8 @@ impl Fresh for I64Part {
     ghost reads = { i64_at };
 
     #[tactic(auto, unfolding(batch_codec::specs::Decoding::i64_at))]
-    fn fresh(_alloc: Global) -> Self {
-        I64Part { part: I64::new() }
+    fn begin(alloc: Global, piece: &mut Piece<'_>) -> Result<Begun<i64, Self>, DecodeError> {
+        begin_part(I64Part { part: I64::new() }, alloc, piece)
     }
 }
 
@@ -138,7 +142,7 @@ impl Fresh for IdPart {
     ghost reads = { id_at };
 
     #[tactic(auto, unfolding(batch_codec::specs::Decoding::id_at, batch_codec::specs::Decoding::i64_at))]
-    fn fresh(_alloc: Global) -> Self {
-        IdPart { part: I64::new() }
+    fn begin(alloc: Global, piece: &mut Piece<'_>) -> Result<Begun<u64, Self>, DecodeError> {
+        begin_part(IdPart { part: I64::new() }, alloc, piece)
     }
 }

@@ -11,6 +11,7 @@ use Rattle.chunked_bodies.proofs.Once.{same_cut}
 use Rattle.chunked_bodies.proofs.Behind.{lacks_behind, behind_chunks, no_line, no_content, no_trailer}
 use Rattle.http_requests.specs.Receiving.{KnowsItsEnd, Received, ReadsOn, Stops, put_back, Takes, Misses}
 use Rattle.http_requests.specs.declared.received.Interrupted.{Interrupted}
+use Rattle.http_requests.specs.Sinks.{Takings, TakesNothing, TakesJoined}
 use Rattle.http_requests.specs.Bodies.{IsLineEnd, begins_line_end, TakesOrMisses, Gathers, Gathered, TakesContent, TakesContentOr, Fails, ChunksSoFar, TakesBody, BreaksBody}
 use Rattle.http_requests.specs.declared.asked.BodyLength.TheVariants.{Bytes, Chunked, Unreadable, TooLarge}
 use Rattle.http_requests.specs.declared.asked.Breach.TheVariants as breach
@@ -27,49 +28,64 @@ misses_at_end in0 in1 old here Is bytes ended reads knows are is over none = rec
 
 -- ---- bytes gathered
 
-pub gathered_none : (input : Option (List ℕ)) (r : Received) (before : List ℕ) (size : ℕ) → Gathered input input r r before before size size
-gathered_none input r before size = record { content = []; reads = nothing_read input r; after_is = sym (append-nil before); sum = omega arith }
+module _ {S : Type 0} (takes : Takings S) where
+  pub gathered_none : TakesNothing S takes → (input : Option (List ℕ)) (r : Received) (before : S) (size : ℕ) → Gathered takes input input r r before before size size
+  gathered_none nothing input r before size = record { content = []; reads = nothing_read input r; put = nothing before; sum = omega arith }
 
-module _ (in0 in1 : Option (List ℕ)) (old r : Received) (before after : List ℕ) (size left : ℕ) (so : Gathered in0 in1 old r before after size left) where
-  pub gather_all : left ≤ length r.held → Gathers in0 in1 old (record r { held = drop left r.held }) before (after ++ take left r.held) size true
-  gather_all fits = record {
-    content = so.content ++ take left r.held;
-    reads = takes_more in0 in1 old r so.content (take left r.held) (drop left r.held) so.reads (sym (take-append-drop left r.held));
-    after_is = ap (λ l. l ++ take left r.held) so.after_is ∙ append_assoc before so.content (take left r.held);
-    whole = λ e. omega (arith, so.sum, length-append so.content (take left r.held), length-take-le left r.held fits);
-    short = λ e. absurd (cc e);
-  }
+  module _ (joined : TakesJoined S takes) (in0 in1 : Option (List ℕ)) (old r : Received) (before after later : S) (size left : ℕ) (so : Gathered takes in0 in1 old r before after size left) where
+    gather_all : left ≤ length r.held → takes after (take left r.held) later → Gathers takes in0 in1 old (record r { held = drop left r.held }) before later size true
+    gather_all fits put = record {
+      content = so.content ++ take left r.held;
+      reads = takes_more in0 in1 old r so.content (take left r.held) (drop left r.held) so.reads (sym (take-append-drop left r.held));
+      put = joined before after later so.content (take left r.held) so.put put;
+      whole = λ e. omega (arith, so.sum, length-append so.content (take left r.held), length-take-le left r.held fits);
+      short = λ e. absurd (cc e);
+    }
 
-  pub gather_piece : length r.held < left → Gathered in0 in1 old (record r { held = drop (length r.held) r.held }) before (after ++ r.held) size (left - length r.held)
-  gather_piece short = record {
-    content = so.content ++ r.held;
-    reads = takes_more in0 in1 old r so.content r.held (drop (length r.held) r.held) so.reads (sym (ap (λ l. r.held ++ l) (drop_all (length r.held) r.held (omega arith)) ∙ append-nil r.held));
-    after_is = ap (λ l. l ++ r.held) so.after_is ∙ append_assoc before so.content r.held;
-    sum = omega (arith, so.sum, length-append so.content r.held, short);
-  }
+    pub gather_whole : (mid : Received) (bytes : List ℕ) → bytes ≡ r.held → left ≤ length bytes → takes after (take left bytes) later → mid ≡ record r { held = drop left r.held }
+        → Gathers takes in0 in1 old mid before later size true
+    gather_whole mid bytes bytes_are fits put mid_is =
+        rw mid_is (gather_all (omega (arith, fits, ap length bytes_are)) (subst (λ (l : List ℕ). takes after (take left l) later) bytes_are put))
 
-  pub gather_short : r.held ≡ [] → 0 < left → IsAtEnd in1 → Gathers in0 in1 old r before after size false
-  gather_short none some at_end = record {
+    gather_piece : length r.held < left → takes after r.held later → Gathered takes in0 in1 old (record r { held = drop (length r.held) r.held }) before later size (left - length r.held)
+    gather_piece short put = record {
+      content = so.content ++ r.held;
+      reads = takes_more in0 in1 old r so.content r.held (drop (length r.held) r.held) so.reads (sym (ap (λ l. r.held ++ l) (drop_all (length r.held) r.held (omega arith)) ∙ append-nil r.held));
+      put = joined before after later so.content r.held so.put put;
+      sum = omega (arith, so.sum, length-append so.content r.held, short);
+    }
+
+  gather_short : (in0 in1 : Option (List ℕ)) (old r : Received) (before after : S) (size left : ℕ) → Gathered takes in0 in1 old r before after size left
+      → r.held ≡ [] → 0 < left → IsAtEnd in1 → Gathers takes in0 in1 old r before after size false
+  gather_short in0 in1 old r before after size left so none some at_end = record {
     content = so.content;
     reads = so.reads;
-    after_is = so.after_is;
+    put = so.put;
     whole = λ e. absurd (cc e);
     short = λ e. (omega (arith, so.sum, some), none, at_end);
   }
 
-  pub gather_on : (in2 : Option (List ℕ)) (new : Received) → ReadsOn in1 in2 r new → Gathered in0 in2 old new before after size left
-  gather_on in2 new more = record { content = so.content; reads = takes_then_reads in0 in1 in2 old r new so.content so.reads more; after_is = so.after_is; sum = so.sum }
+  gather_on : (in0 in1 in2 : Option (List ℕ)) (old r new : Received) (before after : S) (size left : ℕ) → Gathered takes in0 in1 old r before after size left
+      → ReadsOn in1 in2 r new → Gathered takes in0 in2 old new before after size left
+  gather_on in0 in1 in2 old r new before after size left so more =
+      record { content = so.content; reads = takes_then_reads in0 in1 in2 old r new so.content so.reads more; put = so.put; sum = so.sum }
 
-module _ (in0 in1 in2 : Option (List ℕ)) (old r mid new : Received) (before after now bytes : List ℕ) (size left : ℕ) (so : Gathered in0 in1 old r before after size left)
-    (bytes_are : bytes ≡ r.held) (short : length bytes < left) (mid_is : mid ≡ record r { held = drop (length bytes) r.held }) where
-  piece : Gathered in0 in1 old mid before (after ++ bytes) size (left - length bytes)
-  piece = rw (mid_is, bytes_are) (gather_piece in0 in1 old r before after size left so (omega (arith, short, ap length bytes_are)))
+  module _ (joined : TakesJoined S takes) (in0 in1 in2 : Option (List ℕ)) (old r mid new : Received) (before after later : S) (bytes : List ℕ) (size left : ℕ)
+      (so : Gathered takes in0 in1 old r before after size left) (bytes_are : bytes ≡ r.held) (put : takes after bytes later) (mid_is : mid ≡ record r { held = drop (length bytes) r.held }) where
+    piece : length bytes < left → Gathered takes in0 in1 old mid before later size (left - length bytes)
+    piece short =
+        rw (mid_is, bytes_are) (gather_piece joined in0 in1 old r before after later size left so (omega (arith, short, ap length bytes_are)) (subst (λ (l : List ℕ). takes after l later) bytes_are put))
 
-  pub gather_step : now ≡ after ++ bytes → ReadsOn in1 in2 mid new → Gathered in0 in2 old new before now size (left - length bytes)
-  gather_step now_is more = rw now_is (gather_on in0 in1 old mid before (after ++ bytes) size (left - length bytes) piece in2 new more)
+    pub gather_step : length bytes < left → ReadsOn in1 in2 mid new → Gathered takes in0 in2 old new before later size (left - length bytes)
+    gather_step short more = gather_on in0 in1 in2 old mid new before later size (left - length bytes) (piece short) more
 
-  pub gather_stops : (failed : Bool) (why : Interrupted) → Stops in1 in2 failed mid why → Stops in0 in2 failed old why
-  gather_stops failed why stops = takes_then_stops in0 in1 in2 failed old mid (piece).content why (piece).reads stops
+    pub gather_stops : length bytes < left → (failed : Bool) (why : Interrupted) → Stops in1 in2 failed mid why → Stops in0 in2 failed old why
+    gather_stops short failed why stops = takes_then_stops in0 in1 in2 failed old mid (piece short).content why (piece short).reads stops
+
+    pub gather_end : length bytes < left → IsAtEnd in1 → Gathers takes in0 in1 old mid before later size false
+    gather_end short at_end =
+        let none : mid.held ≡ [] = ap (λ (x : Received). x.held) mid_is ∙ drop_all (length bytes) r.held (omega (arith, ap length bytes_are)) in
+        gather_short in0 in1 old mid before later size (left - length bytes) (piece short) none (omega (arith, short)) at_end
 
 -- ---- CR LF
 
@@ -96,12 +112,12 @@ never_line_end bytes long e more = no_line_end (bytes ++ more) (stays_none bytes
 
 -- ---- the data of a chunk
 
-module _ (in0 in1 in2 : Option (List ℕ)) (old here new : Received) (before after : List ℕ) (size : ℕ) where
-  pub content_whole : Gathers in0 in1 old here before after size true → Takes in1 in2 here new IsLineEnd → TakesContent in0 in2 old new before after size
+module _ {S : Type 0} (takes : Takings S) (in0 in1 in2 : Option (List ℕ)) (old here new : Received) (before after : S) (size : ℕ) where
+  pub content_whole : Gathers takes in0 in1 old here before after size true → Takes in1 in2 here new IsLineEnd → TakesContent takes in0 in2 old new before after size
   content_whole g t = record {
     content = g.content;
     reads = subst (λ (l : List ℕ). ReadsOn in0 in2 old (put_back (g.content ++ l) new)) t.is (takes_join in0 in1 in2 old here new g.content t.text g.reads t.reads);
-    after_is = g.after_is;
+    put = g.put;
     size_is = g.whole refl;
   }
 
@@ -110,7 +126,7 @@ module _ (in0 in1 in2 : Option (List ℕ)) (old here new : Received) (before aft
       let parts = same_cut content is.content h (crlf_bytes ++ rest) (long ∙ sym is.size_is) (e ∙ ap (λ l. l ++ rest) is.text_is ∙ append_assoc is.content crlf_bytes rest) in
       none crlf_bytes rest refl parts.1
 
-  pub content_open : Gathers in0 in1 old here before after size true → Misses in1 in2 here new IsLineEnd → Fails in0 in2 old new (IsContent size)
+  pub content_open : Gathers takes in0 in1 old here before after size true → Misses in1 in2 here new IsLineEnd → Fails in0 in2 old new (IsContent size)
   content_open g m = record {
     text = g.content;
     reads = takes_then_reads in0 in1 in2 old here new g.content g.reads m.reads;
@@ -121,17 +137,17 @@ module _ (in0 in1 in2 : Option (List ℕ)) (old here new : Received) (before aft
   too_few content held short none text rest is e =
       absurd (omega (arith, short, is.size_is, ap length none, ap length e, length-append content held, length-append text rest, ap length is.text_is, length-append is.content crlf_bytes))
 
-  pub content_short : Gathers in0 in1 old here before after size false → Fails in0 in1 old here (IsContent size)
+  pub content_short : Gathers takes in0 in1 old here before after size false → Fails in0 in1 old here (IsContent size)
   content_short g =
       let s = g.short refl in
       record { text = g.content; reads = g.reads; lacks = inr (s.2, too_few g.content here.held s.0 s.1) }
 
--- what the line end makes of it
-pub content_then : (in0 in1 in2 : Option (List ℕ)) (old here new : Received) (before after : List ℕ) (size : ℕ) (r : Result Bool Interrupted) → Gathers in0 in1 old here before after size true
-    → IfOk r (TakesOrMisses in1 in2 here new IsLineEnd) → IfOk r (TakesContentOr in0 in2 old new before after size)
-content_then in0 in1 in2 old here new before after size (Ok true) g t = content_whole in0 in1 in2 old here new before after size g t
-content_then in0 in1 in2 old here new before after size (Ok false) g m = content_open in0 in1 in2 old here new before after size g m
-content_then in0 in1 in2 old here new before after size (Err why) g t = tt
+  -- what the line end makes of it
+  pub content_then : (r : Result Bool Interrupted) → Gathers takes in0 in1 old here before after size true
+      → IfOk r (TakesOrMisses in1 in2 here new IsLineEnd) → IfOk r (TakesContentOr takes in0 in2 old new before after size)
+  content_then (Ok true) g t = content_whole g t
+  content_then (Ok false) g m = content_open g m
+  content_then (Err why) g t = tt
 
 pub if_err_stops : (in0 in1 in2 : Option (List ℕ)) (failed : Bool) (old here : Received) (text : List ℕ) (r : Result Bool Interrupted) → ReadsOn in0 in1 old (put_back text here)
     → IfErr r (λ why. Stops in1 in2 failed here why) → IfErr r (λ why. Stops in0 in2 failed old why)
@@ -140,8 +156,8 @@ if_err_stops in0 in1 in2 failed old here text (Err why) reads stops = takes_then
 
 -- ---- chunks
 
-pub chunks_none : (input : Option (List ℕ)) (r : Received) (before : List ℕ) → ChunksSoFar input input r r before before 4194304
-chunks_none input r before = record { chunks = []; each = All-nil IsChunk; reads = nothing_read input r; after_is = sym (append-nil before); sum = omega arith }
+pub chunks_none : {S : Type 0} (takes : Takings S) → TakesNothing S takes → (input : Option (List ℕ)) (r : Received) (before : S) → ChunksSoFar takes input input r r before before 4194304
+chunks_none takes nothing input r before = record { chunks = []; each = All-nil IsChunk; reads = nothing_read input r; put = nothing before; sum = omega arith }
 
 texts_more : (cs : List Chunk) (c : Chunk) → texts (cs ++ c ∷ []) ≡ texts cs ++ c.text
 texts_more cs c = flat_map-append (λ (x : Chunk). x.text) cs (c ∷ []) ∙ ap (λ l. texts cs ++ l) (append-nil c.text)
@@ -149,7 +165,7 @@ texts_more cs c = flat_map-append (λ (x : Chunk). x.text) cs (c ∷ []) ∙ ap 
 contents_more : (cs : List Chunk) (c : Chunk) → contents (cs ++ c ∷ []) ≡ contents cs ++ c.content
 contents_more cs c = flat_map-append (λ (x : Chunk). x.content) cs (c ∷ []) ∙ ap (λ l. contents cs ++ l) (append-nil c.content)
 
-module _ (in0 in1 in2 : Option (List ℕ)) (old here behind : Received) (before message : List ℕ) (left : ℕ) (so : ChunksSoFar in0 in1 old here before message left) where
+module _ {S : Type 0} (takes : Takings S) (in0 in1 in2 : Option (List ℕ)) (old here behind : Received) (before now : S) (left : ℕ) (so : ChunksSoFar takes in0 in1 old here before now left) where
   pub no_size : Misses in1 in2 here behind IsSomeSizeLine → BreaksBody in0 in2 old behind Chunked breach.Body
   no_size m = record {
     text = texts so.chunks;
@@ -196,8 +212,9 @@ module _ (in0 in1 in2 : Option (List ℕ)) (old here behind : Received) (before 
           (λ h none. behind_line h (no_content left size line.text h some fits line.is none)) f.lacks);
     }
 
-    pub one_more : (in3 : Option (List ℕ)) (new : Received) (after : List ℕ) → 0 < size → size ≤ left → TakesContent in2 in3 behind new message after size → ChunksSoFar in0 in3 old new before after (left - size)
-    one_more in3 new after some fits t =
+    pub one_more : TakesJoined S takes → (in3 : Option (List ℕ)) (new : Received) (after : S) → 0 < size → size ≤ left → TakesContent takes in2 in3 behind new now after size
+        → ChunksSoFar takes in0 in3 old new before after (left - size)
+    one_more joined in3 new after some fits t =
         let c : Chunk = record { text = line.text ++ (t.content ++ crlf_bytes); content = t.content } in
         let is : IsChunk c = record {
           line = line.text;
@@ -210,7 +227,7 @@ module _ (in0 in1 in2 : Option (List ℕ)) (old here behind : Received) (before 
           each = All-append IsChunk so.chunks (c ∷ []) so.each (All-cons IsChunk c [] is (All-nil IsChunk));
           reads = subst (λ (l : List ℕ). ReadsOn in0 in3 old (put_back l new)) (append_assoc (texts so.chunks) line.text (t.content ++ crlf_bytes) ∙ sym (texts_more so.chunks c))
               (takes_join in0 in2 in3 old behind new (texts so.chunks ++ line.text) (t.content ++ crlf_bytes) with_line t.reads);
-          after_is = t.after_is ∙ ap (λ l. l ++ t.content) so.after_is ∙ append_assoc before (contents so.chunks) t.content ∙ ap (λ l. before ++ l) (sym (contents_more so.chunks c));
+          put = subst (λ (l : List ℕ). takes before l after) (sym (contents_more so.chunks c)) (joined before now after (contents so.chunks) t.content so.put t.put);
           sum = omega (arith, so.sum, fits, t.size_is, ap length (contents_more so.chunks c), length-append (contents so.chunks) t.content);
         }
 
@@ -223,7 +240,7 @@ module _ (in0 in1 in2 : Option (List ℕ)) (old here behind : Received) (before 
           (λ h none. behind_line 0 line h (no_trailer left line.text h line.is none)) m.lacks;
     }
 
-    pub chunks_whole : (in3 : Option (List ℕ)) (new : Received) → Takes in2 in3 behind new IsTrailer → TakesBody in0 in3 old new before message Chunked
+    pub chunks_whole : (in3 : Option (List ℕ)) (new : Received) → Takes in2 in3 behind new IsTrailer → TakesBody takes in0 in3 old new before now Chunked
     chunks_whole in3 new t = record {
       text = texts so.chunks ++ (line.text ++ t.text);
       body = contents so.chunks;
@@ -240,18 +257,19 @@ module _ (in0 in1 in2 : Option (List ℕ)) (old here behind : Received) (before 
       };
       reads = subst (λ (l : List ℕ). ReadsOn in0 in3 old (put_back l new)) (append_assoc (texts so.chunks) line.text t.text)
           (takes_join in0 in2 in3 old behind new (texts so.chunks ++ line.text) t.text (with_line 0 line) t.reads);
-      after_is = so.after_is;
+      put = so.put;
     }
 
 -- ---- a body by its length
 
-pub body_whole : (in0 in1 : Option (List ℕ)) (old new : Received) (before after : List ℕ) (size : ℕ) → Gathers in0 in1 old new before after size true → TakesBody in0 in1 old new before after (Bytes size)
-body_whole in0 in1 old new before after size g = record { text = g.content; body = g.content; body_is = (refl, g.whole refl); reads = g.reads; after_is = g.after_is }
+module _ {S : Type 0} (takes : Takings S) (in0 in1 : Option (List ℕ)) (old new : Received) (before after : S) (size : ℕ) where
+  pub body_whole : Gathers takes in0 in1 old new before after size true → TakesBody takes in0 in1 old new before after (Bytes size)
+  body_whole g = record { text = g.content; body = g.content; body_is = (refl, g.whole refl); reads = g.reads; put = g.put }
 
-pub body_short : (in0 in1 : Option (List ℕ)) (old new : Received) (before after : List ℕ) (size : ℕ) → Gathers in0 in1 old new before after size false → BreaksBody in0 in1 old new (Bytes size) breach.Body
-body_short in0 in1 old new before after size g =
-    let s = g.short refl in
-    record { text = g.content; reads = g.reads; breaks = (omega (arith, s.0, ap length s.1, length-append g.content new.held), s.2) }
+  pub body_short : Gathers takes in0 in1 old new before after size false → BreaksBody in0 in1 old new (Bytes size) breach.Body
+  body_short g =
+      let s = g.short refl in
+      record { text = g.content; reads = g.reads; breaks = (omega (arith, s.0, ap length s.1, length-append g.content new.held), s.2) }
 
 pub body_unreadable : (input : Option (List ℕ)) (r : Received) → BreaksBody input input r r Unreadable breach.Body
 body_unreadable input r = record { text = []; reads = nothing_read input r; breaks = tt }

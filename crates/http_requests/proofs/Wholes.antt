@@ -1,5 +1,5 @@
 -- A head at the front of bytes, and the body behind it.
-use Rattle.std.proofs.Common.{◌≡◌, ℕ, ◌-◌, ◌==◌, ◌||◌, ◌≤◌, ◌<◌, Bool, true, false, List, ◌++◌, [], length, take, drop, map, slice_range, Option, refl, sym, ap, ◌∙◌, subst, arith, append_assoc}
+use Rattle.std.proofs.Common.{◌≡◌, ℕ, ◌+◌, ◌-◌, ◌==◌, ◌||◌, ◌≤◌, ◌<◌, Bool, true, false, List, ◌++◌, [], length, take, drop, map, slice_range, Option, refl, sym, ap, ◌∙◌, subst, arith, append_assoc, append-nil, length-append}
 use Rattle.std.specs.Io.KnownBytes.{IsAtEnd}
 use Rattle.std.proofs.lemmas.List.{drop-append-le, take-append-le, length-drop}
 use Rattle.std.proofs.Math.Seq.{take-append_seam}
@@ -11,7 +11,8 @@ use Rattle.http_requests.specs.Heads.{TakesHead, IsWholeHead}
 use Rattle.http_requests.specs.declared.asked.Method.{Method}
 use Rattle.http_requests.specs.Asked.{asked_by, pairs_of, method_of, has_batch_type, closes_by}
 use Rattle.http_requests.specs.Requests.{HasBody, BodyBreaks, BreaksBehind, IsBroken}
-use Rattle.http_requests.specs.Receiving.{Received, ReadsOn, put_back, FindsOne, FindsBreach}
+use Rattle.http_requests.specs.Receiving.{Received, ReadsOn, put_back, FindsHead, FindsNone, TakesRequest, FindsBreach}
+use Rattle.http_requests.specs.Sinks.{Takings}
 use Rattle.http_requests.specs.Bodies.{TakesBody, BreaksBody}
 use Rattle.http_requests.specs.declared.asked.BodyLength.{BodyLength}
 use Rattle.http_requests.specs.declared.asked.Breach.{Breach}
@@ -43,60 +44,68 @@ pub same_asked : (h : RequestHead) (m : Method) (t : List ℕ) (b c : Bool) → 
 same_asked h m t b c em et eb ec = rw (em, sym et, eb, ec) refl
 
 -- the head at the front, which is taken
-pub head_cut : (bytes : List ℕ) (len : ℕ) (h : RequestHead) → TakesHead bytes h (drop len bytes) → len ≡ length (print_request h) → take len bytes ≡ print_request h
-head_cut bytes len h takes is =
+pub head_cut : (bytes : List ℕ) (len : ℕ) (h : RequestHead) → TakesHead bytes h (drop len bytes) → len ≤ length bytes → take len bytes ≡ print_request h
+head_cut bytes len h takes fits =
+    let whole : length bytes ≡ length (print_request h) + length (drop len bytes) = ap length takes.reads.1 ∙ length-append (print_request h) (drop len bytes) in
+    let is : len ≡ length (print_request h) = omega (arith, whole, fits, length-drop len bytes) in
     ap (take len) takes.reads.1 ∙ ap (λ k. take k (print_request h ++ drop len bytes)) is ∙ take-append_seam (print_request h) (drop len bytes)
 
-module _ (in0 in1 in2 : Option (List ℕ)) (old here behind new : Received) (message : List ℕ) (r : Request) (size : BodyLength)
-    (bytes again cleared before : List ℕ) (len : ℕ) (framed : Frames bytes len r size) (are : bytes ≡ here.held) (are_again : again ≡ here.held)
-    (behind_is : behind ≡ record here { held = drop r.head_length here.held }) (none : cleared ≡ []) (put : before ≡ cleared ++ take r.head_length again)
-    (first : ReadsOn in0 in1 old here) where
-  pub frames : Frames here.held r.head_length r size
-  frames = subst (λ (l : List ℕ). Frames l r.head_length r size) are (subst (λ (n : ℕ). Frames bytes n r size) (sym framed.len_is) framed)
+-- the head of a request, with nothing behind it
+head_alone : (bytes rest : List ℕ) (h : RequestHead) → TakesHead bytes h rest → TakesHead (print_request h) h []
+head_alone bytes rest h takes = record { reads = (takes.reads.0, sym (append-nil (print_request h))); size = takes.size; fields = takes.fields }
 
-  before_is : before ≡ take r.head_length here.held
-  before_is = put ∙ (λ i. none i ++ take r.head_length (are_again i))
+pub finds_head : (in0 in1 : Option (List ℕ)) (old here behind : Received) (bytes again cleared taken : List ℕ) (len : ℕ) (r : Request) (size : BodyLength)
+    → ReadsOn in0 in1 old here → Frames bytes len r size → bytes ≡ here.held → again ≡ here.held → cleared ≡ [] → taken ≡ cleared ++ take len again
+    → behind ≡ record here { held = drop len here.held } → FindsHead in0 in1 old behind taken r size
+finds_head in0 in1 old here behind bytes again cleared taken len r size first framed are are_again none taken_is behind_is =
+    let frames : Frames here.held len r size = subst (λ (l : List ℕ). Frames l len r size) are framed in
+    let head_is : taken ≡ print_request frames.head = taken_is ∙ (λ i. none i ++ take len (are_again i)) ∙ head_cut here.held len frames.head frames.takes frames.fits in
+    let taken_behind : ReadsOn in0 in1 old (put_back (print_request frames.head) behind) =
+    subst (λ (b : Received). ReadsOn in0 in1 old (put_back (print_request frames.head) b)) (sym behind_is)
+    (takes_front in0 in1 old here (print_request frames.head) (drop len here.held) first frames.takes.reads.1) in
+    record {
+      is = record { head = frames.head; is = frames.takes.reads.0; bytes_are = head_is; describes = frames.describes };
+      takes = subst (λ (l : List ℕ). TakesHead l frames.head []) (sym head_is) (head_alone here.held (drop len here.held) frames.head frames.takes);
+      size_is = frames.size_is;
+      reads = subst (λ (l : List ℕ). ReadsOn in0 in1 old (put_back l behind)) (sym head_is) taken_behind;
+    }
 
-  pub head_taken : ReadsOn in0 in1 old (put_back (print_request frames.head) behind)
-  head_taken = subst (λ (b : Received). ReadsOn in0 in1 old (put_back (print_request frames.head) b)) (sym behind_is)
-      (takes_front in0 in1 old here (print_request frames.head) (drop r.head_length here.held) first frames.takes.reads.1)
+-- ---- the body behind the head
 
-  taken : (text : List ℕ) → ReadsOn in1 in2 behind (put_back text new) → ReadsOn in0 in2 old (put_back (print_request frames.head ++ text) new)
-  taken text second =
-      takes_join in0 in1 in2 old behind new (print_request frames.head) text head_taken second
+module _ (in0 in1 in2 : Option (List ℕ)) (old behind new : Received) (bytes : List ℕ) (r : Request) (size : BodyLength) (found : FindsHead in0 in1 old behind bytes r size) where
+  head_then : (text : List ℕ) → TakesHead (bytes ++ text) (found.is).head text
+  head_then text = record { reads = (found.takes.reads.0, ap (λ l. l ++ text) found.is.bytes_are); size = found.takes.size; fields = found.takes.fields }
 
-  taken_head : (text : List ℕ) → TakesHead (print_request frames.head ++ text) frames.head text
-  taken_head text = record { reads = (frames.takes.reads.0, refl); size = frames.takes.size; fields = frames.takes.fields }
+  behind_head : (text : List ℕ) → ReadsOn in1 in2 behind (put_back text new) → ReadsOn in0 in2 old (put_back (bytes ++ text) new)
+  behind_head text second = takes_join in0 in1 in2 old behind new bytes text found.reads second
 
-  pub finds_one : TakesBody in1 in2 behind new before message size → FindsOne in0 in2 old new message r
-  finds_one body = record {
-    text = print_request frames.head ++ body.text;
-    reads = taken body.text body.reads;
-    whole = record {
-      head = frames.head;
-      body = body.body;
-      is = frames.takes.reads.0;
-      message_is = body.after_is ∙ ap (λ l. l ++ body.body) (before_is ∙ head_cut here.held r.head_length frames.head frames.takes frames.describes.head_length);
-      describes = frames.describes;
-    };
-    spells = record { after = body.text; takes = taken_head body.text; body_is = subst (λ (s : BodyLength). HasBody s body.text body.body) frames.size_is body.body_is };
+  pub takes_request : {S : Type 0} (takes : Takings S) (before after : S) (body : TakesBody takes in1 in2 behind new before after size)
+      → TakesRequest in0 in2 old new (found.is).head body.body
+  takes_request takes before after body = record {
+    text = bytes ++ body.text;
+    reads = behind_head body.text body.reads;
+    spells = record { after = body.text; takes = head_then body.text; body_is = subst (λ (s : BodyLength). HasBody s body.text body.body) found.size_is body.body_is };
   }
 
-  breaks_behind : (why : Breach) (b : BreaksBody in1 in2 behind new size why) → BreaksBehind (IsAtEnd in2) ((print_request frames.head ++ b.text) ++ new.held) why
+  breaks_behind : (why : Breach) (b : BreaksBody in1 in2 behind new size why) → BreaksBehind (IsAtEnd in2) ((bytes ++ b.text) ++ new.held) why
   breaks_behind why b = record {
-    head = frames.head;
+    head = (found.is).head;
     after = b.text ++ new.held;
-    takes = subst (λ (l : List ℕ). TakesHead l frames.head (b.text ++ new.held)) (sym (append_assoc (print_request frames.head) b.text new.held)) (taken_head (b.text ++ new.held));
-    breaks = subst (λ (s : BodyLength). BodyBreaks (IsAtEnd in2) why s (b.text ++ new.held)) frames.size_is b.breaks;
+    takes = subst (λ (l : List ℕ). TakesHead l (found.is).head (b.text ++ new.held)) (sym (append_assoc bytes b.text new.held)) (head_then (b.text ++ new.held));
+    breaks = subst (λ (s : BodyLength). BodyBreaks (IsAtEnd in2) why s (b.text ++ new.held)) found.size_is b.breaks;
   }
 
-  breaks : (why : Breach) (b : BreaksBody in1 in2 behind new size why) → IsBroken (IsAtEnd in2) ((print_request frames.head ++ b.text) ++ new.held) why
+  breaks : (why : Breach) (b : BreaksBody in1 in2 behind new size why) → IsBroken (IsAtEnd in2) ((bytes ++ b.text) ++ new.held) why
   breaks breach.Head b = absurd b.breaks
   breaks breach.Body b = breaks_behind breach.Body b
   breaks breach.TooLarge b = breaks_behind breach.TooLarge b
 
   pub finds_breach : (why : Breach) → BreaksBody in1 in2 behind new size why → FindsBreach in0 in2 old new why
-  finds_breach why b = record { text = print_request frames.head ++ b.text; reads = taken b.text b.reads; broken = breaks why b }
+  finds_breach why b = record { text = bytes ++ b.text; reads = behind_head b.text b.reads; broken = breaks why b }
+
+-- no head is no request
+pub none_is_breach : (in0 in1 : Option (List ℕ)) (old new : Received) → FindsNone in0 in1 old new → FindsBreach in0 in1 old new breach.Head
+none_is_breach in0 in1 old new none = record { text = []; reads = none.reads; broken = none.broken }
 
 -- who stopped with fewer bytes than asked for has found the end
 pub short_ends : (ended : Bool) (count n : ℕ) → (ended ≡ false → count ≤ n) → n < count → ended ≡ true

@@ -1,4 +1,4 @@
--- What reading a body does to the bytes received and to the message.
+-- What reading a body does to the bytes received and to the sink.
 use Rattle.std.specs.Prelude.{◌≡◌, ℕ, ◌+◌, ◌<◌, ◌≤◌, ◌==◌, ◌&&◌, Bool, true, false, List, [], ◌∷◌, ◌++◌, length, take, All, Option, Some, None, Result, Ok, Err}
 use Rattle.std.specs.Io.KnownBytes.{IsAtEnd}
 use Rattle.httparse.specs.Ascii.{crlf_bytes}
@@ -9,6 +9,7 @@ use Rattle.chunked_bodies.specs.declared.trailer.Trailer.{Trailer}
 use Rattle.chunked_bodies.specs.declared.trailer.Trailer.TheVariants as trailer
 use Rattle.http_requests.specs.Requests.{HasBody, BodyBreaks}
 use Rattle.http_requests.specs.Receiving.{Received, ReadsOn, put_back, Takes, Misses}
+use Rattle.http_requests.specs.Sinks.{Takings}
 use Rattle.http_requests.specs.declared.asked.BodyLength.{BodyLength}
 use Rattle.http_requests.specs.declared.asked.Breach.{Breach}
 
@@ -43,26 +44,26 @@ begins_line_end [] = false
 begins_line_end (a ∷ []) = false
 begins_line_end (a ∷ b ∷ rest) = a == 13 && b == 10
 
--- Bytes were taken and put behind the message: so many, or all up to the end of the input.
-pub record Gathers (in0 in1 : Option (List ℕ)) (old new : Received) (before after : List ℕ) (size : ℕ) (all : Bool) : Type 0 where
+-- Bytes were taken and put into the sink: so many, or all up to the end of the input.
+pub record Gathers {S : Type 0} (takes : Takings S) (in0 in1 : Option (List ℕ)) (old new : Received) (before after : S) (size : ℕ) (all : Bool) : Type 0 where
   pub content : List ℕ
   pub reads : ReadsOn in0 in1 old (put_back content new)
-  pub after_is : after ≡ before ++ content
+  pub put : takes before content after
   pub whole : all ≡ true → length content ≡ size
   pub short : all ≡ false → (length content < size) × (new.held ≡ []) × IsAtEnd in1
 
 -- bytes gathered so far, where so many are left
-pub record Gathered (in0 in1 : Option (List ℕ)) (old new : Received) (before after : List ℕ) (size left : ℕ) : Type 0 where
+pub record Gathered {S : Type 0} (takes : Takings S) (in0 in1 : Option (List ℕ)) (old new : Received) (before after : S) (size left : ℕ) : Type 0 where
   pub content : List ℕ
   pub reads : ReadsOn in0 in1 old (put_back content new)
-  pub after_is : after ≡ before ++ content
+  pub put : takes before content after
   pub sum : length content + left ≡ size
 
--- so many data were put behind the message, and they and CR LF were taken
-pub record TakesContent (in0 in1 : Option (List ℕ)) (old new : Received) (before after : List ℕ) (size : ℕ) : Type 0 where
+-- so many data were put into the sink, and they and CR LF were taken
+pub record TakesContent {S : Type 0} (takes : Takings S) (in0 in1 : Option (List ℕ)) (old new : Received) (before after : S) (size : ℕ) : Type 0 where
   pub content : List ℕ
   pub reads : ReadsOn in0 in1 old (put_back (content ++ crlf_bytes) new)
-  pub after_is : after ≡ before ++ content
+  pub put : takes before content after
   pub size_is : length content ≡ size
 
 -- a text was taken, and with what is left it begins with none of this kind
@@ -71,25 +72,25 @@ pub record Fails (in0 in1 : Option (List ℕ)) (old new : Received) (Is : List �
   pub reads : ReadsOn in0 in1 old (put_back text new)
   pub lacks : Lacks (IsAtEnd in1) Is (text ++ new.held)
 
-abbrev pub TakesContentOr : Option (List ℕ) → Option (List ℕ) → Received → Received → List ℕ → List ℕ → ℕ → Bool → Type 0
-TakesContentOr in0 in1 old new before after size true = TakesContent in0 in1 old new before after size
-TakesContentOr in0 in1 old new before after size false = Fails in0 in1 old new (IsContent size)
+abbrev pub TakesContentOr : {S : Type 0} → Takings S → Option (List ℕ) → Option (List ℕ) → Received → Received → S → S → ℕ → Bool → Type 0
+TakesContentOr takes in0 in1 old new before after size true = TakesContent takes in0 in1 old new before after size
+TakesContentOr takes in0 in1 old new before after size false = Fails in0 in1 old new (IsContent size)
 
 -- chunks so far, and how many bytes of data may still come
-pub record ChunksSoFar (in0 in1 : Option (List ℕ)) (old new : Received) (before after : List ℕ) (left : ℕ) : Type 0 where
+pub record ChunksSoFar {S : Type 0} (takes : Takings S) (in0 in1 : Option (List ℕ)) (old new : Received) (before after : S) (left : ℕ) : Type 0 where
   pub chunks : List Chunk
   pub each : All IsChunk chunks
   pub reads : ReadsOn in0 in1 old (put_back (texts chunks) new)
-  pub after_is : after ≡ before ++ contents chunks
+  pub put : takes before (contents chunks) after
   pub sum : 4194304 ≡ length (contents chunks) + left
 
--- a body as the head tells was taken, and put behind the message
-pub record TakesBody (in0 in1 : Option (List ℕ)) (old new : Received) (before after : List ℕ) (size : BodyLength) : Type 0 where
+-- a body as the head tells was taken, and put into the sink
+pub record TakesBody {S : Type 0} (takes : Takings S) (in0 in1 : Option (List ℕ)) (old new : Received) (before after : S) (size : BodyLength) : Type 0 where
   pub text : List ℕ
   pub body : List ℕ
   pub body_is : HasBody size text body
   pub reads : ReadsOn in0 in1 old (put_back text new)
-  pub after_is : after ≡ before ++ body
+  pub put : takes before body after
 
 -- a text was taken, and with what is left it has no body as the head tells, for that reason
 pub record BreaksBody (in0 in1 : Option (List ℕ)) (old new : Received) (size : BodyLength) (why : Breach) : Type 0 where
@@ -97,6 +98,6 @@ pub record BreaksBody (in0 in1 : Option (List ℕ)) (old new : Received) (size :
   pub reads : ReadsOn in0 in1 old (put_back text new)
   pub breaks : BodyBreaks (IsAtEnd in1) why size (text ++ new.held)
 
-abbrev pub ReadsBody : Option (List ℕ) → Option (List ℕ) → Received → Received → List ℕ → List ℕ → BodyLength → Result (Unit {0}) Breach → Type 0
-ReadsBody in0 in1 old new before after size (Ok _) = TakesBody in0 in1 old new before after size
-ReadsBody in0 in1 old new before after size (Err why) = BreaksBody in0 in1 old new size why
+abbrev pub ReadsBody : {S : Type 0} → Takings S → Option (List ℕ) → Option (List ℕ) → Received → Received → S → S → BodyLength → Result (Unit {0}) Breach → Type 0
+ReadsBody takes in0 in1 old new before after size (Ok _) = TakesBody takes in0 in1 old new before after size
+ReadsBody takes in0 in1 old new before after size (Err why) = BreaksBody in0 in1 old new size why

@@ -11,7 +11,6 @@ use Rattle.http_requests.specs.declared.asked.Request.{Request}
 pub record Frames (bytes : List ℕ) (len : ℕ) (r : Request) (size : BodyLength) : Type 0 where
   pub head : RequestHead
   pub takes : TakesHead bytes head (drop len bytes)
-  pub len_is : r.head_length ≡ len
   pub describes : Describes head r
   pub size_is : size ≡ body_length head
   pub bounded : IsBounded size

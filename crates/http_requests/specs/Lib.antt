@@ -5,4 +5,5 @@ pub mod Requests
 pub mod Framing
 pub mod Receiving
 pub mod Searching
+pub mod Sinks
 pub mod Bodies

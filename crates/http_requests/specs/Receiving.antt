@@ -1,9 +1,14 @@
--- What reading on does to the bytes received, and what one look for a request finds.
+-- What reading on does to the bytes received, and what one look for the head of a request finds.
 use Rattle.std.specs.Prelude.{◌≡◌, ℕ, ◌+◌, ◌*◌, ◌≤◌, ◌⊎◌, Bool, true, if◌then◌else◌, List, [], ◌++◌, length, Option, Result, Ok, Err}
 use Rattle.std.specs.Io.KnownBytes.{Consumes, IsAtEnd}
 use Rattle.chunked_bodies.specs.Chunks.{Lacks}
-use Rattle.http_requests.specs.Requests.{Spells, IsWhole, IsBroken}
+use Rattle.httparse.specs.Grammar.{RequestHead}
+use Rattle.http_requests.specs.Heads.{TakesHead}
+use Rattle.http_requests.specs.Asked.{body_length}
+use Rattle.http_requests.specs.Requests.{Spells, IsHeadOf, IsBroken}
+use Rattle.http_requests.specs.declared.asked.BodyLength.{BodyLength}
 use Rattle.http_requests.specs.declared.asked.Breach.{Breach}
+use Rattle.http_requests.specs.declared.asked.Breach.TheVariants as breach
 use Rattle.http_requests.specs.declared.asked.Request.{Request}
 use Rattle.http_requests.specs.declared.received.Interrupted.{Interrupted}
 use Rattle.http_requests.specs.declared.received.Interrupted.TheVariants.{Reading, Memory}
@@ -60,12 +65,13 @@ pub record Misses (in0 in1 : Option (List ℕ)) (old new : Received) (Is : List 
   pub reads : ReadsOn in0 in1 old new
   pub lacks : Lacks (IsAtEnd in1) Is new.held
 
--- a request was taken from the front, and this is its message
-pub record FindsOne (in0 in1 : Option (List ℕ)) (old new : Received) (message : List ℕ) (r : Request) : Type 0 where
-  pub text : List ℕ
-  pub reads : ReadsOn in0 in1 old (put_back text new)
-  pub whole : IsWhole message r
-  pub spells : Spells text whole.head whole.body
+-- The head of a request was taken from the front: its bytes, what was told of it, and how long the body is
+-- that it tells of. The body is what follows.
+pub record FindsHead (in0 in1 : Option (List ℕ)) (old new : Received) (bytes : List ℕ) (r : Request) (size : BodyLength) : Type 0 where
+  pub is : IsHeadOf bytes r
+  pub takes : TakesHead bytes is.head []
+  pub size_is : size ≡ body_length is.head
+  pub reads : ReadsOn in0 in1 old (put_back bytes new)
 
 -- nothing is left
 pub record FindsEnd (in0 in1 : Option (List ℕ)) (old new : Received) : Type 0 where
@@ -73,14 +79,27 @@ pub record FindsEnd (in0 in1 : Option (List ℕ)) (old new : Received) : Type 0 
   pub at_end : IsAtEnd in1
   pub nothing : new.held ≡ []
 
--- what was taken and what is left begin with no request
-pub record FindsBreach (in0 in1 : Option (List ℕ)) (old new : Received) (breach : Breach) : Type 0 where
+-- what is left begins with no head
+pub record FindsNone (in0 in1 : Option (List ℕ)) (old new : Received) : Type 0 where
+  pub reads : ReadsOn in0 in1 old new
+  pub broken : IsBroken (IsAtEnd in1) new.held breach.Head
+
+-- what one look for the head of a request finds
+abbrev pub Finds : Option (List ℕ) → Option (List ℕ) → Received → Received → List ℕ → Next → Type 0
+Finds in0 in1 old new bytes (One r size) = FindsHead in0 in1 old new bytes r size
+Finds in0 in1 old new bytes Clean = FindsEnd in0 in1 old new
+Finds in0 in1 old new bytes Broken = FindsNone in0 in1 old new
+
+-- ---- requests, of which the head was taken and then the body
+
+-- a request was taken from the front, with this head and this body
+pub record TakesRequest (in0 in1 : Option (List ℕ)) (old new : Received) (head : RequestHead) (body : List ℕ) : Type 0 where
   pub text : List ℕ
   pub reads : ReadsOn in0 in1 old (put_back text new)
-  pub broken : IsBroken (IsAtEnd in1) (text ++ new.held) breach
+  pub spells : Spells text head body
 
--- what one look for a request finds
-abbrev pub Finds : Option (List ℕ) → Option (List ℕ) → Received → Received → List ℕ → Next → Type 0
-Finds in0 in1 old new message (One r) = FindsOne in0 in1 old new message r
-Finds in0 in1 old new message Clean = FindsEnd in0 in1 old new
-Finds in0 in1 old new message (Broken breach) = FindsBreach in0 in1 old new breach
+-- what was taken and what is left begin with no request
+pub record FindsBreach (in0 in1 : Option (List ℕ)) (old new : Received) (why : Breach) : Type 0 where
+  pub text : List ℕ
+  pub reads : ReadsOn in0 in1 old (put_back text new)
+  pub broken : IsBroken (IsAtEnd in1) (text ++ new.held) why

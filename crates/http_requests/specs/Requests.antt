@@ -1,5 +1,5 @@
 -- A request as a text, and why there is none.
-use Rattle.std.specs.Prelude.{◌≡◌, ℕ, ◌<◌, ◌≤◌, ◌⊎◌, List, ◌++◌, length, slice_range}
+use Rattle.std.specs.Prelude.{◌≡◌, ℕ, ◌<◌, ◌≤◌, ◌⊎◌, List, length, slice_range}
 use Rattle.httparse.specs.Grammar.{RequestHead, IsRequestHead, print_request}
 use Rattle.chunked_bodies.specs.Chunks.{IsBody, IsTooLarge, IsDecided, Begins, Lacks}
 use Rattle.http_requests.specs.Heads.{TakesHead, HasNoHead, NeverHasHead}
@@ -59,13 +59,12 @@ IsBroken AtEnd rest breach.TooLarge = BreaksBehind AtEnd rest breach.TooLarge
 -- what was told of a head; the target is a part of its text
 pub record Describes (head : RequestHead) (r : Request) : Type 0 where
   pub asked : asked_by head ≡ record { method = r.method; target = slice_range (print_request head) r.target.start r.target.end; has_batch_type = r.has_batch_type; closes = r.closes }
-  pub within : (r.target.start ≤ r.target.end) × (r.target.end ≤ r.head_length)
-  pub head_length : r.head_length ≡ length (print_request head)
+  pub ordered : r.target.start ≤ r.target.end
+  pub inside : r.target.end ≤ length (print_request head)
 
--- the message of a request: its head, and its body behind it, however that came
-pub record IsWhole (message : List ℕ) (r : Request) : Type 0 where
+-- the bytes are the head of the request
+pub record IsHeadOf (bytes : List ℕ) (r : Request) : Type 0 where
   pub head : RequestHead
-  pub body : List ℕ
   pub is : IsRequestHead head
-  pub message_is : message ≡ print_request head ++ body
+  pub bytes_are : bytes ≡ print_request head
   pub describes : Describes head r

@@ -45,18 +45,16 @@ pub enum Breach {
     TooLarge,
 }
 
-/// A request, as its head tells. It goes with the message: the bytes of the head, and the body behind it.
+/// A request, as its head tells. It goes with the bytes of the head.
 #[derive(Clone, Copy, Debug)]
 pub struct Request {
     pub method: Method,
-    /// Where the target is in the message.
+    /// Where the target is in the head.
     pub target: Span,
     /// The body may be a batch: it is in no content coding, and of a type of Thrift's binary protocol.
     pub has_batch_type: bool,
     /// The session is to close behind the response.
     pub closes: bool,
-    /// How many bytes the head has; the body is the rest of the message.
-    pub head_length: usize,
 }
 
 fn method_of(method: &[u8]) -> Method
@@ -205,7 +203,6 @@ pub(crate) fn frame(
         target: spans.path,
         has_batch_type: has_batch_type(&fields),
         closes: closes(spans.version, &fields),
-        head_length: spans.len,
     };
     (request, body_length(&fields))
 }

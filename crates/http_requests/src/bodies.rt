@@ -1,6 +1,5 @@
 ghost use Rattle.std.specs.Prelude.{◌≡◌, ◌≤◌, false, IfOk, IfErr, OnOk, length};
 ghost use Rattle.chunked_bodies.specs.Chunks.{IsTrailer};
-ghost use Rattle.http_requests.specs.Asked.{IsBounded};
 ghost use Rattle.http_requests.specs.Receiving.{KnowsItsEnd, ReadsOn, Stops, SameUnlessReading};
 ghost use Rattle.http_requests.specs.Bodies.{LineWhenDue, TrailerWhenDue, TakesSize, TakesOrMisses, IsLineEnd, begins_line_end, Gathers, TakesContentOr, ReadsBody};
 ghost use Rattle.http_requests.specs.declared.asked.BodyLength.TheVariants.{Chunked};
@@ -8,21 +7,22 @@ ghost use Rattle.http_requests.specs.declared.asked.BodyLength.TheVariants.{Chun
 use crate::asked::{BodyLength, Breach, MOST_BODY_BYTES};
 use crate::received::{Interrupted, Received};
 use crate::scan::Scan;
+use crate::sink::Sink;
 use chunked_bodies::{
     MOST_LINE_BYTES, MOST_TRAILER_BYTES, SizeLine, Trailer, look_for_size, look_for_trailer,
 };
 use session_devices::Input;
 
-/// Takes so many bytes and puts them behind the message, or all up to the end of the input. Whether there
-/// were so many. Nothing is reserved but for bytes that have come.
-fn gather<R: Input>(
+/// Takes so many bytes and puts them into the sink as they come, or all up to the end of the input. Whether
+/// there were so many.
+fn gather<R: Input, S: Sink>(
     input: &mut R,
     received: &mut Received,
-    message: &mut Vec<u8>,
+    sink: &mut S,
     size: usize,
 ) -> Result<bool, Interrupted>
     requires end { KnowsItsEnd received.old.ended (R.remaining input.old) }
-    ensures gathers { IfOk result (λ all. Gathers (R.remaining input.old) (R.remaining input.new) received.old received.new message.old.items message.new.items size all) }
+    ensures gathers { IfOk result (λ all. Gathers S.takes (R.remaining input.old) (R.remaining input.new) received.old received.new sink.old sink.new size all) }
     ensures err { IfErr result (λ why. Stops (R.remaining input.old) (R.remaining input.new) (R.has_failed input.new) received.old why) }
     ensures same { SameUnlessReading (R.has_failed input.old) (R.has_failed input.new) result }
 {
@@ -31,11 +31,11 @@ fn gather<R: Input>(
         let bytes = received.as_slice();
         let count = bytes.len();
         if count >= left {
-            message.extend_from_slice(&bytes[..left])?;
+            sink.put(&bytes[..left]);
             received.take(left);
             return Ok(true);
         }
-        message.extend_from_slice(bytes)?;
+        sink.put(bytes);
         received.take(count);
         left -= count;
         if received.has_ended() {
@@ -161,34 +161,34 @@ fn take_trailer<R: Input>(input: &mut R, received: &mut Received) -> Result<bool
     }
 }
 
-/// Takes the data of a chunk, and CR LF behind them, and puts the data behind the message; whether they
-/// were there.
-fn take_content<R: Input>(
+/// Takes the data of a chunk, and CR LF behind them, and puts the data into the sink; whether they were
+/// there.
+fn take_content<R: Input, S: Sink>(
     input: &mut R,
     received: &mut Received,
-    message: &mut Vec<u8>,
+    sink: &mut S,
     size: usize,
 ) -> Result<bool, Interrupted>
     requires end { KnowsItsEnd received.old.ended (R.remaining input.old) }
-    ensures takes { IfOk result (TakesContentOr (R.remaining input.old) (R.remaining input.new) received.old received.new message.old.items message.new.items size) }
+    ensures takes { IfOk result (TakesContentOr S.takes (R.remaining input.old) (R.remaining input.new) received.old received.new sink.old sink.new size) }
     ensures err { IfErr result (λ why. Stops (R.remaining input.old) (R.remaining input.new) (R.has_failed input.new) received.old why) }
     ensures same { SameUnlessReading (R.has_failed input.old) (R.has_failed input.new) result }
 {
-    if gather(input, received, message, size)? {
+    if gather(input, received, sink, size)? {
         take_line_end(input, received)
     } else {
         Ok(false)
     }
 }
 
-/// Takes a chunked body, and puts its data behind the message.
-fn read_chunks<R: Input>(
+/// Takes a chunked body, and puts its data into the sink.
+fn read_chunks<R: Input, S: Sink>(
     input: &mut R,
     received: &mut Received,
-    message: &mut Vec<u8>,
+    sink: &mut S,
 ) -> Result<Result<(), Breach>, Interrupted>
     requires end { KnowsItsEnd received.old.ended (R.remaining input.old) }
-    ensures body { IfOk result (ReadsBody (R.remaining input.old) (R.remaining input.new) received.old received.new message.old.items message.new.items Chunked) }
+    ensures body { IfOk result (ReadsBody S.takes (R.remaining input.old) (R.remaining input.new) received.old received.new sink.old sink.new Chunked) }
     ensures err { IfErr result (λ why. Stops (R.remaining input.old) (R.remaining input.new) (R.has_failed input.new) received.old why) }
     ensures same { SameUnlessReading (R.has_failed input.old) (R.has_failed input.new) result }
 {
@@ -206,34 +206,39 @@ fn read_chunks<R: Input>(
         if size > left {
             return Ok(Err(Breach::TooLarge));
         }
-        if !take_content(input, received, message, size as usize)? {
+        if !take_content(input, received, sink, size as usize)? {
             return Ok(Err(Breach::Body));
         }
         left -= size;
     }
 }
 
-/// Takes the body that the head tells of, and puts it behind the message.
-pub(crate) fn read_body<R: Input>(
+/// Takes the body that the head tells of, and puts it into the sink as it comes; it is never held whole.
+/// Where there is none for a stated reason, what was put before is a part of what came.
+///
+/// # Errors
+///
+/// The input failed, or want of memory.
+pub fn read_body<R: Input, S: Sink>(
     input: &mut R,
     received: &mut Received,
-    message: &mut Vec<u8>,
+    sink: &mut S,
     size: BodyLength,
 ) -> Result<Result<(), Breach>, Interrupted>
     requires end { KnowsItsEnd received.old.ended (R.remaining input.old) }
-    ensures body { IfOk result (ReadsBody (R.remaining input.old) (R.remaining input.new) received.old received.new message.old.items message.new.items size) }
+    ensures body { IfOk result (ReadsBody S.takes (R.remaining input.old) (R.remaining input.new) received.old received.new sink.old sink.new size) }
     ensures err { IfErr result (λ why. Stops (R.remaining input.old) (R.remaining input.new) (R.has_failed input.new) received.old why) }
     ensures same { SameUnlessReading (R.has_failed input.old) (R.has_failed input.new) result }
 {
     match size {
         BodyLength::Bytes(count) => {
-            if gather(input, received, message, count as usize)? {
+            if gather(input, received, sink, count as usize)? {
                 Ok(Ok(()))
             } else {
                 Ok(Err(Breach::Body))
             }
         }
-        BodyLength::Chunked => read_chunks(input, received, message),
+        BodyLength::Chunked => read_chunks(input, received, sink),
         BodyLength::Unreadable => Ok(Err(Breach::Body)),
         BodyLength::TooLarge => Ok(Err(Breach::TooLarge)),
     }

@@ -3,7 +3,8 @@
 //! A request is a head by `httparse`'s grammar, of at most 8,192 bytes and 64 fields, and a body: as long as
 //! the head tells, or in chunks. What stood at the front of the bytes received is proved to be a request,
 //! or to be none for a stated reason: no continuation can begin with one, or the input ended inside. A
-//! request is handed on as its message, the head and the body behind it, however the body came.
+//! request is taken in two steps: its head, whose bytes are handed on ([`next_head`]), and its body, which is
+//! put into a [`Sink`] as it comes ([`read_body`]). No body is held whole.
 //!
 //! * `head`: looking for a head at the front of bytes.
 //! * `fields`: the fields of a head, by name.
@@ -11,7 +12,8 @@
 //! * `bodies`: taking a body, by its length or in chunks.
 //! * `received`: the bytes that were read and are not taken yet.
 //! * `scan`: when it is worth looking for a head.
-//! * `reading`: the next request of an input.
+//! * `reading`: the head of the next request of an input.
+//! * `sink`: what a body is put into.
 //! * `laws`: facts about what stands at the front of bytes.
 #![tactic(auto)]
 
@@ -23,7 +25,10 @@ pub mod laws;
 mod reading;
 mod received;
 mod scan;
+mod sink;
 
 pub use asked::{BodyLength, Breach, Method, Request};
-pub use reading::{Next, next_request};
+pub use bodies::read_body;
+pub use reading::{Next, next_head};
 pub use received::{Interrupted, Received};
+pub use sink::Sink;

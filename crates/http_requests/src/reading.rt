@@ -3,8 +3,7 @@ ghost use Rattle.std.specs.Io.KnownBytes.{IsAtEnd};
 ghost use Rattle.http_requests.specs.Receiving.{KnowsItsEnd, ReadsOn, Stops, Finds, SameUnlessReading};
 ghost use Rattle.http_requests.specs.Searching.{FindsHead};
 
-use crate::asked::{Breach, Request, frame};
-use crate::bodies::read_body;
+use crate::asked::{BodyLength, Request, frame};
 use crate::head::{Look, MOST_BYTES, look_for_head};
 use crate::received::{Interrupted, Received};
 use crate::scan::Scan;
@@ -17,12 +16,12 @@ const FIELD_ROOM: usize = 65;
 /// What stood at the front of the bytes received, after reading as far as it takes.
 #[derive(Clone, Copy, Debug)]
 pub enum Next {
-    /// A whole request.
-    One(Request),
+    /// The head of a request, and how long the body is that it tells of.
+    One(Request, BodyLength),
     /// Nothing, and the input has ended.
     Clean,
-    /// No request, and none can come.
-    Broken(Breach),
+    /// No head, and none can come.
+    Broken,
 }
 
 /// What a search for a head found.
@@ -67,20 +66,21 @@ fn find_head<R: Input>(
     }
 }
 
-/// Reads until a whole request stood at the front of the bytes received, or there is none: the input
-/// has ended, or no continuation begins with one. The request is taken from the bytes, and the message is
-/// its head and behind it its body. It reads nothing of an input that has ended.
+/// Reads until the head of a request stood at the front of the bytes received, or there is none: the input
+/// has ended, or no continuation begins with one. The head is taken from the bytes, and its bytes are put in
+/// the place of what `head` held; the body is what follows, for [`read_body`](crate::read_body). It reads
+/// nothing of an input that has ended.
 ///
 /// # Errors
 ///
 /// The input failed, or want of memory.
-pub fn next_request<R: Input>(
+pub fn next_head<R: Input>(
     input: &mut R,
     received: &mut Received,
-    message: &mut Vec<u8>,
+    head: &mut Vec<u8>,
 ) -> Result<Next, Interrupted>
     requires end { KnowsItsEnd received.old.ended (R.remaining input.old) }
-    ensures found { IfOk result (λ next. Finds (R.remaining input.old) (R.remaining input.new) received.old received.new message.new.items next) }
+    ensures found { IfOk result (λ next. Finds (R.remaining input.old) (R.remaining input.new) received.old received.new head.new.items next) }
     ensures err { IfErr result (λ why. Stops (R.remaining input.old) (R.remaining input.new) (R.has_failed input.new) received.old why) }
     ensures same { SameUnlessReading (R.has_failed input.old) (R.has_failed input.new) result }
 {
@@ -88,14 +88,11 @@ pub fn next_request<R: Input>(
     let spans = match find_head(input, received, &mut headers)? {
         Found::Head(spans) => spans,
         Found::End if received.as_slice().is_empty() => return Ok(Next::Clean),
-        Found::End | Found::Never => return Ok(Next::Broken(Breach::Head)),
+        Found::End | Found::Never => return Ok(Next::Broken),
     };
     let (request, size) = frame(received.as_slice(), &headers, spans);
-    message.clear();
-    message.extend_from_slice(&received.as_slice()[..request.head_length])?;
-    received.take(request.head_length);
-    match read_body(input, received, message, size)? {
-        Ok(()) => Ok(Next::One(request)),
-        Err(breach) => Ok(Next::Broken(breach)),
-    }
+    head.clear();
+    head.extend_from_slice(&received.as_slice()[..spans.len])?;
+    received.take(spans.len);
+    Ok(Next::One(request, size))
 }

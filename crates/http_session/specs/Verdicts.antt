@@ -1,5 +1,5 @@
 -- What a request asks: by its path, its method, its content, and its body or its parameters.
-use Rattle.std.specs.Prelude.{◌≡◌, ℕ, ◌⊎◌, Bool, true, false, List, drop, slice_range, Result, Ok, Err}
+use Rattle.std.specs.Prelude.{◌≡◌, ℕ, ◌⊎◌, Bool, true, false, List, slice_range, Result, Ok, Err}
 use Rattle.batch_codec.specs.BatchReading.{decoded}
 use Rattle.trace_model.specs.declared.query.Query.{Query}
 use Rattle.http_requests.specs.Asked.{Asked}
@@ -16,13 +16,9 @@ use Rattle.http_session.specs.declared.verdict.Remark.TheVariants.{NoSuchPath, N
 use Rattle.http_session.specs.declared.verdict.Verdict.{Verdict}
 use Rattle.http_session.specs.declared.verdict.Verdict.TheVariants.{Submit, Ask, Say}
 
--- what the head of a message asks
+-- what a head asks, by its bytes
 abbrev pub asked_of : List ℕ → Request → Asked
 asked_of bytes r = record { method = r.method; target = slice_range bytes r.target.start r.target.end; has_batch_type = r.has_batch_type; closes = r.closes }
-
--- the body of a message
-abbrev pub body_of : List ℕ → Request → List ℕ
-body_of bytes r = drop r.head_length bytes
 
 -- each endpoint takes GET, and the one of traces takes POST too
 abbrev pub allows : Endpoint → Method → Bool

@@ -5,10 +5,11 @@ ghost use Rattle.http_session.specs.declared.exchanges.Cause.TheVariants.{Writin
 ghost use Rattle.http_session.specs.Sessions.{EndsAs, FailsAs, Step, Says, cause_by, last_of, exchange_due};
 ghost use Rattle.http_session.specs.Related.{Related, nothing_seen};
 
+use crate::hearing::{Heard, hear};
 use crate::reply::Reply;
 use crate::send::send;
-use crate::verdict::{Verdict, judge};
-use http_requests::{Interrupted, Next, Received, Request, next_request};
+use crate::verdict::Verdict;
+use http_requests::{Interrupted, Received};
 use matchit::Router;
 use query_http::{Endpoint, endpoints};
 use session_devices::{Input, Output};
@@ -90,11 +91,11 @@ fn answer<T, B: Backend<T>>(rt: &T, alloc: Global, backend: &mut B, verdict: Ver
     }
 }
 
-/// Whether the session closes behind the reply to a request.
-fn closes_behind(request: &Request, reply: &Reply) -> bool
-    ensures { result ≡ (request.now.closes || closes reply.now) }
+/// Whether the session closes behind the reply to a request, which may ask for it.
+fn closes_behind(asked: bool, reply: &Reply) -> bool
+    ensures { result ≡ (asked || closes reply.now) }
 {
-    request.closes || reply.closes()
+    asked || reply.closes()
 }
 
 /// Writes a response, and takes no memory.
@@ -147,9 +148,7 @@ fn run_session<T, R: Input, W: Output, B: Backend<T>>(
     let mut received = Received::new(alloc);
     let mut answered = 0u64;
     'requests: loop {
-        // In each turn a new one, so that the room of a large body is given back.
-        let mut message = Vec::new(alloc);
-        let request = match next_request(input, &mut received, &mut message) {
+        let (verdict, asked) = match hear(alloc, router, input, &mut received) {
             Err(why) => {
                 return Err(SessionFault {
                     answered,
@@ -157,13 +156,13 @@ fn run_session<T, R: Input, W: Output, B: Backend<T>>(
                     cause: cause_of(why),
                 });
             }
-            Ok(Next::Clean) => {
+            Ok(Heard::Clean) => {
                 return Ok(Ended {
                     answered,
                     clean: true,
                 });
             }
-            Ok(Next::Broken(breach)) => {
+            Ok(Heard::Broken(breach)) => {
                 if let Err(silence) = say(alloc, output, &Reply::Broken(breach), true) {
                     return Err(silence.after(answered));
                 }
@@ -172,17 +171,10 @@ fn run_session<T, R: Input, W: Output, B: Backend<T>>(
                     clean: false,
                 });
             }
-            Ok(Next::One(request)) => request,
-        };
-        let Ok(verdict) = judge(alloc, router, message.as_slice(), &request) else {
-            return Err(SessionFault {
-                answered,
-                written: 0,
-                cause: Cause::Memory,
-            });
+            Ok(Heard::One(verdict, asked)) => (verdict, asked),
         };
         let reply = answer(rt, alloc, backend, verdict);
-        let close = closes_behind(&request, &reply);
+        let close = closes_behind(asked, &reply);
         let said = say(alloc, output, &reply, close);
         drop(reply);
         if let Err(silence) = said {

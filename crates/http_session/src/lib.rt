@@ -5,6 +5,8 @@
 //! point of one growing history ([`session`]).
 //!
 //! * `verdict`: what a request asks of the store, or what is said to it without asking.
+//! * `question`: what the head of a request asks.
+//! * `hearing`: hearing a request: its head, and its body as it comes, which is never held whole.
 //! * `reply`: what is answered, and its response.
 //! * `fixed`: the responses 202 and 500, which take no memory.
 //! * `send`: writing all of a piece.
@@ -13,6 +15,8 @@
 
 mod exchanges;
 mod fixed;
+mod hearing;
+mod question;
 mod reply;
 mod send;
 mod verdict;

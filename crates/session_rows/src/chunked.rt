@@ -1,8 +1,7 @@
 use crate::pipes::{ANSWERS, BATCH, SERVICES, played};
-use crate::requests::is_broken;
-use http_requests::{Breach, Next, Received, next_request};
+use crate::requests::{Front, is_broken, look};
+use http_requests::Breach;
 use http_session::{Cause, Ended};
-use session_devices::MemoryInput;
 use std::alloc::Global;
 use std::process::Abort;
 use std::random::RandomSource;
@@ -49,18 +48,13 @@ fn has_body(
     rest: &[u8],
 ) -> Result<bool, Fail> {
     let whole = joined(alloc, &[HEAD, bytes])?;
-    let mut input = MemoryInput::new(whole.as_slice(), step, 0);
-    let mut received = Received::new(alloc);
-    let mut message = Vec::new(alloc);
-    let next = next_request(&mut input, &mut received, &mut message);
-    let Ok(Next::One(request)) = next else {
+    let Ok(Front::One(taken)) = look(alloc, whole.as_slice(), step) else {
         return Ok(false);
     };
-    let wanted = joined(alloc, &[HEAD, body])?;
     Ok(
-        request.head_length == HEAD.len()
-            && message.as_slice() == wanted.as_slice()
-            && rest.starts_with(received.as_slice()),
+        taken.head.as_slice() == HEAD
+            && taken.body.as_slice() == body
+            && rest.starts_with(taken.behind.as_slice()),
     )
 }
 
@@ -73,11 +67,7 @@ fn has_none(
     breach: Breach,
 ) -> Result<bool, Fail> {
     let whole = joined(alloc, &[head, bytes])?;
-    let mut input = MemoryInput::new(whole.as_slice(), step, 0);
-    let mut received = Received::new(alloc);
-    let mut message = Vec::new(alloc);
-    let next = next_request(&mut input, &mut received, &mut message);
-    Ok(is_broken(next, breach))
+    Ok(is_broken(look(alloc, whole.as_slice(), step), breach))
 }
 
 #[test]
@@ -242,16 +232,25 @@ fn lines_and_trailers_at_their_limits(rt: HostRuntime) -> Result<(), Fail> {
     Ok(())
 }
 
+/// The largest piece of a body of 100,000 bytes in one chunk that is put into a sink, where so many bytes are
+/// read at a time.
+fn largest_piece(alloc: Global, step: usize) -> Result<usize, Fail> {
+    let body = repeated(alloc, b"0123456789", 10_000)?;
+    let whole = joined(
+        alloc,
+        &[HEAD, b"186a0\r\n", body.as_slice(), b"\r\n0\r\n\r\n"],
+    )?;
+    match look(alloc, whole.as_slice(), step) {
+        Ok(Front::One(taken)) => Ok(taken.largest_piece),
+        _ => Ok(0),
+    }
+}
+
 #[test]
-fn nothing_is_reserved_by_a_size(rt: HostRuntime) -> Result<(), Fail> {
+fn a_body_is_put_as_it_comes(rt: HostRuntime) -> Result<(), Fail> {
     let alloc = rt.alloc();
-    let whole = joined(alloc, &[HEAD, b"400000\r\nab"])?;
-    let mut input = MemoryInput::new(whole.as_slice(), 10_000, 0);
-    let mut received = Received::new(alloc);
-    let mut message = Vec::new(alloc);
-    let next = next_request(&mut input, &mut received, &mut message);
-    assert!(rt; is_broken(next, Breach::Body));
-    assert!(rt; message.capacity() < 1000);
+    assert_eq!(rt; largest_piece(alloc, 7)?, 7);
+    assert_eq!(rt; largest_piece(alloc, 10_000)?, 4096);
     Ok(())
 }
 

@@ -1,4 +1,6 @@
-use http_requests::{Breach, Interrupted, Method, Next, Received, next_request};
+use http_requests::{
+    BodyLength, Breach, Interrupted, Method, Next, Received, Sink, next_head, read_body,
+};
 use session_devices::MemoryInput;
 use std::alloc::Global;
 use std::process::Abort;
@@ -19,20 +21,84 @@ fn head(alloc: Global, fields: usize, target: usize) -> Result<Vec<u8>, Fail> {
     Ok(bytes)
 }
 
+/// A body, put together again.
+#[derive(Drop)]
+struct Joined {
+    bytes: Vec<u8>,
+    largest_piece: usize,
+    lacks_memory: bool,
+}
+
+impl Sink for Joined {
+    ghost takes = { λ s w t. Unit {0} };
+
+    fn put(&mut self, piece: &[u8]) {
+        self.largest_piece = self.largest_piece.max(piece.len());
+        if self.bytes.extend_from_slice(piece).is_err() {
+            self.lacks_memory = true;
+        }
+    }
+
+    ghost takes_nothing = { λ s. tt };
+
+    ghost takes_joined = { λ s t u front back one two. tt };
+}
+
+/// A request at the front of some bytes.
+#[derive(Drop)]
+pub(crate) struct Taken {
+    pub(crate) head: Vec<u8>,
+    pub(crate) body: Vec<u8>,
+    /// The bytes that were received behind it.
+    pub(crate) behind: Vec<u8>,
+    pub(crate) largest_piece: usize,
+}
+
+/// What a look at some bytes finds.
+#[derive(Drop)]
+pub(crate) enum Front {
+    One(Taken),
+    Clean,
+    Broken(Breach),
+}
+
 /// What a look at these bytes finds, read so many at a time.
-fn look(alloc: Global, bytes: &[u8], step: usize) -> Result<Next, Interrupted> {
+pub(crate) fn look(alloc: Global, bytes: &[u8], step: usize) -> Result<Front, Interrupted> {
     let mut input = MemoryInput::new(bytes, step, 0);
     let mut received = Received::new(alloc);
-    let mut message = Vec::new(alloc);
-    next_request(&mut input, &mut received, &mut message)
+    let mut head = Vec::new(alloc);
+    let size = match next_head(&mut input, &mut received, &mut head)? {
+        Next::One(_, size) => size,
+        Next::Clean => return Ok(Front::Clean),
+        Next::Broken => return Ok(Front::Broken(Breach::Head)),
+    };
+    let mut sink = Joined {
+        bytes: Vec::new(alloc),
+        largest_piece: 0,
+        lacks_memory: false,
+    };
+    if let Err(breach) = read_body(&mut input, &mut received, &mut sink, size)? {
+        return Ok(Front::Broken(breach));
+    }
+    if sink.lacks_memory {
+        return Err(Interrupted::Memory);
+    }
+    let mut behind = Vec::new(alloc);
+    behind.extend_from_slice(received.as_slice())?;
+    Ok(Front::One(Taken {
+        head,
+        largest_piece: sink.largest_piece,
+        body: sink.bytes,
+        behind,
+    }))
 }
 
-fn is_one(next: Result<Next, Interrupted>) -> bool {
-    matches!(next, Ok(Next::One(_)))
+fn is_one(front: Result<Front, Interrupted>) -> bool {
+    matches!(front, Ok(Front::One(_)))
 }
 
-pub(crate) fn is_broken(next: Result<Next, Interrupted>, breach: Breach) -> bool {
-    matches!(next, Ok(Next::Broken(b)) if b == breach)
+pub(crate) fn is_broken(front: Result<Front, Interrupted>, breach: Breach) -> bool {
+    matches!(front, Ok(Front::Broken(b)) if b == breach)
 }
 
 #[test]
@@ -83,15 +149,15 @@ fn each_end(rt: HostRuntime) -> Result<(), Fail> {
     ];
     for (bytes, breach) in &rows {
         for step in [1, 10_000] {
-            let next = look(alloc, bytes, step);
+            let front = look(alloc, bytes, step);
             let right = match breach {
-                None => is_one(next),
-                Some(breach) => is_broken(next, *breach),
+                None => is_one(front),
+                Some(breach) => is_broken(front, *breach),
             };
             assert!(rt; right, "{bytes:?}");
         }
     }
-    assert!(rt; matches!(look(alloc, b"", 1), Ok(Next::Clean)));
+    assert!(rt; matches!(look(alloc, b"", 1), Ok(Front::Clean)));
     Ok(())
 }
 
@@ -101,16 +167,16 @@ fn what_a_head_asks(rt: HostRuntime) -> Result<(), Fail> {
         b"POST /x HTTP/1.1\r\nCONTENT-TYPE: \tApplication/X-Thrift ; a=b\r\nConnection: keep-alive , close\r\ncontent-length: 0\r\n\r\n";
     let mut input = MemoryInput::new(bytes, 3, 0);
     let mut received = Received::new(rt.alloc());
-    let mut message = Vec::new(rt.alloc());
-    let next = next_request(&mut input, &mut received, &mut message);
-    let Ok(Next::One(request)) = next else {
+    let mut head = Vec::new(rt.alloc());
+    let next = next_head(&mut input, &mut received, &mut head);
+    let Ok(Next::One(request, size)) = next else {
         return Err(std::alloc::AllocError.into());
     };
     assert!(rt; request.method == Method::Post);
     assert!(rt; request.has_batch_type && request.closes);
-    assert_eq!(rt; request.head_length, bytes.len());
-    assert!(rt; message.as_slice() == bytes.as_slice());
-    assert!(rt; request.target.of(message.as_slice()) == b"/x".as_slice());
+    assert!(rt; size == BodyLength::Bytes(0));
+    assert!(rt; head.as_slice() == bytes.as_slice());
+    assert!(rt; request.target.of(head.as_slice()) == b"/x".as_slice());
     assert!(rt; received.as_slice().is_empty() && !received.has_ended());
     Ok(())
 }

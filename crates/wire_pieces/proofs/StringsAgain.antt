@@ -7,6 +7,8 @@ use Rattle.thrift_binary.specs.Reading.{◌>>=◌, Read, bytes_at, size_at, stri
 use Rattle.thrift_binary.specs.Skipping.{past, text}
 use Rattle.wire_pieces.specs.Pieces.{Comes, Waits}
 use Rattle.wire_pieces.specs.Strings.{bytes_end}
+use Rattle.wire_pieces.proofs.Filled.{bytes-whole}
+use Rattle.wire_pieces.proofs.Steps.{comes-trans, comes-inside}
 
 pub nothing : {A : Type 0} (w : List A) → length w ≡ 0 → w ≡ []
 nothing [] h = refl
@@ -111,3 +113,10 @@ text-is w = by (size_at w)
     by : (r : Read ℕ) → ((r >>= λ n. bytes_at n.0 n.1) >>= λ x. Ok (tt, x.1)) ≡ (r >>= λ n. past n.0 n.1)
     by (Ok n) = inner n.0 n.1 (ltb (length n.1) n.0) refl
     by (Err e) = refl
+
+-- all of the bytes behind a length, at once
+pub string-at-once : (a : List ℕ → Read ℕ) (p v left front got : List ℕ) (n m : ℕ) → m ≡ n → Comes a (λ w. Ok (n, w)) p v → v ≡ front ++ left → length front ≡ m → got ≡ front
+    → Comes (λ w. a w >>= λ x. bytes_end [] x.0 x.1) (λ w. Ok (got, w)) p left
+string-at-once a p v left front got n m same g parts size is =
+    comes-trans (comes-inside (λ x. bytes_end [] x.0 x.1) g)
+    (record { same = λ rest. bytes_end-fresh n (v ++ rest) ∙ rw (parts, is, append_assoc) (bytes-whole n front (left ++ rest) (size ∙ same)) })

@@ -49,8 +49,40 @@ impl Gathered {
         &self.bytes[..self.len]
     }
 
+    /// The bytes of a number or a head that came at once.
+    #[inline]
+    fn of(front: &[u8]) -> Self
+        requires { length front.now ≤ 8 }
+        ensures { result ≡ front.now }
+    {
+        let mut bytes = [0; 8];
+        bytes[..front.len()].copy_from_slice(front);
+        Gathered {
+            bytes,
+            len: front.len(),
+        }
+    }
+
     /// Goes on until n bytes have come. They are handed out then, and none is left here.
+    #[inline]
     pub(crate) fn fill(&mut self, n: usize, piece: &mut Piece<'_>) -> Option<Gathered>
+        requires short { length self.old < n }
+        requires within { n ≤ 8 }
+        ensures parts { MatchOption result ((self.new ≡ self.old ++ piece.old) × (piece.new ≡ []))
+            (λ g. (g ++ piece.new ≡ self.old ++ piece.old) × (self.new ≡ [])) }
+        ensures size { MatchOption result (length self.new < n) (λ g. length g ≡ n) }
+        ensures taken { MatchOption result (length piece.new ≤ length piece.old) (λ _. length piece.new < length piece.old) }
+    {
+        if self.len() == 0 {
+            if let Some(front) = piece.front(n) {
+                return Some(Gathered::of(front));
+            }
+        }
+        self.fill_by_bytes(n, piece)
+    }
+
+    /// The same, a byte at a time.
+    fn fill_by_bytes(&mut self, n: usize, piece: &mut Piece<'_>) -> Option<Gathered>
         requires short { length self.old < n }
         requires within { n ≤ 8 }
         ensures parts { MatchOption result ((self.new ≡ self.old ++ piece.old) × (piece.new ≡ []))

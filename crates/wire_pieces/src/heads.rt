@@ -32,6 +32,7 @@ pub(crate) struct TypedId {
 }
 
 impl TypedId {
+    #[inline]
     fn more(&mut self, piece: &mut Piece<'_>) -> Result<Option<Option<(u8, i16)>>, PieceError>
         ensures reads { Goes (λ x. x) (id_from self.old) (id_from self.new) piece.old piece.new result }
         ensures taken { OkTakes piece.old piece.new result }
@@ -61,6 +62,7 @@ pub struct FieldHead {
 
 impl FieldHead {
     /// Before the first byte.
+    #[inline]
     pub fn new() -> Self
         ensures fresh { (w : List ℕ) → head_from result w ≡ field_at w }
     {
@@ -71,6 +73,7 @@ impl FieldHead {
 
     /// Goes on over a piece.
     #[tactic(auto, unfolding(thrift_binary::specs::Reading::field_at))]
+    #[inline]
     pub fn more(&mut self, piece: &mut Piece<'_>) -> Result<Option<Option<(u8, i16)>>, PieceError>
         ensures reads { Goes (λ x. x) (head_from self.old) (head_from self.new) piece.old piece.new result }
         ensures taken { OkTakes piece.old piece.new result }
@@ -105,6 +108,7 @@ pub(crate) struct TypedSize {
 }
 
 impl TypedSize {
+    #[inline]
     fn more(&mut self, piece: &mut Piece<'_>) -> Result<Option<(u8, u32)>, PieceError>
         ensures reads { Goes (λ x. x) (typed_size_from self.old) (typed_size_from self.new) piece.old piece.new result }
         ensures taken { OkTakes piece.old piece.new result }
@@ -133,6 +137,7 @@ pub struct ListHead {
 
 impl ListHead {
     /// Before the first byte.
+    #[inline]
     pub fn new() -> Self
         ensures fresh { (w : List ℕ) → list_head result w ≡ list_at w }
     {
@@ -143,6 +148,7 @@ impl ListHead {
 
     /// Goes on over a piece.
     #[tactic(auto, unfolding(thrift_binary::specs::Reading::list_at))]
+    #[inline]
     pub fn more(&mut self, piece: &mut Piece<'_>) -> Result<Option<(u8, u32)>, PieceError>
         ensures reads { Goes (λ x. x) (list_head self.old) (list_head self.new) piece.old piece.new result }
         ensures taken { OkTakes piece.old piece.new result }

@@ -21,6 +21,7 @@ impl I16 {
     ghost use Rattle.wire_pieces.specs.Numbers.{i16_from};
 
     /// Before the first byte.
+    #[inline]
     pub fn new() -> Self
         ensures fresh { (w : List ℕ) → i16_from result w ≡ signed_at w16 2 w }
     {
@@ -30,6 +31,7 @@ impl I16 {
     }
 
     /// Goes on over a piece.
+    #[inline]
     pub fn more(&mut self, piece: &mut Piece<'_>) -> Option<i16>
         ensures reads { Reaches Truncated (λ x. x) (i16_from self.old) (i16_from self.new) piece.old piece.new result }
         ensures taken { Takes piece.old piece.new result }
@@ -51,6 +53,7 @@ impl I32 {
     ghost use Rattle.wire_pieces.specs.Numbers.{i32_from};
 
     /// Before the first byte.
+    #[inline]
     pub fn new() -> Self
         ensures fresh { (w : List ℕ) → i32_from result w ≡ signed_at w32 4 w }
     {
@@ -60,6 +63,7 @@ impl I32 {
     }
 
     /// Goes on over a piece.
+    #[inline]
     pub fn more(&mut self, piece: &mut Piece<'_>) -> Option<i32>
         ensures reads { Reaches Truncated (λ x. x) (i32_from self.old) (i32_from self.new) piece.old piece.new result }
         ensures taken { Takes piece.old piece.new result }
@@ -81,6 +85,7 @@ impl I64 {
     ghost use Rattle.wire_pieces.specs.Numbers.{i64_from};
 
     /// Before the first byte.
+    #[inline]
     pub fn new() -> Self
         ensures fresh { (w : List ℕ) → i64_from result w ≡ signed_at w64 8 w }
     {
@@ -90,6 +95,7 @@ impl I64 {
     }
 
     /// Goes on over a piece.
+    #[inline]
     pub fn more(&mut self, piece: &mut Piece<'_>) -> Option<i64>
         ensures reads { Reaches Truncated (λ x. x) (i64_from self.old) (i64_from self.new) piece.old piece.new result }
         ensures taken { Takes piece.old piece.new result }
@@ -111,6 +117,7 @@ impl Double {
     ghost use Rattle.wire_pieces.specs.Numbers.{double_from};
 
     /// Before the first byte.
+    #[inline]
     pub fn new() -> Self
         ensures fresh { (w : List ℕ) → double_from result w ≡ bytes_at 8 w }
     {
@@ -120,6 +127,7 @@ impl Double {
     }
 
     /// Goes on over a piece.
+    #[inline]
     pub fn more(&mut self, piece: &mut Piece<'_>) -> Option<[u8; 8]>
         ensures reads { Reaches Truncated (λ x. x) (double_from self.old) (double_from self.new) piece.old piece.new result }
         ensures taken { Takes piece.old piece.new result }
@@ -137,12 +145,14 @@ pub struct Bool {}
 
 impl Bool {
     /// Before its byte.
+    #[inline]
     pub fn new() -> Self {
         Bool {}
     }
 
     /// Goes on over a piece.
     #[tactic(auto, unfolding(thrift_binary::specs::Reading::bool_at))]
+    #[inline]
     pub fn more(&mut self, piece: &mut Piece<'_>) -> Result<Option<bool>, PieceError>
         ensures reads { Goes (λ x. x) bool_at bool_at piece.old piece.new result }
         ensures taken { OkTakes piece.old piece.new result }
@@ -167,6 +177,7 @@ impl Size {
     ghost use Rattle.wire_pieces.specs.Numbers.{size_from};
 
     /// Before the first byte.
+    #[inline]
     pub fn new() -> Self
         ensures fresh { (w : List ℕ) → size_from result w ≡ size_at w }
     {
@@ -176,6 +187,7 @@ impl Size {
     }
 
     /// Goes on over a piece.
+    #[inline]
     pub fn more(&mut self, piece: &mut Piece<'_>) -> Result<Option<u32>, PieceError>
         ensures reads { Goes (λ x. x) (size_from self.old) (size_from self.new) piece.old piece.new result }
         ensures taken { OkTakes piece.old piece.new result }

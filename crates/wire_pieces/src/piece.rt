@@ -1,4 +1,4 @@
-ghost use Rattle.std.specs.Prelude.{◌≡◌, ◌==◌, List, ℕ, length, min, [], ◌∷◌, ◌++◌, MatchOption};
+ghost use Rattle.std.specs.Prelude.{◌≡◌, ◌==◌, ◌<◌, List, ℕ, length, min, [], ◌∷◌, ◌++◌, MatchOption};
 
 use std::marker::Model;
 
@@ -30,6 +30,7 @@ impl<'a> Piece<'a> {
     }
 
     /// The next byte.
+    #[inline]
     pub(crate) fn next(&mut self) -> Option<u8>
         ensures { MatchOption result ((self.old ≡ []) × (self.new ≡ [])) (λ b. self.old ≡ b ∷ self.new) }
     {
@@ -40,6 +41,20 @@ impl<'a> Piece<'a> {
                 Some(*first)
             }
         }
+    }
+
+    /// The first n bytes, where there are as many.
+    #[inline]
+    pub(crate) fn front(&mut self, n: usize) -> Option<&'a [u8]>
+        ensures parts { MatchOption result (self.new ≡ self.old) (λ t. self.old ≡ t.now ++ self.new) }
+        ensures size { MatchOption result (length self.old < n) (λ t. length t.now ≡ n) }
+    {
+        if self.bytes.len() < n {
+            return None;
+        }
+        let (front, rest) = self.bytes.split_at(n);
+        self.bytes = rest;
+        Some(front)
     }
 
     /// The first n bytes, or all where there are fewer.

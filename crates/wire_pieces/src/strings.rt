@@ -17,6 +17,7 @@ pub(crate) struct Body {
 }
 
 impl Body {
+    #[inline]
     fn new(alloc: Global, left: usize) -> Self
         ensures left { result.left ≡ left }
         ensures got { result.got.items ≡ [] }
@@ -27,6 +28,7 @@ impl Body {
         }
     }
 
+    #[inline]
     fn more(&mut self, alloc: Global, piece: &mut Piece<'_>) -> Result<Option<Vec<u8>>, PieceError>
         ensures reads { Goes (λ x. x.items) (bytes_end self.old.got.items self.old.left)
             (bytes_end self.new.got.items self.new.left) piece.old piece.new result }
@@ -56,6 +58,7 @@ pub struct StringPart {
 
 impl StringPart {
     /// Before the first byte.
+    #[inline]
     pub fn new() -> Self
         ensures fresh { (w : List ℕ) → string_from result w ≡ string_at w }
     {
@@ -65,6 +68,7 @@ impl StringPart {
     }
 
     /// Goes on over a piece.
+    #[inline]
     pub fn more(
         &mut self,
         alloc: Global,
@@ -78,6 +82,10 @@ impl StringPart {
                 let Some(size) = part.more(piece)? else {
                     return Ok(None);
                 };
+                if let Some(front) = piece.front(size as usize) {
+                    let bytes = Vec::from_slice(alloc, front)?;
+                    return Ok(Some(bytes));
+                }
                 let mut body = Body::new(alloc, size as usize);
                 let bytes = body.more(alloc, piece)?;
                 self.step = StringStep::Body(body);

@@ -1,4 +1,4 @@
-use Rattle.std.proofs.Common.{◌≡◌, ◌==◌, ◌||◌, map, length, take, drop, slice_range, refl, sym, ap, ◌∙◌, arith, length-append}
+use Rattle.std.proofs.Common.{◌≡◌, ◌==◌, ◌||◌, map, length, take, drop, slice_range, sym, ap, ◌∙◌, arith, length-append}
 use Rattle.httparse.specs.Grammar.{print_request}
 use Rattle.httparse.specs.Spans.{header_bytes}
 use Rattle.http_requests.specs.Asked.{pairs_of, method_of, has_batch_type, closes_by, body_by}
@@ -18,11 +18,10 @@ returns c =
     record {
       head = w.head;
       takes = w.takes;
-      len_is = refl;
       describes = record {
         asked = same_asked w.head _ _ _ _ method (target_is _ _ _ w) batch closing;
-        within = w.within.path;
-        head_length = w.at.len;
+        ordered = w.within.path.0;
+        inside = omega (arith, w.within.path.1, w.at.len);
       };
       size_is = c.body_length.ensures.length ∙ ap body_by pairs;
       bounded = c.body_length.ensures.bound;

@@ -4,7 +4,7 @@ use Rattle.http_requests.proofs.bodies.gather.Given as goal
 
 abbrev pub invariant-pieces : goal.invariant-pieces
 invariant-pieces g l =
-    Gathered (g.R.Input.remaining l.initial.input) (g.R.Input.remaining l.input) l.initial.received l.received l.initial.message.items l.message.items l.size l.left
+    Gathered g.S.Sink.takes (g.R.Input.remaining l.initial.input) (g.R.Input.remaining l.input) l.initial.received l.received l.initial.sink l.sink l.size l.left
     × (g.R.Input.has_failed l.input ≡ g.R.Input.has_failed l.initial.input)
 
 abbrev pub decreases-pieces : goal.decreases-pieces

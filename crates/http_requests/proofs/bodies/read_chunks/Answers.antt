@@ -13,12 +13,12 @@ returns-in_err-size-clause-err g c =
 pub returns-in_default-clause-body : goal.returns-in_default-clause-body
 returns-in_default-clause-body g c =
     let misses = rw c.in_default.is at c.in_ok-size.ensures.takes in
-    no_size _ _ _ _ _ _ _ _ _ c.chunks.invariant.0 misses
+    no_size g.S.Sink.takes _ _ _ _ _ _ _ _ _ c.chunks.invariant.0 misses
 
 pub returns-in_err-take_trailer-clause-err : goal.returns-in_err-take_trailer-clause-err
 returns-in_err-take_trailer-clause-err g c =
     let line = rw c.in-Some.is at c.in_ok-size.ensures.takes in
-    let reads = with_line _ _ _ _ _ _ _ _ _ c.chunks.invariant.0 c.in-Some.size line in
+    let reads = with_line g.S.Sink.takes _ _ _ _ _ _ _ _ _ c.chunks.invariant.0 c.in-Some.size line in
     let p = err_from_is_err_and c.from_residual-in_err-take_trailer.result c.from_residual-in_err-take_trailer.ensures.1 in
     rw (p.1, p.2) (takes_then_stops _ _ _ _ _ _ _ _ reads c.in_err-take_trailer.ensures.err)
 
@@ -26,23 +26,23 @@ pub returns-then-branch-clause-body : goal.returns-then-branch-clause-body
 returns-then-branch-clause-body g c =
     let line = rw (c.in-Some.is, c.if-size-eq0.true) at c.in_ok-size.ensures.takes in
     let trailer = rw c.if-branch.true at c.in_ok-take_trailer.ensures.takes in
-    chunks_whole _ _ _ _ _ _ _ _ _ c.chunks.invariant.0 line _ _ trailer
+    chunks_whole g.S.Sink.takes _ _ _ _ _ _ _ _ _ c.chunks.invariant.0 line _ _ trailer
 
 pub returns-then-size-eq0-clause-body : goal.returns-then-size-eq0-clause-body
 returns-then-size-eq0-clause-body g c =
     let line = rw (c.in-Some.is, c.if-size-eq0.true) at c.in_ok-size.ensures.takes in
     let misses = rw c.if-branch.false at c.in_ok-take_trailer.ensures.takes in
-    fails_trailer _ _ _ _ _ _ _ _ _ c.chunks.invariant.0 line _ _ misses
+    fails_trailer g.S.Sink.takes _ _ _ _ _ _ _ _ _ c.chunks.invariant.0 line _ _ misses
 
 pub returns-then-size-left-clause-body : goal.returns-then-size-left-clause-body
 returns-then-size-left-clause-body g c =
     let line = rw c.in-Some.is at c.in_ok-size.ensures.takes in
-    passes _ _ _ _ _ _ _ _ _ c.chunks.invariant.0 c.in-Some.size line c.if-size-left.true
+    passes g.S.Sink.takes _ _ _ _ _ _ _ _ _ c.chunks.invariant.0 c.in-Some.size line c.if-size-left.true
 
 pub returns-in_err-take_content-clause-err : goal.returns-in_err-take_content-clause-err
 returns-in_err-take_content-clause-err g c =
     let line = rw c.in-Some.is at c.in_ok-size.ensures.takes in
-    let reads = with_line _ _ _ _ _ _ _ _ _ c.chunks.invariant.0 c.in-Some.size line in
+    let reads = with_line g.S.Sink.takes _ _ _ _ _ _ _ _ _ c.chunks.invariant.0 c.in-Some.size line in
     let p = err_from_is_err_and c.from_residual-in_err-take_content.result c.from_residual-in_err-take_content.ensures.1 in
     rw (p.1, p.2) (takes_then_stops _ _ _ _ _ _ _ _ reads c.in_err-take_content.ensures.err)
 
@@ -52,7 +52,7 @@ returns-then-not-branch-clause-body g c =
     let fails = rw c.if-not-branch.true at c.in_ok-take_content.ensures.takes in
     let some : 0 < c.in-Some.size = omega (arith, c.if-size-eq0.false) in
     let fits : c.in-Some.size ≤ c.chunks.left = omega (arith, c.if-size-left.false) in
-    fails_content _ _ _ _ _ _ _ _ _ c.chunks.invariant.0 c.in-Some.size line _ _ some fits fails
+    fails_content g.S.Sink.takes _ _ _ _ _ _ _ _ _ c.chunks.invariant.0 c.in-Some.size line _ _ some fits fails
 
 pub chunks-preserved : goal.chunks-preserved
 chunks-preserved g c =
@@ -60,6 +60,6 @@ chunks-preserved g c =
     let content = rw c.if-not-branch.false at c.in_ok-take_content.ensures.takes in
     let some : 0 < c.in-Some.size = omega (arith, c.if-size-eq0.false) in
     let fits : c.in-Some.size ≤ c.chunks.left = omega (arith, c.if-size-left.false) in (
-      one_more _ _ _ _ _ _ _ _ _ c.chunks.invariant.0 c.in-Some.size line _ _ _ some fits content,
+      one_more g.S.Sink.takes _ _ _ _ _ _ _ _ _ c.chunks.invariant.0 c.in-Some.size line g.met.S.Sink.takes_joined _ _ _ some fits content,
       c.in_ok-take_content.ensures.same ∙ c.in_ok-size.ensures.same ∙ c.chunks.invariant.1,
     )

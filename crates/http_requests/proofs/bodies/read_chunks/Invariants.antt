@@ -4,7 +4,7 @@ use Rattle.http_requests.proofs.bodies.read_chunks.Given as goal
 
 abbrev pub invariant-chunks : goal.invariant-chunks
 invariant-chunks g l =
-    ChunksSoFar (g.R.Input.remaining l.initial.input) (g.R.Input.remaining l.input) l.initial.received l.received l.initial.message.items l.message.items l.left
+    ChunksSoFar g.S.Sink.takes (g.R.Input.remaining l.initial.input) (g.R.Input.remaining l.input) l.initial.received l.received l.initial.sink l.sink l.left
     × (g.R.Input.has_failed l.input ≡ g.R.Input.has_failed l.initial.input)
 
 abbrev pub decreases-chunks : goal.decreases-chunks

@@ -1,9 +1,8 @@
-use Rattle.std.proofs.Common.{rules, ◌≡◌, ◌∙◌, List, ℕ, Bool, true, false, Ok, Err, refl, ap, sym}
-use Rattle.std.specs.Str.{is_utf8, IsUtf8}
-use Rattle.std.proofs.lemmas.Str.{is_utf8-from_IsUtf8, IsUtf8-from_is_utf8, IsUtf8-string_bytes}
-use Rattle.thrift_binary.specs.declared.fault.WireError.TheVariants.{BadText, Truncated}
+use Rattle.std.proofs.Common.{rules, ◌≡◌, true, false, Ok, ap}
+use Rattle.std.specs.Str.{is_utf8}
+use Rattle.std.proofs.lemmas.Str.{is_utf8-from_IsUtf8, IsUtf8-string_bytes}
 use Rattle.wire_pieces.specs.Pieces.{Comes}
-use Rattle.batch_feeder.specs.Values.{text_part, judged}
+use Rattle.batch_feeder.specs.Values.{text_part}
 use Rattle.batch_feeder.proofs.TextsAgain.{text-whole, text-bad, not_text}
 use Rattle.batch_feeder.proofs.texts.TextPartPartial.more.Goals as goal
 

@@ -1,0 +1,43 @@
+-- A batch that was fed as its body came.
+use Rattle.std.proofs.Common.{◌≡◌, ℕ, List, [], ◌++◌, true, Result, Ok, Err, refl, sym, ap, ◌∙◌, inl, inr, append-nil}
+use Rattle.jaeger_model.specs.declared.batch.Batch.{Batch as Reported}
+use Rattle.batch_codec.specs.BatchReading.{decoded}
+use Rattle.batch_codec.specs.declared.fault.DecodeError.{DecodeError}
+use Rattle.batch_codec.specs.declared.fault.DecodeError.TheVariants.{Memory, Wire, Missing, BadEnum, Trailing}
+use Rattle.batch_feeder.specs.Feeding.{Feeds}
+use Rattle.batch_feeder.specs.Going.{Faults}
+use Rattle.http_session.specs.Verdicts.{JudgesBatch}
+use Rattle.http_session.specs.Questions.{JudgesRead}
+use Rattle.http_session.specs.Fed.{Follows}
+use Rattle.http_session.specs.declared.verdict.Remark.TheVariants.{NoSuchPath, NotAllowed, UnsupportedType, BatchRefused, BadParameter, NoMemory}
+use Rattle.http_session.specs.declared.verdict.Verdict.{Verdict}
+use Rattle.http_session.specs.declared.verdict.Verdict.TheVariants.{Submit, Ask, Say}
+
+module _ (old new : List ℕ → Result Reported DecodeError) (piece : List ℕ) where
+  -- a fault that isn't for want of memory is the bytes'
+  keeps : (e : DecodeError) → (e ≡ Memory → ⊥) → Faults old piece e → ((rest : List ℕ) → new rest ≡ Err e) → Follows old piece new
+  keeps e some faults stays = inl (λ rest. (faults some).same rest ∙ sym (stays rest))
+
+  pub fed : (r : Result (Unit {0}) DecodeError) → Feeds old new piece r → Follows old piece new
+  fed (Ok x) taken = inl taken.same
+  fed (Err Memory) refuses = inr refuses.stays
+  fed (Err (Wire e)) refuses = keeps (Wire e) (λ m. absurd (cc m)) refuses.faults refuses.stays
+  fed (Err (Missing p i)) refuses = keeps (Missing p i) (λ m. absurd (cc m)) refuses.faults refuses.stays
+  fed (Err BadEnum) refuses = keeps BadEnum (λ m. absurd (cc m)) refuses.faults refuses.stays
+  fed (Err Trailing) refuses = keeps Trailing (λ m. absurd (cc m)) refuses.faults refuses.stays
+
+module _ (old new : List ℕ → Result Reported DecodeError) (body : List ℕ) (reads : (w : List ℕ) → old w ≡ decoded w) where
+  all : ((rest : List ℕ) → old (body ++ rest) ≡ new rest) → new [] ≡ decoded body
+  all same = sym (same []) ∙ ap old (append-nil body) ∙ reads body
+
+  pub judged : (v : Verdict) → Follows old body new → JudgesRead (new []) v → JudgesBatch true body v
+  judged (Submit b) (inl same) is = (refl, sym (all same) ∙ is)
+  judged (Submit b) (inr want) is = absurd (cc (want [], is))
+  judged (Say (BatchRefused f)) (inl same) is = (refl, sym (all same) ∙ is.0)
+  judged (Say (BatchRefused f)) (inr want) is = absurd (is.1 (cc (want [], is.0)))
+  judged (Say NoMemory) follows is = refl
+  judged (Say UnsupportedType) follows is = absurd is
+  judged (Say NoSuchPath) follows is = absurd is
+  judged (Say (NotAllowed e)) follows is = absurd is
+  judged (Say (BadParameter p)) follows is = absurd is
+  judged (Ask q) follows is = absurd is

@@ -1,0 +1,162 @@
+//! The requests of an input, heard one after the other: a head, what it asks, and the body as it comes.
+
+ghost use Rattle.std.specs.Prelude.{◌≡◌, ℕ, List, [], IfOk, IfErr};
+ghost use Rattle.batch_codec.specs.BatchReading.{decoded};
+ghost use Rattle.batch_feeder.specs.Answers.{answers};
+ghost use Rattle.query_http.specs.Paths.{endpoint_rows};
+ghost use Rattle.http_requests.specs.Receiving.{KnowsItsEnd, Stops, SameUnlessReading};
+ghost use Rattle.http_session.specs.Questions.{JudgesRead};
+ghost use Rattle.http_session.specs.Hearing.{told_behind, HearsBody, Hears};
+
+use crate::question::{Question, question_of};
+use crate::verdict::{Remark, Verdict};
+use batch_codec::DecodeError;
+use batch_feeder::Feeder;
+use http_requests::{BodyLength, Breach, Interrupted, Next, Received, Sink, next_head, read_body};
+use matchit::Router;
+use query_http::Endpoint;
+use session_devices::Input;
+use std::alloc::Global;
+
+/// What was heard of an input.
+#[derive(Debug, Drop)]
+pub(crate) enum Heard {
+    /// What a request asks, and whether it asks to close the session.
+    One(Verdict, bool),
+    /// Nothing, and the input has ended.
+    Clean,
+    /// No request, and none can come.
+    Broken(Breach),
+}
+
+/// A body that nothing is made of.
+#[derive(Clone, Copy, Debug)]
+struct PassedOver;
+
+impl Sink for PassedOver {
+    ghost use Rattle.http_session.specs.Fed.{Passes, passes_nothing, passes_joined};
+
+    ghost takes = { Passes };
+
+    fn put(&mut self, _piece: &[u8]) {}
+
+    ghost takes_nothing = { passes_nothing };
+
+    ghost takes_joined = { passes_joined };
+}
+
+/// A body that is to spell a batch. A fault that is found early is kept, and told at the end.
+#[derive(Drop)]
+struct BatchBody {
+    feeder: Feeder,
+    alloc: Global,
+}
+
+impl BatchBody {
+    /// Before the first byte.
+    fn new(alloc: Global) -> Self
+        ensures { (w : List ℕ) → answers result.feeder w ≡ decoded w }
+    {
+        BatchBody {
+            feeder: Feeder::new(alloc),
+            alloc,
+        }
+    }
+
+    /// What the body is, once it has come whole.
+    fn verdict(self) -> Verdict
+        ensures { JudgesRead (answers self.feeder []) result }
+    {
+        match self.feeder.finish() {
+            Ok(batch) => Verdict::Submit(batch),
+            Err(DecodeError::Memory) => Verdict::Say(Remark::NoMemory),
+            Err(fault) => Verdict::Say(Remark::BatchRefused(fault)),
+        }
+    }
+}
+
+impl Sink for BatchBody {
+    ghost use Rattle.batch_feeder.specs.Answers.{answers};
+    ghost use Rattle.http_session.specs.Fed.{Follows, follows_nothing, follows_joined};
+
+    ghost takes = { λ s w t. Follows (answers s.feeder) w (answers t.feeder) };
+
+    fn put(&mut self, piece: &[u8]) {
+        // The feeder keeps what it refuses, and answers it from then on.
+        let _ = self.feeder.feed(self.alloc, piece);
+    }
+
+    ghost takes_nothing = { λ s. follows_nothing (answers s.feeder) };
+
+    ghost takes_joined = { λ s t u front back. follows_joined (answers s.feeder) (answers t.feeder) (answers u.feeder) front back };
+}
+
+/// The verdict, where the body was read to its end.
+fn told(
+    read: Result<Result<(), Breach>, Interrupted>,
+    verdict: Verdict,
+) -> Result<Result<Verdict, Breach>, Interrupted>
+    ensures { result ≡ told_behind read verdict }
+{
+    match read {
+        Ok(Ok(())) => Ok(Ok(verdict)),
+        Ok(Err(breach)) => Ok(Err(breach)),
+        Err(why) => Err(why),
+    }
+}
+
+/// Reads the body of a request to its end, and tells the verdict on it. A batch is decoded as it comes.
+fn hear_body<R: Input>(
+    alloc: Global,
+    input: &mut R,
+    received: &mut Received,
+    size: BodyLength,
+    question: Question,
+) -> Result<Result<Verdict, Breach>, Interrupted>
+    requires end { KnowsItsEnd received.old.ended (R.remaining input.old) }
+    ensures heard { IfOk result (HearsBody (R.remaining input.old) (R.remaining input.new) received.old received.new size question) }
+    ensures err { IfErr result (λ why. Stops (R.remaining input.old) (R.remaining input.new) (R.has_failed input.new) received.old why) }
+    ensures same { SameUnlessReading (R.has_failed input.old) (R.has_failed input.new) result }
+{
+    match question {
+        Question::Settled(verdict) => {
+            let read = read_body(input, received, &mut PassedOver, size);
+            told(read, verdict)
+        }
+        Question::Batch => {
+            let mut body = BatchBody::new(alloc);
+            let read = read_body(input, received, &mut body, size);
+            told(read, body.verdict())
+        }
+    }
+}
+
+/// Hears the next request: its head, what that asks, and its body to its end. No body is held whole.
+///
+/// # Errors
+///
+/// The input failed, or memory was wanting for a head, a query or what is read at once.
+pub(crate) fn hear<R: Input>(
+    alloc: Global,
+    router: &Router<Endpoint>,
+    input: &mut R,
+    received: &mut Received,
+) -> Result<Heard, Interrupted>
+    requires routes { router.now ≡ endpoint_rows }
+    requires end { KnowsItsEnd received.old.ended (R.remaining input.old) }
+    ensures heard { IfOk result (Hears (R.remaining input.old) (R.remaining input.new) received.old received.new) }
+    ensures err { IfErr result (λ why. Stops (R.remaining input.old) (R.remaining input.new) (R.has_failed input.new) received.old why) }
+    ensures same { SameUnlessReading (R.has_failed input.old) (R.has_failed input.new) result }
+{
+    let mut head = Vec::new(alloc);
+    let (request, size) = match next_head(input, received, &mut head)? {
+        Next::One(request, size) => (request, size),
+        Next::Clean => return Ok(Heard::Clean),
+        Next::Broken => return Ok(Heard::Broken(Breach::Head)),
+    };
+    let question = question_of(alloc, router, head.as_slice(), &request)?;
+    match hear_body(alloc, input, received, size, question)? {
+        Ok(verdict) => Ok(Heard::One(verdict, request.closes)),
+        Err(breach) => Ok(Heard::Broken(breach)),
+    }
+}

@@ -1,0 +1,91 @@
+ghost use Rattle.std.specs.Prelude.{◌≡◌, IfOk, OnErr, slice_range};
+ghost use Rattle.http_requests.specs.declared.asked.Method.TheVariants.{Get};
+ghost use Rattle.http_requests.specs.Requests.{IsHeadOf};
+ghost use Rattle.query_http.specs.Paths.{endpoint_rows};
+ghost use Rattle.query_http.specs.Forms.{pairs_of};
+ghost use Rattle.query_http.specs.Queries.{query_at};
+ghost use Rattle.http_session.specs.Verdicts.{JudgesQuery, asked_of};
+ghost use Rattle.http_session.specs.Questions.{Asks};
+
+use crate::verdict::{Remark, Verdict};
+use http_requests::{Method, Request};
+use matchit::Router;
+use query_http::{Endpoint, QueryFault, find_endpoint, path_and_form, read_query};
+use std::alloc::{AllocError, Global};
+
+/// What the head of a request asks.
+#[derive(Debug, Drop)]
+pub(crate) enum Question {
+    /// The verdict is this, whatever the body is.
+    Settled(Verdict),
+    /// A batch is handed in, and the body is to spell it.
+    Batch,
+}
+
+/// What a GET of an endpoint asks.
+///
+/// # Errors
+///
+/// Want of memory alone.
+fn judge_query(
+    alloc: Global,
+    endpoint: Endpoint,
+    part: &str,
+    form: &str,
+) -> Result<Verdict, AllocError>
+    ensures { IfOk result (JudgesQuery (query_at endpoint part.now (pairs_of form.now))) }
+{
+    match read_query(alloc, endpoint, part, form) {
+        Ok(query) => Ok(Verdict::Ask(query)),
+        Err(QueryFault::Bad(parameter)) => Ok(Verdict::Say(Remark::BadParameter(parameter))),
+        Err(QueryFault::NoMemory) => Err(AllocError),
+        Err(QueryFault::NoPath) => unreachable!(),
+    }
+}
+
+/// The target of the request that has this head.
+fn target_of<'b>(head: &'b [u8], request: &Request) -> &'b str
+    requires { IsHeadOf head.now request.now }
+    ensures { result.now ≡ slice_range head.now request.now.target.start request.now.target.end }
+{
+    match str::from_utf8(request.target.of(head)) {
+        Ok(target) => target,
+        Err(_) => unreachable!(),
+    }
+}
+
+/// What the head of a request asks: by its path, its method, and its parameters or the kind of its body.
+///
+/// # Errors
+///
+/// Out of memory, for a query.
+pub(crate) fn question_of(
+    alloc: Global,
+    router: &Router<Endpoint>,
+    head: &[u8],
+    request: &Request,
+) -> Result<Question, AllocError>
+    requires routes { router.now ≡ endpoint_rows }
+    requires whole { IsHeadOf head.now request.now }
+    ensures asks { IfOk result (Asks (asked_of head.now request.now)) }
+    ensures memory { OnErr result (request.now.method ≡ Get) }
+{
+    let (path, form) = path_and_form(target_of(head, request));
+    let Some((endpoint, part)) = find_endpoint(router, path) else {
+        return Ok(Question::Settled(Verdict::Say(Remark::NoSuchPath)));
+    };
+    match (request.method, endpoint) {
+        (Method::Get, _) => match judge_query(alloc, endpoint, part, form) {
+            Ok(verdict) => Ok(Question::Settled(verdict)),
+            Err(_) => Err(AllocError),
+        },
+        (Method::Post, Endpoint::Traces) => {
+            if request.has_batch_type {
+                Ok(Question::Batch)
+            } else {
+                Ok(Question::Settled(Verdict::Say(Remark::UnsupportedType)))
+            }
+        }
+        _ => Ok(Question::Settled(Verdict::Say(Remark::NotAllowed(endpoint)))),
+    }
+}
