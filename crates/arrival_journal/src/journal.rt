@@ -152,7 +152,8 @@ impl Journal {
     {
         self.spans += entry.batch.spans.len() as u64;
         note(&mut self.last_numbers, entry.seat, entry.number);
-        self.times.push_reserved(Times::of(entry.batch.spans.as_slice()));
+        self.times
+            .push_reserved(Times::of(entry.batch.spans.as_slice()));
         self.entries.push_reserved(entry);
     }
 

@@ -1,7 +1,16 @@
 //! The traces that a search by a service has to look at.
 
 ghost use Rattle.std.specs.Prelude.{
-    ◌≡◌, Bool, ◌||◌, ◌&&◌, not, [], IfOk, map, filter, length
+  ◌≡◌,
+  Bool,
+  ◌||◌,
+  ◌&&◌,
+  not,
+  [],
+  IfOk,
+  map,
+  filter,
+  length,
 };
 ghost use Rattle.std.specs.Bool.{OnTrue};
 ghost use Rattle.jaeger_model.specs.Parents.{same_trace};
@@ -9,7 +18,12 @@ ghost use Rattle.jaeger_model.specs.declared.ids.TraceId.{TraceId as Trace};
 ghost use Rattle.trace_assembly.specs.Rows.{spots_of};
 ghost use Rattle.trace_ring.specs.Windows.{NoneTwice};
 ghost use Rattle.journal_traces.specs.Picked.{
-    reaches, meets, met, met_at, met_along, same_before
+  reaches,
+  meets,
+  met,
+  met_at,
+  met_along,
+  same_before,
 };
 
 use crate::pruning::may_meet;
@@ -54,13 +68,7 @@ fn is_news(before: Option<TraceId>, process: &Process, span: &Span, query: &Find
 }
 
 /// Marks the traces that stand in the ring and of which one of the spans meets the search.
-fn mark_spans(
-    marks: &mut [bool],
-    ring: &Ring,
-    process: &Process,
-    spans: &[Span],
-    query: &Find,
-)
+fn mark_spans(marks: &mut [bool], ring: &Ring, process: &Process, spans: &[Span], query: &Find)
     requires once { NoneTwice ring.now.ids }
     requires size { length marks.old ≡ length ring.now.ids }
     ensures { (p : Trace → Bool) → marks.old ≡ map p ring.now.ids → marks.new ≡
@@ -91,7 +99,7 @@ fn mark_entry(marks: &mut [bool], ring: &Ring, journal: &Journal, place: u64, qu
     requires size { length marks.old ≡ length ring.now.ids }
     ensures { (p : Trace → Bool) → marks.old ≡ map p ring.now.ids →
         marks.new ≡ map (λ t. p t || reaches (met_at query.now journal.now.held.entries place) t)
-            ring.now.ids }
+        ring.now.ids }
 {
     if is_passed(journal, place, query) {
         return;

@@ -90,15 +90,18 @@ own_spans q t b (x ∷ xs) h =
     elim (is_hit q t (placed b x)) as (λ c. is_hit q t (placed b x) ≡ c → (c || list_any (is_hit q t) (map (placed b) xs)) ≡ true → rest) [
       | true ↦ λ e _.
           let w = and_true (same_trace t (trace_of (placed b x))) (matches q (placed b x)) e in
-          let own : is_of t x ≡ true = ap (same_trace t) (sym (with_parent-trace x)) ∙ w.0 in
-          (match_reported q (placed b x) w.1,
-           ap (λ c. list_any (is_of t) (cond c (x ∷ met q b.process xs) (met q b.process xs))) (sym same ∙ w.1) ∙ ap (λ c. c || list_any (is_of t) (met q b.process xs)) own)
+          let own : is_of t x ≡ true = ap (same_trace t) (sym (with_parent-trace x)) ∙ w.0 in (
+            match_reported q (placed b x) w.1,
+            ap (λ c. list_any (is_of t) (cond c (x ∷ met q b.process xs) (met q b.process xs))) (sym same ∙ w.1) ∙ ap (λ c. c || list_any (is_of t) (met q b.process xs)) own,
+          )
       | false ↦ λ _ k.
-          let w = own_spans q t b xs k in
-          (w.0, elim (meets q b.process x) as (λ c. list_any (is_of t) (cond c (x ∷ met q b.process xs) (met q b.process xs)) ≡ true) [
-            | true ↦ or_right (is_of t x) (list_any (is_of t) (met q b.process xs)) w.1
-            | false ↦ w.1
-          ])
+          let w = own_spans q t b xs k in (
+            w.0,
+            elim (meets q b.process x) as (λ c. list_any (is_of t) (cond c (x ∷ met q b.process xs) (met q b.process xs)) ≡ true) [
+              | true ↦ or_right (is_of t x) (list_any (is_of t) (met q b.process xs)) w.1
+              | false ↦ w.1
+            ],
+          )
     ] refl h
 
 reported : (q : Find) (t : TraceId) (h : List Entry) (d : Entry) (n : ℕ) → n ≤ length h → list_any (is_hit q t) (arrivals (take n h)) ≡ true
