@@ -18,7 +18,7 @@ import sys
 import tempfile
 
 ROOT = os.path.dirname(os.path.dirname(os.path.abspath(__file__)))
-TEST = "waiting_jobs_handed_back"
+TEST = "ending::waiting_jobs_handed_back"
 
 
 class Tests:
@@ -39,7 +39,7 @@ class Tests:
             count = int(file.read())
         if done.returncode == 0:
             return "passed", count
-        return ("out of memory" if b"out of memory" in done.stdout.lower() else "wrong"), count
+        return ("out of memory" if b"its result gives status" in done.stdout else "wrong"), count
 
 
 def main():
