@@ -80,15 +80,18 @@ def measure(binary, size, asks):
         ("a trace by its id", "/api/traces/%x" % first),
         ("the services", "/api/services"),
         ("search, rare service, 20 traces", "/api/traces?service=rare&limit=20"),
-        ("search, rare service, no match", "/api/traces?service=rare&operation=none"),
+        ("search, rare service, no operation", "/api/traces?service=rare&operation=none"),
         ("search, common service, 20 traces", "/api/traces?service=common&limit=20"),
-        ("search, common service, no match", "/api/traces?service=common&operation=none"),
+        ("search, common service, no operation", "/api/traces?service=common&operation=none"),
+        ("search, common service, no duration", "/api/traces?service=common&minDuration=900h"),
+        ("search, common service, no start", "/api/traces?service=common&start=1&end=2"),
+        ("search, common service, no tag", "/api/traces?service=common&tags=%7B%22none%22%3A%22x%22%7D"),
         ("dependencies", "/api/dependencies?endTs=9000000000000&lookback=9000000000000"),
     ]
     for name, target in questions:
         session.ask([get(target)])
         took, length = session.ask([get(target)] * asks)
-        print("         %-34s %10.3f ms, %8d bytes" % (name, took / asks * 1e3, length))
+        print("         %-36s %10.3f ms, %8d bytes" % (name, took / asks * 1e3, length))
     session.run.stdin.close()
     session.run.wait()
 
