@@ -1,3 +1,4 @@
 pub mod Fronts
 pub mod Once
 pub mod Behind
+pub mod Sizes

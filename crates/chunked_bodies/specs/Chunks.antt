@@ -62,6 +62,19 @@ pub record IsTooLarge (most : ℕ) (text : List ℕ) : Type 0 where
   pub small : length (contents chunks) ≤ most
   pub large : most < length (contents chunks) + size
 
+-- chunks, and a line with the size 0, behind which the trailer comes
+pub record IsUpToTrailer (most : ℕ) (text : List ℕ) : Type 0 where
+  pub chunks : List Chunk
+  pub last : List ℕ
+  pub each : All IsChunk chunks
+  pub last_is : IsSizeLine last 0
+  pub text_is : text ≡ texts chunks ++ last
+  pub small : length (contents chunks) ≤ most
+
+-- all chunks of a body with the line behind them, or those up to the line that says that it is too large
+abbrev pub IsSized : ℕ → List ℕ → Type 0
+IsSized most text = IsUpToTrailer most text ⊎ IsTooLarge most text
+
 -- ---- what stands at the front of bytes
 
 -- no beginning of the bytes is such a text

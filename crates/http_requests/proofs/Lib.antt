@@ -4,3 +4,6 @@ pub mod Readings
 pub mod Wholes
 pub mod Once
 pub mod Taking
+pub mod Ends
+pub mod Waits
+pub mod Awaited

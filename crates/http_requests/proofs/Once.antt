@@ -1,9 +1,9 @@
 -- What stands at the front of the bytes stands there in one way.
-use Rattle.std.proofs.Common.{◌≡◌, ℕ, ◌<◌, List, [], ◌++◌, length, codes, IsTrue, refl, sym, ap, ◌∙◌, subst, arith, inl, inr, append_assoc, append-nil, length-append}
+use Rattle.std.proofs.Common.{false, ◌≡◌, ℕ, ◌<◌, List, [], ◌++◌, length, codes, IsTrue, refl, sym, ap, ◌∙◌, subst, arith, inl, inr, append_assoc, append-nil, length-append}
 use Rattle.std.proofs.lemmas.List.Elements.{All-nil, All-from_recursion}
 use Rattle.std.proofs.lemmas.Str.{IsUtf8-from_ascii}
 use Rattle.std.proofs.lemmas.Str.Ascii.{IsAscii-cons, IsAscii-nil}
-use Rattle.httparse.specs.Grammar.{LineEnd.{crlf}, RequestHead, IsRequestHead, is_token_byte, is_uri_byte, print_request}
+use Rattle.httparse.specs.Grammar.{LineEnd, LineEnd.{crlf}, RequestHead, IsRequestHead, is_token_byte, is_uri_byte, print_blank, print_request}
 use Rattle.httparse.proofs.GrammarLemmas.{request_unique, ReadsRequest-append, print_request-append}
 use Rattle.chunked_bodies.specs.Chunks.{IsDecided, HasNone}
 use Rattle.chunked_bodies.proofs.Once.{same_cut, body_once, body_is_not_large, never_longer}
@@ -152,7 +152,7 @@ one_breach bytes breach.TooLarge breach.TooLarge one other = refl
 -- ---- no bytes
 
 -- GET / HTTP/1.1, and no fields
-some_head : RequestHead
+pub some_head : RequestHead
 some_head = record { blank = []; method = codes "GET"; target = codes "/"; minor = 1; line_end = crlf; fields = []; last = crlf }
 
 some_head_is_one : IsRequestHead some_head
@@ -167,6 +167,25 @@ some_head_is_one =
       minor = omega arith;
       fields = All-nil _;
     }
+
+-- a line feed is no byte of a token
+pub token_quiet : is_token_byte 10 ≡ false
+unfolding is_token_byte
+token_quiet = refl
+
+-- the same behind empty lines
+pub some_with : (blank : List LineEnd) → IsRequestHead (record some_head { blank = blank })
+some_with blank = record {
+  method = some_head_is_one.method;
+  target = some_head_is_one.target;
+  target_text = some_head_is_one.target_text;
+  minor = some_head_is_one.minor;
+  fields = some_head_is_one.fields;
+}
+
+pub some_behind : (blank : List LineEnd) → print_request (record some_head { blank = blank }) ++ [] ≡ print_blank blank ++ (print_request some_head ++ [])
+unfolding some_head
+some_behind blank = print_request-append (record some_head { blank = blank }) [] ∙ ap (λ l. print_blank blank ++ l) (sym (print_request-append some_head []))
 
 some_head_is_taken : TakesHead (print_request some_head) some_head []
 unfolding some_head print_request

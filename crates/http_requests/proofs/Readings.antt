@@ -1,7 +1,9 @@
 -- How reads join.
-use Rattle.std.proofs.Common.{◌≡◌, ℕ, ◌+◌, Bool, List, [], ◌++◌, length, Option, sym, ap, ◌∙◌, arith, inl, inr, append_assoc, append-nil, length-append}
+use Rattle.std.proofs.Common.{◌≡◌, ℕ, ◌+◌, Bool, List, [], ◌++◌, length, Option, sym, ap, ◌∙◌, subst, arith, inl, inr, append_assoc, append-nil, length-append}
 use Rattle.std.proofs.KnownBytes.{Consumes-trans, Consumes-nil}
-use Rattle.http_requests.specs.Receiving.{Received, ReadsOn, Stops, put_back}
+use Rattle.http_requests.specs.Waiting.{Source, ReadsWhile}
+use Rattle.http_requests.specs.Receiving.{Received, ReadsOn, ReadsOnWhile, IsRead, Stops, put_back}
+use Rattle.http_requests.proofs.Waits.{no_read, one_read, reads_in_turn, reads_behind}
 use Rattle.http_requests.specs.declared.received.Interrupted.{Interrupted}
 
 pub nothing_read : (input : Option (List ℕ)) (r : Received) → ReadsOn input input r r
@@ -94,3 +96,56 @@ takes_more in0 in1 a b text more rest reads cut = record {
   most = reads.most;
   end = reads.end;
 }
+
+-- ---- the same, each read made while more was awaited
+
+module _ {R : Type 0} (source : Source R) where
+  pub nothing_yet : (Awaits : List ℕ → Type 0) (s : R) (r : Received) → ReadsOnWhile source Awaits s s r r
+  nothing_yet Awaits s r = record { on = nothing_read (source.remaining s) r; waits = no_read source.gives Awaits s r.held }
+
+  pub once : (Awaits : List ℕ → Type 0) (s t : R) (a b : Received) → Awaits a.held → ReadsOn (source.remaining s) (source.remaining t) a b → IsRead source.gives s t a b
+      → ReadsOnWhile source Awaits s t a b
+  once Awaits s t a b awaits on read = record { on = on; waits = one_read source.gives Awaits s t a.held b.held read.0 awaits read.1 read.2 }
+
+  -- seen from the front of what was taken before
+  pub front_then : (Awaits More : List ℕ → Type 0) (s m t : R) (a b c : Received) (text : List ℕ) → ((h : List ℕ) → More h → Awaits (text ++ h))
+      → ReadsOnWhile source Awaits s m a (put_back text b) → ReadsOnWhile source More m t b c → ReadsOnWhile source Awaits s t a (put_back text c)
+  front_then Awaits More s m t a b c text more first second = record {
+    on = takes_then_reads (source.remaining s) (source.remaining m) (source.remaining t) a b c text first.on second.on;
+    waits = reads_in_turn source.gives Awaits s m t a.held (text ++ b.held) (text ++ c.held) first.waits
+        (reads_behind source.gives More Awaits text more m t b.held c.held second.waits);
+  }
+
+  pub then_on : (Awaits : List ℕ → Type 0) (s m t : R) (a b c : Received) → ReadsOnWhile source Awaits s m a b → ReadsOnWhile source Awaits m t b c → ReadsOnWhile source Awaits s t a c
+  then_on Awaits s m t a b c first second = record {
+    on = reads_join (source.remaining s) (source.remaining m) (source.remaining t) a b c first.on second.on;
+    waits = reads_in_turn source.gives Awaits s m t a.held b.held c.held first.waits second.waits;
+  }
+
+  pub front_join : (Awaits More : List ℕ → Type 0) (s m t : R) (a b c : Received) (text more : List ℕ) → ((h : List ℕ) → More h → Awaits (text ++ h))
+      → ReadsOnWhile source Awaits s m a (put_back text b) → ReadsOnWhile source More m t b (put_back more c) → ReadsOnWhile source Awaits s t a (put_back (text ++ more) c)
+  front_join Awaits More s m t a b c text more behind first second =
+      let all = front_then Awaits More s m t a b (put_back more c) text behind first second in
+      record {
+        on = regroup a c text more (source.remaining s) (source.remaining t) all.on;
+        waits = subst (λ (l : List ℕ). ReadsWhile source.gives Awaits s t a.held l) (sym (append_assoc text more c.held)) all.waits;
+      }
+
+  -- one more text from the front of what is there
+  pub front_more : (Awaits : List ℕ → Type 0) (s t : R) (a b : Received) (text more rest : List ℕ) → ReadsOnWhile source Awaits s t a (put_back text b) → b.held ≡ more ++ rest
+      → ReadsOnWhile source Awaits s t a (put_back (text ++ more) (record b { held = rest }))
+  front_more Awaits s t a b text more rest reads cut = record {
+    on = takes_more (source.remaining s) (source.remaining t) a b text more rest reads.on cut;
+    waits = subst (λ (l : List ℕ). ReadsWhile source.gives Awaits s t a.held l) (ap (λ l. text ++ l) cut ∙ sym (append_assoc text more rest)) reads.waits;
+  }
+
+  pub front_taken : (Awaits : List ℕ → Type 0) (s t : R) (a b : Received) (text rest : List ℕ) → ReadsOnWhile source Awaits s t a b → b.held ≡ text ++ rest
+      → ReadsOnWhile source Awaits s t a (put_back text (record b { held = rest }))
+  front_taken Awaits s t a b text rest reads cut = record {
+    on = takes_front (source.remaining s) (source.remaining t) a b text rest reads.on cut;
+    waits = subst (λ (l : List ℕ). ReadsWhile source.gives Awaits s t a.held l) cut reads.waits;
+  }
+
+  -- who awaits less awaits this
+  pub widened : (Awaits More : List ℕ → Type 0) (s t : R) (a b : Received) → ((h : List ℕ) → More h → Awaits h) → ReadsOnWhile source More s t a b → ReadsOnWhile source Awaits s t a b
+  widened Awaits More s t a b more reads = record { on = reads.on; waits = reads_behind source.gives More Awaits [] more s t a.held b.held reads.waits }

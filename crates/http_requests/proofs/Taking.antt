@@ -1,63 +1,84 @@
 -- How a body is taken, piece by piece.
-use Rattle.std.proofs.Common.{◌≡◌, ℕ, ◌-◌, ◌≤◌, ◌<◌, Bool, true, false, List, [], ◌∷◌, ◌++◌, length, take, drop, Option, Result, Ok, Err, IfOk, IfErr, refl, sym, ap, ◌∙◌, subst, arith, inl, inr, append_assoc, append-nil, length-append}
+use Rattle.std.proofs.Common.{All, ◌≡◌, ℕ, ◌+◌, ◌-◌, ◌≤◌, ◌<◌, ◌==◌, ◌&&◌, Bool, true, false, List, [], ◌∷◌, ◌++◌, length, take, drop, replicate, Option, Result, Ok, Err, IfOk, IfErr, refl, sym, ap, ◌∙◌, subst, arith, inl, inr, append_assoc, append-nil, length-append}
 use Rattle.std.proofs.lemmas.Grind.{flat_map-append}
 use Rattle.std.proofs.lemmas.Bool.Decides.{nat_tests}
-use Rattle.std.proofs.lemmas.List.{take-append-drop, length-take-le, drop_all}
+use Rattle.std.proofs.lemmas.List.{take-append-drop, length-take-le, length-replicate, drop_all}
 use Rattle.std.proofs.lemmas.List.Elements.{All-append, All-cons, All-nil}
 use Rattle.std.specs.Io.KnownBytes.{IsAtEnd}
 use Rattle.httparse.specs.Ascii.{crlf_bytes}
 use Rattle.chunked_bodies.specs.Chunks.{IsSizeLine, IsSomeSizeLine, IsTrailer, IsContent, IsDecided, Chunk, IsChunk, texts, contents, HasNone, NeverHas, Lacks}
 use Rattle.chunked_bodies.proofs.Once.{same_cut}
+use Rattle.chunked_bodies.proofs.Sizes.{zero_line, zero_line_is}
 use Rattle.chunked_bodies.proofs.Behind.{lacks_behind, behind_chunks, no_line, no_content, no_trailer}
-use Rattle.http_requests.specs.Receiving.{KnowsItsEnd, Received, ReadsOn, Stops, put_back, Takes, Misses}
+use Rattle.http_requests.specs.Requests.{IsShorter, AwaitsChunks, AwaitsBody}
+use Rattle.http_requests.specs.Waiting.{Source}
+use Rattle.http_requests.specs.Receiving.{KnowsItsEnd, Received, ReadsOn, ReadsOnWhile, IsRead, Stops, put_back}
 use Rattle.http_requests.specs.declared.received.Interrupted.{Interrupted}
 use Rattle.http_requests.specs.Sinks.{Takings, TakesNothing, TakesJoined}
-use Rattle.http_requests.specs.Bodies.{IsLineEnd, begins_line_end, TakesOrMisses, Gathers, Gathered, TakesContent, TakesContentOr, Fails, ChunksSoFar, TakesBody, BreaksBody}
-use Rattle.http_requests.specs.declared.asked.BodyLength.TheVariants.{Bytes, Chunked, Unreadable, TooLarge}
+use Rattle.http_requests.specs.Bodies.{Takes, Misses, AwaitsLine, AwaitsRest, IsLineEnd, begins_line_end, may_begin_line_end, TakesOrMisses, Gathers, Gathered, TakesContent, TakesContentOr, Fails, ChunksSoFar, TakesBody, BreaksBody, ReadsChunks, WaitsForBody}
+use Rattle.http_requests.specs.declared.asked.BodyLength.TheVariants.{Bytes, Unreadable, TooLarge}
 use Rattle.http_requests.specs.declared.asked.Breach.TheVariants as breach
-use Rattle.http_requests.proofs.Readings.{nothing_read, takes_then_reads, takes_join, takes_more, takes_then_stops}
+use Rattle.http_requests.specs.declared.asked.BodyLength.{BodyLength}
+use Rattle.http_requests.proofs.Ends.{cut_before}
+use Rattle.http_requests.proofs.Waits.{no_read}
+use Rattle.http_requests.proofs.Readings.{nothing_read, takes_then_stops, nothing_yet, once, then_on, front_then, front_join, front_more, front_taken, widened}
 
 -- ---- nothing of a kind
 
-pub misses_never : (in0 in1 : Option (List ℕ)) (old here : Received) (Is : List ℕ → Type 0) (bytes : List ℕ) → ReadsOn in0 in1 old here → bytes ≡ here.held → NeverHas Is bytes → Misses in0 in1 old here Is
-misses_never in0 in1 old here Is bytes reads are never = record { reads = reads; lacks = inl (subst (NeverHas Is) are never) }
+module _ {R : Type 0} (source : Source R) (Awaits : List ℕ → Type 0) (s t : R) (old here : Received) (Is : List ℕ → Type 0) (bytes : List ℕ) (reads : ReadsOnWhile source Awaits s t old here) (are : bytes ≡ here.held) where
+  pub misses_never : NeverHas Is bytes → Misses source Awaits s t old here Is
+  misses_never never = record { reads = reads; lacks = inl (subst (NeverHas Is) are never) }
 
-pub misses_at_end : (in0 in1 : Option (List ℕ)) (old here : Received) (Is : List ℕ → Type 0) (bytes : List ℕ) (ended : Bool) → ReadsOn in0 in1 old here → KnowsItsEnd old.ended in0 → bytes ≡ here.held
-    → ended ≡ here.ended → ended ≡ true → (ended ≡ true → HasNone Is bytes) → Misses in0 in1 old here Is
-misses_at_end in0 in1 old here Is bytes ended reads knows are is over none = record { reads = reads; lacks = inr (reads.end knows (sym is ∙ over), subst (HasNone Is) are (none over)) }
+  pub misses_at_end : (ended : Bool) → KnowsItsEnd old.ended (source.remaining s) → ended ≡ here.ended → ended ≡ true → HasNone Is bytes → Misses source Awaits s t old here Is
+  misses_at_end ended knows is over none = record { reads = reads; lacks = inr (reads.on.end knows (sym is ∙ over), subst (HasNone Is) are none) }
+
+  -- a text at the front is taken
+  pub takes_it : (mid : Received) (len : ℕ) → Is (take len bytes) → len ≤ length bytes → mid ≡ record here { held = drop len here.held } → Takes source Awaits s t old mid Is
+  takes_it mid len is fits mid_is = rw mid_is (record {
+    text = take len bytes;
+    is = is;
+    reads = front_taken source Awaits s t old here (take len bytes) (drop len here.held) reads (sym (take-append-drop len here.held) ∙ ap (λ l. take len l ++ drop len here.held) (sym are));
+  })
+
+-- one more read, where more was awaited of what is there
+pub reads_more : {R : Type 0} (source : Source R) (Awaits : List ℕ → Type 0) (s m t : R) (old here new : Received) (bytes : List ℕ) → ReadsOnWhile source Awaits s m old here → bytes ≡ here.held
+    → Awaits bytes → ReadsOn (source.remaining m) (source.remaining t) here new → IsRead source.gives m t here new → ReadsOnWhile source Awaits s t old new
+reads_more source Awaits s m t old here new bytes so are awaits on read =
+    then_on source Awaits s m t old here new so (once source Awaits m t here new (subst Awaits are awaits) on read)
 
 -- ---- bytes gathered
 
-module _ {S : Type 0} (takes : Takings S) where
-  pub gathered_none : TakesNothing S takes → (input : Option (List ℕ)) (r : Received) (before : S) (size : ℕ) → Gathered takes input input r r before before size size
-  gathered_none nothing input r before size = record { content = []; reads = nothing_read input r; put = nothing before; sum = omega arith }
+module _ {S R : Type 0} (takes : Takings S) (source : Source R) where
+  pub gathered_none : TakesNothing S takes → (s : R) (r : Received) (before : S) (size : ℕ) → Gathered takes source s s r r before before size size
+  gathered_none nothing s r before size = record { content = []; reads = nothing_yet source (IsShorter size) s r; put = nothing before; sum = omega arith }
 
-  module _ (joined : TakesJoined S takes) (in0 in1 : Option (List ℕ)) (old r : Received) (before after later : S) (size left : ℕ) (so : Gathered takes in0 in1 old r before after size left) where
-    gather_all : left ≤ length r.held → takes after (take left r.held) later → Gathers takes in0 in1 old (record r { held = drop left r.held }) before later size true
+  module _ (joined : TakesJoined S takes) (s t : R) (old r : Received) (before after later : S) (size left : ℕ) (so : Gathered takes source s t old r before after size left) where
+    gather_all : left ≤ length r.held → takes after (take left r.held) later → Gathers takes source s t old (record r { held = drop left r.held }) before later size true
     gather_all fits put = record {
       content = so.content ++ take left r.held;
-      reads = takes_more in0 in1 old r so.content (take left r.held) (drop left r.held) so.reads (sym (take-append-drop left r.held));
+      reads = front_more source (IsShorter size) s t old r so.content (take left r.held) (drop left r.held) so.reads (sym (take-append-drop left r.held));
       put = joined before after later so.content (take left r.held) so.put put;
       whole = λ e. omega (arith, so.sum, length-append so.content (take left r.held), length-take-le left r.held fits);
       short = λ e. absurd (cc e);
     }
 
     pub gather_whole : (mid : Received) (bytes : List ℕ) → bytes ≡ r.held → left ≤ length bytes → takes after (take left bytes) later → mid ≡ record r { held = drop left r.held }
-        → Gathers takes in0 in1 old mid before later size true
+        → Gathers takes source s t old mid before later size true
     gather_whole mid bytes bytes_are fits put mid_is =
         rw mid_is (gather_all (omega (arith, fits, ap length bytes_are)) (subst (λ (l : List ℕ). takes after (take left l) later) bytes_are put))
 
-    gather_piece : length r.held < left → takes after r.held later → Gathered takes in0 in1 old (record r { held = drop (length r.held) r.held }) before later size (left - length r.held)
+    gather_piece : length r.held < left → takes after r.held later → Gathered takes source s t old (record r { held = drop (length r.held) r.held }) before later size (left - length r.held)
     gather_piece short put = record {
       content = so.content ++ r.held;
-      reads = takes_more in0 in1 old r so.content r.held (drop (length r.held) r.held) so.reads (sym (ap (λ l. r.held ++ l) (drop_all (length r.held) r.held (omega arith)) ∙ append-nil r.held));
+      reads = front_more source (IsShorter size) s t old r so.content r.held (drop (length r.held) r.held) so.reads
+          (sym (ap (λ l. r.held ++ l) (drop_all (length r.held) r.held (omega arith)) ∙ append-nil r.held));
       put = joined before after later so.content r.held so.put put;
       sum = omega (arith, so.sum, length-append so.content r.held, short);
     }
 
-  gather_short : (in0 in1 : Option (List ℕ)) (old r : Received) (before after : S) (size left : ℕ) → Gathered takes in0 in1 old r before after size left
-      → r.held ≡ [] → 0 < left → IsAtEnd in1 → Gathers takes in0 in1 old r before after size false
-  gather_short in0 in1 old r before after size left so none some at_end = record {
+  gather_short : (s t : R) (old r : Received) (before after : S) (size left : ℕ) → Gathered takes source s t old r before after size left
+      → r.held ≡ [] → 0 < left → IsAtEnd (source.remaining t) → Gathers takes source s t old r before after size false
+  gather_short s t old r before after size left so none some at_end = record {
     content = so.content;
     reads = so.reads;
     put = so.put;
@@ -65,27 +86,36 @@ module _ {S : Type 0} (takes : Takings S) where
     short = λ e. (omega (arith, so.sum, some), none, at_end);
   }
 
-  gather_on : (in0 in1 in2 : Option (List ℕ)) (old r new : Received) (before after : S) (size left : ℕ) → Gathered takes in0 in1 old r before after size left
-      → ReadsOn in1 in2 r new → Gathered takes in0 in2 old new before after size left
-  gather_on in0 in1 in2 old r new before after size left so more =
-      record { content = so.content; reads = takes_then_reads in0 in1 in2 old r new so.content so.reads more; put = so.put; sum = so.sum }
+  gather_on : (s m t : R) (old r new : Received) (before after : S) (size left : ℕ) → Gathered takes source s m old r before after size left
+      → r.held ≡ [] → 0 < left → ReadsOn (source.remaining m) (source.remaining t) r new → IsRead source.gives m t r new → Gathered takes source s t old new before after size left
+  gather_on s m t old r new before after size left so none some on read =
+      let one = once source (λ h. h ≡ []) m t r new none on read in
+      let few : (h : List ℕ) → h ≡ [] → IsShorter size (so.content ++ h) = λ h e. omega (arith, so.sum, some, length-append so.content h, ap length e) in
+      record {
+        content = so.content;
+        reads = front_then source (IsShorter size) (λ h. h ≡ []) s m t old r new so.content few so.reads one;
+        put = so.put;
+        sum = so.sum;
+      }
 
-  module _ (joined : TakesJoined S takes) (in0 in1 in2 : Option (List ℕ)) (old r mid new : Received) (before after later : S) (bytes : List ℕ) (size left : ℕ)
-      (so : Gathered takes in0 in1 old r before after size left) (bytes_are : bytes ≡ r.held) (put : takes after bytes later) (mid_is : mid ≡ record r { held = drop (length bytes) r.held }) where
-    piece : length bytes < left → Gathered takes in0 in1 old mid before later size (left - length bytes)
+  module _ (joined : TakesJoined S takes) (s m t : R) (old r mid new : Received) (before after later : S) (bytes : List ℕ) (size left : ℕ)
+      (so : Gathered takes source s m old r before after size left) (bytes_are : bytes ≡ r.held) (put : takes after bytes later) (mid_is : mid ≡ record r { held = drop (length bytes) r.held }) where
+    piece : length bytes < left → Gathered takes source s m old mid before later size (left - length bytes)
     piece short =
-        rw (mid_is, bytes_are) (gather_piece joined in0 in1 old r before after later size left so (omega (arith, short, ap length bytes_are)) (subst (λ (l : List ℕ). takes after l later) bytes_are put))
+        rw (mid_is, bytes_are) (gather_piece joined s m old r before after later size left so (omega (arith, short, ap length bytes_are)) (subst (λ (l : List ℕ). takes after l later) bytes_are put))
 
-    pub gather_step : length bytes < left → ReadsOn in1 in2 mid new → Gathered takes in0 in2 old new before later size (left - length bytes)
-    gather_step short more = gather_on in0 in1 in2 old mid new before later size (left - length bytes) (piece short) more
+    none_left : mid.held ≡ []
+    none_left = ap (λ (x : Received). x.held) mid_is ∙ drop_all (length bytes) r.held (omega (arith, ap length bytes_are))
 
-    pub gather_stops : length bytes < left → (failed : Bool) (why : Interrupted) → Stops in1 in2 failed mid why → Stops in0 in2 failed old why
-    gather_stops short failed why stops = takes_then_stops in0 in1 in2 failed old mid (piece short).content why (piece short).reads stops
+    pub gather_step : length bytes < left → ReadsOn (source.remaining m) (source.remaining t) mid new → IsRead source.gives m t mid new → Gathered takes source s t old new before later size (left - length bytes)
+    gather_step short on read = gather_on s m t old mid new before later size (left - length bytes) (piece short) none_left (omega (arith, short)) on read
 
-    pub gather_end : length bytes < left → IsAtEnd in1 → Gathers takes in0 in1 old mid before later size false
-    gather_end short at_end =
-        let none : mid.held ≡ [] = ap (λ (x : Received). x.held) mid_is ∙ drop_all (length bytes) r.held (omega (arith, ap length bytes_are)) in
-        gather_short in0 in1 old mid before later size (left - length bytes) (piece short) none (omega (arith, short)) at_end
+    pub gather_stops : length bytes < left → (failed : Bool) (why : Interrupted) → Stops (source.remaining m) (source.remaining t) failed mid why → Stops (source.remaining s) (source.remaining t) failed old why
+    gather_stops short failed why stops =
+        takes_then_stops (source.remaining s) (source.remaining m) (source.remaining t) failed old mid (piece short).content why (piece short).reads.on stops
+
+    pub gather_end : length bytes < left → IsAtEnd (source.remaining m) → Gathers takes source s m old mid before later size false
+    gather_end short at_end = gather_short s m old mid before later size (left - length bytes) (piece short) none_left (omega (arith, short)) at_end
 
 -- ---- CR LF
 
@@ -102,52 +132,89 @@ no_line_end bytes e text rest is cut =
     let yes : begins_line_end bytes ≡ true = ap begins_line_end (cut ∙ ap (λ l. l ++ rest) is) in
     absurd (cc (yes, e))
 
-stays_none : (bytes more : List ℕ) → 2 ≤ length bytes → begins_line_end bytes ≡ false → begins_line_end (bytes ++ more) ≡ false
-stays_none [] more long e = absurd (omega (arith, long))
-stays_none (a ∷ []) more long e = absurd (omega (arith, long))
-stays_none (a ∷ b ∷ rest) more long e = e
+pub awaits_line_end : (bytes : List ℕ) → begins_line_end bytes ≡ false → may_begin_line_end bytes ≡ true → AwaitsRest IsLineEnd bytes
+awaits_line_end [] e f = record { none = no_line_end [] e; more = crlf_bytes; may = refl }
+awaits_line_end (a ∷ []) e f =
+    let is : a ≡ 13 = grind (arith, nat_tests, f) in
+    record { none = no_line_end (a ∷ []) e; more = 10 ∷ []; may = λ i. is i ∷ 10 ∷ [] }
+awaits_line_end (a ∷ b ∷ rest) e f = absurd (cc f)
 
-pub never_line_end : (bytes : List ℕ) → 2 ≤ length bytes → begins_line_end bytes ≡ false → NeverHas IsLineEnd bytes
-never_line_end bytes long e more = no_line_end (bytes ++ more) (stays_none bytes more long e)
+begins_none : (bytes more : List ℕ) → begins_line_end bytes ≡ false → may_begin_line_end bytes ≡ false → begins_line_end (bytes ++ more) ≡ false
+begins_none [] more e f = absurd (cc f)
+begins_none (a ∷ []) [] e f = refl
+begins_none (a ∷ []) (m ∷ more) e f = ap (λ b. b && m == 10) f
+begins_none (a ∷ b ∷ rest) more e f = e
+
+pub never_line_end : (bytes : List ℕ) → begins_line_end bytes ≡ false → may_begin_line_end bytes ≡ false → NeverHas IsLineEnd bytes
+never_line_end bytes e f more = no_line_end (bytes ++ more) (begins_none bytes more e f)
 
 -- ---- the data of a chunk
 
-module _ {S : Type 0} (takes : Takings S) (in0 in1 in2 : Option (List ℕ)) (old here new : Received) (before after : S) (size : ℕ) where
-  pub content_whole : Gathers takes in0 in1 old here before after size true → Takes in1 in2 here new IsLineEnd → TakesContent takes in0 in2 old new before after size
-  content_whole g t = record {
-    content = g.content;
-    reads = subst (λ (l : List ℕ). ReadsOn in0 in2 old (put_back (g.content ++ l) new)) t.is (takes_join in0 in1 in2 old here new g.content t.text g.reads t.reads);
-    put = g.put;
-    size_is = g.whole refl;
-  }
+module _ {S R : Type 0} (takes : Takings S) (source : Source R) (s m t : R) (old here new : Received) (before after : S) (size : ℕ) where
+  too_few : (bytes : List ℕ) → length bytes < size → HasNone (IsContent size) bytes
+  too_few bytes short text rest is e =
+      absurd (omega (arith, short, is.size_is, ap length e, length-append text rest, ap length is.text_is, length-append is.content crlf_bytes))
+
+  -- fewer bytes than the data may go on with any
+  shorter : (bytes : List ℕ) → length bytes < size → AwaitsRest (IsContent size) bytes
+  shorter bytes short =
+      let lacking : List ℕ = replicate (size - length bytes) 0 in
+      record {
+        none = too_few bytes short;
+        more = lacking ++ crlf_bytes;
+        may = record {
+          content = bytes ++ lacking;
+          size_is = omega (arith, short, length-append bytes lacking, length-replicate {A = ℕ} (size - length bytes) 0);
+          text_is = sym (append_assoc bytes lacking crlf_bytes);
+        };
+      }
+
+  first : (g : Gathers takes source s m old here before after size true) → ReadsOnWhile source (AwaitsRest (IsContent size)) s m old (put_back g.content here)
+  first g = widened source (AwaitsRest (IsContent size)) (IsShorter size) s m old (put_back g.content here) shorter g.reads
 
   no_end : (content : List ℕ) → length content ≡ size → (h : List ℕ) → HasNone IsLineEnd h → HasNone (IsContent size) (content ++ h)
   no_end content long h none text rest is e =
       let parts = same_cut content is.content h (crlf_bytes ++ rest) (long ∙ sym is.size_is) (e ∙ ap (λ l. l ++ rest) is.text_is ∙ append_assoc is.content crlf_bytes rest) in
       none crlf_bytes rest refl parts.1
 
-  pub content_open : Gathers takes in0 in1 old here before after size true → Misses in1 in2 here new IsLineEnd → Fails in0 in2 old new (IsContent size)
-  content_open g m = record {
-    text = g.content;
-    reads = takes_then_reads in0 in1 in2 old here new g.content g.reads m.reads;
-    lacks = lacks_behind (IsAtEnd in2) IsLineEnd (IsContent size) g.content new.held (no_end g.content (g.whole refl)) m.lacks;
+  end_awaited : (content : List ℕ) → length content ≡ size → (h : List ℕ) → AwaitsRest IsLineEnd h → AwaitsRest (IsContent size) (content ++ h)
+  end_awaited content long h awaits = record {
+    none = no_end content long h awaits.none;
+    more = awaits.more;
+    may = record { content = content; size_is = long; text_is = append_assoc content h awaits.more ∙ ap (λ l. content ++ l) awaits.may };
   }
 
-  too_few : (content held : List ℕ) → length content < size → held ≡ [] → HasNone (IsContent size) (content ++ held)
-  too_few content held short none text rest is e =
-      absurd (omega (arith, short, is.size_is, ap length none, ap length e, length-append content held, length-append text rest, ap length is.text_is, length-append is.content crlf_bytes))
+  pub content_whole : Gathers takes source s m old here before after size true → Takes source (AwaitsRest IsLineEnd) m t here new IsLineEnd → TakesContent takes source s t old new before after size
+  content_whole g e = record {
+    content = g.content;
+    reads = subst (λ (l : List ℕ). ReadsOnWhile source (AwaitsRest (IsContent size)) s t old (put_back (g.content ++ l) new)) e.is
+        (front_join source (AwaitsRest (IsContent size)) (AwaitsRest IsLineEnd) s m t old here new g.content e.text (end_awaited g.content (g.whole refl)) (first g) e.reads);
+    put = g.put;
+    size_is = g.whole refl;
+  }
 
-  pub content_short : Gathers takes in0 in1 old here before after size false → Fails in0 in1 old here (IsContent size)
+  pub content_open : Gathers takes source s m old here before after size true → Misses source (AwaitsRest IsLineEnd) m t here new IsLineEnd → Fails source s t old new (IsContent size)
+  content_open g e = record {
+    text = g.content;
+    reads = front_then source (AwaitsRest (IsContent size)) (AwaitsRest IsLineEnd) s m t old here new g.content (end_awaited g.content (g.whole refl)) (first g) e.reads;
+    lacks = lacks_behind (IsAtEnd (source.remaining t)) IsLineEnd (IsContent size) g.content new.held (no_end g.content (g.whole refl)) e.lacks;
+  }
+
+  pub content_short : Gathers takes source s m old here before after size false → Fails source s m old here (IsContent size)
   content_short g =
-      let s = g.short refl in
-      record { text = g.content; reads = g.reads; lacks = inr (s.2, too_few g.content here.held s.0 s.1) }
+      let short = g.short refl in
+      record {
+        text = g.content;
+        reads = widened source (AwaitsRest (IsContent size)) (IsShorter size) s m old (put_back g.content here) shorter g.reads;
+        lacks = inr (short.2, too_few (g.content ++ here.held) (omega (arith, short.0, ap length short.1, length-append g.content here.held)));
+      }
 
   -- what the line end makes of it
-  pub content_then : (r : Result Bool Interrupted) → Gathers takes in0 in1 old here before after size true
-      → IfOk r (TakesOrMisses in1 in2 here new IsLineEnd) → IfOk r (TakesContentOr takes in0 in2 old new before after size)
-  content_then (Ok true) g t = content_whole g t
-  content_then (Ok false) g m = content_open g m
-  content_then (Err why) g t = tt
+  pub content_then : (r : Result Bool Interrupted) → Gathers takes source s m old here before after size true
+      → IfOk r (TakesOrMisses source (AwaitsRest IsLineEnd) m t here new IsLineEnd) → IfOk r (TakesContentOr takes source s t old new before after size)
+  content_then (Ok true) g e = content_whole g e
+  content_then (Ok false) g e = content_open g e
+  content_then (Err why) g e = tt
 
 pub if_err_stops : (in0 in1 in2 : Option (List ℕ)) (failed : Bool) (old here : Received) (text : List ℕ) (r : Result Bool Interrupted) → ReadsOn in0 in1 old (put_back text here)
     → IfErr r (λ why. Stops in1 in2 failed here why) → IfErr r (λ why. Stops in0 in2 failed old why)
@@ -156,8 +223,8 @@ if_err_stops in0 in1 in2 failed old here text (Err why) reads stops = takes_then
 
 -- ---- chunks
 
-pub chunks_none : {S : Type 0} (takes : Takings S) → TakesNothing S takes → (input : Option (List ℕ)) (r : Received) (before : S) → ChunksSoFar takes input input r r before before 4194304
-chunks_none takes nothing input r before = record { chunks = []; each = All-nil IsChunk; reads = nothing_read input r; put = nothing before; sum = omega arith }
+pub chunks_none : {S R : Type 0} (takes : Takings S) (source : Source R) → TakesNothing S takes → (s : R) (r : Received) (before : S) → ChunksSoFar takes source s s r r before before 4194304
+chunks_none takes source nothing s r before = record { chunks = []; each = All-nil IsChunk; reads = nothing_yet source AwaitsChunks s r; put = nothing before; sum = omega arith }
 
 texts_more : (cs : List Chunk) (c : Chunk) → texts (cs ++ c ∷ []) ≡ texts cs ++ c.text
 texts_more cs c = flat_map-append (λ (x : Chunk). x.text) cs (c ∷ []) ∙ ap (λ l. texts cs ++ l) (append-nil c.text)
@@ -165,114 +232,203 @@ texts_more cs c = flat_map-append (λ (x : Chunk). x.text) cs (c ∷ []) ∙ ap 
 contents_more : (cs : List Chunk) (c : Chunk) → contents (cs ++ c ∷ []) ≡ contents cs ++ c.content
 contents_more cs c = flat_map-append (λ (x : Chunk). x.content) cs (c ∷ []) ∙ ap (λ l. contents cs ++ l) (append-nil c.content)
 
-module _ {S : Type 0} (takes : Takings S) (in0 in1 in2 : Option (List ℕ)) (old here behind : Received) (before now : S) (left : ℕ) (so : ChunksSoFar takes in0 in1 old here before now left) where
-  pub no_size : Misses in1 in2 here behind IsSomeSizeLine → BreaksBody in0 in2 old behind Chunked breach.Body
-  no_size m = record {
-    text = texts so.chunks;
-    reads = takes_then_reads in0 in1 in2 old here behind (texts so.chunks) so.reads m.reads;
-    breaks = lacks_behind (IsAtEnd in2) IsSomeSizeLine (IsDecided 4194304) (texts so.chunks) behind.held
-        (λ h none. behind_chunks so.chunks left 4194304 h so.each so.sum (no_line left h none)) m.lacks;
+module _ {S R : Type 0} (takes : Takings S) (source : Source R) (s m t : R) (old here behind : Received) (before now : S) (left : ℕ) (so : ChunksSoFar takes source s m old here before now left) where
+  behind_texts : (h : List ℕ) → HasNone IsSomeSizeLine h → HasNone (IsDecided 4194304) (texts so.chunks ++ h)
+  behind_texts h none = behind_chunks so.chunks left 4194304 h so.each so.sum (no_line left h none)
+
+  -- in front of a line that hasn't ended the last line may stand
+  line_awaited : (h : List ℕ) → AwaitsLine h → AwaitsChunks (texts so.chunks ++ h)
+  line_awaited h awaits = record {
+    none = behind_texts h awaits.0;
+    may = λ lines rest e ends never. let cut = cut_before (texts so.chunks) h lines rest ends e awaits.1 in
+        never (cut.0 ++ zero_line) (texts so.chunks ++ zero_line) []
+        (inl (record { chunks = so.chunks; last = zero_line; each = so.each; last_is = zero_line_is; text_is = refl; small = omega (arith, so.sum) }))
+        (sym (append_assoc lines cut.0 zero_line) ∙ ap (λ l. l ++ zero_line) (sym cut.1) ∙ sym (append-nil (texts so.chunks ++ zero_line)));
   }
 
-  module _ (size : ℕ) (line : Takes in1 in2 here behind (λ text. IsSizeLine text size)) where
-    pub with_line : ReadsOn in0 in2 old (put_back (texts so.chunks ++ line.text) behind)
-    with_line = takes_join in0 in1 in2 old here behind (texts so.chunks) line.text so.reads line.reads
+  pub no_size : Misses source AwaitsLine m t here behind IsSomeSizeLine → ReadsChunks takes source s t old behind before now (Err breach.Body)
+  no_size miss =
+      let reads = front_then source AwaitsChunks AwaitsLine s m t old here behind (texts so.chunks) line_awaited so.reads miss.reads in
+      record {
+        body = record {
+          text = texts so.chunks;
+          reads = reads.on;
+          breaks = lacks_behind (IsAtEnd (source.remaining t)) IsSomeSizeLine (IsDecided 4194304) (texts so.chunks) behind.held behind_texts miss.lacks;
+        };
+        waits = record { text = texts so.chunks; reads = reads.waits };
+      }
+
+  module _ (size : ℕ) (line : Takes source AwaitsLine m t here behind (λ text. IsSizeLine text size)) where
+    pub with_line : ReadsOnWhile source AwaitsChunks s t old (put_back (texts so.chunks ++ line.text) behind)
+    with_line = front_join source AwaitsChunks AwaitsLine s m t old here behind (texts so.chunks) line.text line_awaited so.reads line.reads
 
     -- what can't go on behind the line can't go on
     behind_line : (h : List ℕ) → HasNone (IsDecided left) (line.text ++ h) → HasNone (IsDecided 4194304) ((texts so.chunks ++ line.text) ++ h)
     behind_line h none = subst (HasNone (IsDecided 4194304)) (sym (append_assoc (texts so.chunks) line.text h)) (behind_chunks so.chunks left 4194304 (line.text ++ h) so.each so.sum none)
 
-    pub passes : left < size → BreaksBody in0 in2 old behind Chunked breach.TooLarge
+    pub passes : left < size → ReadsChunks takes source s t old behind before now (Err breach.TooLarge)
     passes large = record {
-      text = texts so.chunks ++ line.text;
-      reads = with_line;
-      breaks = record {
+      body = record {
         text = texts so.chunks ++ line.text;
-        rest = behind.held;
-        is = record {
-          chunks = so.chunks;
-          line = line.text;
-          size = size;
-          each = so.each;
-          line_is = line.is;
-          text_is = refl;
-          small = omega (arith, so.sum);
-          large = omega (arith, so.sum, large);
+        reads = with_line.on;
+        breaks = record {
+          text = texts so.chunks ++ line.text;
+          rest = behind.held;
+          is = record {
+            chunks = so.chunks;
+            line = line.text;
+            size = size;
+            each = so.each;
+            line_is = line.is;
+            text_is = refl;
+            small = omega (arith, so.sum);
+            large = omega (arith, so.sum, large);
+          };
+          cut = refl;
         };
-        cut = refl;
       };
+      waits = record { text = texts so.chunks ++ line.text; reads = with_line.waits };
     }
 
-    pub fails_content : (in3 : Option (List ℕ)) (new : Received) → 0 < size → size ≤ left → Fails in2 in3 behind new (IsContent size) → BreaksBody in0 in3 old new Chunked breach.Body
-    fails_content in3 new some fits f = record {
-      text = (texts so.chunks ++ line.text) ++ f.text;
-      reads = takes_join in0 in2 in3 old behind new (texts so.chunks ++ line.text) f.text with_line f.reads;
-      breaks = subst (Lacks (IsAtEnd in3) (IsDecided 4194304)) (sym (append_assoc (texts so.chunks ++ line.text) f.text new.held))
-          (lacks_behind (IsAtEnd in3) (IsContent size) (IsDecided 4194304) (texts so.chunks ++ line.text) (f.text ++ new.held)
-          (λ h none. behind_line h (no_content left size line.text h some fits line.is none)) f.lacks);
-    }
+    module _ (some : 0 < size) (fits : size ≤ left) where
+      behind_content : (h : List ℕ) → HasNone (IsContent size) h → HasNone (IsDecided 4194304) ((texts so.chunks ++ line.text) ++ h)
+      behind_content h none = behind_line h (no_content left size line.text h some fits line.is none)
 
-    pub one_more : TakesJoined S takes → (in3 : Option (List ℕ)) (new : Received) (after : S) → 0 < size → size ≤ left → TakesContent takes in2 in3 behind new now after size
-        → ChunksSoFar takes in0 in3 old new before after (left - size)
-    one_more joined in3 new after some fits t =
-        let c : Chunk = record { text = line.text ++ (t.content ++ crlf_bytes); content = t.content } in
-        let is : IsChunk c = record {
-          line = line.text;
-          line_is = subst (IsSizeLine line.text) (sym t.size_is) line.is;
-          some = omega (arith, some, t.size_is);
-          text_is = refl;
-        } in
-        record {
-          chunks = so.chunks ++ c ∷ [];
-          each = All-append IsChunk so.chunks (c ∷ []) so.each (All-cons IsChunk c [] is (All-nil IsChunk));
-          reads = subst (λ (l : List ℕ). ReadsOn in0 in3 old (put_back l new)) (append_assoc (texts so.chunks) line.text (t.content ++ crlf_bytes) ∙ sym (texts_more so.chunks c))
-              (takes_join in0 in2 in3 old behind new (texts so.chunks ++ line.text) (t.content ++ crlf_bytes) with_line t.reads);
-          put = subst (λ (l : List ℕ). takes before l after) (sym (contents_more so.chunks c)) (joined before now after (contents so.chunks) t.content so.put t.put);
-          sum = omega (arith, so.sum, fits, t.size_is, ap length (contents_more so.chunks c), length-append (contents so.chunks) t.content);
+      abbrev chunk_of : List ℕ → Chunk
+      chunk_of content = record { text = line.text ++ (content ++ crlf_bytes); content = content }
+
+      chunk_is : (content : List ℕ) → length content ≡ size → IsChunk (chunk_of content)
+      chunk_is content size_is = record {
+        line = line.text;
+        line_is = subst (IsSizeLine line.text) (sym size_is) line.is;
+        some = omega (arith, some, size_is);
+        text_is = refl;
+      }
+
+      each_with : (content : List ℕ) → length content ≡ size → All IsChunk (so.chunks ++ chunk_of content ∷ [])
+      each_with content size_is =
+          All-append IsChunk so.chunks (chunk_of content ∷ []) so.each (All-cons IsChunk (chunk_of content) [] (chunk_is content size_is) (All-nil IsChunk))
+
+      sum_with : (content : List ℕ) → length content ≡ size → length (contents (so.chunks ++ chunk_of content ∷ [])) ≡ length (contents so.chunks) + size
+      sum_with content size_is = omega (arith, size_is, ap length (contents_more so.chunks (chunk_of content)), length-append (contents so.chunks) content)
+
+      texts_with : (content : List ℕ) → (texts so.chunks ++ line.text) ++ (content ++ crlf_bytes) ≡ texts (so.chunks ++ chunk_of content ∷ [])
+      texts_with content = append_assoc (texts so.chunks) line.text (content ++ crlf_bytes) ∙ sym (texts_more so.chunks (chunk_of content))
+
+      -- behind data that are whole the last line may stand
+      content_awaited : (h : List ℕ) → AwaitsRest (IsContent size) h → AwaitsChunks ((texts so.chunks ++ line.text) ++ h)
+      content_awaited h awaits =
+          let content = awaits.may.content in
+          let more = texts (so.chunks ++ chunk_of content ∷ []) in
+          let whole : ((texts so.chunks ++ line.text) ++ h) ++ awaits.more ≡ more =
+          append_assoc (texts so.chunks ++ line.text) h awaits.more ∙ ap (λ l. (texts so.chunks ++ line.text) ++ l) awaits.may.text_is ∙ texts_with content in
+          record {
+            none = behind_content h awaits.none;
+            may = λ lines rest e ends never.
+                never (rest ++ (awaits.more ++ zero_line)) (more ++ zero_line) []
+                (inl (record {
+                  chunks = so.chunks ++ chunk_of content ∷ [];
+                  last = zero_line;
+                  each = each_with content awaits.may.size_is;
+                  last_is = zero_line_is;
+                  text_is = refl;
+                  small = omega (arith, so.sum, fits, sum_with content awaits.may.size_is);
+                }))
+                (sym (append_assoc lines rest (awaits.more ++ zero_line)) ∙ ap (λ l. l ++ (awaits.more ++ zero_line)) (sym e)
+                ∙ sym (append_assoc ((texts so.chunks ++ line.text) ++ h) awaits.more zero_line) ∙ ap (λ l. l ++ zero_line) whole ∙ sym (append-nil (more ++ zero_line)));
+          }
+
+      module _ (u : R) (new : Received) (after : S) where
+        pub fails_content : Fails source t u behind new (IsContent size) → ReadsChunks takes source s u old new before after (Err breach.Body)
+        fails_content f =
+            let reads = front_join source AwaitsChunks (AwaitsRest (IsContent size)) s t u old behind new (texts so.chunks ++ line.text) f.text content_awaited with_line f.reads in
+            record {
+              body = record {
+                text = (texts so.chunks ++ line.text) ++ f.text;
+                reads = reads.on;
+                breaks = subst (Lacks (IsAtEnd (source.remaining u)) (IsDecided 4194304)) (sym (append_assoc (texts so.chunks ++ line.text) f.text new.held))
+                    (lacks_behind (IsAtEnd (source.remaining u)) (IsContent size) (IsDecided 4194304) (texts so.chunks ++ line.text) (f.text ++ new.held) behind_content f.lacks);
+              };
+              waits = record { text = (texts so.chunks ++ line.text) ++ f.text; reads = reads.waits };
+            }
+
+        pub one_more : TakesJoined S takes → TakesContent takes source t u behind new now after size → ChunksSoFar takes source s u old new before after (left - size)
+        one_more joined e = record {
+          chunks = so.chunks ++ chunk_of e.content ∷ [];
+          each = each_with e.content e.size_is;
+          reads = subst (λ (l : List ℕ). ReadsOnWhile source AwaitsChunks s u old (put_back l new)) (texts_with e.content)
+              (front_join source AwaitsChunks (AwaitsRest (IsContent size)) s t u old behind new (texts so.chunks ++ line.text) (e.content ++ crlf_bytes) content_awaited with_line e.reads);
+          put = subst (λ (l : List ℕ). takes before l after) (sym (contents_more so.chunks (chunk_of e.content))) (joined before now after (contents so.chunks) e.content so.put e.put);
+          sum = omega (arith, so.sum, fits, sum_with e.content e.size_is);
         }
 
-  module _ (line : Takes in1 in2 here behind (λ text. IsSizeLine text 0)) where
-    pub fails_trailer : (in3 : Option (List ℕ)) (new : Received) → Misses in2 in3 behind new IsTrailer → BreaksBody in0 in3 old new Chunked breach.Body
-    fails_trailer in3 new m = record {
-      text = texts so.chunks ++ line.text;
-      reads = takes_then_reads in0 in2 in3 old behind new (texts so.chunks ++ line.text) (with_line 0 line) m.reads;
-      breaks = lacks_behind (IsAtEnd in3) IsTrailer (IsDecided 4194304) (texts so.chunks ++ line.text) new.held
-          (λ h none. behind_line 0 line h (no_trailer left line.text h line.is none)) m.lacks;
+  module _ (line : Takes source AwaitsLine m t here behind (λ text. IsSizeLine text 0)) (u : R) (new : Received) where
+    behind_last : (h : List ℕ) → HasNone IsTrailer h → HasNone (IsDecided 4194304) ((texts so.chunks ++ line.text) ++ h)
+    behind_last h none = behind_line 0 line h (no_trailer left line.text h line.is none)
+
+    -- all chunks are there
+    trailer_awaited : (h : List ℕ) → HasNone IsTrailer h → AwaitsChunks ((texts so.chunks ++ line.text) ++ h)
+    trailer_awaited h none = record {
+      none = behind_last h none;
+      may = λ lines rest e ends never. never rest (texts so.chunks ++ line.text) h
+          (inl (record { chunks = so.chunks; last = line.text; each = so.each; last_is = line.is; text_is = refl; small = omega (arith, so.sum) })) (sym e);
     }
 
-    pub chunks_whole : (in3 : Option (List ℕ)) (new : Received) → Takes in2 in3 behind new IsTrailer → TakesBody takes in0 in3 old new before now Chunked
-    chunks_whole in3 new t = record {
-      text = texts so.chunks ++ (line.text ++ t.text);
-      body = contents so.chunks;
-      body_is = record {
-        chunks = so.chunks;
-        last = line.text;
-        trailer = t.text;
-        each = so.each;
-        last_is = line.is;
-        trailer_is = t.is;
-        text_is = refl;
-        body_is = refl;
-        small = omega (arith, so.sum);
-      };
-      reads = subst (λ (l : List ℕ). ReadsOn in0 in3 old (put_back l new)) (append_assoc (texts so.chunks) line.text t.text)
-          (takes_join in0 in2 in3 old behind new (texts so.chunks ++ line.text) t.text (with_line 0 line) t.reads);
-      put = so.put;
-    }
+    pub fails_trailer : Misses source (HasNone IsTrailer) t u behind new IsTrailer → ReadsChunks takes source s u old new before now (Err breach.Body)
+    fails_trailer miss =
+        let reads = front_then source AwaitsChunks (HasNone IsTrailer) s t u old behind new (texts so.chunks ++ line.text) trailer_awaited (with_line 0 line) miss.reads in
+        record {
+          body = record {
+            text = texts so.chunks ++ line.text;
+            reads = reads.on;
+            breaks = lacks_behind (IsAtEnd (source.remaining u)) IsTrailer (IsDecided 4194304) (texts so.chunks ++ line.text) new.held behind_last miss.lacks;
+          };
+          waits = record { text = texts so.chunks ++ line.text; reads = reads.waits };
+        }
+
+    pub chunks_whole : Takes source (HasNone IsTrailer) t u behind new IsTrailer → ReadsChunks takes source s u old new before now (Ok tt)
+    chunks_whole e =
+        let reads = front_join source AwaitsChunks (HasNone IsTrailer) s t u old behind new (texts so.chunks ++ line.text) e.text trailer_awaited (with_line 0 line) e.reads in
+        record {
+          body = record {
+            text = texts so.chunks ++ (line.text ++ e.text);
+            body = contents so.chunks;
+            body_is = record {
+              chunks = so.chunks;
+              last = line.text;
+              trailer = e.text;
+              each = so.each;
+              last_is = line.is;
+              trailer_is = e.is;
+              text_is = refl;
+              body_is = refl;
+              small = omega (arith, so.sum);
+            };
+            reads = subst (λ (l : List ℕ). ReadsOn (source.remaining s) (source.remaining u) old (put_back l new)) (append_assoc (texts so.chunks) line.text e.text) reads.on;
+            put = so.put;
+          };
+          waits = record { text = (texts so.chunks ++ line.text) ++ e.text; reads = reads.waits };
+        }
 
 -- ---- a body by its length
 
-module _ {S : Type 0} (takes : Takings S) (in0 in1 : Option (List ℕ)) (old new : Received) (before after : S) (size : ℕ) where
-  pub body_whole : Gathers takes in0 in1 old new before after size true → TakesBody takes in0 in1 old new before after (Bytes size)
-  body_whole g = record { text = g.content; body = g.content; body_is = (refl, g.whole refl); reads = g.reads; put = g.put }
+module _ {S R : Type 0} (takes : Takings S) (source : Source R) (s t : R) (old new : Received) (before after : S) (size : ℕ) where
+  pub body_whole : Gathers takes source s t old new before after size true → TakesBody takes (source.remaining s) (source.remaining t) old new before after (Bytes size)
+  body_whole g = record { text = g.content; body = g.content; body_is = (refl, g.whole refl); reads = g.reads.on; put = g.put }
 
-  pub body_short : Gathers takes in0 in1 old new before after size false → BreaksBody in0 in1 old new (Bytes size) breach.Body
+  pub body_short : Gathers takes source s t old new before after size false → BreaksBody (source.remaining s) (source.remaining t) old new (Bytes size) breach.Body
   body_short g =
-      let s = g.short refl in
-      record { text = g.content; reads = g.reads; breaks = (omega (arith, s.0, ap length s.1, length-append g.content new.held), s.2) }
+      let short = g.short refl in
+      record { text = g.content; reads = g.reads.on; breaks = (omega (arith, short.0, ap length short.1, length-append g.content new.held), short.2) }
+
+  pub body_waits : (all : Bool) → Gathers takes source s t old new before after size all → WaitsForBody source.gives s t old new (Bytes size)
+  body_waits all g = record { text = g.content; reads = g.reads.waits }
 
 pub body_unreadable : (input : Option (List ℕ)) (r : Received) → BreaksBody input input r r Unreadable breach.Body
 body_unreadable input r = record { text = []; reads = nothing_read input r; breaks = tt }
 
 pub body_too_large : (input : Option (List ℕ)) (r : Received) → BreaksBody input input r r TooLarge breach.TooLarge
 body_too_large input r = record { text = []; reads = nothing_read input r; breaks = tt }
+
+pub nothing_awaited : {R : Type 0} (source : Source R) (s : R) (r : Received) (size : BodyLength) → WaitsForBody source.gives s s r r size
+nothing_awaited source s r size = record { text = []; reads = no_read source.gives (AwaitsBody size) s r.held }

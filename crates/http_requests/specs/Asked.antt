@@ -1,11 +1,11 @@
 -- What a head asks of a session.
-use Rattle.std.specs.Prelude.{ℕ, ◌+◌, ◌*◌, ◌-◌, ◌==◌, ◌&&◌, ◌||◌, ◌≤◌, Bool, false, not, List, [], ◌∷◌, length, fold, map, if◌then◌else◌, nat_lt, nat_le, codes}
-use Rattle.std.specs.List.{list_all, list_any, before_first}
+use Rattle.std.specs.Prelude.{ℕ, ◌+◌, ◌*◌, ◌-◌, ◌==◌, ◌&&◌, ◌||◌, ◌≤◌, Bool, false, List, [], ◌∷◌, length, fold, map, if◌then◌else◌, nat_lt, nat_le, codes}
+use Rattle.std.specs.List.{list_all, before_first}
 use Rattle.std.specs.Char.{is_ascii_digit}
 use Rattle.jaeger_model.specs.Texts.{same_text}
 use Rattle.httparse.specs.Grammar.{RequestHead, trim_ows}
 use Rattle.httparse.specs.Spans.{name_and_value}
-use Rattle.http_requests.specs.Fields.{Pairs, same_name, values_of, has_token}
+use Rattle.http_requests.specs.Fields.{Pairs, same_name, values_of, have_token, all_are}
 use Rattle.http_requests.specs.declared.asked.Method.{Method}
 use Rattle.http_requests.specs.declared.asked.Method.TheVariants.{Get, Post, Other}
 use Rattle.http_requests.specs.declared.asked.BodyLength.{BodyLength}
@@ -59,7 +59,7 @@ body_by ps = length_in (values_of (codes "transfer-encoding") ps) (values_of (co
 
 -- some Connection field has the token `close`
 abbrev pub closes_by : Pairs → Bool
-closes_by ps = list_any (λ (p : List ℕ × List ℕ). same_name p.0 (codes "connection") && has_token (codes "close") p.1) ps
+closes_by ps = have_token (codes "connection") (codes "close") ps
 
 -- what stands before any `;`, without white space around it
 abbrev pub media_type : List ℕ → List ℕ
@@ -73,9 +73,9 @@ abbrev pub is_thrift_type : List (List ℕ) → Bool
 is_thrift_type [] = false
 is_thrift_type (v ∷ more) = is_thrift (media_type v)
 
--- each Content-Encoding is `identity`
+-- each Content-Encoding is `identity`, in any ASCII case (RFC 9110, section 8.4.1)
 abbrev pub is_plain : Pairs → Bool
-is_plain ps = list_all (λ (p : List ℕ × List ℕ). not (same_name p.0 (codes "content-encoding")) || same_text p.1 (codes "identity")) ps
+is_plain ps = all_are (codes "content-encoding") (codes "identity") ps
 
 -- the body may be a batch
 abbrev pub has_batch_type : Pairs → Bool

@@ -3,37 +3,49 @@ use Rattle.std.specs.Prelude.{◌≡◌, ℕ, ◌+◌, ◌<◌, ◌≤◌, ◌==
 use Rattle.std.specs.Io.KnownBytes.{IsAtEnd}
 use Rattle.httparse.specs.Ascii.{crlf_bytes}
 use Rattle.chunked_bodies.specs.Chunks.{IsSizeLine, IsSomeSizeLine, IsTrailer, IsContent, Chunk, IsChunk, texts, contents, HasNone, NeverHas, Lacks}
-use Rattle.chunked_bodies.specs.declared.line.SizeLine.{SizeLine}
-use Rattle.chunked_bodies.specs.declared.line.SizeLine.TheVariants as line
+use Rattle.chunked_bodies.specs.Looks.{EndsNoLine}
 use Rattle.chunked_bodies.specs.declared.trailer.Trailer.{Trailer}
 use Rattle.chunked_bodies.specs.declared.trailer.Trailer.TheVariants as trailer
-use Rattle.http_requests.specs.Requests.{HasBody, BodyBreaks}
-use Rattle.http_requests.specs.Receiving.{Received, ReadsOn, put_back, Takes, Misses}
+use Rattle.http_requests.specs.Requests.{HasBody, BodyBreaks, IsShorter, AwaitsBody}
+use Rattle.http_requests.specs.Waiting.{Gives, Source, ReadsWhile}
+use Rattle.http_requests.specs.Receiving.{Received, ReadsOn, ReadsOnWhile, put_back}
 use Rattle.http_requests.specs.Sinks.{Takings}
 use Rattle.http_requests.specs.declared.asked.BodyLength.{BodyLength}
+use Rattle.http_requests.specs.declared.asked.BodyLength.TheVariants.{Chunked}
 use Rattle.http_requests.specs.declared.asked.Breach.{Breach}
 
--- a look for a size line, which is made at the end at least
-abbrev pub LineWhenDue : List ℕ → Bool → SizeLine → Type 0
-LineWhenDue bytes ended (line.Whole len size) = IsSizeLine (take len bytes) size × (len ≤ length bytes)
-LineWhenDue bytes ended line.More = ended ≡ true → HasNone IsSomeSizeLine bytes
-LineWhenDue bytes ended line.Never = NeverHas IsSomeSizeLine bytes
+-- ---- a text of one kind at the front
 
--- and one for a trailer
-abbrev pub TrailerWhenDue : List ℕ → Bool → Trailer → Type 0
-TrailerWhenDue bytes ended (trailer.Whole len) = IsTrailer (take len bytes) × (len ≤ length bytes)
-TrailerWhenDue bytes ended trailer.More = ended ≡ true → HasNone IsTrailer bytes
-TrailerWhenDue bytes ended trailer.Never = NeverHas IsTrailer bytes
+-- a text of this kind was taken from the front
+pub record Takes {R : Type 0} (source : Source R) (Awaits : List ℕ → Type 0) (s t : R) (old new : Received) (Is : List ℕ → Type 0) : Type 0 where
+  pub text : List ℕ
+  pub is : Is text
+  pub reads : ReadsOnWhile source Awaits s t old (put_back text new)
+
+-- no text of this kind can be taken from the front
+pub record Misses {R : Type 0} (source : Source R) (Awaits : List ℕ → Type 0) (s t : R) (old new : Received) (Is : List ℕ → Type 0) : Type 0 where
+  pub reads : ReadsOnWhile source Awaits s t old new
+  pub lacks : Lacks (IsAtEnd (source.remaining t)) Is new.held
+
+-- no size line stands at the front, and none has ended
+abbrev pub AwaitsLine : List ℕ → Type 0
+AwaitsLine bytes = HasNone IsSomeSizeLine bytes × EndsNoLine bytes
 
 -- a size line was taken, or there is none
-abbrev pub TakesSize : Option (List ℕ) → Option (List ℕ) → Received → Received → Option ℕ → Type 0
-TakesSize in0 in1 old new (Some size) = Takes in0 in1 old new (λ text. IsSizeLine text size)
-TakesSize in0 in1 old new None = Misses in0 in1 old new IsSomeSizeLine
+abbrev pub TakesSize : {R : Type 0} → Source R → R → R → Received → Received → Option ℕ → Type 0
+TakesSize source s t old new (Some size) = Takes source AwaitsLine s t old new (λ text. IsSizeLine text size)
+TakesSize source s t old new None = Misses source AwaitsLine s t old new IsSomeSizeLine
 
 -- a text of this kind was taken, or there is none
-abbrev pub TakesOrMisses : Option (List ℕ) → Option (List ℕ) → Received → Received → (List ℕ → Type 0) → Bool → Type 0
-TakesOrMisses in0 in1 old new Is true = Takes in0 in1 old new Is
-TakesOrMisses in0 in1 old new Is false = Misses in0 in1 old new Is
+abbrev pub TakesOrMisses : {R : Type 0} → Source R → (List ℕ → Type 0) → R → R → Received → Received → (List ℕ → Type 0) → Bool → Type 0
+TakesOrMisses source Awaits s t old new Is true = Takes source Awaits s t old new Is
+TakesOrMisses source Awaits s t old new Is false = Misses source Awaits s t old new Is
+
+-- a look for a trailer in bytes of which some were seen before
+abbrev pub TrailerWhenDue : List ℕ → Trailer → Type 0
+TrailerWhenDue bytes (trailer.Whole len) = IsTrailer (take len bytes) × (len ≤ length bytes)
+TrailerWhenDue bytes trailer.More = HasNone IsTrailer bytes
+TrailerWhenDue bytes trailer.Never = NeverHas IsTrailer bytes
 
 abbrev pub IsLineEnd : List ℕ → Type 0
 IsLineEnd text = text ≡ crlf_bytes
@@ -44,45 +56,61 @@ begins_line_end [] = false
 begins_line_end (a ∷ []) = false
 begins_line_end (a ∷ b ∷ rest) = a == 13 && b == 10
 
+-- the bytes are CR alone, or none
+abbrev pub may_begin_line_end : List ℕ → Bool
+may_begin_line_end [] = true
+may_begin_line_end (a ∷ []) = a == 13
+may_begin_line_end (a ∷ b ∷ rest) = false
+
+-- no text of this kind stands at the front, and with these bytes behind all of it is one
+pub record AwaitsRest (Is : List ℕ → Type 0) (bytes : List ℕ) : Type 0 where
+  pub none : HasNone Is bytes
+  pub more : List ℕ
+  pub may : Is (bytes ++ more)
+
+-- ---- bytes for the sink
+
 -- Bytes were taken and put into the sink: so many, or all up to the end of the input.
-pub record Gathers {S : Type 0} (takes : Takings S) (in0 in1 : Option (List ℕ)) (old new : Received) (before after : S) (size : ℕ) (all : Bool) : Type 0 where
+pub record Gathers {S R : Type 0} (takes : Takings S) (source : Source R) (s t : R) (old new : Received) (before after : S) (size : ℕ) (all : Bool) : Type 0 where
   pub content : List ℕ
-  pub reads : ReadsOn in0 in1 old (put_back content new)
+  pub reads : ReadsOnWhile source (IsShorter size) s t old (put_back content new)
   pub put : takes before content after
   pub whole : all ≡ true → length content ≡ size
-  pub short : all ≡ false → (length content < size) × (new.held ≡ []) × IsAtEnd in1
+  pub short : all ≡ false → (length content < size) × (new.held ≡ []) × IsAtEnd (source.remaining t)
 
 -- bytes gathered so far, where so many are left
-pub record Gathered {S : Type 0} (takes : Takings S) (in0 in1 : Option (List ℕ)) (old new : Received) (before after : S) (size left : ℕ) : Type 0 where
+pub record Gathered {S R : Type 0} (takes : Takings S) (source : Source R) (s t : R) (old new : Received) (before after : S) (size left : ℕ) : Type 0 where
   pub content : List ℕ
-  pub reads : ReadsOn in0 in1 old (put_back content new)
+  pub reads : ReadsOnWhile source (IsShorter size) s t old (put_back content new)
   pub put : takes before content after
   pub sum : length content + left ≡ size
 
 -- so many data were put into the sink, and they and CR LF were taken
-pub record TakesContent {S : Type 0} (takes : Takings S) (in0 in1 : Option (List ℕ)) (old new : Received) (before after : S) (size : ℕ) : Type 0 where
+pub record TakesContent {S R : Type 0} (takes : Takings S) (source : Source R) (s t : R) (old new : Received) (before after : S) (size : ℕ) : Type 0 where
   pub content : List ℕ
-  pub reads : ReadsOn in0 in1 old (put_back (content ++ crlf_bytes) new)
+  pub reads : ReadsOnWhile source (AwaitsRest (IsContent size)) s t old (put_back (content ++ crlf_bytes) new)
   pub put : takes before content after
   pub size_is : length content ≡ size
 
 -- a text was taken, and with what is left it begins with none of this kind
-pub record Fails (in0 in1 : Option (List ℕ)) (old new : Received) (Is : List ℕ → Type 0) : Type 0 where
+pub record Fails {R : Type 0} (source : Source R) (s t : R) (old new : Received) (Is : List ℕ → Type 0) : Type 0 where
   pub text : List ℕ
-  pub reads : ReadsOn in0 in1 old (put_back text new)
-  pub lacks : Lacks (IsAtEnd in1) Is (text ++ new.held)
+  pub reads : ReadsOnWhile source (AwaitsRest Is) s t old (put_back text new)
+  pub lacks : Lacks (IsAtEnd (source.remaining t)) Is (text ++ new.held)
 
-abbrev pub TakesContentOr : {S : Type 0} → Takings S → Option (List ℕ) → Option (List ℕ) → Received → Received → S → S → ℕ → Bool → Type 0
-TakesContentOr takes in0 in1 old new before after size true = TakesContent takes in0 in1 old new before after size
-TakesContentOr takes in0 in1 old new before after size false = Fails in0 in1 old new (IsContent size)
+abbrev pub TakesContentOr : {S R : Type 0} → Takings S → Source R → R → R → Received → Received → S → S → ℕ → Bool → Type 0
+TakesContentOr takes source s t old new before after size true = TakesContent takes source s t old new before after size
+TakesContentOr takes source s t old new before after size false = Fails source s t old new (IsContent size)
 
 -- chunks so far, and how many bytes of data may still come
-pub record ChunksSoFar {S : Type 0} (takes : Takings S) (in0 in1 : Option (List ℕ)) (old new : Received) (before after : S) (left : ℕ) : Type 0 where
+pub record ChunksSoFar {S R : Type 0} (takes : Takings S) (source : Source R) (s t : R) (old new : Received) (before after : S) (left : ℕ) : Type 0 where
   pub chunks : List Chunk
   pub each : All IsChunk chunks
-  pub reads : ReadsOn in0 in1 old (put_back (texts chunks) new)
+  pub reads : ReadsOnWhile source (AwaitsBody Chunked) s t old (put_back (texts chunks) new)
   pub put : takes before (contents chunks) after
   pub sum : 4194304 ≡ length (contents chunks) + left
+
+-- ---- bodies
 
 -- a body as the head tells was taken, and put into the sink
 pub record TakesBody {S : Type 0} (takes : Takings S) (in0 in1 : Option (List ℕ)) (old new : Received) (before after : S) (size : BodyLength) : Type 0 where
@@ -101,3 +129,13 @@ pub record BreaksBody (in0 in1 : Option (List ℕ)) (old new : Received) (size :
 abbrev pub ReadsBody : {S : Type 0} → Takings S → Option (List ℕ) → Option (List ℕ) → Received → Received → S → S → BodyLength → Result (Unit {0}) Breach → Type 0
 ReadsBody takes in0 in1 old new before after size (Ok _) = TakesBody takes in0 in1 old new before after size
 ReadsBody takes in0 in1 old new before after size (Err why) = BreaksBody in0 in1 old new size why
+
+-- each read for a body was made while more of the body was awaited
+pub record WaitsForBody {R : Type 0} (gives : Gives R) (s t : R) (old new : Received) (size : BodyLength) : Type 0 where
+  pub text : List ℕ
+  pub reads : ReadsWhile gives (AwaitsBody size) s t old.held (text ++ new.held)
+
+-- what a body in chunks came to, and how it was waited for
+pub record ReadsChunks {S R : Type 0} (takes : Takings S) (source : Source R) (s t : R) (old new : Received) (before after : S) (result : Result (Unit {0}) Breach) : Type 0 where
+  pub body : ReadsBody takes (source.remaining s) (source.remaining t) old new before after Chunked result
+  pub waits : WaitsForBody source.gives s t old new Chunked

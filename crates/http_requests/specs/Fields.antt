@@ -1,6 +1,6 @@
 -- The fields of a head, by name (RFC 9110, sections 5 and 5.6.1).
-use Rattle.std.specs.Prelude.{◌≡◌, ℕ, ◌==◌, Bool, List, [], ◌∷◌, map, filter, length, nat_lt, if◌then◌else◌, Option, Some, None}
-use Rattle.std.specs.List.{list_any, slice_split, position_or_len, before_first, after_first}
+use Rattle.std.specs.Prelude.{◌≡◌, ℕ, ◌==◌, ◌&&◌, ◌||◌, Bool, not, List, [], ◌∷◌, map, filter, length, nat_lt, if◌then◌else◌, Option, Some, None}
+use Rattle.std.specs.List.{list_any, list_all, slice_split, position_or_len, before_first, after_first}
 use Rattle.std.specs.Char.{to_ascii_lowercase}
 use Rattle.jaeger_model.specs.Texts.{same_text}
 use Rattle.httparse.specs.Grammar.{trim_ows}
@@ -23,6 +23,14 @@ values_of name ps = map (λ (p : List ℕ × List ℕ). p.1) (filter (λ (p : Li
 -- some item of a list that is parted by commas is that token, in any case
 abbrev pub has_token : List ℕ → List ℕ → Bool
 has_token token value = list_any (λ item. same_name (trim_ows item) token) (slice_split (λ b. b == 44) value)
+
+-- some field of that name has that token
+abbrev pub have_token : List ℕ → List ℕ → Pairs → Bool
+have_token name token ps = list_any (λ (p : List ℕ × List ℕ). same_name p.0 name && has_token token p.1) ps
+
+-- each field of that name has that value, in any ASCII case
+abbrev pub all_are : List ℕ → List ℕ → Pairs → Bool
+all_are name value ps = list_all (λ (p : List ℕ × List ℕ). not (same_name p.0 name) || same_name p.1 value) ps
 
 -- none, the one value, or two and more
 abbrev pub AreValues : Values → List (List ℕ) → Type 0

@@ -1,6 +1,7 @@
 -- A request head as a session takes it.
-use Rattle.std.specs.Prelude.{◌≡◌, ℕ, ◌<◌, ◌≤◌, List, ◌++◌, length, take, drop}
-use Rattle.httparse.specs.Grammar.{RequestHead, ReadsRequest, print_request}
+use Rattle.std.specs.Prelude.{◌≡◌, ℕ, ◌<◌, ◌≤◌, List, [], ◌∷◌, ◌++◌, length, take, drop}
+use Rattle.httparse.specs.Ascii.{line_feed}
+use Rattle.httparse.specs.Grammar.{RequestHead, ReadsRequest, NeverHasRequest, print_request}
 use Rattle.httparse.specs.declared.spans.RequestSpans.{RequestSpans}
 use Rattle.httparse.specs.declared.spans.HeaderSpan.{HeaderSpan}
 use Rattle.httparse.specs.Spans.{IsRequestAt, IsRequestWithin}
@@ -21,6 +22,17 @@ HasNoHead bytes = (h : RequestHead) (rest : List ℕ) → TakesHead bytes h rest
 abbrev pub NeverHasHead : List ℕ → Type 0
 NeverHasHead bytes = (more : List ℕ) → HasNoHead (bytes ++ more)
 
+-- the bytes end in a line feed
+abbrev pub EndsLine : List ℕ → Type 0
+EndsLine bytes = (front : List ℕ) × (bytes ≡ front ++ line_feed ∷ [])
+
+-- No head stands at the front, there are fewer bytes than one may have, and there is no reason in the lines
+-- received whole why none can come: some continuation of them begins with a head by the grammar.
+pub record AwaitsHead (bytes : List ℕ) : Type 0 where
+  pub none : HasNoHead bytes
+  pub short : length bytes < 8192
+  pub may : (lines rest : List ℕ) → bytes ≡ lines ++ rest → EndsLine lines → NeverHasRequest lines → ⊥
+
 -- the spans are offsets into the first 8,192 bytes
 pub record IsWholeHead (bytes : List ℕ) (headers : List HeaderSpan) (spans : RequestSpans) : Type 0 where
   pub head : RequestHead
@@ -32,5 +44,5 @@ pub record IsWholeHead (bytes : List ℕ) (headers : List HeaderSpan) (spans : R
 
 abbrev pub Looks : List ℕ → List HeaderSpan → Look → Type 0
 Looks bytes headers (Whole spans) = IsWholeHead bytes headers spans
-Looks bytes headers More = HasNoHead bytes × (length bytes < 8192)
+Looks bytes headers More = AwaitsHead bytes
 Looks bytes headers Never = NeverHasHead bytes

@@ -3,6 +3,7 @@ pub mod Fields
 pub mod Asked
 pub mod Requests
 pub mod Framing
+pub mod Waiting
 pub mod Receiving
 pub mod Searching
 pub mod Sinks

@@ -1,11 +1,11 @@
 -- What reading on does to the bytes received, and what one look for the head of a request finds.
 use Rattle.std.specs.Prelude.{◌≡◌, ℕ, ◌+◌, ◌*◌, ◌≤◌, ◌⊎◌, Bool, true, if◌then◌else◌, List, [], ◌++◌, length, Option, Result, Ok, Err}
 use Rattle.std.specs.Io.KnownBytes.{Consumes, IsAtEnd}
-use Rattle.chunked_bodies.specs.Chunks.{Lacks}
 use Rattle.httparse.specs.Grammar.{RequestHead}
-use Rattle.http_requests.specs.Heads.{TakesHead}
+use Rattle.http_requests.specs.Heads.{TakesHead, AwaitsHead}
 use Rattle.http_requests.specs.Asked.{body_length}
 use Rattle.http_requests.specs.Requests.{Spells, IsHeadOf, IsBroken}
+use Rattle.http_requests.specs.Waiting.{Gives, Source, ReadsWhile}
 use Rattle.http_requests.specs.declared.asked.BodyLength.{BodyLength}
 use Rattle.http_requests.specs.declared.asked.Breach.{Breach}
 use Rattle.http_requests.specs.declared.asked.Breach.TheVariants as breach
@@ -38,7 +38,7 @@ pub record ReadsOn (in0 in1 : Option (List ℕ)) (old new : Received) : Type 0 w
   pub most : length more + 4096 * new.left ≤ 4096 * old.left
   pub end : KnowsItsEnd old.ended in0 → KnowsItsEnd new.ended in1
 
--- No more could be had: memory was wanting, the input failed, or all reads were made.
+-- No more could be had: memory ran out, the input failed, or all reads were made.
 pub record Stops (in0 in1 : Option (List ℕ)) (failed : Bool) (old : Received) (why : Interrupted) : Type 0 where
   pub more : List ℕ
   pub read : Consumes in0 in1 more
@@ -54,16 +54,14 @@ SameUnlessReading failed0 failed1 (Err Reading) = Unit {0}
 abbrev pub put_back : List ℕ → Received → Received
 put_back text r = record r { held = text ++ r.held }
 
--- Some reads were made, and a text of this kind was taken from the front.
-pub record Takes (in0 in1 : Option (List ℕ)) (old new : Received) (Is : List ℕ → Type 0) : Type 0 where
-  pub text : List ℕ
-  pub is : Is text
-  pub reads : ReadsOn in0 in1 old (put_back text new)
+-- one read was made, and gave what the bytes received grew by
+abbrev pub IsRead : {R : Type 0} → Gives R → R → R → Received → Received → Type 0
+IsRead gives s t old new = (piece : List ℕ) × gives s piece t × (new.held ≡ old.held ++ piece)
 
--- Some reads were made, and no text of this kind can be taken from the front.
-pub record Misses (in0 in1 : Option (List ℕ)) (old new : Received) (Is : List ℕ → Type 0) : Type 0 where
-  pub reads : ReadsOn in0 in1 old new
-  pub lacks : Lacks (IsAtEnd in1) Is new.held
+-- Some reads were made, each while more was awaited of the bytes received by then.
+pub record ReadsOnWhile {R : Type 0} (source : Source R) (Awaits : List ℕ → Type 0) (s t : R) (old new : Received) : Type 0 where
+  pub on : ReadsOn (source.remaining s) (source.remaining t) old new
+  pub waits : ReadsWhile source.gives Awaits s t old.held new.held
 
 -- The head of a request was taken from the front: its bytes, what was told of it, and how long the body is
 -- that it tells of. The body is what follows.
@@ -89,6 +87,17 @@ abbrev pub Finds : Option (List ℕ) → Option (List ℕ) → Received → Rece
 Finds in0 in1 old new bytes (One r size) = FindsHead in0 in1 old new bytes r size
 Finds in0 in1 old new bytes Clean = FindsEnd in0 in1 old new
 Finds in0 in1 old new bytes Broken = FindsNone in0 in1 old new
+
+-- the bytes that were taken with it
+abbrev pub taken_with : Next → List ℕ → List ℕ
+taken_with (One r size) bytes = bytes
+taken_with Clean bytes = []
+taken_with Broken bytes = []
+
+-- each read for the head of a request was made while a head was awaited
+abbrev pub WaitsForHead : {R : Type 0} → Gives R → R → R → Received → Received → List ℕ → Next → Type 0
+WaitsForHead gives s t old new bytes next =
+    ReadsWhile gives AwaitsHead s t old.held (taken_with next bytes ++ new.held)
 
 -- ---- requests, of which the head was taken and then the body
 

@@ -1,8 +1,8 @@
 -- A request as a text, and why there is none.
-use Rattle.std.specs.Prelude.{◌≡◌, ℕ, ◌<◌, ◌≤◌, ◌⊎◌, List, length, slice_range}
+use Rattle.std.specs.Prelude.{◌≡◌, ℕ, ◌<◌, ◌≤◌, ◌⊎◌, List, ◌++◌, length, slice_range}
 use Rattle.httparse.specs.Grammar.{RequestHead, IsRequestHead, print_request}
-use Rattle.chunked_bodies.specs.Chunks.{IsBody, IsTooLarge, IsDecided, Begins, Lacks}
-use Rattle.http_requests.specs.Heads.{TakesHead, HasNoHead, NeverHasHead}
+use Rattle.chunked_bodies.specs.Chunks.{IsBody, IsTooLarge, IsDecided, IsSized, Begins, HasNone, NeverHas, Lacks}
+use Rattle.http_requests.specs.Heads.{TakesHead, HasNoHead, NeverHasHead, EndsLine, AwaitsHead}
 use Rattle.http_requests.specs.Asked.{asked_by, body_length}
 use Rattle.http_requests.specs.declared.asked.BodyLength.{BodyLength}
 use Rattle.http_requests.specs.declared.asked.BodyLength.TheVariants.{Bytes, Chunked, Unreadable, TooLarge}
@@ -55,6 +55,38 @@ abbrev pub IsBroken : Type 0 → List ℕ → Breach → Type 0
 IsBroken AtEnd rest breach.Head = NeverHasHead rest ⊎ (AtEnd × (0 < length rest) × HasNoHead rest)
 IsBroken AtEnd rest breach.Body = BreaksBehind AtEnd rest breach.Body
 IsBroken AtEnd rest breach.TooLarge = BreaksBehind AtEnd rest breach.TooLarge
+
+-- ---- what is awaited
+
+abbrev pub IsShorter : ℕ → List ℕ → Type 0
+IsShorter n bytes = length bytes < n
+
+-- No body in chunks stands at the front, and no size line says that it is too large; and there is no reason in
+-- the lines received whole why none can come: some continuation of them begins with all chunks of a body, or
+-- with those up to the line that says that it is too large.
+pub record AwaitsChunks (after : List ℕ) : Type 0 where
+  pub none : HasNone (IsDecided 4194304) after
+  pub may : (lines rest : List ℕ) → after ≡ lines ++ rest → EndsLine lines → NeverHas (IsSized 4194304) lines → ⊥
+
+-- what is awaited behind a head that tells of such a body; where the head alone decides, nothing
+abbrev pub AwaitsBody : BodyLength → List ℕ → Type 0
+AwaitsBody (Bytes n) after = IsShorter n after
+AwaitsBody Chunked after = AwaitsChunks after
+AwaitsBody Unreadable after = ⊥
+AwaitsBody TooLarge after = ⊥
+
+-- a head stands at the front, and the body behind it is awaited
+pub record AwaitsBehind (bytes : List ℕ) : Type 0 where
+  pub head : RequestHead
+  pub after : List ℕ
+  pub takes : TakesHead bytes head after
+  pub awaits : AwaitsBody (body_length head) after
+
+-- the bytes received don't decide yet what request stands at their front, or why there is none
+abbrev pub AwaitsRequest : List ℕ → Type 0
+AwaitsRequest bytes = AwaitsHead bytes ⊎ AwaitsBehind bytes
+
+-- ---- what is told of a head
 
 -- what was told of a head; the target is a part of its text
 pub record Describes (head : RequestHead) (r : Request) : Type 0 where

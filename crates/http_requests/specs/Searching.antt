@@ -6,7 +6,8 @@ use Rattle.http_requests.specs.Heads.{HasNoHead, NeverHasHead, IsWholeHead}
 use Rattle.http_requests.specs.declared.reading.Found.{Found}
 use Rattle.http_requests.specs.declared.reading.Found.TheVariants.{Head, End, Never}
 
-abbrev pub FindsHead : Option (List ℕ) → List ℕ → List HeaderSpan → Found → Type 0
-FindsHead input held headers (Head spans) = IsWholeHead held headers spans
-FindsHead input held headers End = IsAtEnd input × HasNoHead held
-FindsHead input held headers Never = NeverHasHead held
+-- a head at the front, none before the end of the input, or none whatever follows
+abbrev pub SearchFinds : Option (List ℕ) → List ℕ → List HeaderSpan → Found → Type 0
+SearchFinds input held headers (Head spans) = IsWholeHead held headers spans
+SearchFinds input held headers End = IsAtEnd input × HasNoHead held
+SearchFinds input held headers Never = NeverHasHead held

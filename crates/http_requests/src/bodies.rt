@@ -1,16 +1,14 @@
-ghost use Rattle.std.specs.Prelude.{◌≡◌, ◌≤◌, false, IfOk, IfErr, OnOk, length};
-ghost use Rattle.chunked_bodies.specs.Chunks.{IsTrailer};
-ghost use Rattle.http_requests.specs.Receiving.{KnowsItsEnd, ReadsOn, Stops, SameUnlessReading};
-ghost use Rattle.http_requests.specs.Bodies.{LineWhenDue, TrailerWhenDue, TakesSize, TakesOrMisses, IsLineEnd, begins_line_end, Gathers, TakesContentOr, ReadsBody};
-ghost use Rattle.http_requests.specs.declared.asked.BodyLength.TheVariants.{Chunked};
+ghost use Rattle.std.specs.Prelude.{◌≡◌, ◌≤◌, IfOk, IfErr, OnOk, length, take};
+ghost use Rattle.chunked_bodies.specs.Chunks.{IsTrailer, HasNone};
+ghost use Rattle.http_requests.specs.Waiting.{source_of};
+ghost use Rattle.http_requests.specs.Receiving.{KnowsItsEnd, Stops, SameUnlessReading};
+ghost use Rattle.http_requests.specs.Bodies.{TrailerWhenDue, TakesSize, TakesOrMisses, AwaitsRest, IsLineEnd, begins_line_end, may_begin_line_end, Gathers, TakesContentOr, ReadsBody, ReadsChunks, WaitsForBody};
 
 use crate::asked::{BodyLength, Breach, MOST_BODY_BYTES};
+use crate::line_ends::has_line_end;
 use crate::received::{Interrupted, Received};
-use crate::scan::Scan;
 use crate::sink::Sink;
-use chunked_bodies::{
-    MOST_LINE_BYTES, MOST_TRAILER_BYTES, SizeLine, Trailer, look_for_size, look_for_trailer,
-};
+use chunked_bodies::{MOST_TRAILER_BYTES, SizeLine, Trailer, look_for_size, look_for_trailer};
 use session_devices::Input;
 
 /// Takes so many bytes and puts them into the sink as they come, or all up to the end of the input. Whether
@@ -22,8 +20,10 @@ fn gather<R: Input, S: Sink>(
     size: usize,
 ) -> Result<bool, Interrupted>
     requires end { KnowsItsEnd received.old.ended (R.remaining input.old) }
-    ensures gathers { IfOk result (λ all. Gathers S.takes (R.remaining input.old) (R.remaining input.new) received.old received.new sink.old sink.new size all) }
-    ensures err { IfErr result (λ why. Stops (R.remaining input.old) (R.remaining input.new) (R.has_failed input.new) received.old why) }
+    ensures gathers { IfOk result (Gathers S.takes (source_of R.remaining R.gives)
+        input.old input.new received.old received.new sink.old sink.new size) }
+    ensures err { IfErr result (λ why. Stops (R.remaining input.old) (R.remaining input.new)
+        (R.has_failed input.new) received.old why) }
     ensures same { SameUnlessReading (R.has_failed input.old) (R.has_failed input.new) result }
 {
     let mut left = size;
@@ -45,24 +45,6 @@ fn gather<R: Input, S: Sink>(
     }
 }
 
-/// Reads until so many bytes are there, or the input has ended.
-fn read_up_to<R: Input>(
-    input: &mut R,
-    received: &mut Received,
-    count: usize,
-) -> Result<(), Interrupted>
-    requires end { KnowsItsEnd received.old.ended (R.remaining input.old) }
-    ensures reads { OnOk result (ReadsOn (R.remaining input.old) (R.remaining input.new) received.old received.new) }
-    ensures all { OnOk result ((received.new.ended ≡ false) → (count ≤ length received.new.held)) }
-    ensures err { IfErr result (λ why. Stops (R.remaining input.old) (R.remaining input.new) (R.has_failed input.new) received.old why) }
-    ensures same { SameUnlessReading (R.has_failed input.old) (R.has_failed input.new) result }
-{
-    while received.as_slice().len() < count && !received.has_ended() {
-        received.read_on(input)?;
-    }
-    Ok(())
-}
-
 /// Whether the bytes begin with CR LF.
 fn begins_line_end(bytes: &[u8]) -> bool
     ensures { result ≡ begins_line_end bytes.now }
@@ -70,45 +52,49 @@ fn begins_line_end(bytes: &[u8]) -> bool
     matches!(bytes, [b'\r', b'\n', ..])
 }
 
+/// Whether they may be the beginning of CR LF: CR alone, or nothing.
+fn may_begin_line_end(bytes: &[u8]) -> bool
+    ensures { result ≡ may_begin_line_end bytes.now }
+{
+    matches!(bytes, [] | [b'\r'])
+}
+
 /// Takes CR LF; whether it was there.
 fn take_line_end<R: Input>(input: &mut R, received: &mut Received) -> Result<bool, Interrupted>
     requires end { KnowsItsEnd received.old.ended (R.remaining input.old) }
-    ensures takes { IfOk result (TakesOrMisses (R.remaining input.old) (R.remaining input.new) received.old received.new IsLineEnd) }
-    ensures err { IfErr result (λ why. Stops (R.remaining input.old) (R.remaining input.new) (R.has_failed input.new) received.old why) }
+    ensures takes { IfOk result (TakesOrMisses (source_of R.remaining R.gives)
+        (AwaitsRest IsLineEnd) input.old input.new received.old received.new IsLineEnd) }
+    ensures err { IfErr result (λ why. Stops (R.remaining input.old) (R.remaining input.new)
+        (R.has_failed input.new) received.old why) }
     ensures same { SameUnlessReading (R.has_failed input.old) (R.has_failed input.new) result }
 {
-    read_up_to(input, received, 2)?;
-    if !begins_line_end(received.as_slice()) {
-        return Ok(false);
-    }
-    received.take(2);
-    Ok(true)
-}
-
-/// Looks for a size line where one may have ended in what wasn't seen, or none can end later.
-fn size_when_due(bytes: &[u8], seen: usize, ended: bool) -> SizeLine
-    requires { seen ≤ length bytes.now }
-    ensures { LineWhenDue bytes.now ended result }
-{
-    if ended || bytes.len() >= MOST_LINE_BYTES || bytes[seen..].contains(&b'\n') {
-        look_for_size(bytes)
-    } else {
-        SizeLine::More
+    'looks: loop {
+        let bytes = received.as_slice();
+        if begins_line_end(bytes) {
+            received.take(2);
+            return Ok(true);
+        }
+        if !may_begin_line_end(bytes) {
+            return Ok(false);
+        }
+        if received.has_ended() {
+            return Ok(false);
+        }
+        received.read_on(input)?;
     }
 }
 
 /// Takes a size line; the size, or none where there is no such line.
 fn take_size<R: Input>(input: &mut R, received: &mut Received) -> Result<Option<u64>, Interrupted>
     requires end { KnowsItsEnd received.old.ended (R.remaining input.old) }
-    ensures takes { IfOk result (TakesSize (R.remaining input.old) (R.remaining input.new) received.old received.new) }
-    ensures err { IfErr result (λ why. Stops (R.remaining input.old) (R.remaining input.new) (R.has_failed input.new) received.old why) }
+    ensures takes { IfOk result (TakesSize (source_of R.remaining R.gives) input.old input.new
+        received.old received.new) }
+    ensures err { IfErr result (λ why. Stops (R.remaining input.old) (R.remaining input.new)
+        (R.has_failed input.new) received.old why) }
     ensures same { SameUnlessReading (R.has_failed input.old) (R.has_failed input.new) result }
 {
-    let mut seen = 0;
     'looks: loop {
-        let bytes = received.as_slice();
-        let ended = received.has_ended();
-        match size_when_due(bytes, seen, ended) {
+        match look_for_size(received.as_slice()) {
             SizeLine::Whole(length, size) => {
                 received.take(length);
                 return Ok(Some(size));
@@ -116,19 +102,21 @@ fn take_size<R: Input>(input: &mut R, received: &mut Received) -> Result<Option<
             SizeLine::Never => return Ok(None),
             SizeLine::More => {}
         }
-        if ended {
+        if received.has_ended() {
             return Ok(None);
         }
-        seen = bytes.len();
         received.read_on(input)?;
     }
 }
 
-/// Looks for a trailer where one may have ended in what the scan didn't see, or none can end later.
-fn trailer_when_due(bytes: &[u8], scan: &mut Scan, ended: bool) -> Trailer
-    ensures { TrailerWhenDue bytes.now ended result }
+/// Looks for a trailer where one may have ended in what wasn't seen, or none can end later. In front of what
+/// was seen none stood.
+fn trailer_when_due(bytes: &[u8], seen: usize) -> Trailer
+    requires seen { seen ≤ length bytes.now }
+    requires before { HasNone IsTrailer (take seen bytes.now) }
+    ensures { TrailerWhenDue bytes.now result }
 {
-    if scan.is_due(bytes) || ended || bytes.len() >= MOST_TRAILER_BYTES {
+    if bytes.len() >= MOST_TRAILER_BYTES || has_line_end(&bytes[seen..]) {
         look_for_trailer(bytes)
     } else {
         Trailer::More
@@ -138,15 +126,16 @@ fn trailer_when_due(bytes: &[u8], scan: &mut Scan, ended: bool) -> Trailer
 /// Takes a trailer; whether there was one.
 fn take_trailer<R: Input>(input: &mut R, received: &mut Received) -> Result<bool, Interrupted>
     requires end { KnowsItsEnd received.old.ended (R.remaining input.old) }
-    ensures takes { IfOk result (TakesOrMisses (R.remaining input.old) (R.remaining input.new) received.old received.new IsTrailer) }
-    ensures err { IfErr result (λ why. Stops (R.remaining input.old) (R.remaining input.new) (R.has_failed input.new) received.old why) }
+    ensures takes { IfOk result (TakesOrMisses (source_of R.remaining R.gives)
+        (HasNone IsTrailer) input.old input.new received.old received.new IsTrailer) }
+    ensures err { IfErr result (λ why. Stops (R.remaining input.old) (R.remaining input.new)
+        (R.has_failed input.new) received.old why) }
     ensures same { SameUnlessReading (R.has_failed input.old) (R.has_failed input.new) result }
 {
-    let mut scan = Scan::behind_a_line();
+    let mut seen = 0;
     'looks: loop {
         let bytes = received.as_slice();
-        let ended = received.has_ended();
-        match trailer_when_due(bytes, &mut scan, ended) {
+        match trailer_when_due(bytes, seen) {
             Trailer::Whole(length) => {
                 received.take(length);
                 return Ok(true);
@@ -154,9 +143,10 @@ fn take_trailer<R: Input>(input: &mut R, received: &mut Received) -> Result<bool
             Trailer::Never => return Ok(false),
             Trailer::More => {}
         }
-        if ended {
+        if received.has_ended() {
             return Ok(false);
         }
+        seen = bytes.len();
         received.read_on(input)?;
     }
 }
@@ -170,8 +160,10 @@ fn take_content<R: Input, S: Sink>(
     size: usize,
 ) -> Result<bool, Interrupted>
     requires end { KnowsItsEnd received.old.ended (R.remaining input.old) }
-    ensures takes { IfOk result (TakesContentOr S.takes (R.remaining input.old) (R.remaining input.new) received.old received.new sink.old sink.new size) }
-    ensures err { IfErr result (λ why. Stops (R.remaining input.old) (R.remaining input.new) (R.has_failed input.new) received.old why) }
+    ensures takes { IfOk result (TakesContentOr S.takes (source_of R.remaining R.gives)
+        input.old input.new received.old received.new sink.old sink.new size) }
+    ensures err { IfErr result (λ why. Stops (R.remaining input.old) (R.remaining input.new)
+        (R.has_failed input.new) received.old why) }
     ensures same { SameUnlessReading (R.has_failed input.old) (R.has_failed input.new) result }
 {
     if gather(input, received, sink, size)? {
@@ -188,8 +180,10 @@ fn read_chunks<R: Input, S: Sink>(
     sink: &mut S,
 ) -> Result<Result<(), Breach>, Interrupted>
     requires end { KnowsItsEnd received.old.ended (R.remaining input.old) }
-    ensures body { IfOk result (ReadsBody S.takes (R.remaining input.old) (R.remaining input.new) received.old received.new sink.old sink.new Chunked) }
-    ensures err { IfErr result (λ why. Stops (R.remaining input.old) (R.remaining input.new) (R.has_failed input.new) received.old why) }
+    ensures body { IfOk result (ReadsChunks S.takes (source_of R.remaining R.gives)
+        input.old input.new received.old received.new sink.old sink.new) }
+    ensures err { IfErr result (λ why. Stops (R.remaining input.old) (R.remaining input.new)
+        (R.has_failed input.new) received.old why) }
     ensures same { SameUnlessReading (R.has_failed input.old) (R.has_failed input.new) result }
 {
     let mut left = MOST_BODY_BYTES;
@@ -214,11 +208,13 @@ fn read_chunks<R: Input, S: Sink>(
 }
 
 /// Takes the body that the head tells of, and puts it into the sink as it comes; it is never held whole.
-/// Where there is none for a stated reason, what was put before is a part of what came.
+/// Where there is none for a stated reason, what was put before is a part of what came. It reads nothing where
+/// the bytes received decide: the body is whole, or the head or a size line says that it is too large or can't
+/// be read.
 ///
 /// # Errors
 ///
-/// The input failed, or want of memory.
+/// The input failed, or memory ran out.
 pub fn read_body<R: Input, S: Sink>(
     input: &mut R,
     received: &mut Received,
@@ -226,8 +222,12 @@ pub fn read_body<R: Input, S: Sink>(
     size: BodyLength,
 ) -> Result<Result<(), Breach>, Interrupted>
     requires end { KnowsItsEnd received.old.ended (R.remaining input.old) }
-    ensures body { IfOk result (ReadsBody S.takes (R.remaining input.old) (R.remaining input.new) received.old received.new sink.old sink.new size) }
-    ensures err { IfErr result (λ why. Stops (R.remaining input.old) (R.remaining input.new) (R.has_failed input.new) received.old why) }
+    ensures body { IfOk result (ReadsBody S.takes (R.remaining input.old) (R.remaining input.new)
+        received.old received.new sink.old sink.new size) }
+    ensures waits { OnOk result (WaitsForBody R.gives input.old input.new
+        received.old received.new size) }
+    ensures err { IfErr result (λ why. Stops (R.remaining input.old) (R.remaining input.new)
+        (R.has_failed input.new) received.old why) }
     ensures same { SameUnlessReading (R.has_failed input.old) (R.has_failed input.new) result }
 {
     match size {

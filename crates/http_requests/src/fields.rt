@@ -1,9 +1,7 @@
-ghost use Rattle.std.specs.Prelude.{◌≡◌, ◌++◌, ◌∷◌, [], ◌≤◌, ◌&&◌, ◌||◌, not, List, ℕ, All, length, map, reverse, MatchOption, option_map};
-ghost use Rattle.std.specs.List.{list_any, list_all};
+ghost use Rattle.std.specs.Prelude.{◌≡◌, ◌∷◌, [], List, ℕ, All, length, map, MatchOption, option_map};
 ghost use Rattle.httparse.specs.Grammar.{trim_ows};
-ghost use Rattle.jaeger_model.specs.Texts.{same_text};
 ghost use Rattle.httparse.specs.Spans.{header_bytes, IsHeaderWithin};
-ghost use Rattle.http_requests.specs.Fields.{same_name, values_of, has_token, AreValues, cut_at};
+ghost use Rattle.http_requests.specs.Fields.{same_name, values_of, has_token, have_token, all_are, AreValues, cut_at};
 
 use httparse::spans::HeaderSpan;
 use std::marker::Model;
@@ -92,18 +90,6 @@ impl<'a> Fields<'a> {
         Fields { bytes, spans }
     }
 
-    /// Whether a field has that name.
-    pub(crate) fn has(&self, name: &str) -> bool
-        ensures { result ≡ list_any (λ (p : List ℕ × List ℕ). same_name p.0 name.now) self.now }
-    {
-        for span in self.spans {
-            if is_named(span.name.of(self.bytes), name) {
-                return true;
-            }
-        }
-        false
-    }
-
     /// The values of the fields of that name.
     pub(crate) fn values(&self, name: &str) -> Values<'a>
         ensures { AreValues result (values_of name.now self.now) }
@@ -122,7 +108,8 @@ impl<'a> Fields<'a> {
 
     /// The value of the first field of that name.
     pub(crate) fn first(&self, name: &str) -> Option<&'a [u8]>
-        ensures { MatchOption result (values_of name.now self.now ≡ []) (λ v. (more : List (List ℕ)) × (values_of name.now self.now ≡ v.now ∷ more)) }
+        ensures { MatchOption result (values_of name.now self.now ≡ [])
+            (λ v. (more : List (List ℕ)) × (values_of name.now self.now ≡ v.now ∷ more)) }
     {
         for span in self.spans {
             if is_named(span.name.of(self.bytes), name) {
@@ -134,7 +121,7 @@ impl<'a> Fields<'a> {
 
     /// Whether some field of that name has the token in its list.
     pub(crate) fn have_token(&self, name: &str, token: &str) -> bool
-        ensures { result ≡ list_any (λ (p : List ℕ × List ℕ). same_name p.0 name.now && has_token token.now p.1) self.now }
+        ensures { result ≡ have_token name.now token.now self.now }
     {
         for span in self.spans {
             if is_named(span.name.of(self.bytes), name)
@@ -146,13 +133,13 @@ impl<'a> Fields<'a> {
         false
     }
 
-    /// Whether each field of that name has that value.
+    /// Whether each field of that name has that value, in any ASCII case.
     pub(crate) fn all_are(&self, name: &str, value: &str) -> bool
-        ensures { result ≡ list_all (λ (p : List ℕ × List ℕ). not (same_name p.0 name.now) || same_text p.1 value.now) self.now }
+        ensures { result ≡ all_are name.now value.now self.now }
     {
         for span in self.spans {
             if is_named(span.name.of(self.bytes), name)
-                && span.value.of(self.bytes) != value.as_bytes()
+                && !is_named(span.value.of(self.bytes), value)
             {
                 return false;
             }

@@ -1,6 +1,7 @@
 ghost use Rattle.std.specs.Prelude.{◌≡◌, ◌≤◌, length, take};
-ghost use Rattle.http_requests.specs.Heads.{Looks};
+ghost use Rattle.http_requests.specs.Heads.{AwaitsHead, Looks};
 
+use crate::line_ends::has_line_end;
 use httparse::Status;
 use httparse::spans::{HeaderSpan, RequestSpans, parse_request};
 
@@ -53,5 +54,20 @@ pub(crate) fn look_for_head(bytes: &[u8], headers: &mut [HeaderSpan]) -> Look
             }
         }
         Err(_) => Look::Never,
+    }
+}
+
+/// Looks for a head where one may have ended in what wasn't seen, or none can end later. In front of what was
+/// seen none stood.
+pub(crate) fn head_when_due(bytes: &[u8], seen: usize, headers: &mut [HeaderSpan]) -> Look
+    requires room { 64 ≤ length headers.old }
+    requires seen { seen ≤ length bytes.now }
+    requires before { AwaitsHead (take seen bytes.now) }
+    ensures { Looks bytes.now headers.new result }
+{
+    if bytes.len() >= MOST_BYTES || has_line_end(&bytes[seen..]) {
+        look_for_head(bytes, headers)
+    } else {
+        Look::More
     }
 }

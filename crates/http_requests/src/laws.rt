@@ -2,27 +2,28 @@
 //! read. Each function does nothing, and its contract is the fact.
 
 ghost use Rattle.std.specs.Prelude.{◌≡◌, ℕ, List, [], ◌++◌};
-ghost use Rattle.httparse.specs.Grammar.{RequestHead as HeadTree};
-ghost use Rattle.http_requests.specs.Heads.{TakesHead};
-ghost use Rattle.http_requests.specs.Requests.{Spells, IsBroken};
-ghost use Rattle.http_requests.specs.declared.asked.Breach.{Breach as Reason};
+ghost use Rattle.httparse.specs.Grammar.{RequestHead as RequestHeadValue, NeverHasRequest};
+ghost use Rattle.http_requests.specs.Heads.{TakesHead, EndsLine};
+ghost use Rattle.http_requests.specs.Requests.{Spells, IsBroken, AwaitsRequest};
+ghost use Rattle.http_requests.specs.declared.asked.Breach.{Breach as BreachValue};
+ghost use Rattle.http_requests.specs.declared.asked.Breach.TheVariants.{TooLarge};
 
 /// At the front of the bytes stands one head, with one rest.
 pub fn a_head_is_read_in_one_way()
-    ensures { (bytes : List ℕ) (h k : HeadTree) (rest more : List ℕ) →
+    ensures { (bytes : List ℕ) (h k : RequestHeadValue) (rest more : List ℕ) →
         TakesHead bytes h rest → TakesHead bytes k more → (h ≡ k) × (rest ≡ more) }
 {}
 
 /// A head at the front stays there when more bytes come.
 pub fn a_head_stays_when_more_comes()
-    ensures { (bytes : List ℕ) (h : HeadTree) (rest more : List ℕ) →
+    ensures { (bytes : List ℕ) (h : RequestHeadValue) (rest more : List ℕ) →
         TakesHead bytes h rest → TakesHead (bytes ++ more) h (rest ++ more) }
 {}
 
 /// At the front of the bytes one request is spelled: its text, its head and its body are told by the
 /// bytes, and so is what follows.
 pub fn a_request_is_spelled_in_one_way()
-    ensures { (text other : List ℕ) (h k : HeadTree) (body more rest left : List ℕ) →
+    ensures { (text other : List ℕ) (h k : RequestHeadValue) (body more rest left : List ℕ) →
         Spells text h body → Spells other k more → text ++ rest ≡ other ++ left →
         (text ≡ other) × (h ≡ k) × (body ≡ more) × (rest ≡ left) }
 {}
@@ -30,22 +31,42 @@ pub fn a_request_is_spelled_in_one_way()
 /// Where a piece of the bytes was broken, all of them are, for the same reason. The end was seen only
 /// where nothing was left behind the piece.
 pub fn a_breach_stays_when_more_comes()
-    ensures { (piece left : List ℕ) (b : Reason) → IsBroken (left ≡ []) piece b → IsBroken (Unit {0}) (piece ++ left) b }
+    ensures { (piece left : List ℕ) (b : BreachValue) →
+        IsBroken (left ≡ []) piece b → IsBroken (Unit {0}) (piece ++ left) b }
 {}
 
 /// Bytes that begin with a request are not broken, whatever piece of them was looked at.
 pub fn a_request_is_no_breach()
-    ensures { (text rest piece left : List ℕ) (h : HeadTree) (body : List ℕ) (b : Reason) →
+    ensures { (text rest piece left : List ℕ) (h : RequestHeadValue) (body : List ℕ)
+        (b : BreachValue) →
         Spells text h body → piece ++ left ≡ text ++ rest → IsBroken (left ≡ []) piece b → ⊥ }
 {}
 
 /// Bytes are broken for one reason, whatever pieces of them were looked at.
 pub fn a_breach_is_one()
-    ensures { (piece left part behind : List ℕ) (b c : Reason) →
-        piece ++ left ≡ part ++ behind → IsBroken (left ≡ []) piece b → IsBroken (behind ≡ []) part c → b ≡ c }
+    ensures { (piece left part behind : List ℕ) (b c : BreachValue) →
+        piece ++ left ≡ part ++ behind → IsBroken (left ≡ []) piece b →
+        IsBroken (behind ≡ []) part c → b ≡ c }
 {}
 
 /// Where there are no bytes, nothing is broken.
 pub fn no_bytes_are_no_breach()
-    ensures { (b : Reason) → IsBroken (Unit {0}) [] b → ⊥ }
+    ensures { (b : BreachValue) → IsBroken (Unit {0}) [] b → ⊥ }
+{}
+
+/// Where a request is awaited, none stands at the front of the bytes.
+pub fn an_awaited_request_is_not_there()
+    ensures { (bytes text rest : List ℕ) (h : RequestHeadValue) (body : List ℕ) →
+        AwaitsRequest bytes → Spells text h body → bytes ≡ text ++ rest → ⊥ }
+{}
+
+/// Where a request is awaited, neither its head nor a size line of its chunks says that it is too large.
+pub fn an_awaited_request_is_not_too_large()
+    ensures { (bytes : List ℕ) → AwaitsRequest bytes → IsBroken ⊥ bytes TooLarge → ⊥ }
+{}
+
+/// Where a request is awaited, the lines received whole may still begin with a head.
+pub fn an_awaited_request_may_still_come()
+    ensures { (lines rest : List ℕ) →
+        AwaitsRequest (lines ++ rest) → EndsLine lines → NeverHasRequest lines → ⊥ }
 {}

@@ -4,14 +4,15 @@
 //! the head tells, or in chunks. What stood at the front of the bytes received is proved to be a request,
 //! or to be none for a stated reason: no continuation can begin with one, or the input ended inside. A
 //! request is taken in two steps: its head, whose bytes are handed on ([`next_head`]), and its body, which is
-//! put into a [`Sink`] as it comes ([`read_body`]). No body is held whole.
+//! put into a [`Sink`] as it comes ([`read_body`]). No body is held whole. The input is read only while the
+//! bytes received don't decide: no request stands in front of them, and no reason why there can be none.
 //!
 //! * `head`: looking for a head at the front of bytes.
 //! * `fields`: the fields of a head, by name.
 //! * `asked`: what a session asks of a head: method, target, how long the body is, whether it closes.
 //! * `bodies`: taking a body, by its length or in chunks.
 //! * `received`: the bytes that were read and are not taken yet.
-//! * `scan`: when it is worth looking for a head.
+//! * `line_ends`: whether a line ends in bytes.
 //! * `reading`: the head of the next request of an input.
 //! * `sink`: what a body is put into.
 //! * `laws`: facts about what stands at the front of bytes.
@@ -22,9 +23,9 @@ mod bodies;
 mod fields;
 mod head;
 pub mod laws;
+mod line_ends;
 mod reading;
 mod received;
-mod scan;
 mod sink;
 
 pub use asked::{BodyLength, Breach, Method, Request};

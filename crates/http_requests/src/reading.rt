@@ -1,12 +1,13 @@
 ghost use Rattle.std.specs.Prelude.{◌≡◌, ◌≤◌, ◌+◌, [], true, false, IfOk, IfErr, OnOk, length, drop};
 ghost use Rattle.std.specs.Io.KnownBytes.{IsAtEnd};
-ghost use Rattle.http_requests.specs.Receiving.{KnowsItsEnd, ReadsOn, Stops, Finds, SameUnlessReading};
-ghost use Rattle.http_requests.specs.Searching.{FindsHead};
+ghost use Rattle.http_requests.specs.Heads.{AwaitsHead};
+ghost use Rattle.http_requests.specs.Waiting.{source_of};
+ghost use Rattle.http_requests.specs.Receiving.{KnowsItsEnd, ReadsOnWhile, Stops, Finds, WaitsForHead, SameUnlessReading};
+ghost use Rattle.http_requests.specs.Searching.{SearchFinds};
 
 use crate::asked::{BodyLength, Request, frame};
-use crate::head::{Look, MOST_BYTES, look_for_head};
+use crate::head::{Look, head_when_due};
 use crate::received::{Interrupted, Received};
-use crate::scan::Scan;
 use httparse::spans::{EMPTY_HEADER_SPAN, HeaderSpan, RequestSpans};
 use session_devices::Input;
 
@@ -43,25 +44,26 @@ fn find_head<R: Input>(
 ) -> Result<Found, Interrupted>
     requires room { 64 ≤ length headers.old }
     requires end { KnowsItsEnd received.old.ended (R.remaining input.old) }
-    ensures reads { OnOk result (ReadsOn (R.remaining input.old) (R.remaining input.new) received.old received.new) }
-    ensures found { IfOk result (λ found. FindsHead (R.remaining input.new) received.new.held headers.new found) }
-    ensures err { IfErr result (λ why. Stops (R.remaining input.old) (R.remaining input.new) (R.has_failed input.new) received.old why) }
+    ensures reads { OnOk result (ReadsOnWhile (source_of R.remaining R.gives) AwaitsHead
+        input.old input.new received.old received.new) }
+    ensures found { IfOk result (λ found.
+        SearchFinds (R.remaining input.new) received.new.held headers.new found) }
+    ensures err { IfErr result (λ why. Stops (R.remaining input.old) (R.remaining input.new)
+        (R.has_failed input.new) received.old why) }
     ensures same { SameUnlessReading (R.has_failed input.old) (R.has_failed input.new) result }
 {
-    let mut scan = Scan::new();
+    let mut seen = 0;
     'looks: loop {
         let bytes = received.as_slice();
-        let ended = received.has_ended();
-        if scan.is_due(bytes) || ended || bytes.len() >= MOST_BYTES {
-            match look_for_head(bytes, headers) {
-                Look::Whole(spans) => return Ok(Found::Head(spans)),
-                Look::Never => return Ok(Found::Never),
-                Look::More => {}
-            }
+        match head_when_due(bytes, seen, headers) {
+            Look::Whole(spans) => return Ok(Found::Head(spans)),
+            Look::Never => return Ok(Found::Never),
+            Look::More => {}
         }
-        if ended {
+        if received.has_ended() {
             return Ok(Found::End);
         }
+        seen = bytes.len();
         received.read_on(input)?;
     }
 }
@@ -69,19 +71,24 @@ fn find_head<R: Input>(
 /// Reads until the head of a request stood at the front of the bytes received, or there is none: the input
 /// has ended, or no continuation begins with one. The head is taken from the bytes, and its bytes are put in
 /// the place of what `head` held; the body is what follows, for [`read_body`](crate::read_body). It reads
-/// nothing of an input that has ended.
+/// nothing of an input that has ended, nor where the bytes received decide: a head stands at their front, or
+/// no continuation of the lines received whole begins with one.
 ///
 /// # Errors
 ///
-/// The input failed, or want of memory.
+/// The input failed, or memory ran out.
 pub fn next_head<R: Input>(
     input: &mut R,
     received: &mut Received,
     head: &mut Vec<u8>,
 ) -> Result<Next, Interrupted>
     requires end { KnowsItsEnd received.old.ended (R.remaining input.old) }
-    ensures found { IfOk result (λ next. Finds (R.remaining input.old) (R.remaining input.new) received.old received.new head.new.items next) }
-    ensures err { IfErr result (λ why. Stops (R.remaining input.old) (R.remaining input.new) (R.has_failed input.new) received.old why) }
+    ensures found { IfOk result (λ next. Finds (R.remaining input.old) (R.remaining input.new)
+        received.old received.new head.new.items next) }
+    ensures waits { IfOk result (λ next. WaitsForHead R.gives input.old input.new
+        received.old received.new head.new.items next) }
+    ensures err { IfErr result (λ why. Stops (R.remaining input.old) (R.remaining input.new)
+        (R.has_failed input.new) received.old why) }
     ensures same { SameUnlessReading (R.has_failed input.old) (R.has_failed input.new) result }
 {
     let mut headers = [EMPTY_HEADER_SPAN; FIELD_ROOM];

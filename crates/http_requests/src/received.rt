@@ -1,5 +1,5 @@
 ghost use Rattle.std.specs.Prelude.{◌≡◌, ◌≤◌, ◌+◌, [], false, IfErr, OnOk, length, drop};
-ghost use Rattle.http_requests.specs.Receiving.{ReadsOn, Stops, SameUnlessReading};
+ghost use Rattle.http_requests.specs.Receiving.{ReadsOn, IsRead, Stops, SameUnlessReading};
 
 use session_devices::Input;
 use std::alloc::{AllocError, Global};
@@ -42,9 +42,9 @@ pub struct Received {
 
 impl Model for Received {
     ghost use Rattle.std.specs.Prelude.{◌≤◌, drop, vec_len};
-    ghost use Rattle.http_requests.specs.Receiving.{Received as Reads};
+    ghost use Rattle.http_requests.specs.Receiving.{Received as ReceivedValue};
 
-    ghost Value = { Reads };
+    ghost Value = { ReceivedValue };
 
     ghost view = { λ s. record { held = drop s.at s.bytes.items; left = s.left; ended = s.ended } };
 
@@ -101,8 +101,11 @@ impl Received {
     /// Makes one read, of an input that has not ended.
     pub(crate) fn read_on<R: Input>(&mut self, input: &mut R) -> Result<(), Interrupted>
         requires { self.old.ended ≡ false }
-        ensures ok { OnOk result (ReadsOn (R.remaining input.old) (R.remaining input.new) self.old self.new) }
-        ensures err { IfErr result (λ why. Stops (R.remaining input.old) (R.remaining input.new) (R.has_failed input.new) self.old why) }
+        ensures ok { OnOk result (ReadsOn (R.remaining input.old) (R.remaining input.new)
+            self.old self.new) }
+        ensures read { OnOk result (IsRead R.gives input.old input.new self.old self.new) }
+        ensures err { IfErr result (λ why. Stops (R.remaining input.old) (R.remaining input.new)
+            (R.has_failed input.new) self.old why) }
         ensures same { SameUnlessReading (R.has_failed input.old) (R.has_failed input.new) result }
         ensures fewer { OnOk result (self.new.left + 1 ≡ self.old.left) }
     {

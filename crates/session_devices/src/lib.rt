@@ -7,7 +7,7 @@
 //! * `memory`: devices over memory.
 #![tactic(auto)]
 
-ghost use Rattle.std.specs.Prelude.{◌≡◌, ℕ, List, Bool, true, Option, ◌<◌, length, OnErr, IfOk};
+ghost use Rattle.std.specs.Prelude.{◌≡◌, ℕ, List, Bool, true, Option, ◌<◌, length, take, OnErr, IfOk};
 ghost use Rattle.std.specs.Io.KnownBytes.{ReadConsumes, WriteAppends};
 ghost use Rattle.std.specs.Io.{ReadsAtMost, WritesAtMost};
 
@@ -26,6 +26,9 @@ pub trait Input {
     /// The bytes that reads will give from here on, where they are known.
     ghost remaining: { Self → Option (List ℕ) };
 
+    /// From which state one read that gives these bytes leads to which.
+    ghost gives: { Self → List ℕ → Self → Type 0 };
+
     ghost has_failed: { Self → Bool };
 
     /// Reads some bytes to the front of the buffer and tells how many. 0 for a buffer with room says
@@ -38,6 +41,7 @@ pub trait Input {
     fn read(&mut self, buf: &mut [u8]) -> Result<usize, Failed>
         ensures bound { ReadsAtMost result buf.new }
         ensures bytes { ReadConsumes (remaining self.old) (remaining self.new) result buf.new }
+        ensures given { IfOk result (λ n. gives self.old (take n buf.new) self.new) }
         ensures ok { IfOk result (λ n. has_failed self.new ≡ has_failed self.old) }
         ensures err { OnErr result (has_failed self.new ≡ true) };
 

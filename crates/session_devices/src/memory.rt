@@ -1,4 +1,4 @@
-ghost use Rattle.std.specs.Prelude.{◌≡◌, Some, false, []};
+ghost use Rattle.std.specs.Prelude.{◌≡◌, ◌++◌, Some, false, []};
 
 use crate::{Failed, Input, Output};
 use std::alloc::Global;
@@ -32,6 +32,8 @@ impl<'a> MemoryInput<'a> {
 
 impl<'a> Input for MemoryInput<'a> {
     ghost remaining = { λ s. Some s.bytes.now };
+
+    ghost gives = { λ s given t. s.bytes.now ≡ given ++ t.bytes.now };
 
     ghost has_failed = { λ s. s.failed };
 

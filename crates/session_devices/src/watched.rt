@@ -28,7 +28,11 @@ impl<T> Watched<T> {
 }
 
 impl<T: Read> Input for Watched<T> {
+    ghost use Rattle.std.specs.Io.KnownBytes.{Consumes};
+
     ghost remaining = { λ s. T.remaining s.inner };
+
+    ghost gives = { λ s given t. Consumes (T.remaining s.inner) (T.remaining t.inner) given };
 
     ghost has_failed = { λ s. s.failed };
 

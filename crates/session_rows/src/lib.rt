@@ -4,9 +4,11 @@
 //! * `devices`: readers and writers over memory, and std's, watched.
 //! * `requests`: the next request of an input, each end, and what a head asks.
 //! * `chunked`: requests whose bodies come in chunks, and the same sessions as with a Content-Length.
-//! * `pipes`: whole sessions, and those whose devices fail at each call.
+//! * `pipes`: whole sessions, and those whose devices fail at each call. `answers`: the bytes that answer requests.
 #![tactic(auto)]
 
+#[cfg(test)]
+mod answers;
 #[cfg(test)]
 mod chunked;
 #[cfg(test)]

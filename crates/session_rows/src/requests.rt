@@ -64,7 +64,12 @@ pub(crate) enum Front {
 
 /// What a look at these bytes finds, read so many at a time.
 pub(crate) fn look(alloc: Global, bytes: &[u8], step: usize) -> Result<Front, Interrupted> {
-    let mut input = MemoryInput::new(bytes, step, 0);
+    look_in(alloc, MemoryInput::new(bytes, step, 0))
+}
+
+/// What a look at the bytes of an input finds.
+fn look_in(alloc: Global, source: MemoryInput<'_>) -> Result<Front, Interrupted> {
+    let mut input = source;
     let mut received = Received::new(alloc);
     let mut head = Vec::new(alloc);
     let size = match next_head(&mut input, &mut received, &mut head)? {
@@ -178,5 +183,88 @@ fn what_a_head_asks(rt: HostRuntime) -> Result<(), Fail> {
     assert!(rt; head.as_slice() == bytes.as_slice());
     assert!(rt; request.target.of(head.as_slice()) == b"/x".as_slice());
     assert!(rt; received.as_slice().is_empty() && !received.has_ended());
+    Ok(())
+}
+
+/// Whether a look at these bytes finds a request, or none for this reason, where the reader gives them one at a
+/// time and fails when it is asked for more.
+fn is_decided(alloc: Global, bytes: &[u8], breach: Option<Breach>) -> bool {
+    let front = look_in(alloc, MemoryInput::new(bytes, 1, bytes.len() as u64 + 1));
+    match breach {
+        None => is_one(front),
+        Some(breach) => is_broken(front, breach),
+    }
+}
+
+#[test]
+fn no_read_too_many(rt: HostRuntime) -> Result<(), Fail> {
+    let rows: [(&[u8], Option<Breach>); 11] = [
+        (b"GET / HTTP/1.1\r\n\r\n", None),
+        (b"GET / HTTP/1.1\nContent-Length: 0\n\n", None),
+        (b"POST / HTTP/1.1\r\nContent-Length: 3\r\n\r\nabc", None),
+        (b"GET / HTTP/2\r\n", Some(Breach::Head)),
+        (b"GET / HTTP/1.1\r\na b\r\n", Some(Breach::Head)),
+        (
+            b"POST / HTTP/1.1\r\nContent-Length: 4194305\r\n\r\n",
+            Some(Breach::TooLarge),
+        ),
+        (
+            b"POST / HTTP/1.1\r\nContent-Length: +3\r\n\r\n",
+            Some(Breach::Body),
+        ),
+        (
+            b"POST / HTTP/1.1\r\nTransfer-Encoding: chunked\r\n\r\n3\r\nabc\r\n0\r\n\r\n",
+            None,
+        ),
+        (
+            b"POST / HTTP/1.1\r\nTransfer-Encoding: chunked\r\n\r\ng",
+            Some(Breach::Body),
+        ),
+        (
+            b"POST / HTTP/1.1\r\nTransfer-Encoding: chunked\r\n\r\n3\r\nabcd",
+            Some(Breach::Body),
+        ),
+        (
+            b"POST / HTTP/1.1\r\nTransfer-Encoding: chunked\r\n\r\n400001\r\n",
+            Some(Breach::TooLarge),
+        ),
+    ];
+    for (bytes, breach) in &rows {
+        assert!(rt; is_decided(rt.alloc(), bytes, *breach), "{bytes:?}");
+    }
+    Ok(())
+}
+
+/// Whether a request with this field beside the type of a batch may be one.
+fn may_be_a_batch(alloc: Global, field: &[u8]) -> Result<bool, Fail> {
+    let mut bytes = Vec::new(alloc);
+    bytes.extend_from_slice(b"POST / HTTP/1.1\r\nContent-Type: application/x-thrift\r\n")?;
+    bytes.extend_from_slice(field)?;
+    bytes.extend_from_slice(b"\r\n")?;
+    let mut input = MemoryInput::new(bytes.as_slice(), 10_000, 0);
+    let mut received = Received::new(alloc);
+    let mut head = Vec::new(alloc);
+    match next_head(&mut input, &mut received, &mut head) {
+        Ok(Next::One(request, _)) => Ok(request.has_batch_type),
+        _ => Err(std::alloc::AllocError.into()),
+    }
+}
+
+#[test]
+fn content_codings(rt: HostRuntime) -> Result<(), Fail> {
+    let rows: [(&[u8], bool); 6] = [
+        (b"", true),
+        (b"Content-Encoding: identity\r\n", true),
+        (b"content-encoding: Identity\r\n", true),
+        (b"Content-Encoding: gzip\r\n", false),
+        (b"Content-Encoding:\r\n", false),
+        (
+            b"Content-Encoding: identity\r\ncontent-encoding: gzip\r\n",
+            false,
+        ),
+    ];
+    for (field, expected) in &rows {
+        assert_eq!(rt; may_be_a_batch(rt.alloc(), field)?, *expected);
+    }
     Ok(())
 }

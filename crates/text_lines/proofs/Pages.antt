@@ -53,7 +53,7 @@ handed_out a b w0 w1 text failed (Ok u) is m none works err =
 handed_out a b w0 w1 text failed (Err h) is m none works err =
     (subst (WritesSome a b) is (some_written a b w0 w1 m), rw err.0 err.1)
 
--- memory was wanting before anything was written
+-- memory ran out before anything was written
 pub nothing_said : (a : Option (List ℕ)) (failed : Bool) (text : List ℕ) (r : Result (Unit {0}) Halt) → IsErrAnd r (λ h. h ≡ Memory) → failed ≡ false → Says a a failed text r
 nothing_said a failed text (Ok u) e works = absurd e
 nothing_said a failed text (Err h) e works = (([], Appends-nil a, (text, refl)), rw e works)

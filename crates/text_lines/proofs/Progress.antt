@@ -184,7 +184,7 @@ stays in1 feed i o h why = record {
   why = why_weaker h i o ⊥ _ (λ b. absurd b) why;
 }
 
--- a line was read, and not taken for want of memory
+-- a line was read, and not taken because memory ran out
 pub line_lost : (in1 in2 : Option (List ℕ)) (feed feed2 : Feed) (line : List ℕ) (i o : Bool) → TakesLine in1 in2 feed feed2 line → i ≡ false → o ≡ false
     → StopsReading in1 in2 feed i o Memory
 line_lost in1 in2 feed feed2 line i o l ie oe = record {

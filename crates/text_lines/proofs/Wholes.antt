@@ -51,7 +51,7 @@ stops_some takes in0 in1 out0 out1 s i o h output_of a some = record {
   status_is = refl;
 }
 
--- memory was wanting before anything was read
+-- memory ran out before anything was read
 pub stops_at_once : (in0 out0 : Option (List ℕ)) (i o : Bool) (output_of : List ℕ → List ℕ) → i ≡ false → o ≡ false → StopsShort in0 in0 out0 out0 i o output_of 5
 stops_at_once in0 out0 i o output_of ie oe = record {
   halt = Memory;

@@ -10,10 +10,14 @@ abbrev pub status_by : Halt → ℕ
 status_by Device = 4
 status_by Memory = 5
 
+-- neither device has failed
+abbrev pub BothWork : Bool → Bool → Type 0
+BothWork in_failed out_failed = (in_failed ≡ false) × (out_failed ≡ false)
+
 -- a device failed, or the limit was met; where memory is wanting neither device has failed
 abbrev pub IsWhy : Halt → Bool → Bool → Type 0 → Type 0
 IsWhy Device in_failed out_failed Met = (in_failed ≡ true) ⊎ (out_failed ≡ true) ⊎ Met
-IsWhy Memory in_failed out_failed Met = (in_failed ≡ false) × (out_failed ≡ false)
+IsWhy Memory in_failed out_failed Met = BothWork in_failed out_failed
 
 -- the same of a call that only writes
 abbrev pub IsWhyOf : Halt → Bool → Type 0
@@ -50,7 +54,7 @@ pub record Finishes (in0 in1 out0 out1 : Option (List ℕ)) (in_failed out_faile
   pub input_works : in_failed ≡ false
   pub output_works : out_failed ≡ false
 
--- 4 only where a device failed or the limit of reads was met, 5 only for want of memory; what was written is
+-- 4 only where a device failed or the limit of reads was met, 5 only where memory ran out; what was written is
 -- a beginning of the output of the whole input, of which some was read
 pub record StopsShort (in0 in1 out0 out1 : Option (List ℕ)) (in_failed out_failed : Bool) (output_of : List ℕ → List ℕ) (status : ℕ) : Type 0 where
   pub halt : Halt

@@ -1,4 +1,5 @@
 ghost use Rattle.std.specs.Prelude.{◌≡◌, [], false, IfErr, IfOk, OnOk};
+ghost use Rattle.text_lines.specs.Halting.{BothWork};
 ghost use Rattle.text_lines.specs.Taking.{AnswersAll, AnswersSome, TookAll, TookSome};
 
 use crate::halt::Halt;
@@ -20,9 +21,12 @@ fn take_lines<R: Input, W: Output, T: LineTaker>(
     requires input_works { R.has_failed input.old ≡ false }
     requires output_works { W.has_failed output.old ≡ false }
     requires empty { page.old ≡ [] }
-    ensures all { IfOk result (TookAll T.takes (R.remaining input.old) (R.remaining input.new) (W.contents output.old) (W.contents output.new) taker.old taker.new page.new) }
-    ensures works { OnOk result ((R.has_failed input.new ≡ false) × (W.has_failed output.new ≡ false)) }
-    ensures some { IfErr result (TookSome T.takes (R.remaining input.old) (R.remaining input.new) (W.contents output.old) (W.contents output.new) taker.old page.new (R.has_failed input.new) (W.has_failed output.new)) }
+    ensures all { IfOk result (TookAll T.takes (R.remaining input.old) (R.remaining input.new)
+        (W.contents output.old) (W.contents output.new) taker.old taker.new page.new) }
+    ensures works { OnOk result (BothWork (R.has_failed input.new) (W.has_failed output.new)) }
+    ensures some { IfErr result (TookSome T.takes (R.remaining input.old) (R.remaining input.new)
+        (W.contents output.old) (W.contents output.new) taker.old page.new
+        (R.has_failed input.new) (W.has_failed output.new)) }
 {
     let mut lines = Lines::new(alloc)?;
     let mut line = Vec::new(alloc);
@@ -44,7 +48,7 @@ fn take_lines<R: Input, W: Output, T: LineTaker>(
 ///
 /// # Errors
 ///
-/// A device failed, the limit of reads was met, or memory was wanting.
+/// A device failed, the limit of reads was met, or memory ran out.
 pub fn answer_lines<R: Input, W: Output, T: LineTaker>(
     alloc: Global,
     input: &mut R,
@@ -53,9 +57,12 @@ pub fn answer_lines<R: Input, W: Output, T: LineTaker>(
 ) -> Result<bool, Halt>
     requires input_works { R.has_failed input.old ≡ false }
     requires output_works { W.has_failed output.old ≡ false }
-    ensures all { IfOk result (AnswersAll T.takes (R.remaining input.old) (R.remaining input.new) (W.contents output.old) (W.contents output.new) taker.old taker.new) }
-    ensures works { OnOk result ((R.has_failed input.new ≡ false) × (W.has_failed output.new ≡ false)) }
-    ensures some { IfErr result (AnswersSome T.takes (R.remaining input.old) (R.remaining input.new) (W.contents output.old) (W.contents output.new) taker.old (R.has_failed input.new) (W.has_failed output.new)) }
+    ensures all { IfOk result (AnswersAll T.takes (R.remaining input.old) (R.remaining input.new)
+        (W.contents output.old) (W.contents output.new) taker.old taker.new) }
+    ensures works { OnOk result (BothWork (R.has_failed input.new) (W.has_failed output.new)) }
+    ensures some { IfErr result (AnswersSome T.takes (R.remaining input.old) (R.remaining input.new)
+        (W.contents output.old) (W.contents output.new) taker.old
+        (R.has_failed input.new) (W.has_failed output.new)) }
 {
     let mut page = Page::new(alloc);
     match take_lines(alloc, input, output, &mut page, taker) {

@@ -3,7 +3,7 @@ ghost use Rattle.std.specs.Prelude.{◌≡◌, ℕ, ◌≤◌, ◌<◌, ◌+◌,
 ghost use Rattle.std.specs.Io.KnownBytes.{Keeps};
 ghost use Rattle.text_lines.specs.Lines.{without_return};
 ghost use Rattle.text_lines.specs.Reading.{Feed, Fills, StopsReading, TakesLine, TakesNone};
-ghost use Rattle.text_lines.specs.Halting.{Moves};
+ghost use Rattle.text_lines.specs.Halting.{BothWork, Moves};
 
 use crate::halt::Halt;
 use crate::page::Page;
@@ -33,7 +33,8 @@ impl Model for Lines {
 
     ghost view = { λ s. record { waiting = drop s.at (take s.end s.piece.items); left = s.left; ended = s.ended } };
 
-    ghost invariant = { λ s. (s.at ≤ s.end) × (s.end ≤ vec_len s.piece) × (vec_len s.piece ≡ 65536) };
+    ghost invariant = { λ s. (s.at ≤ s.end) × (s.end ≤ vec_len s.piece)
+        × (vec_len s.piece ≡ 65536) };
 }
 
 impl Lines {
@@ -80,9 +81,11 @@ impl Lines {
     fn fill<R: Input>(&mut self, input: &mut R) -> Result<(), Halt>
         requires none { self.old.waiting ≡ [] }
         requires works { R.has_failed input.old ≡ false }
-        ensures read { OnOk result (Fills (R.remaining input.old) (R.remaining input.new) self.old self.new) }
+        ensures read { OnOk result (Fills (R.remaining input.old) (R.remaining input.new)
+            self.old self.new) }
         ensures works { OnOk result (R.has_failed input.new ≡ false) }
-        ensures err { IfErr result (λ h. (h ≡ Halt.Device) × Keeps (R.remaining input.old) (R.remaining input.new)
+        ensures err { IfErr result (λ h. (h ≡ Halt.Device)
+            × Keeps (R.remaining input.old) (R.remaining input.new)
             × ((R.has_failed input.new ≡ true) ⊎ (self.old.left ≡ 0))) }
     {
         if self.left == 0 {
@@ -105,7 +108,7 @@ impl Lines {
     ///
     /// # Errors
     ///
-    /// A device failed, the limit of reads was met, or memory was wanting.
+    /// A device failed, the limit of reads was met, or memory ran out.
     pub fn next<R: Input, W: Output>(
         &mut self,
         input: &mut R,
@@ -116,11 +119,14 @@ impl Lines {
         requires input_works { R.has_failed input.old ≡ false }
         requires output_works { W.has_failed output.old ≡ false }
         ensures line { IfOk result (λ found. MatchBool found
-            (TakesLine (R.remaining input.old) (R.remaining input.new) self.old self.new line.new.items)
-            (TakesNone (R.remaining input.old) (R.remaining input.new) self.old self.new)) }
+            (TakesLine (R.remaining input.old) (R.remaining input.new)
+            self.old self.new line.new.items)
+            (TakesNone (R.remaining input.old) (R.remaining input.new)
+            self.old self.new)) }
         ensures page { Moves (W.contents output.old) (W.contents output.new) page.old page.new }
-        ensures works { OnOk result ((R.has_failed input.new ≡ false) × (W.has_failed output.new ≡ false)) }
-        ensures err { IfErr result (StopsReading (R.remaining input.old) (R.remaining input.new) self.old (R.has_failed input.new) (W.has_failed output.new)) }
+        ensures works { OnOk result (BothWork (R.has_failed input.new) (W.has_failed output.new)) }
+        ensures err { IfErr result (StopsReading (R.remaining input.old) (R.remaining input.new)
+            self.old (R.has_failed input.new) (W.has_failed output.new)) }
     {
         line.clear();
         'pieces: loop {

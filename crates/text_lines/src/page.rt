@@ -41,7 +41,7 @@ impl Page {
     ///
     /// # Errors
     ///
-    /// Want of memory; what waits stays.
+    /// Out of memory; what waits stays.
     pub fn say(&mut self, text: &[u8]) -> Result<(), AllocError>
         ensures ok { OnOk result (self.new ≡ self.old ++ text.now) }
         ensures err { OnErr result (self.new ≡ self.old) }
@@ -92,10 +92,11 @@ impl Page {
 ///
 /// # Errors
 ///
-/// The output failed, or memory was wanting.
+/// The output failed, or memory ran out.
 pub fn say<W: Output>(alloc: Global, output: &mut W, text: &[u8]) -> Result<(), Halt>
     requires { W.has_failed output.old ≡ false }
-    ensures { Says (W.contents output.old) (W.contents output.new) (W.has_failed output.new) text.now result }
+    ensures { Says (W.contents output.old) (W.contents output.new)
+        (W.has_failed output.new) text.now result }
 {
     let mut page = Page::new(alloc);
     page.say(text)?;

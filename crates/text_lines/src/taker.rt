@@ -13,7 +13,7 @@ pub trait LineTaker {
     ///
     /// # Errors
     ///
-    /// Want of memory.
+    /// Out of memory.
     fn take_line(
         &mut self,
         alloc: Global,
@@ -22,5 +22,6 @@ pub trait LineTaker {
         said: &mut Vec<u8>,
     ) -> Result<bool, AllocError>
         requires { said.old.items ≡ [] }
-        ensures { IfOk result (λ faulty. takes self.old number line.old.items (record { text = said.new.items; faulty = faulty }) self.new) };
+        ensures { IfOk result (λ faulty. takes self.old number line.old.items
+            (record { text = said.new.items; faulty = faulty }) self.new) };
 }

@@ -1,3 +1,4 @@
+use Rattle.chunked_bodies.proofs.Sizes.{line_unended}
 use Rattle.chunked_bodies.proofs.Fronts.{line_whole, line_when_short, line_when_full, line_never}
 use Rattle.chunked_bodies.proofs.line.look_for_size.Goals as goal
 
@@ -9,7 +10,9 @@ returns-in-Ok-Complete c =
 pub returns-then-bytes-lt-MOST_LINE_BYTES : goal.returns-then-bytes-lt-MOST_LINE_BYTES
 returns-then-bytes-lt-MOST_LINE_BYTES c =
     let e = rw c.in-Ok-Partial.field-0-is at c.in-Ok-Partial.ensures in
-    (line_when_short c.args.bytes.now c.front_of.result.now c.front_of.ensures c.if-bytes-lt-MOST_LINE_BYTES.true e.partial, c.if-bytes-lt-MOST_LINE_BYTES.true)
+    let short = c.if-bytes-lt-MOST_LINE_BYTES.true in
+    let none = line_when_short c.args.bytes.now c.front_of.result.now c.front_of.ensures short e.partial in
+    (none, short, line_unended c.args.bytes.now c.front_of.result.now c.front_of.ensures short e.unfinished none)
 
 pub returns-else-bytes-lt-MOST_LINE_BYTES : goal.returns-else-bytes-lt-MOST_LINE_BYTES
 returns-else-bytes-lt-MOST_LINE_BYTES c =

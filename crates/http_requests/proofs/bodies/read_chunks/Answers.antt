@@ -1,50 +1,54 @@
-use Rattle.std.proofs.Common.{◌≤◌, ◌<◌, ◌∙◌, arith}
+use Rattle.std.proofs.Common.{◌≤◌, ◌<◌, ◌∙◌, arith, refl}
 use Rattle.std.proofs.lemmas.Result.{err_from_is_err_and}
+use Rattle.http_requests.specs.Waiting.{source_of}
 use Rattle.http_requests.proofs.Readings.{takes_then_stops}
-use Rattle.http_requests.proofs.Taking.{no_size, with_line, passes, fails_content, one_more, fails_trailer, chunks_whole}
+use Rattle.http_requests.proofs.Taking.{chunks_none, no_size, with_line, passes, fails_content, one_more, fails_trailer, chunks_whole}
 use Rattle.http_requests.proofs.bodies.read_chunks.Goals as goal
+
+pub chunks-init : goal.chunks-init
+chunks-init g c = (chunks_none g.S.Sink.takes (source_of g.R.Input.remaining g.R.Input.gives) g.met.S.Sink.takes_nothing _ _ _, refl)
 
 pub returns-in_err-size-clause-err : goal.returns-in_err-size-clause-err
 returns-in_err-size-clause-err g c =
     let so = c.chunks.invariant.0 in
     let p = err_from_is_err_and c.from_residual.result c.from_residual.ensures.1 in
-    rw (p.1, p.2) (takes_then_stops _ _ _ _ _ _ _ _ so.reads c.in_err-size.ensures.err)
+    rw (p.1, p.2) (takes_then_stops _ _ _ _ _ _ _ _ so.reads.on c.in_err-size.ensures.err)
 
 pub returns-in_default-clause-body : goal.returns-in_default-clause-body
 returns-in_default-clause-body g c =
     let misses = rw c.in_default.is at c.in_ok-size.ensures.takes in
-    no_size g.S.Sink.takes _ _ _ _ _ _ _ _ _ c.chunks.invariant.0 misses
+    no_size g.S.Sink.takes (source_of g.R.Input.remaining g.R.Input.gives) _ _ _ _ _ _ _ _ _ c.chunks.invariant.0 misses
 
 pub returns-in_err-take_trailer-clause-err : goal.returns-in_err-take_trailer-clause-err
 returns-in_err-take_trailer-clause-err g c =
     let line = rw c.in-Some.is at c.in_ok-size.ensures.takes in
-    let reads = with_line g.S.Sink.takes _ _ _ _ _ _ _ _ _ c.chunks.invariant.0 c.in-Some.size line in
+    let reads = with_line g.S.Sink.takes (source_of g.R.Input.remaining g.R.Input.gives) _ _ _ _ _ _ _ _ _ c.chunks.invariant.0 c.in-Some.size line in
     let p = err_from_is_err_and c.from_residual-in_err-take_trailer.result c.from_residual-in_err-take_trailer.ensures.1 in
-    rw (p.1, p.2) (takes_then_stops _ _ _ _ _ _ _ _ reads c.in_err-take_trailer.ensures.err)
+    rw (p.1, p.2) (takes_then_stops _ _ _ _ _ _ _ _ reads.on c.in_err-take_trailer.ensures.err)
 
 pub returns-then-branch-clause-body : goal.returns-then-branch-clause-body
 returns-then-branch-clause-body g c =
     let line = rw (c.in-Some.is, c.if-size-eq0.true) at c.in_ok-size.ensures.takes in
     let trailer = rw c.if-branch.true at c.in_ok-take_trailer.ensures.takes in
-    chunks_whole g.S.Sink.takes _ _ _ _ _ _ _ _ _ c.chunks.invariant.0 line _ _ trailer
+    chunks_whole g.S.Sink.takes (source_of g.R.Input.remaining g.R.Input.gives) _ _ _ _ _ _ _ _ _ c.chunks.invariant.0 line _ _ trailer
 
 pub returns-then-size-eq0-clause-body : goal.returns-then-size-eq0-clause-body
 returns-then-size-eq0-clause-body g c =
     let line = rw (c.in-Some.is, c.if-size-eq0.true) at c.in_ok-size.ensures.takes in
     let misses = rw c.if-branch.false at c.in_ok-take_trailer.ensures.takes in
-    fails_trailer g.S.Sink.takes _ _ _ _ _ _ _ _ _ c.chunks.invariant.0 line _ _ misses
+    fails_trailer g.S.Sink.takes (source_of g.R.Input.remaining g.R.Input.gives) _ _ _ _ _ _ _ _ _ c.chunks.invariant.0 line _ _ misses
 
 pub returns-then-size-left-clause-body : goal.returns-then-size-left-clause-body
 returns-then-size-left-clause-body g c =
     let line = rw c.in-Some.is at c.in_ok-size.ensures.takes in
-    passes g.S.Sink.takes _ _ _ _ _ _ _ _ _ c.chunks.invariant.0 c.in-Some.size line c.if-size-left.true
+    passes g.S.Sink.takes (source_of g.R.Input.remaining g.R.Input.gives) _ _ _ _ _ _ _ _ _ c.chunks.invariant.0 c.in-Some.size line c.if-size-left.true
 
 pub returns-in_err-take_content-clause-err : goal.returns-in_err-take_content-clause-err
 returns-in_err-take_content-clause-err g c =
     let line = rw c.in-Some.is at c.in_ok-size.ensures.takes in
-    let reads = with_line g.S.Sink.takes _ _ _ _ _ _ _ _ _ c.chunks.invariant.0 c.in-Some.size line in
+    let reads = with_line g.S.Sink.takes (source_of g.R.Input.remaining g.R.Input.gives) _ _ _ _ _ _ _ _ _ c.chunks.invariant.0 c.in-Some.size line in
     let p = err_from_is_err_and c.from_residual-in_err-take_content.result c.from_residual-in_err-take_content.ensures.1 in
-    rw (p.1, p.2) (takes_then_stops _ _ _ _ _ _ _ _ reads c.in_err-take_content.ensures.err)
+    rw (p.1, p.2) (takes_then_stops _ _ _ _ _ _ _ _ reads.on c.in_err-take_content.ensures.err)
 
 pub returns-then-not-branch-clause-body : goal.returns-then-not-branch-clause-body
 returns-then-not-branch-clause-body g c =
@@ -52,7 +56,7 @@ returns-then-not-branch-clause-body g c =
     let fails = rw c.if-not-branch.true at c.in_ok-take_content.ensures.takes in
     let some : 0 < c.in-Some.size = omega (arith, c.if-size-eq0.false) in
     let fits : c.in-Some.size ≤ c.chunks.left = omega (arith, c.if-size-left.false) in
-    fails_content g.S.Sink.takes _ _ _ _ _ _ _ _ _ c.chunks.invariant.0 c.in-Some.size line _ _ some fits fails
+    fails_content g.S.Sink.takes (source_of g.R.Input.remaining g.R.Input.gives) _ _ _ _ _ _ _ _ _ c.chunks.invariant.0 c.in-Some.size line some fits _ _ _ fails
 
 pub chunks-preserved : goal.chunks-preserved
 chunks-preserved g c =
@@ -60,6 +64,6 @@ chunks-preserved g c =
     let content = rw c.if-not-branch.false at c.in_ok-take_content.ensures.takes in
     let some : 0 < c.in-Some.size = omega (arith, c.if-size-eq0.false) in
     let fits : c.in-Some.size ≤ c.chunks.left = omega (arith, c.if-size-left.false) in (
-      one_more g.S.Sink.takes _ _ _ _ _ _ _ _ _ c.chunks.invariant.0 c.in-Some.size line g.met.S.Sink.takes_joined _ _ _ some fits content,
+      one_more g.S.Sink.takes (source_of g.R.Input.remaining g.R.Input.gives) _ _ _ _ _ _ _ _ _ c.chunks.invariant.0 c.in-Some.size line some fits _ _ _ g.met.S.Sink.takes_joined content,
       c.in_ok-take_content.ensures.same ∙ c.in_ok-size.ensures.same ∙ c.chunks.invariant.1,
     )

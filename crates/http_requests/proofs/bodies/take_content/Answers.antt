@@ -1,12 +1,18 @@
-use Rattle.http_requests.proofs.Taking.{content_then, if_err_stops}
+use Rattle.http_requests.specs.Waiting.{source_of}
+use Rattle.http_requests.proofs.Taking.{content_then, content_short, if_err_stops}
 use Rattle.http_requests.proofs.bodies.take_content.Goals as goal
 
 pub returns-then-branch-clause-takes : goal.returns-then-branch-clause-takes
 returns-then-branch-clause-takes g c =
     let gathers = rw c.if-branch.true at c.in_ok-gather.ensures.gathers in
-    content_then g.S.Sink.takes _ _ _ _ _ _ _ _ _ c.take_line_end.result gathers c.take_line_end.ensures.takes
+    content_then g.S.Sink.takes (source_of g.R.Input.remaining g.R.Input.gives) _ _ _ _ _ _ _ _ _ c.take_line_end.result gathers c.take_line_end.ensures.takes
 
 pub returns-then-branch-clause-err : goal.returns-then-branch-clause-err
 returns-then-branch-clause-err g c =
     let gathers = rw c.if-branch.true at c.in_ok-gather.ensures.gathers in
-    if_err_stops _ _ _ _ _ _ gathers.content c.take_line_end.result gathers.reads c.take_line_end.ensures.err
+    if_err_stops _ _ _ _ _ _ gathers.content c.take_line_end.result gathers.reads.on c.take_line_end.ensures.err
+
+pub returns-else-branch-clause-takes : goal.returns-else-branch-clause-takes
+returns-else-branch-clause-takes g c =
+    let gathers = rw c.if-branch.false at c.in_ok-gather.ensures.gathers in
+    content_short g.S.Sink.takes (source_of g.R.Input.remaining g.R.Input.gives) _ c.gather.new.input c.gather.new.input _ _ c.gather.new.received _ _ _ gathers

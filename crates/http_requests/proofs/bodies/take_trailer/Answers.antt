@@ -1,16 +1,26 @@
+use Rattle.std.proofs.Common.{◌∙◌, refl, arith}
 use Rattle.std.proofs.lemmas.Result.{err_from_is_err_and}
-use Rattle.http_requests.proofs.Readings.{reads_then_stops}
-use Rattle.http_requests.proofs.Taking.{misses_never, misses_at_end}
+use Rattle.chunked_bodies.specs.Chunks.{IsTrailer, HasNone}
+use Rattle.http_requests.specs.Waiting.{source_of}
+use Rattle.http_requests.proofs.Readings.{reads_then_stops, nothing_yet}
+use Rattle.http_requests.proofs.Taking.{reads_more}
+use Rattle.http_requests.proofs.Ends.{no_trailer_yet, seen_stays, fits_still}
 use Rattle.http_requests.proofs.bodies.take_trailer.Goals as goal
 
-pub returns-in-Never-clause-takes : goal.returns-in-Never-clause-takes
-returns-in-Never-clause-takes g c = misses_never _ _ _ _ _ _ c.looks.invariant.0 c.as_slice-bytes.ensures c.in-Never.ensures
+pub looks-init : goal.looks-init
+looks-init g c = (nothing_yet (source_of g.R.Input.remaining g.R.Input.gives) (HasNone IsTrailer) _ _, refl, omega arith, no_trailer_yet)
 
-pub returns-then-ended-clause-takes : goal.returns-then-ended-clause-takes
-returns-then-ended-clause-takes g c =
-    misses_at_end _ _ _ _ _ _ c.has_ended-ended.result c.looks.invariant.0 c.requires.end c.as_slice-bytes.ensures c.has_ended-ended.ensures c.if-ended.true c.in-More.ensures
+pub looks-preserved : goal.looks-preserved
+looks-preserved g c =
+    let so = c.looks.invariant in
+    let read = c.in_ok-read_on.ensures.read in (
+      reads_more (source_of g.R.Input.remaining g.R.Input.gives) (HasNone IsTrailer) _ _ _ _ _ _ _ so.0 c.as_slice-bytes.ensures c.in-More.ensures c.in_ok-read_on.ensures.ok read,
+      c.in_ok-read_on.ensures.same ∙ so.1,
+      fits_still _ _ _ read.0 c.as_slice-bytes.ensures read.2,
+      seen_stays (HasNone IsTrailer) _ _ _ read.0 c.as_slice-bytes.ensures read.2 c.in-More.ensures,
+    )
 
 pub returns-in_err-read_on-clause-err : goal.returns-in_err-read_on-clause-err
 returns-in_err-read_on-clause-err g c =
     let p = err_from_is_err_and c.from_residual.result c.from_residual.ensures.1 in
-    rw (p.1, p.2) (reads_then_stops _ _ _ _ _ _ _ c.looks.invariant.0 c.in_err-read_on.ensures.err)
+    rw (p.1, p.2) (reads_then_stops _ _ _ _ _ _ _ c.looks.invariant.0.on c.in_err-read_on.ensures.err)

@@ -1,4 +1,5 @@
-use Rattle.http_requests.proofs.Fronts.{never_when_full, never_in_room, never_with_many, whole, more_when_short}
+use Rattle.http_requests.proofs.Fronts.{never_when_full, never_in_room, never_with_many, whole}
+use Rattle.http_requests.proofs.Ends.{awaits_head}
 use Rattle.http_requests.proofs.head.look_for_head.Goals as goal
 
 pub returns-then-spans-gt-MOST_FIELDS : goal.returns-then-spans-gt-MOST_FIELDS
@@ -14,7 +15,7 @@ returns-else-spans-gt-MOST_FIELDS c =
 pub returns-then-bytes-lt-MOST_BYTES : goal.returns-then-bytes-lt-MOST_BYTES
 returns-then-bytes-lt-MOST_BYTES c =
     let e = rw c.in-Ok-Partial.field-0-is at c.in-Ok-Partial.ensures in
-    (more_when_short c.args.bytes.now c.front_of.result.now c.front_of.ensures c.if-bytes-lt-MOST_BYTES.true e.partial, c.if-bytes-lt-MOST_BYTES.true)
+    awaits_head c.args.bytes.now c.front_of.result.now c.front_of.ensures c.if-bytes-lt-MOST_BYTES.true e.partial e.unfinished
 
 pub returns-else-bytes-lt-MOST_BYTES : goal.returns-else-bytes-lt-MOST_BYTES
 returns-else-bytes-lt-MOST_BYTES c =

@@ -1,9 +1,8 @@
-use Rattle.std.proofs.Common.{◌≡◌, ◌&&◌, List, ℕ, map, drop}
-use Rattle.std.specs.List.{list_any}
+use Rattle.std.proofs.Common.{◌≡◌, map, drop}
 use Rattle.httparse.specs.Spans.{header_bytes}
-use Rattle.http_requests.specs.Fields.{same_name, has_token}
+use Rattle.http_requests.specs.Fields.{have_token}
 use Rattle.http_requests.proofs.fields.Fields.have_token.Given as goal
 
 abbrev pub invariant-loop-span : goal.invariant-loop-span
 invariant-loop-span l =
-    list_any (λ (p : List ℕ × List ℕ). same_name p.0 l.name && has_token l.token p.1) (map (header_bytes l.self-inside.bytes.now) (drop l.span-index l.self-inside.spans.now)) ≡ list_any (λ (p : List ℕ × List ℕ). same_name p.0 l.name && has_token l.token p.1) l.self
+    have_token l.name l.token (map (header_bytes l.self-inside.bytes.now) (drop l.span-index l.self-inside.spans.now)) ≡ have_token l.name l.token l.self

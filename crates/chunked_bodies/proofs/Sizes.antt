@@ -1,0 +1,126 @@
+-- Size lines: where none has ended no line has, and what they tell at the front of a body.
+use Rattle.std.proofs.Common.{◌≡◌, ℕ, ◌==◌, ◌||◌, ◌<◌, Bool, true, false, List, [], ◌∷◌, ◌++◌, length, take, Option, None, Some, IsTrue, refl, sym, ap, ◌∙◌, subst, arith, inl, inr, append_assoc, append-nil, length-append}
+use Rattle.std.specs.List.{list_any}
+use Rattle.std.specs.Char.{is_ascii_hexdigit}
+use Rattle.std.proofs.lemmas.Bool.Decides.{nat_tests}
+use Rattle.std.proofs.lemmas.List.Folds.{list_any-append, list_any_none}
+use Rattle.std.proofs.lemmas.List.{take_all}
+use Rattle.std.proofs.lemmas.List.Elements.{All-nil, All-from_recursion}
+use Rattle.httparse.specs.Grammar.{ChunkLine, IsChunkLine, print_chunk_line, print_extension, IsExtension, AllPass, is_ows, is_extension_byte, chunk_size, MayBecomeChunkLine}
+use Rattle.chunked_bodies.specs.Chunks.{IsSizeLine, IsSomeSizeLine, IsDecided, IsSized, texts, HasNone, Begins}
+
+abbrev has_feed : List ℕ → Bool
+has_feed bytes = list_any (λ b. b == 10) bytes
+
+-- ---- a line that hasn't ended
+
+quiet : (test : ℕ → Bool) (bytes : List ℕ) → test 10 ≡ false → AllPass test bytes → has_feed bytes ≡ false
+quiet test bytes off pass = list_any_none (λ b. b == 10) bytes (λ k d l. one _ (pass k d l))
+  where
+    one : (b : ℕ) → IsTrue (test b) → (b == 10) ≡ false
+    one b pass = grind (arith, nat_tests, off, pass)
+
+quiet_both : (a b : List ℕ) → has_feed a ≡ false → has_feed b ≡ false → has_feed (a ++ b) ≡ false
+quiet_both a b one other = list_any-append (λ x. x == 10) a b ∙ (λ i. one i || other i)
+
+quiet_extension : (e : Option (List ℕ)) → IsExtension e → has_feed (print_extension e) ≡ false
+quiet_extension None is = refl
+quiet_extension (Some text) is = quiet is_extension_byte text refl is
+
+-- before its line feed a size line has none
+front_of : ChunkLine → List ℕ
+front_of l = ((l.digits ++ l.pad) ++ print_extension l.extension) ++ 13 ∷ []
+
+front_is : (l : ChunkLine) → print_chunk_line l ≡ front_of l ++ 10 ∷ []
+unfolding print_chunk_line front_of
+front_is l = sym (append_assoc ((l.digits ++ l.pad) ++ print_extension l.extension) (13 ∷ []) (10 ∷ []))
+
+front_quiet : (l : ChunkLine) → IsChunkLine l → has_feed (front_of l) ≡ false
+unfolding front_of
+front_quiet l is =
+    quiet_both ((l.digits ++ l.pad) ++ print_extension l.extension) (13 ∷ [])
+    (quiet_both (l.digits ++ l.pad) (print_extension l.extension)
+    (quiet_both l.digits l.pad (quiet is_ascii_hexdigit l.digits refl is.digits.2) (quiet is_ows l.pad refl is.pad))
+    (quiet_extension l.extension is.extension))
+    refl
+
+-- nothing follows the only line feed
+nothing_behind : (front a c : List ℕ) → has_feed front ≡ false → front ++ 10 ∷ [] ≡ a ++ 10 ∷ c → c ≡ []
+nothing_behind [] [] c none e = cc e
+nothing_behind [] (y ∷ a) c none e = absurd (omega (arith, ap length e, length-append a (10 ∷ c)))
+nothing_behind (x ∷ front) [] c none e = absurd (first x e none)
+  where
+    first : (x : ℕ) {xs ys : List ℕ} → x ∷ xs ≡ 10 ∷ ys → (x == 10 || has_feed front) ≡ false → ⊥
+    first x e none =
+        let is : x ≡ 10 = cc e in
+        absurd (cc (ap (λ b. b == 10 || has_feed front) (sym is) ∙ none))
+nothing_behind (x ∷ front) (y ∷ a) c none e =
+    let later : front ++ 10 ∷ [] ≡ a ++ 10 ∷ c = cc e in
+    nothing_behind front a c (rest (x == 10) (has_feed front) none) later
+  where
+    rest : (a b : Bool) → (a || b) ≡ false → b ≡ false
+    rest true b e = absurd (cc e)
+    rest false b e = e
+
+-- a line feed stands somewhere
+feed_at : (bytes : List ℕ) → has_feed bytes ≡ true → (a : List ℕ) × (b : List ℕ) × (bytes ≡ a ++ 10 ∷ b)
+feed_at [] e = absurd (cc e)
+feed_at (x ∷ bytes) e = at (x == 10) refl (λ off. feed_at bytes (ap (λ b. b || has_feed bytes) off ∙ e))
+  where
+    at : (b : Bool) → b ≡ (x == 10) → (false ≡ (x == 10) → (a : List ℕ) × (c : List ℕ) × (bytes ≡ a ++ 10 ∷ c)) → (a : List ℕ) × (c : List ℕ) × (x ∷ bytes ≡ a ++ 10 ∷ c)
+    at true here later =
+        let is : x ≡ 10 = grind (arith, nat_tests, here) in
+        ([], bytes, λ i. is i ∷ bytes)
+    at false other later =
+        let found = later other in
+        (x ∷ found.0, found.1, λ i. x ∷ found.2 i)
+
+whole_line : (bytes : List ℕ) (l : ChunkLine) (more : List ℕ) → IsChunkLine l → bytes ++ more ≡ print_chunk_line l → has_feed bytes ≡ true → bytes ≡ print_chunk_line l
+whole_line bytes l more is e feed =
+    let at = feed_at bytes feed in
+    let none = nothing_behind (front_of l) at.0 (at.1 ++ more) (front_quiet l is)
+    (sym (front_is l) ∙ sym e ∙ ap (λ x. x ++ more) at.2 ∙ append_assoc at.0 (10 ∷ at.1) more) in
+    let nothing : more ≡ [] = empty at.1 more none in
+    sym (append-nil bytes) ∙ ap (λ x. bytes ++ x) (sym nothing) ∙ e
+  where
+    empty : (a b : List ℕ) → a ++ b ≡ [] → b ≡ []
+    empty [] b e = e
+    empty (x ∷ a) b e = absurd (omega (arith, ap length e))
+
+unended : (bytes : List ℕ) → MayBecomeChunkLine bytes → HasNone IsSomeSizeLine bytes → length bytes < 256 → (b : Bool) → b ≡ has_feed bytes → has_feed bytes ≡ false
+unended bytes may none short false e = sym e
+unended bytes (more, l, reads) none short true e =
+    let is : bytes ≡ print_chunk_line l = whole_line bytes l more reads.0 (reads.1 ∙ append-nil (print_chunk_line l)) (sym e) in
+    absurd (none bytes [] (chunk_size l, record { line = l; is = reads.0; text_is = is; short = omega (arith, short); size_is = refl }) (sym (append-nil bytes)))
+
+pub line_unended : (bytes front : List ℕ) → front ≡ take 256 bytes → length bytes < 256 → MayBecomeChunkLine front → HasNone IsSomeSizeLine bytes → has_feed bytes ≡ false
+line_unended bytes front f short may none =
+    unended bytes (subst MayBecomeChunkLine (f ∙ take_all 256 bytes (omega (arith, short))) may) none short (has_feed bytes) refl
+
+-- ---- the last line
+
+pub zero_line : List ℕ
+zero_line = 48 ∷ 13 ∷ 10 ∷ []
+
+pub zero_line_is : IsSizeLine zero_line 0
+unfolding zero_line print_chunk_line
+zero_line_is = record {
+  line = record { digits = 48 ∷ []; pad = []; extension = None };
+  is = record {
+    digits = (omega arith, omega arith, All-from_recursion (λ b. IsTrue (is_ascii_hexdigit b)) (48 ∷ []) (refl, tt));
+    pad = All-nil _;
+    extension = tt;
+  };
+  text_is = refl;
+  short = omega arith;
+  size_is = refl;
+}
+
+pub body_is_sized : (most : ℕ) (text : List ℕ) → IsDecided most text → Begins (IsSized most) text
+body_is_sized most text (inl (body, b)) = record {
+  text = texts b.chunks ++ b.last;
+  rest = b.trailer;
+  is = inl (record { chunks = b.chunks; last = b.last; each = b.each; last_is = b.last_is; text_is = refl; small = omega (arith, b.small, ap length b.body_is) });
+  cut = b.text_is ∙ sym (append_assoc (texts b.chunks) b.last b.trailer);
+}
+body_is_sized most text (inr large) = record { text = text; rest = []; is = inr large; cut = sym (append-nil text) }

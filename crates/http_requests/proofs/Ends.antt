@@ -1,0 +1,156 @@
+-- A head and a trailer end with a line, and so does nothing new where no line has ended.
+use Rattle.std.proofs.Common.{◌≡◌, ℕ, ◌==◌, ◌||◌, ◌-◌, ◌≤◌, ◌<◌, Bool, true, false, List, [], ◌∷◌, ◌++◌, length, take, drop, IsTrue, refl, sym, ap, ◌∙◌, subst, arith, inl, inr, append_assoc, append-nil, length-append}
+use Rattle.std.specs.List.{list_any, flat_map}
+use Rattle.std.proofs.lemmas.Bool.Decides.{nat_tests}
+use Rattle.std.proofs.lemmas.List.{take-append-drop, take_all, length-drop}
+use Rattle.std.proofs.lemmas.List.Folds.{list_any-append, list_any_none}
+use Rattle.std.proofs.Math.Seq.{take-append_seam}
+use Rattle.httparse.specs.Grammar.{LineEnd.{crlf, lf}, LineEnd, Field, RequestHead, AllPass, is_token_byte, is_uri_byte, print_end, print_field, print_section, print_blank, print_version, print_request, HasNoRequest, NeverHasRequest, MayBecomeRequest, EndsInTarget}
+use Rattle.httparse.proofs.GrammarLemmas.{print_request-append}
+use Rattle.chunked_bodies.specs.Chunks.{IsTrailer, HasNone}
+use Rattle.http_requests.specs.Heads.{EndsLine, AwaitsHead}
+use Rattle.http_requests.proofs.Fronts.{more_when_short}
+use Rattle.http_requests.proofs.Once.{some_head, some_with, some_behind, token_quiet, head_is_some}
+
+abbrev has_feed : List ℕ → Bool
+has_feed bytes = list_any (λ b. b == 10) bytes
+
+-- a beginning that ends with a line ends where no line ended later
+pub ends_before : (seen part front rest : List ℕ) → seen ++ part ≡ front ++ 10 ∷ rest → has_feed part ≡ false → (left : List ℕ) × (seen ≡ (front ++ 10 ∷ []) ++ left)
+ends_before [] part front rest e none = absurd (cc (sym none ∙ ap has_feed e ∙ has_one front rest))
+  where
+    or_true : (b : Bool) → (b || true) ≡ true
+    or_true true = refl
+    or_true false = refl
+
+    has_one : (front rest : List ℕ) → has_feed (front ++ 10 ∷ rest) ≡ true
+    has_one front rest = list_any-append (λ b. b == 10) front (10 ∷ rest) ∙ or_true (has_feed front)
+ends_before (x ∷ xs) part [] rest e none = (xs, λ i. first e i ∷ xs)
+  where
+    first : {a b : ℕ} {xs ys : List ℕ} → a ∷ xs ≡ b ∷ ys → a ≡ b
+    first e = cc e
+ends_before (x ∷ xs) part (y ∷ ys) rest e none =
+    let here : x ≡ y = cc e in
+    let later : xs ++ part ≡ ys ++ 10 ∷ rest = cc e in
+    let cut = ends_before xs part ys rest later none in
+    (cut.0, λ i. here i ∷ cut.1 i)
+
+-- ---- a text that ends with a line
+
+end_feeds : (e : LineEnd) → (front : List ℕ) × (print_end e ≡ front ++ 10 ∷ [])
+end_feeds crlf = (13 ∷ [], refl)
+end_feeds lf = ([], refl)
+
+section_ends : (fields : List Field) (last : LineEnd) → EndsLine (print_section fields last)
+section_ends [] last = end_feeds last
+section_ends (f ∷ fs) last =
+    let later = section_ends fs last in (
+      print_field f ++ later.0,
+      append_assoc (print_field f) (flat_map print_field fs) (print_end last) ∙ ap (λ l. print_field f ++ l) later.1 ∙ sym (append_assoc (print_field f) later.0 (10 ∷ [])),
+    )
+
+behind_ends : (front text : List ℕ) → EndsLine text → EndsLine (front ++ text)
+behind_ends front text ends = (front ++ ends.0, ap (λ l. front ++ l) ends.1 ∙ sym (append_assoc front ends.0 (10 ∷ [])))
+
+cons_ends : (x : ℕ) (text : List ℕ) → EndsLine text → EndsLine (x ∷ text)
+cons_ends x text ends = (x ∷ ends.0, ap (λ l. x ∷ l) ends.1)
+
+head_ends : (h : RequestHead) → EndsLine (print_request h)
+head_ends h =
+    let last : EndsLine (print_section h.fields h.last ++ []) = subst EndsLine (sym (append-nil (print_section h.fields h.last))) (section_ends h.fields h.last) in
+    let version = behind_ends (print_version h.minor) _ (behind_ends (print_end h.line_end) _ last) in
+    let line = behind_ends h.method _ (cons_ends 32 _ (behind_ends h.target _ (cons_ends 32 _ version))) in
+    subst EndsLine (sym (print_request-append h []) ∙ append-nil (print_request h)) (behind_ends (print_blank h.blank) _ line)
+
+pub trailer_ends : (text : List ℕ) → IsTrailer text → EndsLine text
+trailer_ends text is = subst EndsLine (sym is.text_is) (section_ends is.fields is.last)
+
+-- ---- what was seen, and more in which no line ends
+
+pub cut_before : (seen part lines rest : List ℕ) → EndsLine lines → seen ++ part ≡ lines ++ rest → has_feed part ≡ false → (left : List ℕ) × (seen ≡ lines ++ left)
+cut_before seen part lines rest ends e none =
+    let cut = ends_before seen part ends.0 rest (e ∙ ap (λ l. l ++ rest) ends.1 ∙ append_assoc ends.0 (10 ∷ []) rest) none in
+    (cut.0, cut.1 ∙ ap (λ l. l ++ cut.0) (sym ends.1))
+
+none_longer : (Is : List ℕ → Type 0) (seen part : List ℕ) → ((text : List ℕ) → Is text → EndsLine text) → HasNone Is seen → has_feed part ≡ false → HasNone Is (seen ++ part)
+none_longer Is seen part ends none new text rest is e =
+    let cut = cut_before seen part text rest (ends text is) e new in
+    none text cut.0 is cut.1
+
+head_longer : (seen part : List ℕ) → AwaitsHead seen → has_feed part ≡ false → length (seen ++ part) < 8192 → AwaitsHead (seen ++ part)
+head_longer seen part awaits new short = record {
+  none = λ h rest takes. let cut = cut_before seen part (print_request h) rest (head_ends h) takes.reads.1 new in
+      awaits.none h cut.0 (record { reads = (takes.reads.0, cut.1); size = takes.size; fields = takes.fields });
+  short = short;
+  may = λ lines rest e ends. let cut = cut_before seen part lines rest ends e new in
+      awaits.may lines cut.0 cut.1 ends;
+}
+
+-- the bytes behind the seen ones
+abbrev unseen : List ℕ → ℕ → List ℕ
+unseen bytes seen = take (length bytes - seen) (drop seen bytes)
+
+together : (bytes : List ℕ) (seen : ℕ) → take seen bytes ++ unseen bytes seen ≡ bytes
+together bytes seen = ap (λ l. take seen bytes ++ l) (take_all (length bytes - seen) (drop seen bytes) (omega (arith, length-drop seen bytes))) ∙ take-append-drop seen bytes
+
+pub head_not_due : (bytes : List ℕ) (seen : ℕ) → AwaitsHead (take seen bytes) → has_feed (unseen bytes seen) ≡ false → length bytes < 8192 → AwaitsHead bytes
+head_not_due bytes seen awaits new short =
+    let all = together bytes seen in
+    subst AwaitsHead all (head_longer (take seen bytes) (unseen bytes seen) awaits new (omega (arith, short, ap length all)))
+
+pub trailer_not_due : (bytes : List ℕ) (seen : ℕ) → HasNone IsTrailer (take seen bytes) → has_feed (unseen bytes seen) ≡ false → HasNone IsTrailer bytes
+trailer_not_due bytes seen none new = subst (HasNone IsTrailer) (together bytes seen) (none_longer IsTrailer (take seen bytes) (unseen bytes seen) trailer_ends none new)
+
+-- what held of the bytes seen holds of them among more
+pub seen_stays : (P : List ℕ → Type 0) (bytes old new more : List ℕ) → bytes ≡ old → new ≡ old ++ more → P bytes → P (take (length bytes) new)
+seen_stays P bytes old new more are is p = subst P (sym (ap (take (length bytes)) (is ∙ ap (λ l. l ++ more) (sym are)) ∙ take-append_seam bytes more)) p
+
+pub fits_still : (bytes old new more : List ℕ) → bytes ≡ old → new ≡ old ++ more → length bytes ≤ length new
+fits_still bytes old new more are is = omega (arith, ap length are, ap length is, length-append old more)
+
+-- ---- before a line has ended
+
+feeds_nowhere : (test : ℕ → Bool) (bytes : List ℕ) → test 10 ≡ false → AllPass test bytes → has_feed bytes ≡ false
+feeds_nowhere test bytes off pass = list_any_none (λ b. b == 10) bytes (λ k d l. one _ (pass k d l))
+  where
+    one : (b : ℕ) → IsTrue (test b) → (b == 10) ≡ false
+    one b pass = grind (arith, nat_tests, off, pass)
+
+-- the first line may still go on
+target_may : (bytes lines rest : List ℕ) → EndsInTarget bytes → bytes ≡ lines ++ rest → EndsLine lines → NeverHasRequest lines → ⊥
+target_may bytes lines rest (blank, method, target, token, uri, is) e ends never =
+    let line = method ++ 32 ∷ target in
+    let quiet : has_feed line ≡ false = list_any-append (λ b. b == 10) method (32 ∷ target)
+    ∙ (λ i. feeds_nowhere is_token_byte method token_quiet token.1 i || feeds_nowhere is_uri_byte target refl uri i) in
+    let cut = cut_before (print_blank blank) line lines rest ends (sym (append_assoc (print_blank blank) method (32 ∷ target)) ∙ sym is ∙ e) quiet in
+    let some = print_request some_head ++ [] in
+    never (cut.0 ++ some) (record some_head { blank = blank }) [] (
+      some_with blank,
+      sym (append_assoc lines cut.0 some) ∙ ap (λ l. l ++ some) (sym cut.1) ∙ sym (some_behind blank),
+    )
+
+-- no reason in the whole lines
+abbrev Goes : List ℕ → Type 0
+Goes bytes = (lines rest : List ℕ) → bytes ≡ lines ++ rest → EndsLine lines → NeverHasRequest lines → ⊥
+
+may_go_on : (bytes : List ℕ) → MayBecomeRequest bytes → Goes bytes
+may_go_on bytes (inl (more, h, reads)) lines rest e ends never =
+    never (rest ++ more) h [] (reads.0, sym (append_assoc lines rest more) ∙ ap (λ l. l ++ more) (sym e) ∙ reads.1)
+may_go_on bytes (inr target) lines rest e ends never = target_may bytes lines rest target e ends never
+
+pub no_bytes_await : AwaitsHead []
+no_bytes_await = record {
+  none = λ h rest takes. absurd (omega (arith, head_is_some [] h rest takes));
+  short = omega arith;
+  may = λ lines rest e ends never. absurd (omega (arith, ap length e, length-append lines rest, ap length ends.1, length-append ends.0 (10 ∷ [])));
+}
+
+pub no_trailer_yet : HasNone IsTrailer []
+no_trailer_yet text rest is e =
+    let ends = trailer_ends text is in
+    absurd (omega (arith, ap length e, length-append text rest, ap length ends.1, length-append ends.0 (10 ∷ [])))
+
+pub awaits_head : (bytes front : List ℕ) → front ≡ take 8192 bytes → length bytes < 8192 → HasNoRequest front → MayBecomeRequest front → AwaitsHead bytes
+awaits_head bytes front f short none may =
+    let same : front ≡ bytes = f ∙ take_all 8192 bytes (omega (arith, short)) in
+    record { none = more_when_short bytes front f short none; short = short; may = subst Goes same (may_go_on front may) }

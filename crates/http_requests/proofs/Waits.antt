@@ -1,0 +1,37 @@
+-- Reads that were made while something was awaited, one after the other.
+use Rattle.std.proofs.Common.{◌≡◌, ℕ, List, [], ◌∷◌, ◌++◌, refl, sym, ap, subst, append_assoc}
+use Rattle.http_requests.specs.Waiting.{Gives, GivesWhile, ReadsWhile}
+
+module _ {R : Type 0} (gives : Gives R) where
+  pub no_read : (Awaits : List ℕ → Type 0) (s : R) (bytes : List ℕ) → ReadsWhile gives Awaits s s bytes bytes
+  no_read Awaits s bytes = record { pieces = []; each = (refl, refl) }
+
+  pub one_read : (Awaits : List ℕ → Type 0) (s t : R) (old new piece : List ℕ) → Awaits old → gives s piece t → new ≡ old ++ piece → ReadsWhile gives Awaits s t old new
+  one_read Awaits s t old new piece awaits given is = record { pieces = piece ∷ []; each = (awaits, t, given, (refl, sym is)) }
+
+  each_join : (Awaits : List ℕ → Type 0) (ps qs : List (List ℕ)) (s m t : R) (a b c : List ℕ) → GivesWhile gives Awaits s m a b ps → GivesWhile gives Awaits m t b c qs
+      → GivesWhile gives Awaits s t a c (ps ++ qs)
+  each_join Awaits [] qs s m t a b c first second =
+      subst (λ (l : List ℕ). GivesWhile gives Awaits s t l c qs) (sym first.1) (subst (λ (x : R). GivesWhile gives Awaits x t b c qs) (sym first.0) second)
+  each_join Awaits (p ∷ ps) qs s m t a b c first second = (first.0, first.1, first.2, each_join Awaits ps qs first.1 m t (a ++ p) b c first.3 second)
+
+  pub reads_in_turn : (Awaits : List ℕ → Type 0) (s m t : R) (a b c : List ℕ) → ReadsWhile gives Awaits s m a b → ReadsWhile gives Awaits m t b c → ReadsWhile gives Awaits s t a c
+  reads_in_turn Awaits s m t a b c first second = record {
+    pieces = first.pieces ++ second.pieces;
+    each = each_join Awaits first.pieces second.pieces s m t a b c first.each second.each;
+  }
+
+  each_behind : (Awaits More : List ℕ → Type 0) (front : List ℕ) → ((h : List ℕ) → Awaits h → More (front ++ h)) → (ps : List (List ℕ)) (s t : R) (a b : List ℕ)
+      → GivesWhile gives Awaits s t a b ps → GivesWhile gives More s t (front ++ a) (front ++ b) ps
+  each_behind Awaits More front more [] s t a b each = (each.0, ap (λ l. front ++ l) each.1)
+  each_behind Awaits More front more (p ∷ ps) s t a b each = (
+    more a each.0,
+    each.1,
+    each.2,
+    subst (λ (l : List ℕ). GivesWhile gives More each.1 t l (front ++ b) ps) (sym (append_assoc front a p)) (each_behind Awaits More front more ps each.1 t (a ++ p) b each.3),
+  )
+
+  -- what is awaited behind a text, seen from the front of the text
+  pub reads_behind : (Awaits More : List ℕ → Type 0) (front : List ℕ) → ((h : List ℕ) → Awaits h → More (front ++ h)) → (s t : R) (a b : List ℕ)
+      → ReadsWhile gives Awaits s t a b → ReadsWhile gives More s t (front ++ a) (front ++ b)
+  reads_behind Awaits More front more s t a b reads = record { pieces = reads.pieces; each = each_behind Awaits More front more reads.pieces s t a b reads.each }

@@ -1,0 +1,12 @@
+use Rattle.std.proofs.Common.{◌≡◌}
+use Rattle.http_requests.specs.Waiting.{source_of}
+use Rattle.http_requests.specs.Receiving.{ReadsOnWhile}
+use Rattle.http_requests.specs.Bodies.{IsLineEnd, AwaitsRest}
+use Rattle.http_requests.proofs.bodies.take_line_end.Given as goal
+
+abbrev pub invariant-looks : goal.invariant-looks
+invariant-looks g l = ReadsOnWhile (source_of g.R.Input.remaining g.R.Input.gives) (AwaitsRest IsLineEnd) l.initial.input l.input l.initial.received l.received
+    × (g.R.Input.has_failed l.input ≡ g.R.Input.has_failed l.initial.input)
+
+abbrev pub decreases-looks : goal.decreases-looks
+decreases-looks g l = l.received.left

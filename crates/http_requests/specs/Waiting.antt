@@ -1,0 +1,27 @@
+-- That an input is read only while something is awaited of it.
+use Rattle.std.specs.Prelude.{◌≡◌, ℕ, List, [], ◌∷◌, ◌++◌, Option}
+
+-- from which state of an input one read that gives these bytes leads to which
+abbrev pub Gives : Type 0 → Type 1
+Gives R = R → List ℕ → R → Type 0
+
+-- what is known of an input in each of its states
+pub record Source (R : Type 0) : Type 1 where
+  pub remaining : R → Option (List ℕ)
+  pub gives : Gives R
+
+abbrev pub source_of : {R : Type 0} → (R → Option (List ℕ)) → Gives R → Source R
+source_of remaining gives = record { remaining = remaining; gives = gives }
+
+-- The reads that gave these pieces, one after the other: before each of them more was awaited of the
+-- bytes received by then.
+abbrev pub GivesWhile : {R : Type 0} → Gives R → (List ℕ → Type 0) → R → R → List ℕ → List ℕ → List (List ℕ) → Type 0
+GivesWhile gives Awaits s t old new [] = (s ≡ t) × (old ≡ new)
+GivesWhile {R = R} gives Awaits s t old new (p ∷ ps) =
+    Awaits old × (m : R) × gives s p m × GivesWhile gives Awaits m t (old ++ p) new ps
+
+-- All that was read of an input between two of its states, and how the bytes received grew by it: each
+-- read was made while more was awaited.
+pub record ReadsWhile {R : Type 0} (gives : Gives R) (Awaits : List ℕ → Type 0) (s t : R) (old new : List ℕ) : Type 0 where
+  pub pieces : List (List ℕ)
+  pub each : GivesWhile gives Awaits s t old new pieces
