@@ -152,7 +152,7 @@ batch_fits b = process_fits b.process && list_fits span_fits b.spans
 
 -- ---- what writing does
 
--- The text stands at the end, where every length in it fits; a length that doesn't is the only refusal but for want of memory.
+-- The text stands at the end, where every length in it fits; a length that doesn't is the only refusal unless memory runs out.
 abbrev pub Encodes : List ℕ → Bool → List ℕ → Result (Unit {0}) WriteError → List ℕ → Type 0
 Encodes text fits old (Ok x) new = (fits ≡ true) × (new ≡ old ++ text)
 Encodes text fits old (Err BadLength) new = fits ≡ false

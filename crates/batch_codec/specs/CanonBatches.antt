@@ -7,7 +7,7 @@ use Rattle.batch_codec.specs.declared.fault.DecodeError.{DecodeError}
 use Rattle.batch_codec.specs.declared.fault.DecodeError.TheVariants.{Wire, Missing, BadEnum, Trailing, Memory}
 use Rattle.batch_codec.specs.Canon.{canon, batch_fits}
 
--- the one spelling where every length fits; BadLength where one doesn't; no other refusal but for want of memory
+-- the one spelling where every length fits; BadLength where one doesn't; no other refusal unless memory runs out
 abbrev pub WritesBatch : Batch → Result (Vec ℕ Global) DecodeError → Type 0
 WritesBatch b (Ok v) = (v.items ≡ canon b) × (batch_fits b ≡ true)
 WritesBatch b (Err Memory) = Unit {0}

@@ -15,7 +15,8 @@ use thrift_binary::{Out, WireError, WriteError, types};
 
 /// A field that is a text or binary.
 fn write_text(out: &mut Out, id: i16, text: &[u8]) -> Result<(), WriteError>
-    ensures writes { Encodes (front_text (text_field id text.now ∷ [])) (fits_length (length text.now)) out.old result out.new }
+    ensures writes { Encodes (front_text (text_field id text.now ∷ []))
+        (fits_length (length text.now)) out.old result out.new }
     ensures proper { OnOk result (length text.now < 2 ^ 31) }
 {
     out.field(types::STRING, id)?;
@@ -72,7 +73,8 @@ trait Spelled {
 
 /// The elements one after the other.
 fn write_items<T: Spelled>(out: &mut Out, items: &[T]) -> Result<(), WriteError>
-    ensures writes { Encodes (flat_map T.spelling items.now) (list_all T.fits items.now) out.old result out.new }
+    ensures writes { Encodes (flat_map T.spelling items.now) (list_all T.fits items.now) out.old
+        result out.new }
     ensures proper { OnOk result (AllByRecursion T.proper items.now) }
 {
     for item in items {
@@ -83,7 +85,8 @@ fn write_items<T: Spelled>(out: &mut Out, items: &[T]) -> Result<(), WriteError>
 
 /// A field that is a list of structs.
 fn write_list<T: Spelled>(out: &mut Out, id: i16, items: &[T]) -> Result<(), WriteError>
-    ensures writes { Encodes (front_text (list_field id T.spelling items.now ∷ [])) (list_fits T.fits items.now) out.old result out.new }
+    ensures writes { Encodes (front_text (list_field id T.spelling items.now ∷ []))
+        (list_fits T.fits items.now) out.old result out.new }
     ensures proper { OnOk result (AreProper T.proper items.now) }
 {
     out.field(types::LIST, id)?;
@@ -93,7 +96,8 @@ fn write_list<T: Spelled>(out: &mut Out, id: i16, items: &[T]) -> Result<(), Wri
 
 /// The same, left out where the list is empty.
 fn write_if_any<T: Spelled>(out: &mut Out, id: i16, items: &[T]) -> Result<(), WriteError>
-    ensures writes { Encodes (front_text (list_if_any id T.spelling items.now)) (list_fits T.fits items.now) out.old result out.new }
+    ensures writes { Encodes (front_text (list_if_any id T.spelling items.now))
+        (list_fits T.fits items.now) out.old result out.new }
     ensures proper { OnOk result (AreProper T.proper items.now) }
 {
     if items.is_empty() {
@@ -117,7 +121,8 @@ fn type_number(value: &Value) -> i32
 
 /// The one value of a tag.
 fn write_value(out: &mut Out, value: &Value) -> Result<(), WriteError>
-    ensures writes { Encodes (front_text (value_field value.now ∷ [])) (value_fits value.now) out.old result out.new }
+    ensures writes { Encodes (front_text (value_field value.now ∷ [])) (value_fits value.now)
+        out.old result out.new }
     ensures proper { OnOk result (IsProperValue value.now) }
 {
     match value {
@@ -201,7 +206,8 @@ impl Spelled for SpanRef {
 
 /// The ids and the operation of a span.
 fn write_front(out: &mut Out, span: &Span) -> Result<(), WriteError>
-    ensures writes { Encodes (front_text (span_front span.now)) (fits_length (length span.now.operation)) out.old result out.new }
+    ensures writes { Encodes (front_text (span_front span.now))
+        (fits_length (length span.now.operation)) out.old result out.new }
     ensures proper { OnOk result (IsProperFront span.now) }
 {
     write_id(out, 1, span.trace.low)?;
@@ -224,7 +230,8 @@ fn write_middle(out: &mut Out, span: &Span) -> Result<(), WriteError>
 /// All fields of a span.
 #[tactic(auto, unfolding(crate::specs::Canon::span_fits), using(crate::proofs::CanonTexts::span_front_parts))]
 fn write_fields(out: &mut Out, span: &Span) -> Result<(), WriteError>
-    ensures writes { Encodes (front_text (span_fields span.now)) (span_fits span.now) out.old result out.new }
+    ensures writes { Encodes (front_text (span_fields span.now)) (span_fits span.now) out.old result
+        out.new }
     ensures proper { OnOk result (IsProperSpan span.now) }
 {
     write_front(out, span)?;
@@ -255,7 +262,8 @@ impl Spelled for Span {
 /// A process.
 #[tactic(auto, unfolding(crate::specs::Canon::canon_process, crate::specs::Canon::process_fits), using(crate::proofs::CanonTexts::process_text_parts))]
 fn write_process(out: &mut Out, process: &Process) -> Result<(), WriteError>
-    ensures writes { Encodes (canon_process process.now) (process_fits process.now) out.old result out.new }
+    ensures writes { Encodes (canon_process process.now) (process_fits process.now) out.old result
+        out.new }
     ensures proper { OnOk result (IsProperProcess process.now) }
 {
     write_text(out, 1, process.service.as_str().as_bytes())?;

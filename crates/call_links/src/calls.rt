@@ -4,7 +4,7 @@ ghost use Rattle.std.specs.Prelude.{◌≡◌, ℕ, ◌++◌, IfOk, OnOk, IfSome
 ghost use Rattle.std.specs.List.{list_any};
 ghost use Rattle.std.specs.Ordering.{nat_cmp};
 ghost use Rattle.std.specs.BTreeMap.{get};
-ghost use Rattle.jaeger_model.specs.declared.ids.SpanId.{SpanId as Id};
+ghost use Rattle.jaeger_model.specs.declared.ids.SpanId.{SpanId as SpanIdValue};
 ghost use Rattle.trace_model.specs.Linking.{in_window, calls_of, calls_within, calls, has_id};
 ghost use Rattle.trace_model.specs.Seeing.{seen, seen_all, seen_traces};
 ghost use Rattle.call_links.specs.Seen.{call_seen, calls_seen, service_of, call_by};
@@ -22,7 +22,8 @@ fn first_services<'a>(
     alloc: Global,
     trace: &[Seen<'a>],
 ) -> Result<BTreeMap<u64, &'a Text>, AllocError>
-    ensures { IfOk result (λ m. (id : ℕ) → option_map (λ t. t.now) (get nat_cmp m id) ≡ service_of id (seen_all trace.now)) }
+    ensures { IfOk result (λ m. (id : ℕ) →
+        option_map (λ t. t.now) (get nat_cmp m id) ≡ service_of id (seen_all trace.now)) }
 {
     let mut services = BTreeMap::new(alloc);
     for span in trace {
@@ -36,7 +37,8 @@ fn first_services<'a>(
 
 /// The call that a span stands for, where its parent is in the table and of another service.
 fn call_to<'a>(services: &BTreeMap<u64, &'a Text>, span: Seen<'a>) -> Option<Call<'a>>
-    ensures { option_map call_seen result ≡ call_by (λ id. option_map (λ t. t.now) (get nat_cmp services.now id)) (seen span.entry) }
+    ensures { option_map call_seen result ≡
+        call_by (λ id. option_map (λ t. t.now) (get nat_cmp services.now id)) (seen span.entry) }
 {
     let parent = parent_of(span.span);
     if parent.0 == 0 {
@@ -56,7 +58,8 @@ fn add_calls<'a>(
     calls: &mut Vec<Call<'a>>,
     trace: &[Seen<'a>],
 ) -> Result<(), AllocError>
-    ensures { OnOk result (calls_seen calls.new.items ≡ calls_seen calls.old.items ++ calls_of (seen_all trace.now)) }
+    ensures { OnOk result (calls_seen calls.new.items ≡
+        calls_seen calls.old.items ++ calls_of (seen_all trace.now)) }
 {
     let services = first_services(alloc, trace)?;
     for span in trace {
@@ -88,7 +91,8 @@ fn add_calls_within<'a>(
     end_ms: i64,
     lookback_ms: i64,
 ) -> Result<(), AllocError>
-    ensures { OnOk result (calls_seen calls.new.items ≡ calls_seen calls.old.items ++ calls_within end_ms lookback_ms (seen_all trace.now)) }
+    ensures { OnOk result (calls_seen calls.new.items ≡
+        calls_seen calls.old.items ++ calls_within end_ms lookback_ms (seen_all trace.now)) }
 {
     if reaches_window(trace, end_ms, lookback_ms) {
         add_calls(alloc, calls, trace)?;
@@ -103,7 +107,8 @@ pub(crate) fn all_calls<'a>(
     end_ms: i64,
     lookback_ms: i64,
 ) -> Result<Vec<Call<'a>>, AllocError>
-    ensures { IfOk result (λ v. calls_seen v.items ≡ calls end_ms lookback_ms (seen_traces traces.now)) }
+    ensures { IfOk result (λ v. calls_seen v.items ≡
+        calls end_ms lookback_ms (seen_traces traces.now)) }
 {
     let mut calls = Vec::new(alloc);
     for trace in traces {

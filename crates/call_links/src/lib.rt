@@ -30,7 +30,7 @@ use trace_model::Link;
 ///
 /// # Errors
 ///
-/// Want of memory alone.
+/// Out of memory, and nothing else.
 pub fn links(
     alloc: Global,
     traces: &[Vec<Seen<'_>>],

@@ -15,7 +15,7 @@ use trace_model::Find;
 ///
 /// # Errors
 ///
-/// Want of memory alone.
+/// Out of memory, and nothing else.
 pub fn find<T: Searched>(alloc: Global, traces: &T, query: &Find) -> Result<Vec<usize>, AllocError>
     ensures places { IfOk result (λ v. v.items ≡ places_found query.now (T.traces traces.now)) }
     ensures traces { IfOk result (λ v. map (trace_at (T.traces traces.now)) v.items ≡
@@ -31,7 +31,7 @@ pub fn find<T: Searched>(alloc: Global, traces: &T, query: &Find) -> Result<Vec<
 ///
 /// # Errors
 ///
-/// Want of memory alone.
+/// Out of memory, and nothing else.
 pub fn find_ids<T: Searched>(
     alloc: Global,
     traces: &T,

@@ -1,6 +1,6 @@
 ghost use Rattle.std.specs.Prelude.{◌≡◌, flat_map};
 ghost use Rattle.std.specs.List.{list_any, list_all};
-ghost use Rattle.jaeger_model.specs.declared.span.Log.{Log as Logged};
+ghost use Rattle.jaeger_model.specs.declared.span.Log.{Log as LogValue};
 ghost use Rattle.trace_model.specs.Searching.{matches, tells, has_tag};
 ghost use Rattle.trace_model.specs.Seeing.{seen, seen_all};
 
@@ -25,7 +25,7 @@ fn is_among(tags: &[Tag], asked: &(Text, Text)) -> bool
 
 /// Whether one of the logs has a field with the asked key and text.
 fn is_logged(logs: &[Log], asked: &(Text, Text)) -> bool
-    ensures { result ≡ list_any (tells asked.now) (flat_map (λ (l : Logged). l.fields) logs.now) }
+    ensures { result ≡ list_any (tells asked.now) (flat_map (λ (l : LogValue). l.fields) logs.now) }
 {
     for log in logs {
         if is_among(log.fields.as_slice(), asked) {

@@ -10,10 +10,10 @@ use trace_model::Find;
 /// them, the one opened longest ago the first, 0.
 pub trait Searched {
     ghost use Rattle.std.specs.Prelude.{List};
-    ghost use Rattle.jaeger_model.specs.declared.placed.Placed.{Placed as Span};
+    ghost use Rattle.jaeger_model.specs.declared.placed.Placed.{Placed as PlacedValue};
 
     /// The spans of each trace.
-    ghost traces: { Self → List (List Span) };
+    ghost traces: { Self → List (List PlacedValue) };
 
     /// How many traces there are.
     fn count(&self) -> usize

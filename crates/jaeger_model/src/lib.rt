@@ -29,7 +29,7 @@ pub use batch::{Batch, Process};
 pub use ids::{SpanId, TraceId, parse_trace, span_text, trace_text};
 pub use kind::kind_of;
 pub use parent::parent_of;
-pub use placed::{Placed, Seen, domain, place_span};
+pub use placed::{Placed, Seen, domain, place_span, refer_to_parent};
 pub use seq::Seq;
 pub use span::{Log, RefKind, Span, SpanRef};
 pub use tag::{Tag, Value, first_tag, first_text, tag_text};

@@ -1,7 +1,7 @@
-ghost use Rattle.std.specs.Prelude.{◌≡◌, ◌↔◌, IfOk, IsTrue};
+ghost use Rattle.std.specs.Prelude.{◌≡◌, ◌↔◌, ◌∷◌, IfOk, OnOk, OnErr, IsTrue};
 ghost use Rattle.std.specs.Cmp.{decided, partial_equiv_from_equiv};
 ghost use Rattle.jaeger_model.specs.Same.{same_placed, same_placed-decides};
-ghost use Rattle.jaeger_model.specs.Parents.{with_parent, domain};
+ghost use Rattle.jaeger_model.specs.Parents.{with_parent, parent_reference, domain};
 
 use crate::batch::{Batch, Process};
 use crate::parent::is_referred;
@@ -9,7 +9,8 @@ use crate::seq::Seq;
 use crate::span::{RefKind, Span, SpanRef};
 use std::alloc::{AllocError, Global};
 
-/// A span with the process that reported it, its parent among its references.
+/// A span with the process that reported it. As a store keeps it, and as [`place_span`] makes it,
+/// its parent is among its references.
 #[derive(Debug, Drop)]
 pub struct Placed {
     pub process: Process,
@@ -48,14 +49,10 @@ impl Eq for Placed {
     ghost laws = { decided same_placed same_placed-decides };
 }
 
-/// The span, with a reference to its parent in front where its references name no such span.
-fn with_reference(alloc: Global, span: &Span) -> Result<Span, AllocError>
-    ensures { IfOk result (λ s. s ≡ with_parent span.now) }
+/// The references of a span with one to its parent in front.
+fn with_one_in_front(alloc: Global, span: &Span) -> Result<Seq<SpanRef>, AllocError>
+    ensures { IfOk result (λ s. s ≡ parent_reference span.now ∷ span.now.references) }
 {
-    let mut copy = span.clone()?;
-    if is_referred(span) {
-        return Ok(copy);
-    }
     let mut references = Vec::new(alloc);
     references.push(SpanRef {
         kind: RefKind::ChildOf,
@@ -63,7 +60,31 @@ fn with_reference(alloc: Global, span: &Span) -> Result<Span, AllocError>
         id: span.parent,
     })?;
     references.extend_from_slice(span.references.as_slice())?;
-    copy.references = Seq::from_vec(references);
+    Ok(Seq::from_vec(references))
+}
+
+/// Puts a reference to the span's parent in front of the others, where none of them names it and
+/// the parent's id is not 0.
+///
+/// # Errors
+///
+/// Running out of memory alone; the span is then as it was.
+pub fn refer_to_parent(alloc: Global, span: &mut Span) -> Result<(), AllocError>
+    ensures ok { OnOk result (span.new ≡ with_parent span.old) }
+    ensures err { OnErr result (span.new ≡ span.old) }
+{
+    if !is_referred(span) {
+        span.references = with_one_in_front(alloc, span)?;
+    }
+    Ok(())
+}
+
+/// A copy of the span, its parent among its references.
+fn with_reference(alloc: Global, span: &Span) -> Result<Span, AllocError>
+    ensures { IfOk result (λ s. s ≡ with_parent span.now) }
+{
+    let mut copy = span.clone()?;
+    refer_to_parent(alloc, &mut copy)?;
     Ok(copy)
 }
 
@@ -71,7 +92,7 @@ fn with_reference(alloc: Global, span: &Span) -> Result<Span, AllocError>
 ///
 /// # Errors
 ///
-/// Want of memory alone.
+/// Out of memory, and nothing else.
 pub fn place_span(alloc: Global, process: &Process, span: &Span) -> Result<Placed, AllocError>
     ensures { IfOk result (λ p. p ≡ record { process = process.now; span = with_parent span.now }) }
 {
@@ -88,7 +109,7 @@ pub fn place_span(alloc: Global, process: &Process, span: &Span) -> Result<Place
 ///
 /// # Errors
 ///
-/// Want of memory alone.
+/// Out of memory, and nothing else.
 #[tactic(auto, using(std::proofs::lemmas::List::map_more))]
 pub fn domain(alloc: Global, batch: &Batch) -> Result<Vec<Placed>, AllocError>
     ensures { IfOk result (λ v. v.items ≡ domain batch.now) }

@@ -17,11 +17,11 @@ use Rattle.journal_traces.specs.Picked.{meets, met, met_or_none}
 use Rattle.journal_traces.specs.Pruned.{may_meet}
 
 -- the span's start and duration lie in these bounds
-record Within (t : Times) (s : Span) : Type 0 where
-  start_low : t.start_min ≤ℤ s.start
-  start_high : s.start ≤ℤ t.start_max
-  duration_low : t.duration_min ≤ℤ s.duration
-  duration_high : s.duration ≤ℤ t.duration_max
+pub record Within (t : Times) (s : Span) : Type 0 where
+  pub start_low : t.start_min ≤ℤ s.start
+  pub start_high : s.start ≤ℤ t.start_max
+  pub duration_low : t.duration_min ≤ℤ s.duration
+  pub duration_high : s.duration ≤ℤ t.duration_max
 
 each_within : (t : Times) (ss : List Span)
     → AllByRecursion (λ x. t.start_min ≤ℤ x) (starts ss) → AllByRecursion (λ x. x ≤ℤ t.start_max) (starts ss)
@@ -30,7 +30,7 @@ each_within : (t : Times) (ss : List Span)
 each_within t [] a b c d = tt
 each_within t (s ∷ ss) a b c d = (record { start_low = a.0; start_high = b.0; duration_low = c.0; duration_high = d.0 }, each_within t ss a.1 b.1 c.1 d.1)
 
-all_within : (ss : List Span) → AllByRecursion (Within (times_of ss)) ss
+pub all_within : (ss : List Span) → AllByRecursion (Within (times_of ss)) ss
 all_within ss =
     let t = times_of ss in
     each_within t ss
@@ -39,7 +39,7 @@ all_within ss =
     (recursion_from_All (λ x. t.duration_min ≤ℤ x) (durations ss) (fold-int_min_bounds latest (durations ss) t.duration_min refl).1)
     (recursion_from_All (λ x. x ≤ℤ t.duration_max) (durations ss) (fold-int_max_bounds earliest (durations ss) t.duration_max refl).1)
 
-both : (a b : Bool) → (a && b) ≡ true → (a ≡ true) × (b ≡ true)
+pub both : (a b : Bool) → (a && b) ≡ true → (a ≡ true) × (b ≡ true)
 both true b e = (refl, e)
 both false b e = absurd (false≢true e)
 

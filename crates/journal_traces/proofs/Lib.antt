@@ -2,3 +2,4 @@ pub mod Adopting
 pub mod Marking
 pub mod Spots
 pub mod Bounds
+pub mod Windows

@@ -13,7 +13,7 @@ use trace_assembly::Spots;
 ///
 /// # Errors
 ///
-/// Want of memory alone.
+/// Out of memory, and nothing else.
 pub fn gather(alloc: Global, journal: &Journal, spots: Spots<'_>) -> Result<Vec<Placed>, AllocError>
     ensures { IfOk result (λ v. v.items ≡ spans_named journal.now.held.entries spots.entry) }
 {

@@ -1,30 +1,12 @@
 //! The traces that a search by a service has to look at.
 
-ghost use Rattle.std.specs.Prelude.{
-  ◌≡◌,
-  Bool,
-  ◌||◌,
-  ◌&&◌,
-  not,
-  [],
-  IfOk,
-  map,
-  filter,
-  length,
-};
+ghost use Rattle.std.specs.Prelude.{◌≡◌, Bool, ◌||◌, ◌&&◌, not, [], IfOk, map, filter, length};
 ghost use Rattle.std.specs.Bool.{OnTrue};
 ghost use Rattle.jaeger_model.specs.Parents.{same_trace};
-ghost use Rattle.jaeger_model.specs.declared.ids.TraceId.{TraceId as Trace};
+ghost use Rattle.jaeger_model.specs.declared.ids.TraceId.{TraceId as TraceIdValue};
 ghost use Rattle.trace_assembly.specs.Rows.{spots_of};
 ghost use Rattle.trace_ring.specs.Windows.{NoneTwice};
-ghost use Rattle.journal_traces.specs.Picked.{
-  reaches,
-  meets,
-  met,
-  met_at,
-  met_along,
-  same_before,
-};
+ghost use Rattle.journal_traces.specs.Picked.{reaches, meets, met, met_at, met_along, same_before};
 
 use crate::pruning::may_meet;
 use crate::seeing::ring_ids;
@@ -41,7 +23,7 @@ use trace_ring::Ring;
 fn mark_trace(marks: &mut [bool], ring: &Ring, trace: TraceId)
     requires once { NoneTwice ring.now.ids }
     requires size { length marks.old ≡ length ring.now.ids }
-    ensures { (p : Trace → Bool) → marks.old ≡ map p ring.now.ids →
+    ensures { (p : TraceIdValue → Bool) → marks.old ≡ map p ring.now.ids →
         marks.new ≡ map (λ t. p t || same_trace t trace) ring.now.ids }
 {
     if let Some(place) = ring.position(trace) {
@@ -71,7 +53,7 @@ fn is_news(before: Option<TraceId>, process: &Process, span: &Span, query: &Find
 fn mark_spans(marks: &mut [bool], ring: &Ring, process: &Process, spans: &[Span], query: &Find)
     requires once { NoneTwice ring.now.ids }
     requires size { length marks.old ≡ length ring.now.ids }
-    ensures { (p : Trace → Bool) → marks.old ≡ map p ring.now.ids → marks.new ≡
+    ensures { (p : TraceIdValue → Bool) → marks.old ≡ map p ring.now.ids → marks.new ≡
         map (λ t. p t || reaches (met query.now process.now spans.now) t) ring.now.ids }
 {
     let mut before = None;
@@ -97,7 +79,7 @@ fn is_passed(journal: &Journal, place: u64, query: &Find) -> bool
 fn mark_entry(marks: &mut [bool], ring: &Ring, journal: &Journal, place: u64, query: &Find)
     requires once { NoneTwice ring.now.ids }
     requires size { length marks.old ≡ length ring.now.ids }
-    ensures { (p : Trace → Bool) → marks.old ≡ map p ring.now.ids →
+    ensures { (p : TraceIdValue → Bool) → marks.old ≡ map p ring.now.ids →
         marks.new ≡ map (λ t. p t || reaches (met_at query.now journal.now.held.entries place) t)
         ring.now.ids }
 {
@@ -137,7 +119,7 @@ fn marked_spots<'a>(
     marks: &[bool],
 ) -> Result<Vec<Spots<'a>>, AllocError>
     requires { length ids.now ≡ length marks.now }
-    ensures { (p : Trace → Bool) → marks.now ≡ map p ids.now →
+    ensures { (p : TraceIdValue → Bool) → marks.now ≡ map p ids.now →
         IfOk result (λ v. v.items ≡ map (spots_of assembly.now) (filter p ids.now)) }
 {
     let mut spots = Vec::new(alloc);
@@ -154,7 +136,7 @@ fn marked_spots<'a>(
 ///
 /// # Errors
 ///
-/// Want of memory alone.
+/// Out of memory, and nothing else.
 pub fn spots_along<'a>(
     alloc: Global,
     ring: &Ring,
@@ -165,7 +147,8 @@ pub fn spots_along<'a>(
 ) -> Result<Vec<Spots<'a>>, AllocError>
     requires { NoneTwice ring.now.ids }
     ensures { IfOk result (λ v. v.items ≡ map (spots_of assembly.now)
-        (filter (reaches (met_along query.now journal.now.held.entries places.entry)) ring.now.ids)) }
+        (filter (reaches (met_along query.now journal.now.held.entries places.entry))
+        ring.now.ids)) }
 {
     let marks = marks_along(alloc, ring, journal, places, query)?;
     let ids = ring_ids(alloc, ring)?;

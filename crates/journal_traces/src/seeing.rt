@@ -20,7 +20,8 @@ fn see<'a>(
     journal: &'a Journal,
     spots: Spots<'_>,
 ) -> Result<Vec<Seen<'a>>, AllocError>
-    ensures { IfOk result (λ v. given_all v.items ≡ spans_named journal.now.held.entries spots.entry) }
+    ensures { IfOk result (λ v. given_all v.items ≡
+        spans_named journal.now.held.entries spots.entry) }
 {
     let mut spans = Vec::new(alloc);
     for spot in spots {
@@ -35,7 +36,7 @@ fn see<'a>(
 ///
 /// # Errors
 ///
-/// Want of memory alone.
+/// Out of memory, and nothing else.
 pub fn ring_ids(alloc: Global, ring: &Ring) -> Result<Vec<TraceId>, AllocError>
     ensures { IfOk result (λ v. v.items ≡ ring.now.ids) }
 {
@@ -52,7 +53,7 @@ pub fn ring_ids(alloc: Global, ring: &Ring) -> Result<Vec<TraceId>, AllocError>
 ///
 /// # Errors
 ///
-/// Want of memory alone.
+/// Out of memory, and nothing else.
 pub fn see_within<'a>(
     alloc: Global,
     journal: &'a Journal,
@@ -61,7 +62,8 @@ pub fn see_within<'a>(
     end_ms: i64,
     lookback_ms: i64,
 ) -> Result<Vec<Vec<Seen<'a>>>, AllocError>
-    ensures { IfOk result (λ v. given_traces v.items ≡ filter (list_any (in_window end_ms lookback_ms))
+    ensures { IfOk result (λ v. given_traces v.items ≡
+        filter (list_any (in_window end_ms lookback_ms))
         (map (trace_named journal.now.held.entries (spots_of assembly.now)) ids.now)) }
 {
     let mut traces = Vec::new(alloc);

@@ -1,6 +1,7 @@
 //! Spans where they stand in the journal.
 
-ghost use Rattle.std.specs.Prelude.{◌≡◌, [], ◌∷◌, option_map, slice_get};
+ghost use Rattle.std.specs.Prelude.{◌≡◌, false, [], ◌∷◌, option_map, slice_get};
+ghost use Rattle.std.specs.Bool.{OnTrue};
 ghost use Rattle.std.specs.List.{list_any};
 ghost use Rattle.trace_model.specs.Searching.{matches, first_start, first_id};
 ghost use Rattle.trace_model.specs.Linking.{in_window};
@@ -8,6 +9,7 @@ ghost use Rattle.trace_assembly.specs.Located.{span_at};
 ghost use Rattle.journal_traces.specs.Given.{given};
 ghost use Rattle.journal_traces.specs.Standing.{spans_named};
 
+use crate::pruning::may_reach;
 use arrival_journal::Journal;
 use find_traces::is_match;
 use jaeger_model::{Seen, TraceId};
@@ -29,7 +31,8 @@ pub(crate) fn seen_at(journal: &Journal, spot: Spot) -> Option<Seen<'_>>
 
 /// The first span that the spots name.
 fn first_seen<'a>(journal: &'a Journal, spots: Spots<'_>) -> Option<Seen<'a>>
-    ensures { option_map given result ≡ slice_get (spans_named journal.now.held.entries spots.entry) 0 }
+    ensures { option_map given result ≡ slice_get
+        (spans_named journal.now.held.entries spots.entry) 0 }
 {
     for spot in spots {
         if let Some(seen) = seen_at(journal, spot) {
@@ -90,11 +93,26 @@ pub(crate) fn is_found(journal: &Journal, spots: Spots<'_>, query: &Find) -> boo
     false
 }
 
+/// Whether no span of the entry of a spot can start strictly between the bounds: by the bounds of their
+/// starts, so that none of them is looked at.
+fn is_outside(journal: &Journal, spot: Spot, end_ms: i64, lookback_ms: i64) -> bool
+    ensures { OnTrue result (list_any (in_window end_ms lookback_ms)
+        (spans_named journal.now.held.entries (spot ∷ [])) ≡ false) }
+{
+    match journal.times(spot.place) {
+        Some(times) => !may_reach(times, end_ms, lookback_ms),
+        None => false,
+    }
+}
+
 /// Whether the span at a spot starts strictly between the bounds.
 fn starts_within(journal: &Journal, spot: Spot, end_ms: i64, lookback_ms: i64) -> bool
     ensures { result ≡ list_any (in_window end_ms lookback_ms)
         (spans_named journal.now.held.entries (spot ∷ [])) }
 {
+    if is_outside(journal, spot, end_ms, lookback_ms) {
+        return false;
+    }
     match seen_at(journal, spot) {
         Some(seen) => is_in_window(start(seen), end_ms, lookback_ms),
         None => false,

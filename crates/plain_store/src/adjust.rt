@@ -1,13 +1,14 @@
-//! A trace as it is shown, after both adjusters: each span's clock is followed up to its root, so
-//! the work is cubic in the length of the trace.
+//! A trace as it is shown, after both adjusters: each span's clock is followed up to its root and
+//! down again, so the work is quadratic in the length of the trace.
 
-ghost use Rattle.std.specs.Prelude.{◌≡◌, IfOk, map};
-ghost use Rattle.std.specs.List.{list_any};
+ghost use Rattle.std.specs.Prelude.{◌≡◌, ◌<◌, ℕ, None, IfOk, map, length, get_or, option_map, if◌then◌else◌};
+ghost use Rattle.std.specs.List.{list_any, position, AllByRecursion};
+ghost use Rattle.jaeger_model.specs.declared.placed.Placed.{Placed as PlacedValue};
 ghost use Rattle.trace_model.specs.Linking.{has_id};
-ghost use Rattle.trace_model.specs.Adjusting.{parent_first, with_parent_first, clock_within, shown_after, skew_adjusted, adjusted};
+ghost use Rattle.trace_model.specs.Adjusting.{parent_first, with_parent_first, clock_of, unadjusted, shifted_by, skew_adjusted, adjusted};
+ghost use Rattle.plain_store.specs.Climbing.{parent_at, path, next_clock, clock_down};
 
-use crate::links::parent_in;
-use jaeger_model::{Placed, Seq, Span, SpanId};
+use jaeger_model::{Placed, Seq, Span, SpanId, parent_of, refer_to_parent};
 use span_steps::{clock_below, parent_place, root_clock, shifted, unadjusted};
 use std::alloc::{AllocError, Global};
 use trace_model::{Clock, Shown};
@@ -25,13 +26,16 @@ fn with_reference_first(span: Span) -> Span
     span
 }
 
-fn with_parent_first(placed: Placed) -> Placed
-    ensures { result ≡ with_parent_first placed }
+/// The same, where the reference may not be there yet.
+fn with_parent_first(alloc: Global, placed: Placed) -> Result<Placed, AllocError>
+    ensures { IfOk result (λ p. p ≡ with_parent_first placed) }
 {
-    Placed {
+    let mut placed = placed;
+    refer_to_parent(alloc, &mut placed.span)?;
+    Ok(Placed {
         process: placed.process,
         span: with_reference_first(placed.span),
-    }
+    })
 }
 
 /// The trace with the references to parents in front.
@@ -41,29 +45,120 @@ fn with_parents_first(alloc: Global, trace: Seq<Placed>) -> Result<Vec<Placed>, 
 {
     let mut spans = Vec::new(alloc);
     for placed in trace.into_vec() {
-        spans.push(with_parent_first(placed))?;
+        spans.push(with_parent_first(alloc, placed)?)?;
     }
     Ok(spans)
 }
 
-/// The clock of a span that is at most so many steps from a root.
-fn clock_within(
+/// The place of the first span with the id.
+fn place_of(trace: &[Placed], id: SpanId) -> Option<usize>
+    ensures { result ≡ position (has_id id) trace.now }
+{
+    trace.iter().position(|p| has_id(id, p))
+}
+
+/// The place of the span's parent in its trace.
+fn parent_at(trace: &[Placed], placed: &Placed) -> Option<usize>
+    ensures { result ≡ parent_at trace.now placed.now }
+{
+    let parent = parent_of(&placed.span);
+    if parent.0 == 0 {
+        return None;
+    }
+    place_of(trace, parent)
+}
+
+/// The places of the parents of the spans.
+#[tactic(auto, using(std::proofs::lemmas::List::map_more))]
+fn parent_places(alloc: Global, trace: &[Placed]) -> Result<Vec<Option<usize>>, AllocError>
+    ensures { IfOk result (λ v. v.items ≡ map (parent_at trace.now) trace.now) }
+{
+    let mut parents = Vec::new(alloc);
+    for placed in trace {
+        parents.push(parent_at(trace, placed))?;
+    }
+    Ok(parents)
+}
+
+fn place_above(parents: &[Option<usize>], place: usize) -> Option<usize>
+    ensures { result ≡ get_or parents.now place None }
+{
+    match parents.get(place) {
+        Some(parent) => *parent,
+        None => None,
+    }
+}
+
+/// The places from one up to its root, or None where it leads to none.
+fn path_up(
     alloc: Global,
-    steps: usize,
-    trace: &[Placed],
+    parents: &[Option<usize>],
+    start: usize,
+) -> Result<Option<Vec<usize>>, AllocError>
+    ensures { IfOk result (λ o. option_map (λ v. v.items) o ≡
+        path (length parents.now) parents.now start) }
+{
+    let mut path = Vec::new(alloc);
+    let mut at = start;
+    for _step in 0..parents.len() {
+        path.push(at)?;
+        match place_above(parents, at) {
+            Some(parent) => at = parent,
+            None => return Ok(Some(path)),
+        }
+    }
+    Ok(None)
+}
+
+/// The clock of a span below the one with this clock, or of a root.
+fn next_clock(
+    alloc: Global,
+    above: &Option<Clock>,
     placed: &Placed,
     max_skew: u64,
 ) -> Result<Option<Clock>, AllocError>
-    ensures { IfOk result (λ c. c ≡ clock_within max_skew steps trace.now placed.now) }
+    ensures { IfOk result (λ c. c ≡ next_clock max_skew above.now placed.now) }
 {
-    if steps == 0 {
-        return Ok(None);
+    match above {
+        Some(above) => Ok(Some(clock_below(alloc, above, placed, max_skew)?)),
+        None => Ok(Some(root_clock(alloc, placed, max_skew)?)),
     }
-    let Some(parent) = parent_in(trace, placed) else {
-        return Ok(Some(root_clock(alloc, placed, max_skew)?));
-    };
-    match clock_within(alloc, steps - 1, trace, parent, max_skew)? {
-        Some(above) => Ok(Some(clock_below(alloc, &above, placed, max_skew)?)),
+}
+
+/// The clock of the first of the places, each of which has its parent's behind it.
+fn clock_down(
+    alloc: Global,
+    trace: &[Placed],
+    path: Vec<usize>,
+    max_skew: u64,
+) -> Result<Option<Clock>, AllocError>
+    requires { AllByRecursion (λ k. k < length trace.now) path.items }
+    ensures { IfOk result (λ c. (d : PlacedValue) →
+        c ≡ clock_down max_skew trace.now path.items d) }
+{
+    let mut path = path;
+    let mut clock = None;
+    while let Some(place) = path.pop() {
+        clock = next_clock(alloc, &clock, &trace[place], max_skew)?;
+    }
+    Ok(clock)
+}
+
+/// The clock of the span at the place, or None where it leads to no root.
+fn clock_of(
+    alloc: Global,
+    trace: &[Placed],
+    parents: &[Option<usize>],
+    place: usize,
+    max_skew: u64,
+) -> Result<Option<Clock>, AllocError>
+    requires parents { parents.now ≡ map (parent_at trace.now) trace.now }
+    requires within { place < length trace.now }
+    ensures { IfOk result (λ c. (d : PlacedValue) →
+        c ≡ clock_of max_skew trace.now (get_or trace.now place d)) }
+{
+    match path_up(alloc, parents, place)? {
+        Some(path) => clock_down(alloc, trace, path, max_skew),
         None => Ok(None),
     }
 }
@@ -81,20 +176,21 @@ fn is_taken(spans: &[Placed], id: SpanId) -> bool
     spans.iter().any(|p| has_id(id, p))
 }
 
-/// A span of the trace as it is shown, where those before stand in front of it.
+/// A span as it is shown, by its clock and by those that stand in front of it.
 fn shown_after(
     alloc: Global,
-    trace: &[Placed],
     before: &[Placed],
     placed: &Placed,
+    clock: Option<Clock>,
     max_skew: u64,
 ) -> Result<Shown, AllocError>
-    ensures { IfOk result (λ s. s ≡ shown_after max_skew trace.now before.now placed.now) }
+    ensures { IfOk result (λ s. s ≡ (if list_any (has_id placed.now.span.id) before.now
+        then unadjusted placed.now else shifted_by max_skew placed.now clock)) }
 {
     if is_taken(before, placed.span.id) {
         return Ok(unadjusted(alloc, placed.clone()?));
     }
-    match clock_within(alloc, trace.len(), trace, placed, max_skew)? {
+    match clock {
         Some(clock) => shifted(alloc, placed.clone()?, clock.delta, max_skew),
         None => Ok(unadjusted(alloc, placed.clone()?)),
     }
@@ -103,9 +199,11 @@ fn shown_after(
 fn without_skew(alloc: Global, trace: &[Placed], max_skew: u64) -> Result<Vec<Shown>, AllocError>
     ensures { IfOk result (λ v. v.items ≡ skew_adjusted max_skew trace.now) }
 {
+    let parents = parent_places(alloc, trace)?;
     let mut shown = Vec::new(alloc);
     for (i, placed) in trace.iter().enumerate() {
-        shown.push(shown_after(alloc, trace, &trace[..i], placed, max_skew)?)?;
+        let clock = clock_of(alloc, trace, &parents, i, max_skew)?;
+        shown.push(shown_after(alloc, &trace[..i], placed, clock, max_skew)?)?;
     }
     Ok(shown)
 }
@@ -115,7 +213,7 @@ fn without_skew(alloc: Global, trace: &[Placed], max_skew: u64) -> Result<Vec<Sh
 ///
 /// # Errors
 ///
-/// Want of memory alone.
+/// Out of memory, and nothing else.
 pub fn adjusted_trace(
     alloc: Global,
     trace: Seq<Placed>,

@@ -12,7 +12,7 @@ use std::alloc::{AllocError, Global};
 use trace_model::Link;
 
 /// The first span of the trace with the id of the span's parent.
-pub(crate) fn parent_in<'a>(trace: &'a [Placed], placed: &Placed) -> Option<&'a Placed>
+fn parent_in<'a>(trace: &'a [Placed], placed: &Placed) -> Option<&'a Placed>
     ensures { option_copied result ≡ parent_in trace.now placed.now }
 {
     let parent = parent_of(&placed.span);
@@ -65,7 +65,8 @@ fn add_calls_within(
     end_ms: i64,
     lookback_ms: i64,
 ) -> Result<(), AllocError>
-    ensures { OnOk result (calls.new.items ≡ calls.old.items ++ calls_within end_ms lookback_ms trace.now) }
+    ensures { OnOk result (calls.new.items ≡
+        calls.old.items ++ calls_within end_ms lookback_ms trace.now) }
 {
     if reaches_window(trace, end_ms, lookback_ms) {
         add_calls(calls, trace)?;
@@ -125,7 +126,7 @@ fn counted(alloc: Global, calls: &[(Text, Text)]) -> Result<Vec<Link>, AllocErro
 ///
 /// # Errors
 ///
-/// Want of memory alone.
+/// Out of memory, and nothing else.
 pub fn service_links(
     alloc: Global,
     traces: &[Seq<Placed>],

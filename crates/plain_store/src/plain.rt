@@ -37,7 +37,8 @@ fn all_traces(
     entries: &[Arc<Entry>],
     limits: Limits,
 ) -> Result<Vec<Seq<Placed>>, AllocError>
-    ensures { IfOk result (λ v. v.items ≡ traces limits.traces (arrivals (map arc_value entries.now))) }
+    ensures { IfOk result (λ v. v.items ≡
+        traces limits.traces (arrivals (map arc_value entries.now))) }
 {
     let arrived = all_arrivals(alloc, entries)?;
     shown_traces(alloc, arrived, limits.traces)
@@ -50,7 +51,8 @@ pub fn get_trace(
     limits: Limits,
     id: TraceId,
 ) -> Result<Option<Vec<Placed>>, AllocError>
-    ensures { IfOk result (λ found. option_map (λ v. v.items) found ≡ trace_found limits.traces (arrivals (map arc_value entries.now)) id) }
+    ensures { IfOk result (λ found. option_map (λ v. v.items) found ≡
+        trace_found limits.traces (arrivals (map arc_value entries.now)) id) }
 {
     let arrived = all_arrivals(alloc, entries)?;
     let spans = keep_trace(all_shown(alloc, arrived, limits.traces)?.spans, id);
@@ -64,7 +66,7 @@ pub fn get_trace(
 ///
 /// # Errors
 ///
-/// Want of memory alone.
+/// Out of memory, and nothing else.
 pub fn trace_shown(
     alloc: Global,
     spans: Vec<Placed>,
@@ -100,7 +102,7 @@ fn all_adjusted(
 ///
 /// # Errors
 ///
-/// Want of memory alone.
+/// Out of memory, and nothing else.
 pub fn plain_answer(
     alloc: Global,
     entries: &[Arc<Entry>],

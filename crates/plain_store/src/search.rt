@@ -2,7 +2,7 @@
 
 ghost use Rattle.std.specs.Prelude.{◌≡◌, IfOk, List, filter, flat_map};
 ghost use Rattle.std.specs.List.{list_any, list_all};
-ghost use Rattle.jaeger_model.specs.declared.span.Log.{Log as Logged};
+ghost use Rattle.jaeger_model.specs.declared.span.Log.{Log as LogValue};
 ghost use Rattle.jaeger_model.specs.Tags.{tag_text};
 ghost use Rattle.jaeger_model.specs.Texts.{same_text};
 ghost use Rattle.trace_model.specs.Searching.{matches, tells, has_tag, found_in, first_id, ids_of, cut};
@@ -18,7 +18,7 @@ fn is_text_of(alloc: Global, value: &Value, asked: &Text) -> Result<bool, AllocE
     ensures { IfOk result (λ b. b ≡ same_text asked.now (tag_text value.now)) }
 {
     let text = tag_text(alloc, value)?;
-    Ok(*asked == text)
+    Ok(asked.as_str() == text.as_str())
 }
 
 /// Whether one of the tags has the asked key and text.
@@ -35,7 +35,8 @@ fn is_among(alloc: Global, tags: &[Tag], asked: &(Text, Text)) -> Result<bool, A
 
 /// Whether one of the logs has a field with the asked key and text.
 fn is_logged(alloc: Global, logs: &[Log], asked: &(Text, Text)) -> Result<bool, AllocError>
-    ensures { IfOk result (λ b. b ≡ list_any (tells asked.now) (flat_map (λ (l : Logged). l.fields) logs.now)) }
+    ensures { IfOk result (λ b. b ≡ list_any (tells asked.now)
+        (flat_map (λ (l : LogValue). l.fields) logs.now)) }
 {
     for log in logs {
         if is_among(alloc, log.fields.as_slice(), asked)? {
@@ -126,7 +127,7 @@ fn cut(limit: u64, traces: &mut Vec<Seq<Placed>>)
 ///
 /// # Errors
 ///
-/// Want of memory alone.
+/// Out of memory, and nothing else.
 pub fn find_traces(
     alloc: Global,
     traces: Vec<Seq<Placed>>,
@@ -153,7 +154,7 @@ fn first_id(trace: &Seq<Placed>) -> Option<TraceId>
 ///
 /// # Errors
 ///
-/// Want of memory alone.
+/// Out of memory, and nothing else.
 pub fn trace_ids(alloc: Global, traces: &[Seq<Placed>]) -> Result<Vec<TraceId>, AllocError>
     ensures { IfOk result (λ v. v.items ≡ ids_of traces.now) }
 {

@@ -36,7 +36,8 @@ fn is_among(processes: &[&Process], process: &Process) -> bool
 }
 
 fn add_once<'a>(processes: &mut Vec<&'a Process>, process: &'a Process) -> Result<(), AllocError>
-    ensures { OnOk result (map (λ p. p.now) processes.new.items ≡ added process.now (map (λ p. p.now) processes.old.items)) }
+    ensures { OnOk result (map (λ p. p.now) processes.new.items ≡
+        added process.now (map (λ p. p.now) processes.old.items)) }
 {
     if !is_among(processes, process) {
         processes.push(process)?;

@@ -47,7 +47,8 @@ fn span_json(alloc: Global, processes: &[&Process], shown: &Shown) -> Result<Val
 }
 
 fn spans_json(alloc: Global, processes: &[&Process], spans: &[Shown]) -> Result<Value, AllocError>
-    ensures { IfOk result (λ v. view v ≡ list (map (span_tree (map (λ p. p.now) processes.now)) spans.now)) }
+    ensures { IfOk result (λ v. view v ≡
+        list (map (span_tree (map (λ p. p.now) processes.now)) spans.now)) }
 {
     let mut trees = Vec::new(alloc);
     for span in spans {

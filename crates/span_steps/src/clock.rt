@@ -1,26 +1,28 @@
 //! How one host's clock runs against another's, and a span moved by the difference.
 
-ghost use Rattle.std.specs.Prelude.{◌≡◌, IfOk, IsTrue, map, pos, ◌+ℤ◌, [], not, ◌||◌};
+ghost use Rattle.std.specs.Prelude.{◌≡◌, IfOk, OnOk, OnErr, IsTrue, map, string_bytes, pos, ◌+ℤ◌, [], not, ◌||◌};
 ghost use Rattle.std.specs.List.{list_all};
-ghost use Rattle.jaeger_model.specs.declared.span.Log.{Log as Event};
+ghost use Rattle.jaeger_model.specs.declared.span.Log.{Log as LogValue};
 ghost use Rattle.jaeger_model.specs.Texts.{same_text};
-ghost use Rattle.trace_model.specs.Adjusting.{host_of, fits, all_fit, is_applied, start_at, new_delta, clock_at, is_elsewhere, clock_below, moved, move_log, moved_placed, warned, past_limit, past_times, adjusted_by, shifted, unadjusted};
+ghost use Rattle.trace_model.specs.Adjusting.{host_of, fits, all_fit, is_applied, start_at, new_delta, clock_at, is_elsewhere, clock_below, moved, move_log, said_after, warned, past_limit, past_times, adjusted_by, shifted, unadjusted};
 
 use crate::skew::{can_move, delta, is_within, moved_by};
 use jaeger_model::{Log, Placed, Seq, Span, Text, first_text};
 use std::alloc::{AllocError, Global};
+use std::mem;
 use trace_model::{Clock, Shown};
 
 /// The text of the process's first tag `ip`, or an empty one.
 fn host_of(alloc: Global, placed: &Placed) -> Result<Text, AllocError>
     ensures { IfOk result (λ t. t ≡ host_of placed.now) }
 {
-    first_text(alloc, placed.process.tags.as_slice(), "ip")
+    let host = first_text(alloc, placed.process.tags.as_slice(), "ip")?;
+    Ok(Text::from_string(host))
 }
 
 /// Each log time so much later is a time.
 fn all_logs_fit(delta: i128, logs: &[Log]) -> bool
-    ensures { result ≡ list_all (λ (l : Event). fits (l.at +ℤ delta)) logs.now }
+    ensures { result ≡ list_all (λ (l : LogValue). fits (l.at +ℤ delta)) logs.now }
 {
     logs.iter().all(|l| can_move(l.at, delta))
 }
@@ -63,7 +65,8 @@ fn clock_at(max_skew: u64, host: Text, delta: i128, span: &Span) -> Clock
 
 /// The clock of a span whose parent is not in its trace: its own host's, with no delta.
 pub fn root_clock(alloc: Global, placed: &Placed, max_skew: u64) -> Result<Clock, AllocError>
-    ensures { IfOk result (λ c. c ≡ clock_at max_skew (host_of placed.now) (pos 0) placed.now.span) }
+    ensures { IfOk result (λ c. c ≡ clock_at max_skew (host_of placed.now) (pos 0)
+        placed.now.span) }
 {
     let host = host_of(alloc, placed)?;
     Ok(clock_at(max_skew, host, 0, &placed.span))
@@ -112,7 +115,7 @@ fn move_log(delta: i128, log: &mut Log)
 
 /// The logs so much later.
 fn move_logs(delta: i128, logs: &mut [Log])
-    requires { IsTrue (list_all (λ (l : Event). fits (l.at +ℤ delta)) logs.old) }
+    requires { IsTrue (list_all (λ (l : LogValue). fits (l.at +ℤ delta)) logs.old) }
     ensures { logs.new ≡ map (move_log delta) logs.old }
 {
     for log in logs.iter_mut() {
@@ -121,7 +124,7 @@ fn move_logs(delta: i128, logs: &mut [Log])
 }
 
 fn moved_logs(delta: i128, logs: Seq<Log>) -> Seq<Log>
-    requires { IsTrue (list_all (λ (l : Event). fits (l.at +ℤ delta)) logs) }
+    requires { IsTrue (list_all (λ (l : LogValue). fits (l.at +ℤ delta)) logs) }
     ensures { result ≡ map (move_log delta) logs }
 {
     let mut logs = logs.into_vec();
@@ -130,24 +133,13 @@ fn moved_logs(delta: i128, logs: Seq<Log>) -> Seq<Log>
 }
 
 /// The span so much later.
-fn moved(delta: i128, span: Span) -> Span
-    requires { IsTrue (all_fit delta span) }
-    ensures { result ≡ moved delta span }
+fn move_span(alloc: Global, delta: i128, span: &mut Span)
+    requires { IsTrue (all_fit delta span.old) }
+    ensures { span.new ≡ moved delta span.old }
 {
-    let mut span = span;
+    let logs = mem::replace(&mut span.logs, Seq::new(alloc));
     span.start = moved_by(span.start, delta);
-    span.logs = moved_logs(delta, span.logs);
-    span
-}
-
-fn moved_placed(delta: i128, placed: Placed) -> Placed
-    requires { IsTrue (all_fit delta placed.span) }
-    ensures { result ≡ moved_placed delta placed }
-{
-    Placed {
-        process: placed.process,
-        span: moved(delta, placed.span),
-    }
+    span.logs = moved_logs(delta, logs);
 }
 
 /// The span as it came.
@@ -164,7 +156,7 @@ pub fn unadjusted(alloc: Global, placed: Placed) -> Shown
 ///
 /// # Errors
 ///
-/// Want of memory alone.
+/// Out of memory, and nothing else.
 #[tactic(auto, using(std::proofs::lemmas::List::map_push))]
 pub fn all_unadjusted(alloc: Global, spans: Vec<Placed>) -> Result<Seq<Shown>, AllocError>
     ensures { IfOk result (λ s. s ≡ map unadjusted spans.items) }
@@ -176,15 +168,12 @@ pub fn all_unadjusted(alloc: Global, spans: Vec<Placed>) -> Result<Seq<Shown>, A
     Ok(Seq::from_vec(shown))
 }
 
-fn with_warning(alloc: Global, placed: Placed, warning: Text) -> Result<Shown, AllocError>
-    ensures { IfOk result (λ s. s ≡ warned placed warning) }
+/// Puts a warning behind those of the span.
+fn warn(shown: &mut Shown, warning: Text) -> Result<(), AllocError>
+    ensures ok { OnOk result (shown.new ≡ said_after shown.old (warned shown.old.placed warning)) }
+    ensures err { OnErr result (shown.new ≡ shown.old) }
 {
-    let mut warnings = Vec::new(alloc);
-    warnings.push(warning)?;
-    Ok(Shown {
-        placed,
-        warnings: Seq::from_vec(warnings),
-    })
+    shown.warnings.push(warning)
 }
 
 fn past_limit(alloc: Global, delta: i128, max_skew: u64) -> Result<Text, AllocError>
@@ -210,13 +199,39 @@ fn adjusted_by(alloc: Global, delta: i128) -> Result<Text, AllocError>
     Ok(Text::from_string(text))
 }
 
-/// The span moved by the delta of its host, and a warning that says so, or that says why it is not
-/// moved: the delta is above the limit, or a time would leave the range of times. A delta of 0
-/// changes nothing and says nothing.
+/// Moves the span by the delta of its host, and puts a warning that says so behind those that it
+/// has, or one that says why it is not moved: the delta is above the limit, or a time would leave
+/// the range of times. A delta of 0 changes nothing and says nothing.
+///
+/// `delta` and `max_skew` are microseconds.
 ///
 /// # Errors
 ///
-/// Want of memory alone.
+/// Running out of memory alone; the span is then as it was.
+pub fn shift(alloc: Global, shown: &mut Shown, delta: i128, max_skew: u64) -> Result<(), AllocError>
+    ensures ok { OnOk result (shown.new ≡
+        said_after shown.old (shifted max_skew delta shown.old.placed)) }
+    ensures err { OnErr result (shown.new ≡ shown.old) }
+{
+    if delta == 0 {
+        return Ok(());
+    }
+    if !is_within(delta, max_skew) {
+        return warn(shown, past_limit(alloc, delta, max_skew)?);
+    }
+    if !all_fit(delta, &shown.placed.span) {
+        return warn(shown, past_times(alloc, delta)?);
+    }
+    warn(shown, adjusted_by(alloc, delta)?)?;
+    move_span(alloc, delta, &mut shown.placed.span);
+    Ok(())
+}
+
+/// The span as it came, moved as by [`shift`].
+///
+/// # Errors
+///
+/// Out of memory, and nothing else.
 pub fn shifted(
     alloc: Global,
     placed: Placed,
@@ -225,17 +240,7 @@ pub fn shifted(
 ) -> Result<Shown, AllocError>
     ensures { IfOk result (λ s. s ≡ shifted max_skew delta placed) }
 {
-    if delta == 0 {
-        return Ok(unadjusted(alloc, placed));
-    }
-    if !is_within(delta, max_skew) {
-        let warning = past_limit(alloc, delta, max_skew)?;
-        return with_warning(alloc, placed, warning);
-    }
-    if !all_fit(delta, &placed.span) {
-        let warning = past_times(alloc, delta)?;
-        return with_warning(alloc, placed, warning);
-    }
-    let warning = adjusted_by(alloc, delta)?;
-    with_warning(alloc, moved_placed(delta, placed), warning)
+    let mut shown = unadjusted(alloc, placed);
+    shift(alloc, &mut shown, delta, max_skew)?;
+    Ok(shown)
 }

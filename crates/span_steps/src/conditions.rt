@@ -15,7 +15,8 @@ fn is_asked(asked: &Text, text: &Text) -> bool
     asked.as_str() == "" || asked == text
 }
 
-fn is_at_least(low: Option<i64>, value: i64) -> bool
+/// Whether the value is not below a bound, if there is one.
+pub fn is_at_least(low: Option<i64>, value: i64) -> bool
     ensures { result ≡ at_least low value }
 {
     match low {
@@ -24,7 +25,8 @@ fn is_at_least(low: Option<i64>, value: i64) -> bool
     }
 }
 
-fn is_at_most(high: Option<i64>, value: i64) -> bool
+/// Whether the value is not above a bound, if there is one.
+pub fn is_at_most(high: Option<i64>, value: i64) -> bool
     ensures { result ≡ at_most high value }
 {
     match high {
@@ -33,8 +35,8 @@ fn is_at_most(high: Option<i64>, value: i64) -> bool
     }
 }
 
-/// A duration's bound; 0 is none.
-fn bound(duration: i64) -> Option<i64>
+/// The bound that a search gives for durations, in microseconds; 0 is none.
+pub fn duration_bound(duration: i64) -> Option<i64>
     ensures { result ≡ bound duration }
 {
     if duration == 0 { None } else { Some(duration) }
@@ -51,8 +53,8 @@ pub fn is_named(at: Seen, query: &Find) -> bool
 pub fn is_timed(at: Seen, query: &Find) -> bool
     ensures { result ≡ is_timed query.now (seen at.entry) }
 {
-    is_at_least(bound(query.duration_min), at.span.duration)
-        && is_at_most(bound(query.duration_max), at.span.duration)
+    is_at_least(duration_bound(query.duration_min), at.span.duration)
+        && is_at_most(duration_bound(query.duration_max), at.span.duration)
         && is_at_least(query.start_min, at.span.start)
         && is_at_most(query.start_max, at.span.start)
 }

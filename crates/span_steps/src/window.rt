@@ -1,6 +1,6 @@
 //! Whether a time lies in a window of time.
 
-ghost use Rattle.std.specs.Prelude.{◌≡◌, pos, ◌-ℤ◌, ◌*ℤ◌, ◌≤ℤ◌, ◌^◌, int_lt};
+ghost use Rattle.std.specs.Prelude.{◌≡◌, ◌&&◌, pos, ◌-ℤ◌, ◌*ℤ◌, ◌≤ℤ◌, ◌^◌, int_lt};
 ghost use Rattle.trace_model.specs.Linking.{is_between};
 
 use crate::skew::{difference, wide};
@@ -26,11 +26,34 @@ fn is_before(time: i64, bound: i128) -> bool
     wide(time) < bound
 }
 
+/// The time, in microseconds, is after the window begins.
+fn is_after_begin(time: i64, end_ms: i64, lookback_ms: i64) -> bool
+    ensures { result ≡ int_lt (pos 1000 *ℤ (end_ms -ℤ lookback_ms)) time }
+{
+    is_after(time, micros(difference(end_ms, lookback_ms)))
+}
+
+/// It is before the window ends.
+fn is_before_end(time: i64, end_ms: i64) -> bool
+    ensures { result ≡ int_lt time (pos 1000 *ℤ end_ms) }
+{
+    is_before(time, micros(wide(end_ms)))
+}
+
 /// The start of a span, in microseconds, lies strictly between `end_ms - lookback_ms` and `end_ms`,
 /// both in milliseconds. No bound overflows.
 pub fn is_in_window(start: i64, end_ms: i64, lookback_ms: i64) -> bool
     ensures { result ≡ is_between end_ms lookback_ms start }
 {
-    is_after(start, micros(difference(end_ms, lookback_ms)))
-        && is_before(start, micros(wide(end_ms)))
+    is_after_begin(start, end_ms, lookback_ms) && is_before_end(start, end_ms)
+}
+
+/// Some start from `least` to `greatest`, both in microseconds, may lie strictly between
+/// `end_ms - lookback_ms` and `end_ms`, both in milliseconds. Where none may, the spans with these bounds
+/// of their starts needn't be looked at.
+pub fn may_be_in_window(least: i64, greatest: i64, end_ms: i64, lookback_ms: i64) -> bool
+    ensures { result ≡ (int_lt (pos 1000 *ℤ (end_ms -ℤ lookback_ms)) greatest
+        && int_lt least (pos 1000 *ℤ end_ms)) }
+{
+    is_after_begin(greatest, end_ms, lookback_ms) && is_before_end(least, end_ms)
 }

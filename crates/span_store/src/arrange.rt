@@ -1,11 +1,11 @@
 //! What one more entry changes in ring and assembly.
 
 ghost use Rattle.std.specs.Prelude.{◌≡◌, ℕ, ◌+◌, ◌<◌, ◌≤◌, List, [], ◌∷◌, ◌++◌, length, None};
-ghost use Rattle.jaeger_model.specs.declared.ids.TraceId.{TraceId as Trace};
-ghost use Rattle.jaeger_model.specs.declared.placed.Placed.{Placed as Arrival};
+ghost use Rattle.jaeger_model.specs.declared.ids.TraceId.{TraceId as TraceIdValue};
+ghost use Rattle.jaeger_model.specs.declared.placed.Placed.{Placed as PlacedValue};
 ghost use Rattle.trace_model.specs.Showing.{trace_of};
 ghost use Rattle.arrival_journal.specs.Journals.{refusal_by};
-ghost use Rattle.trace_assembly.specs.declared.spot.Spot.{Spot as Where};
+ghost use Rattle.trace_assembly.specs.declared.spot.Spot.{Spot as SpotValue};
 ghost use Rattle.trace_assembly.specs.Rows.{spots_of};
 ghost use Rattle.trace_assembly.specs.Located.{located, after_leaving};
 ghost use Rattle.span_store.specs.Kept.{Follows};
@@ -18,7 +18,8 @@ use trace_ring::Ring;
 
 /// Forgets the spots of the trace that left, if one did.
 fn hide_left(assembly: &mut Assembly, left: Option<TraceId>)
-    ensures spots { (t : Trace) → spots_of assembly.new t ≡ after_leaving left (spots_of assembly.old) t }
+    ensures spots { (t : TraceIdValue) →
+        spots_of assembly.new t ≡ after_leaving left (spots_of assembly.old) t }
     ensures used { assembly.new.used ≡ assembly.old.used }
     ensures room { assembly.new.room ≡ assembly.old.room }
 {
@@ -33,8 +34,10 @@ fn let_in(ring: &mut Ring, assembly: &mut Assembly, trace: TraceId, spot: Spot)
     requires ring_room { length ring.old.seen < ring.old.room }
     requires assembly_room { assembly.old.used < assembly.old.room }
     ensures limit { ring.new.limit ≡ ring.old.limit }
-    ensures follows { (ls : List (Where × Arrival)) (p : Arrival) → Follows ring.old.limit ls ring.old.ids (spots_of assembly.old) →
-        trace_of p ≡ trace → Follows ring.old.limit (ls ++ (spot, p) ∷ []) ring.new.ids (spots_of assembly.new) }
+    ensures follows { (ls : List (SpotValue × PlacedValue)) (p : PlacedValue) →
+        Follows ring.old.limit ls ring.old.ids (spots_of assembly.old) →
+        trace_of p ≡ trace → Follows ring.old.limit (ls ++ (spot, p) ∷ []) ring.new.ids
+        (spots_of assembly.new) }
     ensures ring_room { ring.new.room ≡ ring.old.room }
     ensures seen { length ring.new.seen ≤ length ring.old.seen + 1 }
     ensures used { assembly.new.used ≡ assembly.old.used + 1 }
@@ -49,11 +52,13 @@ fn let_in(ring: &mut Ring, assembly: &mut Assembly, trace: TraceId, spot: Spot)
 /// room.
 pub(crate) fn arrange(journal: &Journal, ring: &mut Ring, assembly: &mut Assembly, entry: &Entry)
     requires admissible { refusal_by journal.now.held entry.now ≡ None }
-    requires follows { Follows ring.old.limit (located journal.now.held.entries) ring.old.ids (spots_of assembly.old) }
+    requires follows { Follows ring.old.limit (located journal.now.held.entries) ring.old.ids
+        (spots_of assembly.old) }
     requires ring_room { length ring.old.seen + length entry.now.batch.spans ≤ ring.old.room }
     requires assembly_room { assembly.old.used + length entry.now.batch.spans ≤ assembly.old.room }
     ensures limit { ring.new.limit ≡ ring.old.limit }
-    ensures follows { Follows ring.old.limit (located (journal.now.held.entries ++ entry.now ∷ [])) ring.new.ids (spots_of assembly.new) }
+    ensures follows { Follows ring.old.limit (located (journal.now.held.entries ++ entry.now ∷ []))
+        ring.new.ids (spots_of assembly.new) }
     ensures ring_room { ring.new.room ≡ ring.old.room }
     ensures seen { length ring.new.seen ≤ length ring.old.seen + length entry.now.batch.spans }
     ensures assembly_room { assembly.new.room ≡ assembly.old.room }

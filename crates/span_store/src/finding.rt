@@ -20,7 +20,8 @@ fn adjusted_at(
     place: usize,
     max_skew: u64,
 ) -> Result<Seq<Shown>, AllocError>
-    ensures { IfOk result (λ s. s ≡ adjusted max_skew (slice_index_or (traces_of traces.now) place [])) }
+    ensures { IfOk result (λ s. s ≡ adjusted max_skew
+        (slice_index_or (traces_of traces.now) place [])) }
 {
     let Some(spots) = traces.spots.get(place) else {
         return Ok(Seq::new(alloc));

@@ -14,7 +14,12 @@ use trace_model::{Answer, Entry, Limits, Query, Refusal};
 
 /// Applies an entry. One that the entries before it refuse is left out.
 fn take(store: &mut SpanStore, entry: &Arc<Entry>) -> Result<(), Refusal>
-    ensures taken { OnOk result (store.new ≡ record { limits = store.old.limits; entries = taken store.old.limits store.old.entries (arc_value entry.now) }) }
+    ensures taken { OnOk result (store.new ≡
+        record {
+          limits = store.old.limits;
+          entries = taken store.old.limits store.old.entries
+              (arc_value entry.now);
+        }) }
     ensures reason { IfErr result (λ why. why ≡ NoMemory) }
 {
     match store.apply(Arc::try_clone(entry)?) {
@@ -28,14 +33,15 @@ fn take(store: &mut SpanStore, entry: &Arc<Entry>) -> Result<(), Refusal>
 ///
 /// # Errors
 ///
-/// Want of memory alone.
+/// Out of memory, and nothing else.
 pub fn replay(
     alloc: Global,
     keys: RandomState,
     limits: Limits,
     entries: &[Arc<Entry>],
 ) -> Result<SpanStore, Refusal>
-    ensures held { IfOk result (λ s. s ≡ record { limits = limits; entries = accepted limits (map arc_value entries.now) }) }
+    ensures held { IfOk result (λ s. s ≡
+        record { limits = limits; entries = accepted limits (map arc_value entries.now) }) }
     ensures reason { IfErr result (λ why. why ≡ NoMemory) }
 {
     let mut store = SpanStore::open(alloc, keys, limits)?;
@@ -50,7 +56,7 @@ pub fn replay(
 ///
 /// # Errors
 ///
-/// Want of memory alone.
+/// Out of memory, and nothing else.
 pub fn replayed_answer(
     alloc: Global,
     keys: RandomState,
@@ -58,7 +64,8 @@ pub fn replayed_answer(
     entries: &[Arc<Entry>],
     query: &Query,
 ) -> Result<Answer, Refusal>
-    ensures answer { IfOk result (λ a. a ≡ answer limits (accepted limits (map arc_value entries.now)) query.now) }
+    ensures answer { IfOk result (λ a. a ≡
+        answer limits (accepted limits (map arc_value entries.now)) query.now) }
     ensures reason { IfErr result (λ why. why ≡ NoMemory) }
 {
     let store = replay(alloc, keys, limits, entries)?;

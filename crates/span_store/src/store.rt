@@ -64,7 +64,7 @@ impl SpanStore {
     ///
     /// # Errors
     ///
-    /// Want of memory alone.
+    /// Out of memory, and nothing else.
     pub fn open(alloc: Global, keys: RandomState, limits: Limits) -> Result<Self, AllocError>
         ensures { IfOk result (λ store. store ≡ record { limits = limits; entries = [] }) }
     {
@@ -78,6 +78,7 @@ impl SpanStore {
         })
     }
 
+    /// The limits that it was opened with.
     pub fn limits(&self) -> Limits
         ensures { result ≡ self.now.limits }
     {
@@ -99,6 +100,7 @@ impl SpanStore {
         self.journal.len()
     }
 
+    /// Whether no entry was accepted.
     pub fn is_empty(&self) -> bool
         ensures { result ≡ (length self.now.entries == 0) }
     {
@@ -142,9 +144,10 @@ impl SpanStore {
     ///
     /// # Errors
     ///
-    /// Want of memory alone.
+    /// Out of memory, and nothing else.
     pub fn trace_ids(&self) -> Result<Vec<TraceId>, AllocError>
-        ensures { IfOk result (λ v. v.items ≡ ring self.now.limits.traces (arrivals self.now.entries)) }
+        ensures { IfOk result (λ v. v.items ≡
+            ring self.now.limits.traces (arrivals self.now.entries)) }
     {
         ring_ids(self.alloc, &self.ring)
     }
@@ -161,7 +164,7 @@ impl SpanStore {
     ///
     /// # Errors
     ///
-    /// Want of memory alone.
+    /// Out of memory, and nothing else.
     pub fn answer(&self, query: &Query) -> Result<Answer, Refusal>
         ensures answer { IfOk result (λ a. a ≡ answer self.now.limits self.now.entries query.now) }
         ensures reason { IfErr result (λ why. why ≡ NoMemory) }
@@ -190,7 +193,8 @@ impl SpanStore {
 
     /// The operations of a service, by name.
     fn operation_names(&self, service: &Text) -> Result<Answer, AllocError>
-        ensures { IfOk result (λ a. a ≡ answer self.now.limits self.now.entries (ask.OperationNames service.now)) }
+        ensures { IfOk result (λ a. a ≡ answer self.now.limits self.now.entries
+            (ask.OperationNames service.now)) }
     {
         let names = self.names.operation_names(self.journal.entries(), service)?;
         Ok(Answer::Names(Seq::from_vec(names)))
@@ -198,7 +202,8 @@ impl SpanStore {
 
     /// The operations of a service, by name and kind.
     fn operations(&self, service: &Text, kind: &Text) -> Result<Answer, AllocError>
-        ensures { IfOk result (λ a. a ≡ answer self.now.limits self.now.entries (ask.Operations service.now kind.now)) }
+        ensures { IfOk result (λ a. a ≡ answer self.now.limits self.now.entries
+            (ask.Operations service.now kind.now)) }
     {
         let found = self
             .names
@@ -247,7 +252,8 @@ impl SpanStore {
 
     /// The traces that a search finds, as they are shown.
     fn find(&self, query: &Find) -> Result<Answer, AllocError>
-        ensures { IfOk result (λ a. a ≡ answer self.now.limits self.now.entries (ask.Find query.now)) }
+        ensures { IfOk result (λ a. a ≡ answer self.now.limits self.now.entries
+            (ask.Find query.now)) }
     {
         let spots = self.candidates(query)?;
         let traces = Candidates {
@@ -260,7 +266,8 @@ impl SpanStore {
 
     /// The ids of the traces that a search finds.
     fn find_ids(&self, query: &Find) -> Result<Answer, AllocError>
-        ensures { IfOk result (λ a. a ≡ answer self.now.limits self.now.entries (ask.FindIds query.now)) }
+        ensures { IfOk result (λ a. a ≡ answer self.now.limits self.now.entries
+            (ask.FindIds query.now)) }
     {
         let spots = self.candidates(query)?;
         let traces = Candidates {
@@ -291,7 +298,8 @@ impl SpanStore {
 
     /// How often services call one another in a window of time.
     fn links(&self, end_ms: i64, lookback_ms: i64) -> Result<Answer, AllocError>
-        ensures { IfOk result (λ a. a ≡ answer self.now.limits self.now.entries (ask.Links end_ms lookback_ms)) }
+        ensures { IfOk result (λ a. a ≡ answer self.now.limits self.now.entries
+            (ask.Links end_ms lookback_ms)) }
     {
         let traces = self.traces_within(end_ms, lookback_ms)?;
         let links = finding::links(self.alloc, &traces, end_ms, lookback_ms)?;
@@ -300,7 +308,8 @@ impl SpanStore {
 
     /// A trace by its id.
     fn trace(&self, id: TraceId, raw: bool) -> Result<Answer, AllocError>
-        ensures { IfOk result (λ a. a ≡ answer self.now.limits self.now.entries (ask.Trace id raw)) }
+        ensures { IfOk result (λ a. a ≡ answer self.now.limits self.now.entries
+            (ask.Trace id raw)) }
     {
         let spots = self.assembly.spots(id);
         if spots.is_empty() {

@@ -1,5 +1,5 @@
 -- The reference to the parent, once it stands in front, names the same parent.
-use Rattle.std.proofs.Common.{◌≡◌, ℕ, zero, suc, ◌<◌, Bool, true, false, ◌&&◌, ◌||◌, List, [], ◌∷◌, length, refl, sym, ap, ◌∙◌, cond, arith, get_or, set}
+use Rattle.std.proofs.Common.{◌≡◌, ℕ, zero, suc, ◌<◌, eq-eqb, Bool, true, false, ◌&&◌, ◌||◌, List, [], ◌∷◌, length, refl, sym, ap, ◌∙◌, cond, arith, get_or, set}
 use Rattle.std.specs.Prelude.{Option, Some, None, find, is_some, nat_lt, ◌==◌, if◌then◌else◌, swap}
 use Rattle.std.specs.Option.{option_or}
 use Rattle.std.specs.List.{list_any, position, position_or_len, slice_get}
@@ -14,7 +14,7 @@ use Rattle.jaeger_model.specs.declared.ids.SpanId.{SpanId}
 use Rattle.jaeger_model.specs.declared.span.RefKind.TheVariants.{ChildOf}
 use Rattle.jaeger_model.specs.declared.span.Span.{Span}
 use Rattle.jaeger_model.specs.declared.span.SpanRef.{SpanRef}
-use Rattle.jaeger_model.specs.Parents.{no_parent, own_child, own_other, id_or, parent, parent_by_references, parent_reference, needs_no_reference, refers_to, same_trace}
+use Rattle.jaeger_model.specs.Parents.{no_parent, own_child, own_other, id_or, parent, parent_by_references, parent_reference, needs_no_reference, refers_to, same_trace, with_parent}
 use Rattle.jaeger_model.specs.Same.{same_trace-decides}
 use Rattle.trace_model.specs.Adjusting.{to_front, parent_in_front, parent_first}
 
@@ -132,3 +132,21 @@ parent_stays s = by (needs_no_reference s) refl
         ∙ named s.trace s.parent (parent_in_front s.trace s.references)
         ∙ sym (named s.trace s.parent s.references)
         ∙ sym (ap (λ b. parent_by_references s.trace (if b then s else record s { references = parent_reference s ∷ s.references }).references) e)
+
+-- a span whose parent is among its references gains none
+pub referred_once : (s : Span) → with_parent (with_parent s) ≡ with_parent s
+referred_once s = elim (needs_no_reference s) as (λ b. needs_no_reference s ≡ b → with_parent (if b then s else record s { references = parent_reference s ∷ s.references }) ≡ (if b then s else record s { references = parent_reference s ∷ s.references })) [
+  | true ↦ λ e. ap (λ b. if b then s else record s { references = parent_reference s ∷ s.references }) e
+  | false ↦ λ e.
+      let t = record s { references = parent_reference s ∷ s.references } in
+      let named : refers_to s.trace s.parent (parent_reference s) ≡ true = (λ i. (same_number s.trace.high i && same_number s.trace.low i) && same_number s.parent.0 i) in
+      ap (λ b. if (s.parent.0 == 0) || (b || list_any (refers_to s.trace s.parent) s.references) then t else record t { references = parent_reference t ∷ t.references }) named
+      ∙ ap (λ b. if b then t else record t { references = parent_reference t ∷ t.references }) (or_true (s.parent.0 == 0))
+] refl
+  where
+    same_number : (n : ℕ) → (n == n) ≡ true
+    same_number n = eq-eqb n n refl
+
+    or_true : (b : Bool) → (b || true) ≡ true
+    or_true true = refl
+    or_true false = refl

@@ -48,10 +48,14 @@ fields_text (f ∷ fs) = field_text f.code f.id ++ (f.text ++ fields_text fs)
 abbrev pub list_text : {A : Type 0} → ℕ → (A → List ℕ) → List A → List ℕ
 list_text c one xs = list_head_text c (length xs) ++ flat_map one xs
 
--- what a refusal is printed as
-abbrev pub refusal_text : WriteError → List ℕ
-refusal_text BadLength = codes "a length is above 2147483647"
-refusal_text Memory = codes "out of memory"
+-- a refusal's number, and its name, as which it is printed
+abbrev pub refusal_number : WriteError → ℕ
+refusal_number BadLength = 2
+refusal_number Memory = 22
+
+abbrev pub refusal_name : WriteError → List ℕ
+refusal_name BadLength = codes "BadLength"
+refusal_name Memory = codes "NoMemory"
 
 -- A call on an output that held `old` left `new`: the text stands at the end, or, without memory for it, nothing is written.
 abbrev pub Writes : List ℕ → List ℕ → Result (Unit {0}) WriteError → List ℕ → Type 0

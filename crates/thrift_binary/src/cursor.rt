@@ -211,7 +211,9 @@ impl<'a> Cursor<'a> {
     pub fn field(&mut self) -> Result<Option<(u8, i16)>, WireError>
         ensures exact { Reads (λ x. x) field_at self.old result self.new }
         ensures shorter { OnOk result (length self.new < length self.old) }
-        ensures spelled { IfOk result (λ f. MatchOption f (self.old ≡ 0 ∷ self.new) (λ h. Front (IsFieldHead h.0 h.1) self.old self.new)) }
+        ensures spelled { IfOk result (λ f.
+            MatchOption f (self.old ≡ 0 ∷ self.new) (λ h.
+            Front (IsFieldHead h.0 h.1) self.old self.new)) }
     {
         let code = self.read_byte()?;
         if code == 0 {

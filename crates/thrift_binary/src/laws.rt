@@ -82,5 +82,6 @@ pub fn written_values_spell()
     ensures bytes { (bytes : List ℕ) → length bytes < 2 ^ 31 → IsString (string_text bytes) bytes }
     ensures field { (f : Field) → FitsSigned w16 f.id → IsHead (field_text f.code f.id) f }
     ensures list_head { (c n : ℕ) → n < 2 ^ 31 → IsListHead c n (list_head_text c n) }
-    ensures fields { (fs : List Field) → AllByRecursion (λ f. FitsSigned w16 f.id) fs → IsFields fs (fields_text fs) }
+    ensures fields { (fs : List Field) → AllByRecursion (λ f. FitsSigned w16 f.id) fs →
+        IsFields fs (fields_text fs) }
 {}

@@ -1,5 +1,5 @@
 ghost use Rattle.std.specs.Prelude.{◌≡◌, Some, List, ℕ, [], length};
-ghost use Rattle.thrift_binary.specs.Writing.{Writes, WritesSized, refusal_text, bool_text, i32_text, i64_text, string_text, field_text, stop_text, list_head_text};
+ghost use Rattle.thrift_binary.specs.Writing.{Writes, WritesSized, refusal_number, refusal_name, bool_text, i32_text, i64_text, string_text, field_text, stop_text, list_head_text};
 ghost use Rattle.thrift_binary.specs.declared.out.WriteError.TheVariants.{Memory};
 
 use byteorder::{BigEndian, ByteOrder};
@@ -28,15 +28,34 @@ impl From<AllocError> for WriteError {
     }
 }
 
-/// Writes the variant's meaning.
+impl WriteError {
+    /// The number of the refusal: 2 for a length, as in reading, and 22 where memory ran out.
+    pub fn number(self) -> u8
+        ensures number { result ≡ refusal_number self }
+    {
+        match self {
+            WriteError::BadLength => 2,
+            WriteError::Memory => 22,
+        }
+    }
+
+    /// The name of the refusal.
+    pub fn name(self) -> &'static str
+        ensures name { result.now ≡ refusal_name self }
+    {
+        match self {
+            WriteError::BadLength => "BadLength",
+            WriteError::Memory => "NoMemory",
+        }
+    }
+}
+
+/// Writes the name.
 impl fmt::Display for WriteError {
-    ghost output = { λ e. Some (refusal_text e) };
+    ghost output = { λ e. Some (refusal_name e) };
 
     fn fmt<W: fmt::Write>(&self, f: &mut fmt::Formatter<W>) -> fmt::Result {
-        match self {
-            WriteError::BadLength => f.write_str("a length is above 2147483647"),
-            WriteError::Memory => f.write_str("out of memory"),
-        }
+        f.write_str(self.name())
     }
 }
 
@@ -159,7 +178,8 @@ impl Out {
     /// [`WriteError::BadLength`] where there are more than 2,147,483,647 bytes, else [`WriteError::Memory`] alone.
     #[tactic(auto, unfolding(crate::specs::Writing::string_text, crate::specs::Writing::size_text))]
     pub fn bytes(&mut self, bytes: &[u8]) -> Result<(), WriteError>
-        ensures appends { WritesSized (length bytes.now) (string_text bytes.now) self.old result self.new }
+        ensures appends { WritesSized (length bytes.now) (string_text bytes.now) self.old result
+            self.new }
     {
         if bytes.len() > MAX_LENGTH {
             return Err(WriteError::BadLength);

@@ -82,7 +82,8 @@ impl<'a> Cursor<'a> {
 
     #[cycle(skip)]
     fn container(&mut self, code: u8, levels: u8) -> Result<(), WireError>
-        ensures exact { Reads (λ _. tt) (container (value_at levels) code) self.old result self.new }
+        ensures exact { Reads (λ _. tt) (container (value_at levels) code) self.old result
+            self.new }
         ensures no_longer { OnOk result (length self.new ≤ length self.old) }
     {
         if code == types::STRUCT {

@@ -1,12 +1,13 @@
 //! The clock of each span of a trace.
 
 ghost use Rattle.std.specs.Prelude.{◌≡◌, ◌<◌, ◌+◌, ℕ, false, true, IfOk, OnOk, None, map, length, get_or, cond};
+ghost use Rattle.trace_model.specs.Adjusting.{spans_of};
 ghost use Rattle.trace_adjust.specs.Settling.{near, settle, sets, place_in, AreRight, IsClosed, AreClosed, AreClocks, unset_count};
 
 use jaeger_model::Placed;
 use span_steps::{clock_below, root_clock};
 use std::alloc::{AllocError, Global};
-use trace_model::Clock;
+use trace_model::{Clock, Shown};
 
 /// The places of the spans in an order in which parents stand in front of their children wherever
 /// no cycle forbids it: from each span on up to one that was reached before, and back. The order
@@ -73,8 +74,10 @@ fn settle(
     max_skew: u64,
 ) -> Result<bool, AllocError>
     requires { place < length clocks.old.items }
-    ensures after { OnOk result (clocks.new.items ≡ settle max_skew clocks.old.items place placed.now parent) }
-    ensures told { IfOk result (λ set. set ≡ sets max_skew clocks.old.items place placed.now parent) }
+    ensures after { OnOk result (clocks.new.items ≡
+        settle max_skew clocks.old.items place placed.now parent) }
+    ensures told { IfOk result (λ set. set ≡
+        sets max_skew clocks.old.items place placed.now parent) }
 {
     if clocks[place].is_some() {
         return Ok(false);
@@ -88,24 +91,27 @@ fn settle(
 /// The same for the span at the place, where there is one.
 fn settle_at(
     alloc: Global,
-    trace: &[Placed],
+    trace: &[Shown],
     parents: &[Option<usize>],
     clocks: &mut Vec<Option<Clock>>,
     place: usize,
     max_skew: u64,
 ) -> Result<bool, AllocError>
-    requires parents { parents.now ≡ map (place_in trace.now) trace.now }
-    requires right { AreRight max_skew trace.now clocks.old.items }
+    requires parents { parents.now ≡ map (place_in (spans_of trace.now)) (spans_of trace.now) }
+    requires right { AreRight max_skew (spans_of trace.now) clocks.old.items }
     requires within { place < length trace.now }
-    ensures right { OnOk result (AreRight max_skew trace.now clocks.new.items) }
-    ensures closed { IfOk result (λ set. set ≡ false → (clocks.new.items ≡ clocks.old.items) × IsClosed max_skew trace.now place clocks.new.items) }
-    ensures fewer { IfOk result (λ set. unset_count clocks.new.items + cond set 1 0 ≡ unset_count clocks.old.items) }
+    ensures right { OnOk result (AreRight max_skew (spans_of trace.now) clocks.new.items) }
+    ensures closed { IfOk result (λ set. set ≡ false →
+        (clocks.new.items ≡ clocks.old.items)
+        × IsClosed max_skew (spans_of trace.now) place clocks.new.items) }
+    ensures fewer { IfOk result (λ set. unset_count clocks.new.items + cond set 1 0 ≡
+        unset_count clocks.old.items) }
 {
     let is_set = settle(
         alloc,
         clocks,
         place,
-        &trace[place],
+        &trace[place].placed,
         parents[place],
         max_skew,
     )?;
@@ -116,16 +122,18 @@ fn settle_at(
 /// one.
 fn settle_all(
     alloc: Global,
-    trace: &[Placed],
+    trace: &[Shown],
     parents: &[Option<usize>],
     clocks: &mut Vec<Option<Clock>>,
     max_skew: u64,
 ) -> Result<bool, AllocError>
-    requires parents { parents.now ≡ map (place_in trace.now) trace.now }
-    requires right { AreRight max_skew trace.now clocks.old.items }
-    ensures right { OnOk result (AreRight max_skew trace.now clocks.new.items) }
-    ensures closed { IfOk result (λ changed. changed ≡ false → AreClosed max_skew trace.now (length trace.now) clocks.new.items) }
-    ensures fewer { IfOk result (λ changed. changed ≡ true → unset_count clocks.new.items < unset_count clocks.old.items) }
+    requires parents { parents.now ≡ map (place_in (spans_of trace.now)) (spans_of trace.now) }
+    requires right { AreRight max_skew (spans_of trace.now) clocks.old.items }
+    ensures right { OnOk result (AreRight max_skew (spans_of trace.now) clocks.new.items) }
+    ensures closed { IfOk result (λ changed. changed ≡ false →
+        AreClosed max_skew (spans_of trace.now) (length trace.now) clocks.new.items) }
+    ensures fewer { IfOk result (λ changed. changed ≡ true →
+        unset_count clocks.new.items < unset_count clocks.old.items) }
 {
     let mut changed = false;
     for place in 0..trace.len() {
@@ -155,12 +163,12 @@ fn no_clocks(alloc: Global, count: usize) -> Result<Vec<Option<Clock>>, AllocErr
 /// follows finds none that is left to set, which shows that the others have none.
 pub(crate) fn all_clocks(
     alloc: Global,
-    trace: &[Placed],
+    trace: &[Shown],
     parents: &[Option<usize>],
     max_skew: u64,
 ) -> Result<Vec<Option<Clock>>, AllocError>
-    requires { parents.now ≡ map (place_in trace.now) trace.now }
-    ensures { IfOk result (λ v. AreClocks max_skew trace.now v.items) }
+    requires { parents.now ≡ map (place_in (spans_of trace.now)) (spans_of trace.now) }
+    ensures { IfOk result (λ v. AreClocks max_skew (spans_of trace.now) v.items) }
 {
     let mut clocks = no_clocks(alloc, trace.len())?;
     for place in downward_order(alloc, parents)? {

@@ -3,13 +3,14 @@
 ghost use Rattle.std.specs.Prelude.{◌≡◌, ℕ, IfOk, map};
 ghost use Rattle.std.specs.Ordering.{nat_cmp};
 ghost use Rattle.std.specs.BTreeMap.{get};
-ghost use Rattle.trace_model.specs.Adjusting.{parent_first};
+ghost use Rattle.trace_model.specs.Adjusting.{parent_first, with_parent_first, spans_of};
 ghost use Rattle.trace_adjust.specs.Settling.{first_at, parent_at, place_in};
 
-use jaeger_model::{Placed, Span, parent_of};
+use jaeger_model::{Placed, Span, parent_of, refer_to_parent};
 use span_steps::parent_place;
 use std::alloc::{AllocError, Global};
 use std::collections::BTreeMap;
+use trace_model::Shown;
 
 /// Puts the reference to the span's parent in front: the first child-of reference to its own trace,
 /// else the first other one, changes places with the first of all. Takes no memory.
@@ -21,16 +22,30 @@ pub fn parent_first(span: &mut Span)
     }
 }
 
+/// Puts the reference to its parent in front of the span's, among which it may not be yet.
+///
+/// # Errors
+///
+/// Out of memory, and nothing else.
+pub(crate) fn with_parent_first(alloc: Global, placed: Placed) -> Result<Placed, AllocError>
+    ensures { IfOk result (λ p. p ≡ with_parent_first placed) }
+{
+    let mut placed = placed;
+    refer_to_parent(alloc, &mut placed.span)?;
+    parent_first(&mut placed.span);
+    Ok(placed)
+}
+
 /// The place of the first span with each id.
 pub(crate) fn first_places(
     alloc: Global,
-    trace: &[Placed],
+    trace: &[Shown],
 ) -> Result<BTreeMap<u64, usize>, AllocError>
-    ensures { IfOk result (λ m. (id : ℕ) → get nat_cmp m id ≡ first_at id trace.now) }
+    ensures { IfOk result (λ m. (id : ℕ) → get nat_cmp m id ≡ first_at id (spans_of trace.now)) }
 {
     let mut first = BTreeMap::new(alloc);
-    for (place, placed) in trace.iter().enumerate() {
-        let id = placed.span.id.0;
+    for (place, shown) in trace.iter().enumerate() {
+        let id = shown.placed.span.id.0;
         if !first.contains_key(&id) {
             first.insert(id, place)?;
         }
@@ -52,15 +67,16 @@ fn place_of_parent(first: &BTreeMap<u64, usize>, placed: &Placed) -> Option<usiz
 /// The places of the parents of the spans.
 pub(crate) fn parent_places(
     alloc: Global,
-    trace: &[Placed],
+    trace: &[Shown],
     first: &BTreeMap<u64, usize>,
 ) -> Result<Vec<Option<usize>>, AllocError>
-    requires { (id : ℕ) → get nat_cmp first.now id ≡ first_at id trace.now }
-    ensures { IfOk result (λ v. v.items ≡ map (place_in trace.now) trace.now) }
+    requires { (id : ℕ) → get nat_cmp first.now id ≡ first_at id (spans_of trace.now) }
+    ensures { IfOk result (λ v. v.items ≡
+        map (place_in (spans_of trace.now)) (spans_of trace.now)) }
 {
     let mut parents = Vec::new(alloc);
-    for placed in trace {
-        parents.push(place_of_parent(first, placed))?;
+    for shown in trace {
+        parents.push(place_of_parent(first, &shown.placed))?;
     }
     Ok(parents)
 }

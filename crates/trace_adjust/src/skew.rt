@@ -1,15 +1,16 @@
 //! The spans of a trace, moved by their clocks.
 
-ghost use Rattle.std.specs.Prelude.{◌≡◌, ℕ, IfOk, map};
+ghost use Rattle.std.specs.Prelude.{◌≡◌, ℕ, IfOk, OnOk, OnErr, map};
 ghost use Rattle.std.specs.Ordering.{nat_cmp};
 ghost use Rattle.std.specs.BTreeMap.{get};
-ghost use Rattle.trace_model.specs.Adjusting.{with_parent_first, skew_adjusted, adjusted};
+ghost use Rattle.trace_model.specs.Adjusting.{with_parent_first, unadjusted, spans_of, shown_adjusted, adjusted};
 ghost use Rattle.trace_adjust.specs.Settling.{first_at, delta_at, AreClocks};
+ghost use Rattle.trace_adjust.specs.Partly.{IsPartlyAdjusted};
 
 use crate::clocks::all_clocks;
-use crate::parents::{first_places, parent_first, parent_places};
+use crate::parents::{first_places, parent_places, with_parent_first};
 use jaeger_model::Placed;
-use span_steps::shifted;
+use span_steps::{shift, unadjusted};
 use std::alloc::{AllocError, Global};
 use std::collections::BTreeMap;
 use trace_model::{Clock, Shown};
@@ -28,67 +29,71 @@ fn delta_at(first: &BTreeMap<u64, usize>, clocks: &[Option<Clock>], place: usize
     }
 }
 
-/// The spans moved by their clocks.
-fn all_shifted(
+/// Moves the spans by their clocks.
+fn shift_all(
     alloc: Global,
-    trace: Vec<Placed>,
+    trace: &mut [Shown],
     first: &BTreeMap<u64, usize>,
     clocks: &[Option<Clock>],
     max_skew: u64,
-) -> Result<Vec<Shown>, AllocError>
-    requires first { (id : ℕ) → get nat_cmp first.now id ≡ first_at id trace.items }
-    requires clocks { AreClocks max_skew trace.items clocks.now }
-    ensures { IfOk result (λ v. v.items ≡ skew_adjusted max_skew trace.items) }
+) -> Result<(), AllocError>
+    requires first { (id : ℕ) → get nat_cmp first.now id ≡ first_at id (spans_of trace.old) }
+    requires clocks { AreClocks max_skew (spans_of trace.old) clocks.now }
+    ensures ok { OnOk result (trace.new ≡ shown_adjusted max_skew trace.old) }
+    ensures err { OnErr result (IsPartlyAdjusted max_skew trace.old trace.new) }
 {
-    let mut shown = Vec::new(alloc);
-    for placed in trace {
-        let delta = delta_at(first, clocks, shown.len(), placed.span.id.0);
-        shown.push(shifted(alloc, placed, delta, max_skew)?)?;
+    for place in 0..trace.len() {
+        let shown = &mut trace[place];
+        let delta = delta_at(first, clocks, place, shown.placed.span.id.0);
+        shift(alloc, shown, delta, max_skew)?;
     }
-    Ok(shown)
+    Ok(())
 }
 
-/// The trace with its clock skew taken away: the times of each span moved into those of its root's
-/// host, with a warning that says by how much, or why not. A span on a cycle of parents or below
-/// one stays as it is, and so does each later one of several spans with one id.
+/// Takes the clock skew of a trace away: the times of each span move into those of its root's
+/// host, and a warning behind those that the span has says by how much, or why not. A span on a
+/// cycle of parents or below one stays as it is, and so does each later one of several spans with
+/// one id.
 ///
 /// `max_skew` is the largest difference of clocks, in microseconds, that is taken away.
 ///
 /// # Errors
 ///
-/// Want of memory alone.
-pub fn adjust_skew(
-    alloc: Global,
-    trace: Vec<Placed>,
-    max_skew: u64,
-) -> Result<Vec<Shown>, AllocError>
-    ensures { IfOk result (λ v. v.items ≡ skew_adjusted max_skew trace.items) }
+/// Running out of memory alone; some of the first spans are then adjusted, and the others as they were.
+pub fn adjust_skew(alloc: Global, trace: &mut [Shown], max_skew: u64) -> Result<(), AllocError>
+    ensures ok { OnOk result (trace.new ≡ shown_adjusted max_skew trace.old) }
+    ensures err { OnErr result (IsPartlyAdjusted max_skew trace.old trace.new) }
 {
-    let first = first_places(alloc, &trace)?;
-    let parents = parent_places(alloc, &trace, &first)?;
-    let clocks = all_clocks(alloc, &trace, &parents, max_skew)?;
-    all_shifted(alloc, trace, &first, &clocks, max_skew)
+    let first = first_places(alloc, trace)?;
+    let parents = parent_places(alloc, trace, &first)?;
+    let clocks = all_clocks(alloc, trace, &parents, max_skew)?;
+    shift_all(alloc, trace, &first, &clocks, max_skew)
 }
 
-/// Puts the reference to its parent in front, in each span.
-fn parents_first(trace: &mut [Placed])
-    ensures { trace.new ≡ map with_parent_first trace.old }
+/// The spans in their order, in each the reference to its parent in front.
+#[tactic(auto, using(std::proofs::lemmas::List::map_push))]
+fn with_parents_first(alloc: Global, trace: Vec<Placed>) -> Result<Vec<Shown>, AllocError>
+    ensures { IfOk result (λ v. v.items ≡ map unadjusted (map with_parent_first trace.items)) }
 {
-    for placed in trace.iter_mut() {
-        parent_first(&mut placed.span);
+    let mut shown = Vec::new(alloc);
+    for placed in trace {
+        shown.push(unadjusted(alloc, with_parent_first(alloc, placed)?))?;
     }
+    Ok(shown)
 }
 
-/// The trace as it is shown: in each span the reference to its parent in front, and its clock skew
-/// taken away as by [`adjust_skew`].
+/// The trace as it is shown: in each span the reference to its parent, which is made of its parent
+/// id where none is there yet, in front, and its clock skew taken away as by [`adjust_skew`].
+///
+/// `max_skew` is in microseconds.
 ///
 /// # Errors
 ///
-/// Want of memory alone.
+/// Out of memory, and nothing else.
 pub fn adjusted(alloc: Global, trace: Vec<Placed>, max_skew: u64) -> Result<Vec<Shown>, AllocError>
     ensures { IfOk result (λ v. v.items ≡ adjusted max_skew trace.items) }
 {
-    let mut trace = trace;
-    parents_first(&mut trace);
-    adjust_skew(alloc, trace, max_skew)
+    let mut shown = with_parents_first(alloc, trace)?;
+    adjust_skew(alloc, &mut shown, max_skew)?;
+    Ok(shown)
 }

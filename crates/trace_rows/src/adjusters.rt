@@ -1,11 +1,12 @@
-use crate::histories::{CYCLE, Row as Reported, answer_of};
-use jaeger_model::{Log, Placed, Process, RefKind, Seq, Span, SpanId, SpanRef, TraceId};
+use crate::histories::{CYCLE, Row as Reported, answer_of, store_answer_of};
+use jaeger_model::{Log, Placed, Process, RefKind, Seq, Span, SpanId, SpanRef, Text, TraceId};
 use std::alloc::{AllocError, Global};
+use std::hash::RandomState;
 use std::process::Abort;
 use std::test::*;
 use trace_adjust::{adjust_skew, adjusted, parent_first};
 use trace_model::{Answer, Query, Shown};
-use trace_samples::{host_process, process, span};
+use trace_samples::{host_process, list_of, process, span};
 
 const OWN: TraceId = TraceId { high: 0, low: 1 };
 
@@ -243,17 +244,48 @@ fn late_child(alloc: Global) -> Result<Placed, AllocError> {
     Ok(child)
 }
 
-/// A log time that would not fit keeps the span where it is.
-#[test]
-fn late_log(rt: HostRuntime) -> Result<(), Fail> {
-    let alloc = rt.alloc();
+/// The spans, of each of which something was said before.
+fn warned(alloc: Global, trace: Vec<Placed>, warning: &str) -> Result<Vec<Shown>, AllocError> {
+    let mut shown = Vec::new(alloc);
+    for placed in trace {
+        let warnings = list_of(alloc, Text::from_str(alloc, warning)?)?;
+        shown.push(Shown { placed, warnings })?;
+    }
+    Ok(shown)
+}
+
+/// The root and the late child as they are shown, behind a warning of each.
+fn late_shown(alloc: Global) -> Result<Vec<Shown>, AllocError> {
     let mut trace = trace_of(alloc, &[ROOT])?;
     trace.push(late_child(alloc)?)?;
-    let shown = adjust_skew(alloc, trace, 200)?;
+    let mut shown = warned(alloc, trace, "before")?;
+    adjust_skew(alloc, &mut shown, 200)?;
+    Ok(shown)
+}
+
+/// A log time that would not fit keeps the span where it is, and what was said before stays.
+#[test]
+fn late_log(rt: HostRuntime) -> Result<(), Fail> {
+    let shown = late_shown(rt.alloc())?;
     assert_eq!(rt; shown.len(), 2);
+    assert_eq!(rt; shown[0].warnings.len(), 1);
     assert_eq!(rt; shown[1].placed.span.start, 900);
+    assert_eq!(rt; shown[1].warnings.len(), 2);
+    assert!(rt; warning_of(&shown[1]) == "before");
     let warning = "clock skew of 125 us not applied: a time would not fit";
-    assert!(rt; warning_of(&shown[1]) == warning);
+    assert!(rt; shown[1].warnings.as_slice()[1].as_str() == warning);
+    Ok(())
+}
+
+/// A parent id of a span without references becomes one where the trace is shown.
+#[test]
+fn parent_without_reference(rt: HostRuntime) -> Result<(), Fail> {
+    let shown = shown_of(rt.alloc(), &[ROOT, CHILD], 0)?;
+    assert_eq!(rt; shown.len(), 2);
+    assert!(rt; shown[0].placed.span.references.is_empty());
+    let references = shown[1].placed.span.references.as_slice();
+    assert_eq!(rt; references.len(), 1);
+    assert_eq!(rt; references[0], reference(RefKind::ChildOf, OWN, 1));
     Ok(())
 }
 
@@ -305,10 +337,15 @@ fn deep_chain(rt: HostRuntime) -> Result<(), Fail> {
         trace.push(placed(alloc, ("h2", id, id - 1, 900, 50))?)?;
     }
     trace.push(placed(alloc, ROOT)?)?;
-    let shown = adjust_skew(alloc, trace, 200)?;
-    let moved = shown.iter().filter(|s| s.placed.span.start == 1025).count();
-    assert_eq!(rt; (shown.len(), moved), (10_000, 9_999));
+    let shown = adjusted(alloc, trace, 200)?;
+    assert_eq!(rt; moved_among(&shown), (10_000, 9_999));
     Ok(())
+}
+
+/// How many spans there are, and how many of them start at 1025.
+fn moved_among(shown: &[Shown]) -> (usize, usize) {
+    let moved = shown.iter().filter(|s| s.placed.span.start == 1025).count();
+    (shown.len(), moved)
 }
 
 const FAMILY: [Reported; 3] = [
@@ -348,6 +385,18 @@ fn shown_plainly(rt: HostRuntime) -> Result<(), Fail> {
     let alloc = rt.alloc();
     for (rows, max_skew, raw, wanted) in SHOWN {
         let answer = answer_of(alloc, rows, max_skew, Query::Trace { id: OWN, raw })?;
+        expect_all(&rt, shown_in(&answer), wanted);
+    }
+    Ok(())
+}
+
+#[test]
+fn shown_in_the_store(rt: HostRuntime) -> Result<(), Fail> {
+    let alloc = rt.alloc();
+    let keys = RandomState::new(&rt)?;
+    for (rows, max_skew, raw, wanted) in SHOWN {
+        let query = Query::Trace { id: OWN, raw };
+        let answer = store_answer_of(alloc, keys, rows, max_skew, query)?;
         expect_all(&rt, shown_in(&answer), wanted);
     }
     Ok(())

@@ -1,7 +1,8 @@
-use crate::histories::{CYCLE, Row as Reported, answer_of};
+use crate::histories::{CYCLE, Row as Reported, answer_of, store_answer_of};
 use call_links::links;
 use jaeger_model::{Placed, SpanId};
 use std::alloc::{AllocError, Global};
+use std::hash::RandomState;
 use std::process::Abort;
 use std::test::*;
 use trace_model::{Answer, Link, Query};
@@ -143,6 +144,21 @@ fn calls_plainly(rt: HostRuntime) -> Result<(), Fail> {
             lookback_ms,
         };
         let answer = answer_of(alloc, rows, 0, query)?;
+        expect_links(&rt, links_in(&answer), wanted);
+    }
+    Ok(())
+}
+
+#[test]
+fn calls_in_the_store(rt: HostRuntime) -> Result<(), Fail> {
+    let alloc = rt.alloc();
+    let keys = RandomState::new(&rt)?;
+    for (rows, end_ms, lookback_ms, wanted) in PLAIN_LINKS {
+        let query = Query::Links {
+            end_ms,
+            lookback_ms,
+        };
+        let answer = store_answer_of(alloc, keys, rows, 0, query)?;
         expect_links(&rt, links_in(&answer), wanted);
     }
     Ok(())

@@ -1,8 +1,10 @@
-//! What the plain store answers of a history of entries of one span each.
+//! What the stores answer of a history of entries of one span each.
 
 use jaeger_model::{Batch, Span, SpanId};
 use plain_store::plain_answer;
+use span_store::replayed_answer;
 use std::alloc::{AllocError, Global};
+use std::hash::RandomState;
 use std::sync::Arc;
 use std::test::Fail;
 use trace_model::{Answer, Entry, Limits, Query};
@@ -54,6 +56,20 @@ fn history(alloc: Global, rows: &[Row]) -> Result<Vec<Arc<Entry>>, AllocError> {
         entries.push(entry(alloc, place as u64 + 1, *row)?)?;
     }
     Ok(entries)
+}
+
+/// What the store answers of a history of these spans, with no limit of traces.
+pub(crate) fn store_answer_of(
+    alloc: Global,
+    keys: RandomState,
+    rows: &[Row],
+    max_skew: u64,
+    query: Query,
+) -> Result<Answer, Fail> {
+    let limits = Limits::new(10, 10, 0, max_skew).ok_or("limits")?;
+    let entries = history(alloc, rows)?;
+    let answer = replayed_answer(alloc, keys, limits, &entries, &query);
+    Ok(answer.ok().ok_or("refused")?)
 }
 
 /// What the plain store answers of a history of these spans, with no limit of traces.

@@ -1,10 +1,10 @@
 //! Tests of what is asked of traces: worked tables, and the ends of the range of numbers, put to the
-//! plain store and to the crates that answer quickly.
+//! plain store, to the crates that answer quickly, and to the store that stands on them.
 //!
-//! * `searches`: `find_traces`, and searches of the plain store.
-//! * `calls`: `call_links`, and the dependencies of the plain store.
-//! * `adjusters`: `trace_adjust`, and the shown traces of the plain store.
-//! * `histories`: histories of single spans, of which the plain store is asked.
+//! * `searches`: `find_traces`, and searches of the stores.
+//! * `calls`: `call_links`, and the dependencies of the stores.
+//! * `adjusters`: `trace_adjust`, and the shown traces of the stores.
+//! * `histories`: histories of single spans, of which the stores are asked.
 #![tactic(auto)]
 
 #[cfg(test)]

@@ -1,7 +1,8 @@
-use crate::histories::{Row, answer_of};
+use crate::histories::{Row, answer_of, store_answer_of};
 use find_traces::{Gathered, find, find_ids, is_found, is_match};
 use jaeger_model::{Log, Placed, Seen, Seq, Tag, Text, TraceId, Value};
 use std::alloc::{AllocError, Global};
+use std::hash::RandomState;
 use std::process::Abort;
 use std::test::*;
 use trace_model::{Answer, Find, Query};
@@ -377,6 +378,30 @@ fn bounds_plainly(rt: HostRuntime) -> Result<(), Fail> {
     for (durations, starts, wanted) in PLAIN_BOUNDS {
         let query = Query::Find(within(alloc, durations, starts)?);
         let answer = answer_of(alloc, &ONE, 0, query)?;
+        assert_eq!(rt; found_in(&answer), wanted);
+    }
+    Ok(())
+}
+
+#[test]
+fn latest_first_in_the_store(rt: HostRuntime) -> Result<(), Fail> {
+    let alloc = rt.alloc();
+    let keys = RandomState::new(&rt)?;
+    for (rows, limit, wanted) in PLAIN_ORDERS {
+        let query = Query::FindIds(limited(alloc, limit)?);
+        let answer = store_answer_of(alloc, keys, rows, 0, query)?;
+        expect_ids(&rt, &answer, wanted);
+    }
+    Ok(())
+}
+
+#[test]
+fn bounds_in_the_store(rt: HostRuntime) -> Result<(), Fail> {
+    let alloc = rt.alloc();
+    let keys = RandomState::new(&rt)?;
+    for (durations, starts, wanted) in PLAIN_BOUNDS {
+        let query = Query::Find(within(alloc, durations, starts)?);
+        let answer = store_answer_of(alloc, keys, &ONE, 0, query)?;
         assert_eq!(rt; found_in(&answer), wanted);
     }
     Ok(())

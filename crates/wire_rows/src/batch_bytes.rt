@@ -43,7 +43,7 @@ const ALL: &str = "0c0001 0b0001 00000001 61
             0a0001 fffffffffffffffb 0f0002 0c 00000001 0b0001 00000001 65 080002 00000000 00 00 00
     0a0003 fffffffffffffff7 00";
 
-/// With enough memory the batch and its spelling, and without it nothing but want of memory
+/// With enough memory the batch and its spelling, and without it nothing but that memory ran out
 /// (`rt try --test --fail-alloc 1..`).
 #[test]
 fn want_of_memory(rt: HostRuntime) -> Result<(), Fail> {

@@ -5,12 +5,15 @@
 //! * `trace_values`: ids, tags, texts and lists, and what a batch is in the store.
 //! * `batch_bytes`: batches from and to bytes, and each fault.
 //! * `apache`: batches as Apache Thrift spells them.
+//! * `large`: a body of more than two megabytes.
 #![tactic(auto)]
 
 #[cfg(test)]
 mod apache;
 #[cfg(test)]
 mod batch_bytes;
+#[cfg(test)]
+mod large;
 #[cfg(test)]
 mod thrift_values;
 #[cfg(test)]

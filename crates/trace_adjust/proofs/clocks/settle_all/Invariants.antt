@@ -1,10 +1,11 @@
 use Rattle.std.proofs.Common.{◌≡◌, ◌≤◌, ◌+◌, cond, false}
+use Rattle.trace_model.specs.Adjusting.{spans_of}
 use Rattle.trace_adjust.specs.Settling.{AreRight, AreClosed, unset_count}
 use Rattle.trace_adjust.proofs.clocks.settle_all.Given as goal
 
 abbrev pub invariant-loop-place : goal.invariant-loop-place
 invariant-loop-place l = record {
-  right : AreRight l.max_skew l.trace l.clocks.items;
-  closed : l.changed ≡ false → AreClosed l.max_skew l.trace l.place l.clocks.items;
+  right : AreRight l.max_skew (spans_of l.trace) l.clocks.items;
+  closed : l.changed ≡ false → AreClosed l.max_skew (spans_of l.trace) l.place l.clocks.items;
   fewer : unset_count l.clocks.items + cond l.changed 1 0 ≤ unset_count l.fn.clocks.items;
 }

@@ -1,0 +1,68 @@
+-- Where the bounds of the spans' starts don't reach a window, no span of the entry starts in it.
+use Rattle.std.proofs.Common.{◌≡◌, ℕ, ℤ, zero, suc, ◌≤ℤ◌, Bool, true, false, ◌&&◌, ◌||◌, List, [], ◌∷◌, map, refl, sym, ap, ◌∙◌, arith}
+use Rattle.std.specs.Prelude.{Option, Some, None, pos, ◌-ℤ◌, ◌*ℤ◌, int_lt, option_map, option_and_then, slice_get}
+use Rattle.std.specs.List.{list_any, cons_option, AllByRecursion}
+use Rattle.std.proofs.lemmas.Bool.{false≢true}
+use Rattle.std.proofs.lemmas.Int.{ints}
+use Rattle.jaeger_model.specs.declared.placed.Placed.{Placed}
+use Rattle.jaeger_model.specs.declared.batch.Batch.{Batch}
+use Rattle.jaeger_model.specs.declared.span.Span.{Span}
+use Rattle.jaeger_model.specs.Parents.{placed, domain}
+use Rattle.trace_model.specs.declared.entry.Entry.{Entry}
+use Rattle.trace_model.specs.Linking.{is_between, in_window}
+use Rattle.trace_model.specs.Places.{entry_at}
+use Rattle.arrival_journal.specs.declared.times.Times.{Times}
+use Rattle.arrival_journal.specs.Times.{times_of, times_in}
+use Rattle.trace_assembly.specs.declared.spot.Spot.{Spot}
+use Rattle.journal_traces.specs.Pruned.{may_reach}
+use Rattle.journal_traces.specs.Standing.{spans_named}
+use Rattle.journal_traces.proofs.Adopting.{window-adopted}
+use Rattle.journal_traces.proofs.Bounds.{Within, all_within, both}
+
+later : (b x y : ℤ) → x ≤ℤ y → int_lt b x ≡ true → int_lt b y ≡ true
+later b x y le e = by (int_lt b y) refl
+  where
+    by : (t : Bool) → int_lt b y ≡ t → t ≡ true
+    by true f = refl
+    by false f = absurd (omega (arith, ints))
+
+sooner : (b x y : ℤ) → y ≤ℤ x → int_lt x b ≡ true → int_lt y b ≡ true
+sooner b x y le e = by (int_lt y b) refl
+  where
+    by : (t : Bool) → int_lt y b ≡ t → t ≡ true
+    by true f = refl
+    by false f = absurd (omega (arith, ints))
+
+reaching : (e l : ℤ) (t : Times) (s : Span) → Within t s → is_between e l s.start ≡ true → may_reach e l t ≡ true
+reaching e l t s w in_it =
+    let ab = both (int_lt (pos 1000 *ℤ (e -ℤ l)) s.start) (int_lt s.start (pos 1000 *ℤ e)) in_it in
+    let a' = later (pos 1000 *ℤ (e -ℤ l)) s.start t.start_max w.start_high ab.0 in
+    let b' = sooner (pos 1000 *ℤ e) s.start t.start_min w.start_low ab.1 in
+    λ i. a' i && b' i
+
+not_reaching : (e l : ℤ) (t : Times) (s : Span) → Within t s → may_reach e l t ≡ false → is_between e l s.start ≡ false
+not_reaching e l t s w none = by (is_between e l s.start) refl
+  where
+    by : (b : Bool) → is_between e l s.start ≡ b → b ≡ false
+    by true f = absurd (false≢true (sym none ∙ reaching e l t s w f))
+    by false f = refl
+
+-- ---- the span at an index
+none_placed : (e l : ℤ) (t : Times) (b : Batch) (ss : List Span) → AllByRecursion (Within t) ss → may_reach e l t ≡ false
+    → (i : ℕ) → list_any (in_window e l) (cons_option (slice_get (map (placed b) ss) i) []) ≡ false
+none_placed e l t b [] w none i = refl
+none_placed e l t b (s ∷ ss) w none zero =
+    ap (λ (x : Bool). x || false) (window-adopted e l (record { process = b.process; span = s }) ∙ not_reaching e l t s w.0 none)
+none_placed e l t b (s ∷ ss) w none (suc i) = none_placed e l t b ss w.1 none i
+
+none_at : (e l : ℤ) (o : Option Entry) (i : ℕ) (t : Times) → Some t ≡ option_map times_in o → may_reach e l t ≡ false
+    → list_any (in_window e l) (cons_option (option_and_then (λ (x : Entry). slice_get (domain x.batch) i) o) []) ≡ false
+none_at e l None i t is none = absurd (cc is)
+none_at e l (Some x) i t is none =
+    let same : t ≡ times_in x = cc is in
+    none_placed e l (times_in x) x.batch x.batch.spans (all_within x.batch.spans) (ap (may_reach e l) (sym same) ∙ none) i
+
+-- no span at this spot starts in the window
+pub none_starts : (e l : ℤ) (h : List Entry) (s : Spot) (t : Times) → Some t ≡ option_map times_in (entry_at h s.place) → may_reach e l t ≡ false
+    → list_any (in_window e l) (spans_named h (s ∷ [])) ≡ false
+none_starts e l h s t is none = none_at e l (entry_at h s.place) s.index t is none

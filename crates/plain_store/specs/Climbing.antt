@@ -1,0 +1,35 @@
+-- The way from a span up to its root, by the places of parents.
+use Rattle.std.specs.Prelude.{ℕ, zero, suc, pos, ◌==◌, List, [], ◌∷◌, map, get_or, reverse, fold, Option, Some, None, option_map, if◌then◌else◌}
+use Rattle.std.specs.List.{position}
+use Rattle.jaeger_model.specs.declared.placed.Placed.{Placed}
+use Rattle.jaeger_model.specs.Parents.{parent}
+use Rattle.trace_model.specs.declared.clock.Clock.{Clock}
+use Rattle.trace_model.specs.Linking.{has_id}
+use Rattle.trace_model.specs.Adjusting.{host_of, clock_at, clock_below}
+
+-- the place of the parent
+abbrev pub parent_at : List Placed → Placed → Option ℕ
+parent_at trace p = if (parent p.span).0 == 0 then None else position (has_id (parent p.span)) trace
+
+-- a place, and behind it those that lead up from its parent, where it has one
+abbrev pub path_through : ℕ → (ℕ → Option (List ℕ)) → Option ℕ → Option (List ℕ)
+path_through k up None = Some (k ∷ [])
+path_through k up (Some j) = option_map (λ above. k ∷ above) (up j)
+
+-- the places from one up to its root; None where there are more than so many
+unfoldable pub path : ℕ → List (Option ℕ) → ℕ → Option (List ℕ)
+path zero parents k = None
+path (suc n) parents k = path_through k (λ j. path n parents j) (get_or parents k None)
+
+-- the clock of a span below the one with this clock, or of a root
+abbrev pub next_clock : ℕ → Option Clock → Placed → Option Clock
+next_clock max_skew None p = Some (clock_at max_skew (host_of p) (pos 0) p.span)
+next_clock max_skew (Some above) p = Some (clock_below max_skew above p)
+
+-- the spans at the places, the last first
+abbrev pub downward : List Placed → List ℕ → Placed → List Placed
+downward trace places d = reverse (map (λ k. get_or trace k d) places)
+
+-- the clock of the first of the places, each of which has its parent's behind it
+abbrev pub clock_down : ℕ → List Placed → List ℕ → Placed → Option Clock
+clock_down max_skew trace places d = fold (next_clock max_skew) None (downward trace places d)

@@ -1,0 +1,22 @@
+use Rattle.std.proofs.Common.{◌∙◌, get_or, ap, rules}
+use Rattle.std.specs.Ordering.{nat_cmp}
+use Rattle.std.specs.BTreeMap.{get}
+use Rattle.std.specs.Int.{w128}
+use mir.Val.{SFits}
+use Rattle.std.proofs.lemmas.Int.{to_z-of_z}
+use Rattle.trace_model.specs.Adjusting.{said_after, shifted}
+use Rattle.trace_adjust.proofs.Shifting.{shifted_more, all_written}
+use Rattle.trace_adjust.proofs.skew.shift_all.Goals as goal
+
+pub loop-place-preserved : goal.loop-place-preserved
+loop-place-preserved c =
+    let m = c.args.max_skew in
+    let i = c.loop-place.place in
+    let s = get_or c.loop-place.trace i c.index-trace-place.result in
+    let fits : SFits w128 c.delta_at-delta.result = search rules in
+    let one = rw (to_z-of_z w128 c.delta_at-delta.result fits) at c.in_ok-shift.ensures.ok in
+    shifted_more m c.args.trace.now c.loop-place.trace c.args.clocks.now (λ id. get nat_cmp c.args.first.now id) i s c.shift.new.shown (search rules)
+    (ap (get_or c.loop-place.trace i) c.index-trace-place.is) c.requires.clocks c.requires.first (one ∙ ap (λ d. said_after s (shifted m d s.placed)) c.delta_at-delta.ensures) c.loop-place.invariant
+
+pub returns-clause-ok : goal.returns-clause-ok
+returns-clause-ok c = all_written c.args.max_skew c.args.trace.now c.loop-place.trace c.loop-place.place (search rules) c.loop-place.invariant
