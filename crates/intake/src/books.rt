@@ -57,25 +57,30 @@ impl<N: StoreName> Books<N> {
     /// [`Refusal::NoMemory`]: the seat has ended, and what was moved stands in `left`.
     pub fn take_in<R: Wait>(&mut self, rt: &R, seat: &mut Seat<N>) -> Result<(), Refusal>
         requires desk { self.old.inbox.desk ≡ seat.old.desk }
-        requires books { Balances self.old.inbox.taken self.old.accounts.items (map arc_value self.old.left.items) }
-        requires seat { (seat.old.hands_in ≡ true) ⊎ HasEnded self.old.inbox.ended seat.old.seat seat.old.jobs }
+        requires books { Balances self.old.inbox.taken self.old.accounts.items
+            (map arc_value self.old.left.items) }
+        requires seat { (seat.old.hands_in ≡ true)
+            ⊎ HasEnded self.old.inbox.ended seat.old.seat seat.old.jobs }
 
         ensures seat { seat.new ≡ record seat.old { hands_in = false } }
         ensures desk { self.new.inbox.desk ≡ self.old.inbox.desk }
         ensures accounts { self.new.accounts.items ≡ self.old.accounts.items }
-        ensures counts { (self.new.acknowledged ≡ self.old.acknowledged) × (self.new.refused ≡ self.old.refused) }
+        ensures counts { (self.new.acknowledged ≡ self.old.acknowledged)
+            × (self.new.refused ≡ self.old.refused) }
         ensures keeper { self.new.keeper ≡ self.old.keeper }
 
         ensures moved { MovesFor seat.old.seat seat.old.jobs
             self.old.inbox.taken (map arc_value self.old.left.items)
             self.new.inbox.taken (map arc_value self.new.left.items) }
-        ensures books { Balances self.new.inbox.taken self.new.accounts.items (map arc_value self.new.left.items) }
+        ensures books { Balances self.new.inbox.taken self.new.accounts.items
+            (map arc_value self.new.left.items) }
 
         ensures ended { HasEnded self.new.inbox.ended seat.old.seat seat.old.jobs }
         ensures others_ended { StillEnded self.old.inbox.ended self.new.inbox.ended }
 
         ensures whole { OnOk result (AllTaken seat.old.seat seat.old.jobs self.new.inbox.taken) }
-        ensures others_whole { OnOk result (StaysTaken self.old.inbox.ended self.old.inbox.taken self.new.inbox.taken) }
+        ensures others_whole { OnOk result
+            (StaysTaken self.old.inbox.ended self.old.inbox.taken self.new.inbox.taken) }
         ensures reason { IfErr result (λ why. why ≡ NoMemory) }
     {
         self.inbox.end(seat);
@@ -104,7 +109,8 @@ impl<N: StoreName> Books<N> {
 
     /// Whether the seat's job with this number was judged or is left. There is no job with the number 0.
     fn has_taken(&self, seat: u16, number: u64) -> bool
-        requires { Balances self.now.inbox.taken self.now.accounts.items (map arc_value self.now.left.items) }
+        requires { Balances self.now.inbox.taken self.now.accounts.items
+            (map arc_value self.now.left.items) }
         ensures { result ≡ ((number == 0) || has_job seat number self.now.inbox.taken) }
     {
         if number == 0 {

@@ -91,8 +91,10 @@ fn judged<N: StoreName, R: Wait>(
     room: Arc<Receipt<N>>,
     entry: Arc<Entry>,
 ) -> Result<Ack<N>, Refusal>
-    ensures judged { Judged N.limits keeper.old (arc_value entry) (place_or_refusal (λ a. a.place) result) keeper.new }
-    ensures stands { IfOk result (λ a. StandsAt (arc_value a.receipt).entries a.place (arc_value entry)) }
+    ensures judged { Judged N.limits keeper.old (arc_value entry)
+        (place_or_refusal (λ a. a.place) result) keeper.new }
+    ensures stands { IfOk result (λ a. StandsAt (arc_value a.receipt).entries a.place
+        (arc_value entry)) }
     ensures reason { IfErr result IsUnacknowledged }
 {
     let receipt = keeper.admit(rt, entry)?;
@@ -182,7 +184,8 @@ impl<N: StoreName> Clerk<N> {
         ensures left { result.left.items ≡ [] }
         ensures empty { WasEmpty result.inbox.ended result.inbox.taken }
         ensures desk { (result.inbox.desk ≡ self.desk) × (result.inbox.ended ≡ self.ended) }
-        ensures books { Balances result.inbox.taken result.accounts.items (map arc_value result.left.items) }
+        ensures books { Balances result.inbox.taken result.accounts.items
+            (map arc_value result.left.items) }
     {
         let mut clerk = self;
         let mut keeper = keeper;
@@ -210,7 +213,8 @@ impl<N: StoreName> Clerk<N> {
         ensures refused { result.refused ≡ refused result.accounts.items }
         ensures left { result.left.items ≡ [] }
         ensures desk { (result.inbox.desk ≡ self.desk) × (result.inbox.ended ≡ self.ended) }
-        ensures books { Balances result.inbox.taken result.accounts.items (map arc_value result.left.items) }
+        ensures books { Balances result.inbox.taken result.accounts.items
+            (map arc_value result.left.items) }
     {
         let Clerk {
             inbox,

@@ -70,7 +70,8 @@ impl<N: StoreName> Inbox<N> {
     /// Ends a seat, if that wasn't done.
     pub(crate) fn end(&mut self, seat: &mut Seat<N>)
         requires desk { self.old.desk ≡ seat.old.desk }
-        requires seat { (seat.old.hands_in ≡ true) ⊎ HasEnded self.old.ended seat.old.seat seat.old.jobs }
+        requires seat { (seat.old.hands_in ≡ true)
+            ⊎ HasEnded self.old.ended seat.old.seat seat.old.jobs }
         ensures seat { seat.new ≡ record seat.old { hands_in = false } }
         ensures same { (self.new.desk ≡ self.old.desk) × (self.new.taken ≡ self.old.taken) }
         ensures ended { HasEnded self.new.ended seat.old.seat seat.old.jobs }

@@ -70,7 +70,8 @@ fn is_same(entry: &Entry, other: &Entry) -> bool
 impl<N: StoreName> Reply<N> {
     /// The answer to an entry. An acknowledgement's list has the entry at its place.
     pub(crate) fn new(entry: Arc<Entry>, answer: Result<Ack<N>, Refusal>) -> Reply<N>
-        requires stands { IfOk answer (λ a. StandsAt (arc_value a.receipt).entries a.place (arc_value entry)) }
+        requires stands { IfOk answer (λ a.
+            StandsAt (arc_value a.receipt).entries a.place (arc_value entry)) }
         requires reason { IfErr answer IsUnacknowledged }
         ensures { result ≡ arc_value entry }
     {
@@ -91,7 +92,8 @@ impl<N: StoreName> Reply<N> {
     ///
     /// The entry's refusal, or [`Refusal::Stranger`]: the reply is to another entry.
     pub(crate) fn to(self, entry: &Entry) -> Result<Ack<N>, Refusal>
-        ensures stands { IfOk result (λ a. StandsAt (arc_value a.receipt).entries a.place entry.now) }
+        ensures stands { IfOk result (λ a.
+            StandsAt (arc_value a.receipt).entries a.place entry.now) }
         ensures reason { IfErr result IsUnacknowledged }
     {
         let Reply {

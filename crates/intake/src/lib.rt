@@ -9,7 +9,8 @@
 //! * `queue`: the queue, and the rule that holds between any two steps.
 //! * `job`: what is queued, and what is laid down for its ticket. `ticket`: the [`Ticket`].
 //! * `seat`: the [`Seat`]. `inbox`: the clerk's end of the queue.
-//! * `account`: what became of a job. `clerk`: the [`Clerk`]. `books`: what it leaves.
+//! * `account`: what became of a job. `clerk`: the [`Clerk`]. `books`: what it leaves; `ledger`: the same but for the
+//!   keeper.
 //! * `shared`: what all of them share. `bell`: how a sleeper is woken.
 //! * `opening`: [`desk`]. `closing`: the [`Desk`], which closes the queue.
 #![tactic(auto)]
@@ -21,6 +22,7 @@ mod clerk;
 mod closing;
 mod inbox;
 mod job;
+mod ledger;
 mod opening;
 mod queue;
 mod seat;
@@ -32,6 +34,7 @@ pub use books::Books;
 pub use clerk::{Clerk, Turn};
 pub use closing::Desk;
 pub use inbox::Inbox;
+pub use ledger::Ledger;
 pub use opening::desk;
 pub use queue::{EndedSeat, QueueView};
 pub use seat::Seat;

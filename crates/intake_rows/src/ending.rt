@@ -5,19 +5,20 @@ ghost use Rattle.std.specs.Prelude.{◌≡◌, true, map, All, IfSome};
 ghost use Rattle.std.specs.Arc.{arc_value};
 ghost use Rattle.intake.specs.Books.{Balances};
 ghost use Rattle.intake.specs.Seats.{IsNewSeat};
+ghost use Rattle.intake_rows.specs.Seats.{MayHandIn, Stays};
 
 use crate::house::batch;
-use intake::{Account, Ack, Books, Clerk, Desk, Inbox, Seat, Ticket, Turn, desk};
+use intake::{Ack, Books, Clerk, Desk, Ledger, Seat, Ticket, Turn, desk};
 use read_side::{Keeper, Opened, StoreName, open};
 use std::alloc::Global;
 use std::hash::RandomState;
 use std::marker::Brand;
 use std::process::Abort;
 use std::random::RandomSource;
-use std::sync::{Arc, Wait};
+use std::sync::Wait;
 use std::test::*;
 use std::thread::{Threads, join_mut, yield_now};
-use trace_model::{Entry, Limits, Refusal};
+use trace_model::{Limits, Refusal};
 
 /// How many batches a seat hands in at most.
 const MOST: u64 = 200;
@@ -34,8 +35,7 @@ struct Handed<N: StoreName> {
 
 /// Hands so many batches in, without waiting for an answer, or fewer where the desk is closed before.
 fn hand_in<N: StoreName, R: Wait>(rt: &R, alloc: Global, handed: &mut Handed<N>, most: u64)
-    ensures desk { handed.new.seat.desk ≡ handed.old.seat.desk }
-    ensures may { handed.new.seat.hands_in ≡ handed.old.seat.hands_in }
+    ensures { Stays handed.old.seat handed.new.seat }
 {
     for id in 0..most {
         if handed.tickets.reserve(1).is_err() {
@@ -71,8 +71,8 @@ fn two_hand_in<N: StoreName + Send + Sync, R: Threads + Wait + Sync>(
     a: &mut Handed<N>,
     b: &mut Handed<N>,
 )
-    ensures a { (a.new.seat.desk ≡ a.old.seat.desk) × (a.new.seat.hands_in ≡ a.old.seat.hands_in) }
-    ensures b { (b.new.seat.desk ≡ b.old.seat.desk) × (b.new.seat.hands_in ≡ b.old.seat.hands_in) }
+    ensures a { Stays a.old.seat a.new.seat }
+    ensures b { Stays b.old.seat b.new.seat }
 {
     join_mut(
         rt,
@@ -110,10 +110,10 @@ fn unused_seat<N: StoreName>(alloc: Global, seat: Seat<N>) -> Handed<N>
 /// The four seats of the clerk's desk.
 fn four_of<N: StoreName>(alloc: Global, clerk: &Clerk<N>, seats: Vec<Seat<N>>) -> Option<Four<N>>
     requires { All (IsNewSeat clerk.now.desk 8) seats.items }
-    ensures a { IfSome result (λ f. (f.a.seat.desk ≡ clerk.now.desk) × (f.a.seat.hands_in ≡ true)) }
-    ensures b { IfSome result (λ f. (f.b.seat.desk ≡ clerk.now.desk) × (f.b.seat.hands_in ≡ true)) }
-    ensures c { IfSome result (λ f. (f.c.seat.desk ≡ clerk.now.desk) × (f.c.seat.hands_in ≡ true)) }
-    ensures d { IfSome result (λ f. (f.d.seat.desk ≡ clerk.now.desk) × (f.d.seat.hands_in ≡ true)) }
+    ensures a { IfSome result (λ f. MayHandIn clerk.now.desk f.a.seat) }
+    ensures b { IfSome result (λ f. MayHandIn clerk.now.desk f.b.seat) }
+    ensures c { IfSome result (λ f. MayHandIn clerk.now.desk f.c.seat) }
+    ensures d { IfSome result (λ f. MayHandIn clerk.now.desk f.d.seat) }
 {
     let mut seats = seats;
     let d = next_seat(clerk, &mut seats)?;
@@ -134,10 +134,10 @@ fn four_hand_in<N: StoreName + Send + Sync, R: Threads + Wait + Sync>(
     alloc: Global,
     four: &mut Four<N>,
 )
-    ensures a { (four.new.a.seat.desk ≡ four.old.a.seat.desk) × (four.new.a.seat.hands_in ≡ four.old.a.seat.hands_in) }
-    ensures b { (four.new.b.seat.desk ≡ four.old.b.seat.desk) × (four.new.b.seat.hands_in ≡ four.old.b.seat.hands_in) }
-    ensures c { (four.new.c.seat.desk ≡ four.old.c.seat.desk) × (four.new.c.seat.hands_in ≡ four.old.c.seat.hands_in) }
-    ensures d { (four.new.d.seat.desk ≡ four.old.d.seat.desk) × (four.new.d.seat.hands_in ≡ four.old.d.seat.hands_in) }
+    ensures a { Stays four.old.a.seat four.new.a.seat }
+    ensures b { Stays four.old.b.seat four.new.b.seat }
+    ensures c { Stays four.old.c.seat four.new.c.seat }
+    ensures d { Stays four.old.d.seat four.new.d.seat }
 {
     let Four { a, b, c, d } = four;
     join_mut(
@@ -161,10 +161,10 @@ fn all_hand_in<N: StoreName + Send + Sync, R: Threads + Wait + Sync>(
     alloc: Global,
     floor: &mut Floor<N>,
 )
-    ensures a { (floor.new.four.a.seat.desk ≡ floor.old.four.a.seat.desk) × (floor.new.four.a.seat.hands_in ≡ floor.old.four.a.seat.hands_in) }
-    ensures b { (floor.new.four.b.seat.desk ≡ floor.old.four.b.seat.desk) × (floor.new.four.b.seat.hands_in ≡ floor.old.four.b.seat.hands_in) }
-    ensures c { (floor.new.four.c.seat.desk ≡ floor.old.four.c.seat.desk) × (floor.new.four.c.seat.hands_in ≡ floor.old.four.c.seat.hands_in) }
-    ensures d { (floor.new.four.d.seat.desk ≡ floor.old.four.d.seat.desk) × (floor.new.four.d.seat.hands_in ≡ floor.old.four.d.seat.hands_in) }
+    ensures a { Stays floor.old.four.a.seat floor.new.four.a.seat }
+    ensures b { Stays floor.old.four.b.seat floor.new.four.b.seat }
+    ensures c { Stays floor.old.four.c.seat floor.new.four.c.seat }
+    ensures d { Stays floor.old.four.d.seat floor.new.four.d.seat }
 {
     let Floor { four, desk, turns } = floor;
     join_mut(
@@ -172,16 +172,6 @@ fn all_hand_in<N: StoreName + Send + Sync, R: Threads + Wait + Sync>(
         &mut || four_hand_in(rt, alloc, four),
         &mut || close_soon(rt, desk, *turns),
     );
-}
-
-/// What the clerk leaves, but for the keeper.
-#[derive(Drop)]
-struct Ledger<N: StoreName> {
-    accounts: Vec<Account>,
-    acknowledged: u64,
-    refused: u64,
-    left: Vec<Arc<Entry>>,
-    inbox: Inbox<N>,
 }
 
 /// The clerk and its keeper, and what the clerk left once it has served.
@@ -193,8 +183,10 @@ struct Office<N: StoreName> {
 
 /// Has the clerk serve until the desk is closed.
 fn keep<N: StoreName, R: Wait>(rt: &R, office: &mut Office<N>)
-    ensures desk { IfSome office.old.clerk (λ k. IfSome office.new.ledger (λ l. l.inbox.desk ≡ k.desk)) }
-    ensures books { IfSome office.new.ledger (λ l. Balances l.inbox.taken l.accounts.items (map arc_value l.left.items)) }
+    ensures desk { IfSome office.old.clerk (λ k.
+        IfSome office.new.ledger (λ l. l.inbox.desk ≡ k.desk)) }
+    ensures books { IfSome office.new.ledger (λ l.
+        Balances l.inbox.taken l.accounts.items (map arc_value l.left.items)) }
 {
     office.ledger = None;
     let Some(clerk) = office.clerk.take() else {
@@ -203,49 +195,11 @@ fn keep<N: StoreName, R: Wait>(rt: &R, office: &mut Office<N>)
     let Some(keeper) = office.keeper.take() else {
         return;
     };
-    let Books {
-        keeper,
-        accounts,
-        acknowledged,
-        refused,
-        left,
-        inbox,
-    } = clerk.run(rt, keeper);
+    let (keeper, ledger) = clerk.run(rt, keeper).split();
     if let Some(other) = office.keeper.replace(keeper) {
         other.close(rt);
     }
-    office.ledger = Some(Ledger {
-        accounts,
-        acknowledged,
-        refused,
-        left,
-        inbox,
-    });
-}
-
-impl<N: StoreName> Ledger<N> {
-    /// The books, which have the keeper too.
-    fn with(self, keeper: Keeper<N>) -> Books<N>
-        ensures accounts { result.accounts.items ≡ self.accounts.items }
-        ensures left { result.left.items ≡ self.left.items }
-        ensures inbox { result.inbox ≡ self.inbox }
-    {
-        let Ledger {
-            accounts,
-            acknowledged,
-            refused,
-            left,
-            inbox,
-        } = self;
-        Books {
-            keeper,
-            accounts,
-            acknowledged,
-            refused,
-            left,
-            inbox,
-        }
-    }
+    office.ledger = Some(ledger);
 }
 
 /// The clerk serves, the seats hand in, and the desk is closed.
@@ -255,12 +209,14 @@ fn all_day<N: StoreName + Send + Sync, R: Threads + Wait + Sync>(
     office: &mut Office<N>,
     floor: &mut Floor<N>,
 )
-    ensures desk { IfSome office.old.clerk (λ k. IfSome office.new.ledger (λ l. l.inbox.desk ≡ k.desk)) }
-    ensures books { IfSome office.new.ledger (λ l. Balances l.inbox.taken l.accounts.items (map arc_value l.left.items)) }
-    ensures a { (floor.new.four.a.seat.desk ≡ floor.old.four.a.seat.desk) × (floor.new.four.a.seat.hands_in ≡ floor.old.four.a.seat.hands_in) }
-    ensures b { (floor.new.four.b.seat.desk ≡ floor.old.four.b.seat.desk) × (floor.new.four.b.seat.hands_in ≡ floor.old.four.b.seat.hands_in) }
-    ensures c { (floor.new.four.c.seat.desk ≡ floor.old.four.c.seat.desk) × (floor.new.four.c.seat.hands_in ≡ floor.old.four.c.seat.hands_in) }
-    ensures d { (floor.new.four.d.seat.desk ≡ floor.old.four.d.seat.desk) × (floor.new.four.d.seat.hands_in ≡ floor.old.four.d.seat.hands_in) }
+    ensures desk { IfSome office.old.clerk (λ k.
+        IfSome office.new.ledger (λ l. l.inbox.desk ≡ k.desk)) }
+    ensures books { IfSome office.new.ledger (λ l.
+        Balances l.inbox.taken l.accounts.items (map arc_value l.left.items)) }
+    ensures a { Stays floor.old.four.a.seat floor.new.four.a.seat }
+    ensures b { Stays floor.old.four.b.seat floor.new.four.b.seat }
+    ensures c { Stays floor.old.four.c.seat floor.new.four.c.seat }
+    ensures d { Stays floor.old.four.d.seat floor.new.four.d.seat }
 {
     join_mut(
         rt,
@@ -272,10 +228,12 @@ fn all_day<N: StoreName + Send + Sync, R: Threads + Wait + Sync>(
 /// Takes a seat in, once more where memory is short.
 fn take_in<N: StoreName, R: Wait>(rt: &R, books: &mut Books<N>, seat: &mut Seat<N>)
     requires desk { books.old.inbox.desk ≡ seat.old.desk }
-    requires books { Balances books.old.inbox.taken books.old.accounts.items (map arc_value books.old.left.items) }
+    requires books { Balances books.old.inbox.taken books.old.accounts.items
+        (map arc_value books.old.left.items) }
     requires seat { seat.old.hands_in ≡ true }
     ensures desk { books.new.inbox.desk ≡ books.old.inbox.desk }
-    ensures books { Balances books.new.inbox.taken books.new.accounts.items (map arc_value books.new.left.items) }
+    ensures books { Balances books.new.inbox.taken books.new.accounts.items
+        (map arc_value books.new.left.items) }
 {
     for _ in rt.forever() {
         if books.take_in(rt, seat).is_ok() {
@@ -363,11 +321,12 @@ fn left_over<N: StoreName, R: Wait>(
     books: Books<N>,
     handed: Four<N>,
 ) -> Option<u64>
-    requires books { Balances books.inbox.taken books.accounts.items (map arc_value books.left.items) }
-    requires a { (books.inbox.desk ≡ handed.a.seat.desk) × (handed.a.seat.hands_in ≡ true) }
-    requires b { (books.inbox.desk ≡ handed.b.seat.desk) × (handed.b.seat.hands_in ≡ true) }
-    requires c { (books.inbox.desk ≡ handed.c.seat.desk) × (handed.c.seat.hands_in ≡ true) }
-    requires d { (books.inbox.desk ≡ handed.d.seat.desk) × (handed.d.seat.hands_in ≡ true) }
+    requires books { Balances books.inbox.taken books.accounts.items
+        (map arc_value books.left.items) }
+    requires a { MayHandIn books.inbox.desk handed.a.seat }
+    requires b { MayHandIn books.inbox.desk handed.b.seat }
+    requires c { MayHandIn books.inbox.desk handed.c.seat }
+    requires d { MayHandIn books.inbox.desk handed.d.seat }
 {
     let mut books = books;
     let Four {
@@ -404,10 +363,10 @@ fn leaves<N: StoreName, R: Wait>(
     keeper: Keeper<N>,
     floor: Floor<N>,
 ) -> bool
-    requires a { (floor.four.a.seat.desk ≡ clerk.desk) × (floor.four.a.seat.hands_in ≡ true) }
-    requires b { (floor.four.b.seat.desk ≡ clerk.desk) × (floor.four.b.seat.hands_in ≡ true) }
-    requires c { (floor.four.c.seat.desk ≡ clerk.desk) × (floor.four.c.seat.hands_in ≡ true) }
-    requires d { (floor.four.d.seat.desk ≡ clerk.desk) × (floor.four.d.seat.hands_in ≡ true) }
+    requires a { MayHandIn clerk.desk floor.four.a.seat }
+    requires b { MayHandIn clerk.desk floor.four.b.seat }
+    requires c { MayHandIn clerk.desk floor.four.c.seat }
+    requires d { MayHandIn clerk.desk floor.four.d.seat }
 {
     let mut clerk = clerk;
     let mut keeper = keeper;
@@ -433,10 +392,10 @@ fn races<N: StoreName + Send + Sync, R: Threads + Wait + Sync>(
     keeper: Keeper<N>,
     floor: Floor<N>,
 ) -> bool
-    requires a { (floor.four.a.seat.desk ≡ clerk.desk) × (floor.four.a.seat.hands_in ≡ true) }
-    requires b { (floor.four.b.seat.desk ≡ clerk.desk) × (floor.four.b.seat.hands_in ≡ true) }
-    requires c { (floor.four.c.seat.desk ≡ clerk.desk) × (floor.four.c.seat.hands_in ≡ true) }
-    requires d { (floor.four.d.seat.desk ≡ clerk.desk) × (floor.four.d.seat.hands_in ≡ true) }
+    requires a { MayHandIn clerk.desk floor.four.a.seat }
+    requires b { MayHandIn clerk.desk floor.four.b.seat }
+    requires c { MayHandIn clerk.desk floor.four.c.seat }
+    requires d { MayHandIn clerk.desk floor.four.d.seat }
 {
     let mut floor = floor;
     let mut office = Office {

@@ -31,11 +31,11 @@ said_some a b failed first second h some why = (some_more a b first second (firs
 pub halted : (a b : Option (List ℕ)) (failed : Bool) (text : List ℕ) (h : Halt) (status : ℕ) → status ≡ status_by h → WritesSome a b text × IsWhyOf h failed → StopsIn a b failed text status
 halted a b failed text h status is w = (h, is, w.0, w.1)
 
--- all of it was written, and then memory was wanting
+-- all of it was written, and then memory ran out
 pub wanting : (a b : Option (List ℕ)) (failed : Bool) (text : List ℕ) (status : ℕ) → status ≡ 5 → Appends a b text → failed ≡ false → StopsIn a b failed text status
 wanting a b failed text status is all works = (Memory, is, all_written a b text all, works)
 
--- nothing was written, for want of memory or of threads
+-- nothing was written, where memory or threads ran out
 pub broken_off : (a : Option (List ℕ)) (failed : Bool) (text : List ℕ) → failed ≡ false → StopsIn a a failed text 5
 broken_off a failed text works = (Memory, refl, none_written a text, works)
 

@@ -53,7 +53,7 @@ OneForEach workers seats = map (λ (s : SeatValue). s.seat) seats ≡ range_with
 abbrev pub status_if : Bool → ℕ
 status_if failed = if failed then 4 else 0
 
--- a beginning of the text was written: 4 where the output failed, 5 for want of memory or of threads
+-- a beginning of the text was written: 4 where the output failed, 5 where memory or threads ran out
 abbrev pub StopsIn : Option (List ℕ) → Option (List ℕ) → Bool → List ℕ → ℕ → Type 0
 StopsIn out0 out1 out_failed text status =
     (halt : Halt) × (status ≡ status_by halt) × WritesSome out0 out1 text × IsWhyOf halt out_failed

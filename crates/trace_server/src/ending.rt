@@ -29,12 +29,15 @@ fn take_all_in<N: StoreName, R: Wait>(
     workers: Vec<(Shift, Live<N>)>,
 ) -> Result<(), Refusal>
     requires open { AreOpen books.old.inbox.desk (map (λ w. w.1.seat) workers.items) }
-    requires books { Balances books.old.inbox.taken books.old.accounts.items (map arc_value books.old.left.items) }
+    requires books { Balances books.old.inbox.taken books.old.accounts.items
+        (map arc_value books.old.left.items) }
     ensures accounts { books.new.accounts.items ≡ books.old.accounts.items }
-    ensures counts { (books.new.acknowledged ≡ books.old.acknowledged) × (books.new.refused ≡ books.old.refused) }
+    ensures counts { (books.new.acknowledged ≡ books.old.acknowledged)
+        × (books.new.refused ≡ books.old.refused) }
     ensures moved { Moves books.old.inbox.taken (map arc_value books.old.left.items)
         books.new.inbox.taken (map arc_value books.new.left.items) }
-    ensures whole { OnOk result (AreTaken books.new.inbox.taken (map (λ w. w.1.seat) workers.items)) }
+    ensures whole { OnOk result (AreTaken books.new.inbox.taken
+        (map (λ w. w.1.seat) workers.items)) }
 {
     let mut workers = workers;
     while let Some((_, live)) = workers.pop() {
@@ -64,16 +67,18 @@ pub(crate) fn close_store<N: StoreName, R: Wait>(rt: &R, books: Books<N>) -> u64
 ///
 /// # Errors
 ///
-/// Want of memory, for jobs that are left. The store is closed then too.
+/// Out of memory, for jobs that are left. The store is closed then too.
 pub(crate) fn close_books<N: StoreName, R: Wait>(
     rt: &R,
     books: Books<N>,
     workers: Vec<(Shift, Live<N>)>,
 ) -> Result<Totals, Refusal>
     requires open { AreOpen books.inbox.desk (map (λ w. w.1.seat) workers.items) }
-    requires judged { HasJudged N.limits books.inbox.taken books.accounts.items books.acknowledged books.refused }
+    requires judged { HasJudged N.limits books.inbox.taken books.accounts.items books.acknowledged
+        books.refused }
     requires left { books.left.items ≡ [] }
-    ensures { IfOk result (λ t. ClosesBooks N.limits (map (λ w. w.1.seat) workers.items) t.acknowledged t.refused t.left) }
+    ensures { IfOk result (λ t. ClosesBooks N.limits (map (λ w. w.1.seat) workers.items)
+        t.acknowledged t.refused t.left) }
 {
     let mut books = books;
     let taken_in = take_all_in(rt, &mut books, workers);

@@ -59,7 +59,8 @@ fn front<N: StoreName>(
     ensures keeper { keeper.new ≡ keeper.old }
     ensures clerk { IfOk result (λ f. IsNewClerk f.1) }
     ensures open { IfOk result (λ f. AreOpen f.1.desk (map (λ p. p.1.seat) f.2.items)) }
-    ensures numbers { IfOk result (λ f. OneForEach options.now.workers (map (λ p. p.1.seat) f.2.items)) }
+    ensures numbers { IfOk result (λ f. OneForEach options.now.workers
+        (map (λ p. p.1.seat) f.2.items)) }
 {
     let first = keeper.receipt();
     let (desk, seats, clerk) = desk(alloc, first, options.queue as usize, options.workers)?;
@@ -72,7 +73,7 @@ impl<N: StoreName> House<N> {
     ///
     /// # Errors
     ///
-    /// Want of memory.
+    /// Out of memory.
     pub(crate) fn open<R: Wait>(
         rt: &R,
         alloc: Global,
@@ -87,7 +88,8 @@ impl<N: StoreName> House<N> {
         ensures keeper { IfOk result (λ h. h.keeper ≡ no_entries) }
         ensures clerk { IfOk result (λ h. IsNewClerk h.clerk) }
         ensures open { IfOk result (λ h. AreOpen h.clerk.desk (map (λ p. p.1.seat) h.lives.items)) }
-        ensures numbers { IfOk result (λ h. OneForEach options.now.workers (map (λ p. p.1.seat) h.lives.items)) }
+        ensures numbers { IfOk result (λ h.
+            OneForEach options.now.workers (map (λ p. p.1.seat) h.lives.items)) }
     {
         let workers = options.workers as usize;
         let (mut keeper, passes) = open::<N>(alloc, options.keys, name, limits, workers)?;

@@ -13,28 +13,18 @@ use crate::house::House;
 use crate::options::Options;
 use crate::telling::{report, report_unclosed, say_listening, together};
 use crate::worker::{Shift, Stage};
-use intake::{Account, Books, Clerk, Inbox};
+use intake::{Books, Clerk, Ledger};
 use live_store::Live;
 use read_side::{Keeper, Opened, StoreName};
 use session_devices::Output;
 use std::alloc::{AllocError, Global};
 use std::marker::Brand;
 use std::net::TcpListener;
+use std::sync::Wait;
 use std::sync::atomic::AtomicU64;
-use std::sync::{Arc, Wait};
 use std::thread::{Threads, join, spawn};
 use std::time::Clock;
-use trace_model::{Entry, Limits};
-
-/// What the clerk leaves, but for the keeper.
-#[derive(Drop)]
-struct Ledger<N: StoreName> {
-    accounts: Vec<Account>,
-    acknowledged: u64,
-    refused: u64,
-    left: Vec<Arc<Entry>>,
-    inbox: Inbox<N>,
-}
+use trace_model::Limits;
 
 /// Has the clerk serve until the desk is closed. The keeper of an empty store waits in the slot, before and
 /// afterwards.
@@ -45,55 +35,17 @@ fn keep<N: StoreName, R: Wait>(
 ) -> Option<Ledger<N>>
     requires keeper { IfSome slot.old (λ k. k ≡ no_entries) }
     requires clerk { IsNewClerk clerk }
-    ensures judged { IfSome result (λ l. HasJudged N.limits l.inbox.taken l.accounts.items l.acknowledged l.refused) }
+    ensures judged { IfSome result (λ l.
+        HasJudged N.limits l.inbox.taken l.accounts.items l.acknowledged l.refused) }
     ensures left { IfSome result (λ l. l.left.items ≡ []) }
     ensures desk { IfSome result (λ l. l.inbox.desk ≡ clerk.desk) }
 {
     let keeper = slot.take()?;
-    let Books {
-        keeper,
-        accounts,
-        acknowledged,
-        refused,
-        left,
-        inbox,
-    } = clerk.run(rt, keeper);
+    let (keeper, ledger) = clerk.run(rt, keeper).split();
     if let Some(other) = slot.replace(keeper) {
         other.close(rt);
     }
-    Some(Ledger {
-        accounts,
-        acknowledged,
-        refused,
-        left,
-        inbox,
-    })
-}
-
-impl<N: StoreName> Ledger<N> {
-    /// The books, which have the keeper too.
-    fn with(self, keeper: Keeper<N>) -> Books<N>
-        ensures accounts { result.accounts.items ≡ self.accounts.items }
-        ensures counts { (result.acknowledged ≡ self.acknowledged) × (result.refused ≡ self.refused) }
-        ensures left { result.left.items ≡ self.left.items }
-        ensures inbox { result.inbox ≡ self.inbox }
-    {
-        let Ledger {
-            accounts,
-            acknowledged,
-            refused,
-            left,
-            inbox,
-        } = self;
-        Books {
-            keeper,
-            accounts,
-            acknowledged,
-            refused,
-            left,
-            inbox,
-        }
-    }
+    Some(ledger)
 }
 
 /// What the clerk leaves, and what the workers did, each with its ends of the store.
@@ -105,7 +57,8 @@ fn work_all<N: StoreName + Send + Sync, G: Gate + Sync, R: Threads + Wait + Cloc
     stage: &Stage<'_, N, G>,
     lives: Vec<(u32, Live<N>)>,
 ) -> Result<Vec<(Shift, Live<N>)>, AllocError>
-    ensures { IfOk result (λ v. GoOn (map (λ p. p.1.seat) lives.items) (map (λ w. w.1.seat) v.items)) }
+    ensures { IfOk result (λ v. GoOn (map (λ p. p.1.seat) lives.items)
+        (map (λ w. w.1.seat) v.items)) }
 {
     each_done(rt, stage, lives)
 }
@@ -121,10 +74,12 @@ fn staff<N: StoreName + Send + Sync, G: Gate + Sync, R: Threads + Wait + Clock +
 ) -> Left<N>
     requires keeper { house.keeper ≡ no_entries }
     requires clerk { IsNewClerk house.clerk }
-    ensures judged { IfSome result.0 (λ b. HasJudged N.limits b.inbox.taken b.accounts.items b.acknowledged b.refused) }
+    ensures judged { IfSome result.0 (λ b.
+        HasJudged N.limits b.inbox.taken b.accounts.items b.acknowledged b.refused) }
     ensures left { IfSome result.0 (λ b. b.left.items ≡ []) }
     ensures desk { IfSome result.0 (λ b. b.inbox.desk ≡ house.clerk.desk) }
-    ensures seats { IfOk result.1 (λ v. GoOn (map (λ p. p.1.seat) house.lives.items) (map (λ w. w.1.seat) v.items)) }
+    ensures seats { IfOk result.1 (λ v. GoOn (map (λ p. p.1.seat) house.lives.items)
+        (map (λ w. w.1.seat) v.items)) }
 {
     let House {
         keeper,
@@ -184,7 +139,8 @@ fn serve_house<
     requires open { AreOpen house.clerk.desk (map (λ p. p.1.seat) house.lives.items) }
     requires numbers { OneForEach options.now.workers (map (λ p. p.1.seat) house.lives.items) }
     requires output_works { W.has_failed output.old ≡ false }
-    ensures { Reports N.limits options.now.workers (W.contents output.old) (W.contents output.new) (W.has_failed output.new) result }
+    ensures { Reports N.limits options.now.workers (W.contents output.old) (W.contents output.new)
+        (W.has_failed output.new) result }
 {
     let (books, workers) = staff(rt, alloc, house, listener, options, gate);
     let Some(books) = books else {
@@ -233,7 +189,8 @@ fn serve_named<
     requires workers { (1 ≤ options.now.workers) × (options.now.workers ≤ 64) }
     requires queue { (1 ≤ options.now.queue) × (options.now.queue ≤ 4096) }
     requires output_works { W.has_failed output.old ≡ false }
-    ensures { Serves limits options.now.workers (W.contents output.old) (W.contents output.new) (W.has_failed output.new) result }
+    ensures { Serves limits options.now.workers (W.contents output.old) (W.contents output.new)
+        (W.has_failed output.new) result }
 {
     let Ok(address) = listener.local_addr() else {
         return 4;
@@ -250,7 +207,7 @@ fn serve_named<
 
 /// Serves the connections of a socket that listens on this machine's own address, over an empty store,
 /// and gives the exit status: 0 where as many connections as were asked for have ended, 4 where a worker
-/// could accept no more or the output failed, and 5 for want of memory or of threads.
+/// could accept no more or the output failed, and 5 where memory or threads ran out.
 ///
 /// The output gets a line that says on which port it listens, once connections are accepted, and at the end
 /// one that says how many came and one that says what became of the batches that were handed in: how many
@@ -267,7 +224,8 @@ pub fn serve_with<G: Gate + Sync, W: Output, R: Threads + Wait + Clock + Sync>(
     requires workers { (1 ≤ options.now.workers) × (options.now.workers ≤ 64) }
     requires queue { (1 ≤ options.now.queue) × (options.now.queue ≤ 4096) }
     requires output_works { W.has_failed output.old ≡ false }
-    ensures { Serves options.now.limits options.now.workers (W.contents output.old) (W.contents output.new) (W.has_failed output.new) result }
+    ensures { Serves options.now.limits options.now.workers (W.contents output.old)
+        (W.contents output.new) (W.has_failed output.new) result }
 {
     if !can_start(rt) {
         return 5;

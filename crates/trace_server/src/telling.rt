@@ -38,7 +38,8 @@ fn served_line(alloc: Global, served: u64) -> Result<Vec<u8>, AllocError>
 
 /// The line that says what became of the batches.
 fn books_line(alloc: Global, totals: Totals) -> Result<Vec<u8>, AllocError>
-    ensures { IfOk result (λ line. line.items ≡ books_line totals.acknowledged totals.refused totals.left) }
+    ensures { IfOk result (λ line. line.items ≡
+        books_line totals.acknowledged totals.refused totals.left) }
 {
     let Totals {
         acknowledged,
@@ -55,7 +56,8 @@ fn books_line(alloc: Global, totals: Totals) -> Result<Vec<u8>, AllocError>
 /// Says where the server listens.
 pub(crate) fn say_listening<W: Output>(alloc: Global, output: &mut W, port: u16) -> Result<(), Halt>
     requires { W.has_failed output.old ≡ false }
-    ensures { Says (W.contents output.old) (W.contents output.new) (W.has_failed output.new) (listening_line port) result }
+    ensures { Says (W.contents output.old) (W.contents output.new) (W.has_failed output.new)
+        (listening_line port) result }
 {
     let line = listening_line(alloc, port)?;
     say(alloc, output, line.as_slice())
@@ -64,7 +66,8 @@ pub(crate) fn say_listening<W: Output>(alloc: Global, output: &mut W, port: u16)
 /// Says how many connections were taken.
 fn say_served<W: Output>(alloc: Global, output: &mut W, served: u64) -> Result<(), Halt>
     requires { W.has_failed output.old ≡ false }
-    ensures { Says (W.contents output.old) (W.contents output.new) (W.has_failed output.new) (served_line served) result }
+    ensures { Says (W.contents output.old) (W.contents output.new) (W.has_failed output.new)
+        (served_line served) result }
 {
     let line = served_line(alloc, served)?;
     say(alloc, output, line.as_slice())
@@ -82,7 +85,8 @@ fn say_books<W: Output>(alloc: Global, output: &mut W, totals: Totals) -> Result
 
 /// What all workers did together. A count that has come to its end stays there.
 pub(crate) fn together<N: StoreName>(workers: &[(Shift, Live<N>)]) -> Shift
-    ensures served { result.served ≡ min (sum_by (λ w. w.0.served) workers.now) 18446744073709551615 }
+    ensures served { result.served ≡ min (sum_by (λ w. w.0.served) workers.now)
+        18446744073709551615 }
     ensures failed { result.failed ≡ list_any (λ w. w.0.failed) workers.now }
 {
     let mut all = Shift {
@@ -126,7 +130,7 @@ pub(crate) fn report<W: Output>(alloc: Global, output: &mut W, all: Shift, total
     }
 }
 
-/// Says how many connections were taken, where memory was wanting to close the books.
+/// Says how many connections were taken, where memory ran out to close the books.
 pub(crate) fn report_unclosed<W: Output>(alloc: Global, output: &mut W, all: Shift) -> u8
     requires { W.has_failed output.old ≡ false }
     ensures { StopsIn (W.contents output.old) (W.contents output.new) (W.has_failed output.new)

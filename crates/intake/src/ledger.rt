@@ -1,0 +1,77 @@
+//! What the clerk leaves, but for the keeper.
+
+ghost use Rattle.std.specs.Prelude.{◌≡◌};
+
+use crate::account::Account;
+use crate::books::Books;
+use crate::inbox::Inbox;
+use read_side::{Keeper, StoreName};
+use std::sync::Arc;
+use trace_model::Entry;
+
+/// [`Books`] but for their keeper, for an owner who has it elsewhere. Unlike books it may be dropped.
+#[derive(Drop)]
+pub struct Ledger<N: StoreName> {
+    pub accounts: Vec<Account>,
+    pub acknowledged: u64,
+    pub refused: u64,
+    pub left: Vec<Arc<Entry>>,
+    pub inbox: Inbox<N>,
+}
+
+impl<N: StoreName> Books<N> {
+    /// The keeper, and what the books have but for it.
+    pub fn split(self) -> (Keeper<N>, Ledger<N>)
+        ensures keeper { result.0 ≡ self.keeper }
+        ensures accounts { result.1.accounts.items ≡ self.accounts.items }
+        ensures acknowledged { result.1.acknowledged ≡ self.acknowledged }
+        ensures refused { result.1.refused ≡ self.refused }
+        ensures left { result.1.left.items ≡ self.left.items }
+        ensures inbox { result.1.inbox ≡ self.inbox }
+    {
+        let Books {
+            keeper,
+            accounts,
+            acknowledged,
+            refused,
+            left,
+            inbox,
+        } = self;
+        let ledger = Ledger {
+            accounts,
+            acknowledged,
+            refused,
+            left,
+            inbox,
+        };
+        (keeper, ledger)
+    }
+}
+
+impl<N: StoreName> Ledger<N> {
+    /// The books with their keeper.
+    pub fn with(self, keeper: Keeper<N>) -> Books<N>
+        ensures keeper { result.keeper ≡ keeper }
+        ensures accounts { result.accounts.items ≡ self.accounts.items }
+        ensures acknowledged { result.acknowledged ≡ self.acknowledged }
+        ensures refused { result.refused ≡ self.refused }
+        ensures left { result.left.items ≡ self.left.items }
+        ensures inbox { result.inbox ≡ self.inbox }
+    {
+        let Ledger {
+            accounts,
+            acknowledged,
+            refused,
+            left,
+            inbox,
+        } = self;
+        Books {
+            keeper,
+            accounts,
+            acknowledged,
+            refused,
+            left,
+            inbox,
+        }
+    }
+}

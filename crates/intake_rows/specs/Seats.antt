@@ -1,0 +1,12 @@
+-- What the tests say of a seat.
+use Rattle.std.specs.Prelude.{◌≡◌, true}
+use Rattle.atomic_table.specs.Seated.{TableId}
+use Rattle.intake.specs.Seats.{SeatValue}
+
+-- a seat of this desk that may hand in
+abbrev pub MayHandIn : TableId → SeatValue → Type 0
+MayHandIn desk s = (s.desk ≡ desk) × (s.hands_in ≡ true)
+
+-- it is of the same desk, and may hand in if it might
+abbrev pub Stays : SeatValue → SeatValue → Type 0
+Stays old new = (new.desk ≡ old.desk) × (new.hands_in ≡ old.hands_in)
