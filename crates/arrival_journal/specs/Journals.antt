@@ -15,6 +15,6 @@ pub record Journaled : Type 0 where
 abbrev pub refusal_by : Held → Entry → Option Refusal
 refusal_by held e = refusal_of held.limits held.entries e
 
--- why the entry was turned away: by the history, and only where the history takes it for want of memory
+-- why the entry was turned away: by the history, or, only where the history takes it, because memory ran out
 abbrev pub turned_away_by : Held → Entry → Refusal
 turned_away_by held e = unwrap_or (refusal_by held e) NoMemory

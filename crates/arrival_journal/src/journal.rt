@@ -39,7 +39,9 @@ impl Model for Journal {
 
     ghost view = { λ j. record { held = record { limits = j.limits; entries = map arc_value j.entries.items } } };
 
-    ghost invariant = { λ j. IsKept j.limits (map arc_value j.entries.items) (vec_capacity j.entries) j.times.items (vec_capacity j.times) j.spans j.last_numbers.items (vec_capacity j.last_numbers) };
+    ghost invariant = { λ j. IsKept j.limits (map arc_value j.entries.items)
+        (vec_capacity j.entries) j.times.items (vec_capacity j.times) j.spans j.last_numbers.items
+        (vec_capacity j.last_numbers) };
 }
 
 impl Journal {
@@ -98,7 +100,8 @@ impl Journal {
 
     /// The entry at a place. The oldest one stands at place 1; there is none at 0.
     pub fn entry(&self, place: u64) -> Option<&Arc<Entry>>
-        ensures { option_map arc_value (option_copied result) ≡ entry_at self.now.held.entries place }
+        ensures { option_map arc_value (option_copied result) ≡
+            entry_at self.now.held.entries place }
     {
         let before = usize::try_from(place.checked_sub(1)?).ok()?;
         self.entries.get(before)
@@ -164,7 +167,8 @@ impl Journal {
     pub fn admit(&mut self, entry: Arc<Entry>) -> Result<u64, Refusal>
         ensures answer { result_err result ≡ refusal_by self.old.held (arc_value entry) }
         ensures admissible { OnOk result (refusal_by self.old.held (arc_value entry) ≡ None) }
-        ensures admitted { OnOk result (self.new.held ≡ followed_by self.old.held (arc_value entry)) }
+        ensures admitted { OnOk result (self.new.held ≡
+            followed_by self.old.held (arc_value entry)) }
         ensures place { IfOk result (λ place. place ≡ length self.new.held.entries) }
 
         ensures unchanged { OnErr result (self.new.held ≡ self.old.held) }

@@ -4,7 +4,7 @@
 //! of its seat, and the counts of entries and of spans are within the limits. An entry that would
 //! break this is turned away, and nothing has changed then. Judging and adding an entry costs the
 //! same however long the list is. All room is taken when a journal is made, so that adding an entry
-//! never fails for want of memory.
+//! never fails because memory ran out.
 //!
 //! * `journal`: the [`Journal`].
 //! * `times`: bounds of the starts and durations of an entry's spans.

@@ -8,7 +8,8 @@ pub(crate) const SEATS: usize = 65_536;
 /// Notes the last number of a seat. Each seat without one has the number 0.
 pub(crate) fn note(numbers: &mut Vec<u64>, seat: u16, number: u64)
     requires { SEATS ≤ vec_capacity numbers.old }
-    ensures numbers { (s : ℕ) → get_or numbers.new.items s 0 ≡ (if seat == s then number else get_or numbers.old.items s 0) }
+    ensures numbers { (s : ℕ) → get_or numbers.new.items s 0 ≡
+        (if seat == s then number else get_or numbers.old.items s 0) }
     ensures capacity { vec_capacity numbers.new ≡ vec_capacity numbers.old }
 {
     let at = usize::from(seat);

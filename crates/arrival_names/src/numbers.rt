@@ -31,7 +31,9 @@ impl Model for ArrivalNumbers {
 
     ghost view = { λ a. record { entry_of = a.entry_of.items; firsts = a.firsts.items; batches = a.batches; spans = a.spans } };
 
-    ghost invariant = { λ a. (a.batches ≤ vec_capacity a.firsts) × (a.spans ≤ vec_capacity a.entry_of) × (length a.entry_of.items ≤ a.spans) × (a.spans < 2 ^ 32) };
+    ghost invariant = { λ a. (a.batches ≤ vec_capacity a.firsts)
+        × (a.spans ≤ vec_capacity a.entry_of) × (length a.entry_of.items ≤ a.spans)
+        × (a.spans < 2 ^ 32) };
 }
 
 /// The arrivals of a list of entries under their numbers, where they stand.
@@ -68,7 +70,7 @@ impl ArrivalNumbers {
     ///
     /// # Errors
     ///
-    /// Want of memory alone.
+    /// Out of memory, and nothing else.
     pub fn with_room(alloc: Global, batches: u32, spans: u32) -> Result<Self, AllocError>
         ensures numbers { IfOk result (λ numbers. AreOf [] numbers.entry_of numbers.firsts) }
         ensures batches { IfOk result (λ numbers. numbers.batches ≡ batches) }
@@ -95,7 +97,8 @@ impl ArrivalNumbers {
     /// The spans of the last entry get numbers. It takes no memory.
     pub fn add(&mut self, entries: &[Arc<Entry>])
         requires some { 0 < length entries.now }
-        requires numbers { AreOf (before_last (map arc_value entries.now)) self.old.entry_of self.old.firsts }
+        requires numbers { AreOf (before_last (map arc_value entries.now)) self.old.entry_of
+            self.old.firsts }
         requires batches { length entries.now ≤ self.old.batches }
         requires spans { length (arrivals (map arc_value entries.now)) ≤ self.old.spans }
         ensures numbers { AreOf (map arc_value entries.now) self.new.entry_of self.new.firsts }

@@ -55,7 +55,7 @@ pub record Taken (old new : List ℕ → Result Batch DecodeError) (piece : List
   pub same : (rest : List ℕ) → old (piece ++ rest) ≡ new rest
   pub sound : HasNoFault (old piece)
 
--- There is this fault, whatever follows, which isn't want of bytes; of want of memory nothing is said. From now
+-- There is this fault, whatever follows, which isn't want of bytes; of running out of memory nothing is said. From now
 -- on it is the answer.
 pub record Refuses (old new : List ℕ → Result Batch DecodeError) (piece : List ℕ) (e : DecodeError) : Type 0 where
   pub faults : Faults old piece e

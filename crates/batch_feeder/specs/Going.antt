@@ -15,7 +15,7 @@ abbrev pub fault_of : PieceError → DecodeError
 fault_of (piece.Wire e) = Wire e
 fault_of piece.Memory = Memory
 
--- The fault, whatever follows; it isn't for want of bytes. Of want of memory nothing is said.
+-- The fault, whatever follows; it isn't for want of bytes. Of running out of memory nothing is said.
 abbrev pub Faults : {X : Type 0} → (List ℕ → Result X DecodeError) → List ℕ → DecodeError → Type 0
 Faults old piece e = (e ≡ Memory → ⊥) → Refuses (Wire Truncated) old piece e
 

@@ -178,7 +178,7 @@ pub record TakesGet (words : List Text) (limits : Limits) : Type 0 where
   pub taken : get_takes (codes "get" ∷ others) ≡ true
   pub options : HasLimits (matches_of get_app (codes "get" ∷ others)) limits
 
--- the statuses of a run that asks for nothing: a fault of the words or a call for help, a writer that failed, want of memory
+-- the statuses of a run that asks for nothing: a fault of the words or a call for help, a writer that failed, memory that ran out
 abbrev pub IsFault : ℕ → Type 0
 IsFault status = (status ≡ 2) ⊎ (status ≡ 4) ⊎ (status ≡ 5)
 

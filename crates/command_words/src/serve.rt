@@ -1,8 +1,8 @@
 //! The subcommand `serve`: its options, and what its words ask for.
 ghost use Rattle.std.specs.Prelude.{◌≡◌, IfErr, IfOk, IfSome, IsOk, IsSome, OnOk, false, map};
 ghost use Rattle.clap.specs.Words.{app_of, found_of, rows_of, rule_of};
-ghost use Rattle.command_words.specs.declared.serve_options.ServeOptions.{ServeOptions as Options};
-ghost use Rattle.command_words.specs.declared.words.Command.{Command as Wanted};
+ghost use Rattle.command_words.specs.declared.serve_options.ServeOptions.{ServeOptions as ServeOptionsValue};
+ghost use Rattle.command_words.specs.declared.words.Command.{Command as CommandValue};
 ghost use Rattle.command_words.specs.Words.{HasServeOptions, IsFault, idle_rule, port_rule, queue_rule, serve_app, sessions_rule, with_serving as serving_on, workers_rule};
 ghost use Rattle.command_words.specs.Asked.{AcceptsServeBy, AsksServeBy, IsServeOf};
 
@@ -88,7 +88,7 @@ pub(crate) fn serve_command<'a>(alloc: Global) -> Result<clap::Command<'a>, Allo
 /// What the options ask of a server.
 fn serve_options_of(matches: &ArgMatches<'_>) -> Option<ServeOptions>
     ensures given { IfSome result (HasServeOptions (rows_of (found_of matches.now))) }
-    ensures found { (options : Options)
+    ensures found { (options : ServeOptionsValue)
         → HasServeOptions (rows_of (found_of matches.now)) options → IsSome result }
 {
     let limits = limits_of(matches)?;
@@ -104,7 +104,7 @@ fn serve_options_of(matches: &ArgMatches<'_>) -> Option<ServeOptions>
 fn serve_of(matches: &ArgMatches<'_>) -> Result<Command, u8>
     ensures asked { IfOk result (IsServeOf (rows_of (found_of matches.now))) }
     ensures status { IfErr result IsFault }
-    ensures found { (options : Options)
+    ensures found { (options : ServeOptionsValue)
         → HasServeOptions (rows_of (found_of matches.now)) options → IsOk result }
 {
     match serve_options_of(matches) {
@@ -122,7 +122,7 @@ pub(crate) fn read_serve<S: AsStr, W: Write>(
     ensures asked { IfOk result (AsksServeBy (map S.text words.now)) }
     ensures silent { OnOk result (W.contents writer.new ≡ W.contents writer.old) }
     ensures status { IfErr result IsFault }
-    ensures accepted { (command : Wanted) → AcceptsServeBy (map S.text words.now) command
+    ensures accepted { (command : CommandValue) → AcceptsServeBy (map S.text words.now) command
         → IfErr result (λ s. s ≡ 5) }
 {
     let Ok(command) = serve_command(alloc) else {

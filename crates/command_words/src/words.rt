@@ -2,9 +2,9 @@
 ghost use Rattle.std.specs.Prelude.{◌≡◌, ◌⊎◌, IfOk, IfErr, IfSome, IsOk, IsSome, None, OnOk, Some, codes, map, false, true};
 ghost use Rattle.std.specs.Io.KnownBytes.{Appends};
 ghost use Rattle.clap.specs.Words.{HasMatchesOf, app_of, first_value, found_of, kind_of, matches_of, rows_of, rule_of, takes};
-ghost use Rattle.trace_model.specs.declared.limits.Limits.{Limits as Most};
-ghost use Rattle.jaeger_model.specs.declared.ids.TraceId.{TraceId as Id};
-ghost use Rattle.command_words.specs.declared.words.Command.{Command as Wanted};
+ghost use Rattle.trace_model.specs.declared.limits.Limits.{Limits as LimitsValue};
+ghost use Rattle.jaeger_model.specs.declared.ids.TraceId.{TraceId as TraceIdValue};
+ghost use Rattle.command_words.specs.declared.words.Command.{Command as CommandValue};
 ghost use Rattle.command_words.specs.Words.{HasLimits, HasTrace, IsFault, IsFaultOf, TakesGet, get_app, get_takes, number_rule, pipe_app, play_app, trace_in, with_limits as limits_on};
 ghost use Rattle.command_words.specs.Asked.{Accepts, AcceptsGetBy, AcceptsPipeBy, AcceptsPlayBy, Asks, AsksGetBy, AsksPipeBy, AsksPlayBy, IsGetOf, IsPipeOf, IsPlayOf};
 
@@ -164,10 +164,12 @@ pub(crate) fn matches_of<'a, S: AsStr, W: Write>(
     words: &'a [S],
     writer: &mut W,
 ) -> Result<ArgMatches<'a>, u8>
-    ensures matches { IfOk result (HasMatchesOf (app_of command.entry) (map S.text words.entry.now)) }
+    ensures matches { IfOk result (HasMatchesOf (app_of command.entry)
+        (map S.text words.entry.now)) }
     ensures silent { OnOk result (W.contents writer.new ≡ W.contents writer.old) }
     ensures status { IfErr result IsFault }
-    ensures taken { takes (app_of command.entry) (map S.text words.entry.now) ≡ true → IfErr result (λ s. s ≡ 5) }
+    ensures taken { takes (app_of command.entry) (map S.text words.entry.now) ≡ true →
+        IfErr result (λ s. s ≡ 5) }
 {
     match command.try_get_matches_from(words) {
         Ok(matches) => Ok(matches),
@@ -178,7 +180,8 @@ pub(crate) fn matches_of<'a, S: AsStr, W: Write>(
 /// The limits that the options give.
 pub(crate) fn limits_of(matches: &ArgMatches<'_>) -> Option<Limits>
     ensures given { IfSome result (HasLimits (rows_of (found_of matches.now))) }
-    ensures found { (limits : Most) → HasLimits (rows_of (found_of matches.now)) limits → IsSome result }
+    ensures found { (limits : LimitsValue) → HasLimits (rows_of (found_of matches.now)) limits →
+        IsSome result }
 {
     let batches = matches.get_one::<u32>("batches")?;
     let spans = matches.get_one::<u32>("spans")?;
@@ -196,17 +199,22 @@ fn asked_trace(matches: &ArgMatches<'_>) -> Option<TraceId>
 
 /// Says that the trace's id can't be read.
 fn say_bad_trace<W: Write>(writer: &mut W) -> io::Result<()>
-    ensures { OnOk result (Appends (W.contents writer.old) (W.contents writer.new) (codes "bad trace id\n")) }
+    ensures { OnOk result (Appends (W.contents writer.old) (W.contents writer.new)
+        (codes "bad trace id\n")) }
 {
     writeln!(writer, "bad trace id")
 }
 
 /// The trace that is asked for, or the status once its fault is told.
 fn trace_of<W: Write>(matches: &ArgMatches<'_>, writer: &mut W) -> Result<TraceId, u8>
-    ensures trace { IfOk result (λ id. trace_in (first_value (found_of matches.now) (codes "TRACE")) ≡ Some id) }
+    ensures trace { IfOk result (λ id. trace_in
+        (first_value (found_of matches.now) (codes "TRACE")) ≡ Some id) }
     ensures silent { OnOk result (W.contents writer.new ≡ W.contents writer.old) }
-    ensures none { IfErr result (λ s. trace_in (first_value (found_of matches.now) (codes "TRACE")) ≡ None) }
-    ensures said { IfErr result (λ s. (s ≡ 4) ⊎ ((s ≡ 2) × Appends (W.contents writer.old) (W.contents writer.new) (codes "bad trace id\n"))) }
+    ensures none { IfErr result (λ s. trace_in
+        (first_value (found_of matches.now) (codes "TRACE")) ≡ None) }
+    ensures said { IfErr result (λ s. (s ≡ 4)
+        ⊎ ((s ≡ 2) × Appends (W.contents writer.old) (W.contents writer.new)
+        (codes "bad trace id\n"))) }
 {
     match asked_trace(matches) {
         Some(trace) => Ok(trace),
@@ -222,9 +230,12 @@ fn get_of<W: Write>(matches: &ArgMatches<'_>, writer: &mut W) -> Result<Command,
     ensures asked { IfOk result (IsGetOf (rows_of (found_of matches.now))) }
     ensures silent { OnOk result (W.contents writer.new ≡ W.contents writer.old) }
     ensures status { IfErr result IsFault }
-    ensures found { (limits : Most) (id : Id) → HasLimits (rows_of (found_of matches.now)) limits → HasTrace (rows_of (found_of matches.now)) id → IsOk result }
-    ensures bad_trace { (limits : Most) → HasLimits (rows_of (found_of matches.now)) limits
-        → IfErr result (λ s. s ≡ 2 → Appends (W.contents writer.old) (W.contents writer.new) (codes "bad trace id\n")) }
+    ensures found { (limits : LimitsValue) (id : TraceIdValue) →
+        HasLimits (rows_of (found_of matches.now)) limits →
+        HasTrace (rows_of (found_of matches.now)) id → IsOk result }
+    ensures bad_trace { (limits : LimitsValue) → HasLimits (rows_of (found_of matches.now)) limits
+        → IfErr result (λ s. s ≡ 2 → Appends (W.contents writer.old) (W.contents writer.new)
+        (codes "bad trace id\n")) }
 {
     let Some(limits) = limits_of(matches) else {
         return Err(2);
@@ -238,9 +249,12 @@ fn read_get<S: AsStr, W: Write>(alloc: Global, words: &[S], writer: &mut W) -> R
     ensures asked { IfOk result (AsksGetBy (map S.text words.now)) }
     ensures silent { OnOk result (W.contents writer.new ≡ W.contents writer.old) }
     ensures status { IfErr result IsFault }
-    ensures accepted { (command : Wanted) → AcceptsGetBy (map S.text words.now) command → IfErr result (λ s. s ≡ 5) }
-    ensures bad_trace { (limits : Most) → get_takes (map S.text words.now) ≡ true → HasLimits (matches_of get_app (map S.text words.now)) limits
-        → IfErr result (λ s. s ≡ 2 → Appends (W.contents writer.old) (W.contents writer.new) (codes "bad trace id\n")) }
+    ensures accepted { (command : CommandValue) → AcceptsGetBy (map S.text words.now) command →
+        IfErr result (λ s. s ≡ 5) }
+    ensures bad_trace { (limits : LimitsValue) → get_takes (map S.text words.now) ≡ true →
+        HasLimits (matches_of get_app (map S.text words.now)) limits
+        → IfErr result (λ s. s ≡ 2 → Appends (W.contents writer.old) (W.contents writer.new)
+        (codes "bad trace id\n")) }
 {
     let Ok(command) = get_command(alloc) else {
         return Err(5);
@@ -253,7 +267,8 @@ fn read_get<S: AsStr, W: Write>(alloc: Global, words: &[S], writer: &mut W) -> R
 fn pipe_of(matches: &ArgMatches<'_>) -> Result<Command, u8>
     ensures asked { IfOk result (IsPipeOf (rows_of (found_of matches.now))) }
     ensures status { IfErr result IsFault }
-    ensures found { (limits : Most) → HasLimits (rows_of (found_of matches.now)) limits → IsOk result }
+    ensures found { (limits : LimitsValue) → HasLimits (rows_of (found_of matches.now)) limits →
+        IsOk result }
 {
     match limits_of(matches) {
         Some(limits) => Ok(Command::Pipe { limits }),
@@ -266,7 +281,8 @@ fn read_pipe<S: AsStr, W: Write>(alloc: Global, words: &[S], writer: &mut W) -> 
     ensures asked { IfOk result (AsksPipeBy (map S.text words.now)) }
     ensures silent { OnOk result (W.contents writer.new ≡ W.contents writer.old) }
     ensures status { IfErr result IsFault }
-    ensures accepted { (command : Wanted) → AcceptsPipeBy (map S.text words.now) command → IfErr result (λ s. s ≡ 5) }
+    ensures accepted { (command : CommandValue) → AcceptsPipeBy (map S.text words.now) command →
+        IfErr result (λ s. s ≡ 5) }
 {
     let Ok(command) = pipe_command(alloc) else {
         return Err(5);
@@ -279,7 +295,8 @@ fn read_pipe<S: AsStr, W: Write>(alloc: Global, words: &[S], writer: &mut W) -> 
 fn play_of(matches: &ArgMatches<'_>) -> Result<Command, u8>
     ensures asked { IfOk result (IsPlayOf (rows_of (found_of matches.now))) }
     ensures status { IfErr result IsFault }
-    ensures found { (limits : Most) → HasLimits (rows_of (found_of matches.now)) limits → IsOk result }
+    ensures found { (limits : LimitsValue) → HasLimits (rows_of (found_of matches.now)) limits →
+        IsOk result }
 {
     match limits_of(matches) {
         Some(limits) => Ok(Command::Play { limits }),
@@ -292,7 +309,8 @@ fn read_play<S: AsStr, W: Write>(alloc: Global, words: &[S], writer: &mut W) -> 
     ensures asked { IfOk result (AsksPlayBy (map S.text words.now)) }
     ensures silent { OnOk result (W.contents writer.new ≡ W.contents writer.old) }
     ensures status { IfErr result IsFault }
-    ensures accepted { (command : Wanted) → AcceptsPlayBy (map S.text words.now) command → IfErr result (λ s. s ≡ 5) }
+    ensures accepted { (command : CommandValue) → AcceptsPlayBy (map S.text words.now) command →
+        IfErr result (λ s. s ≡ 5) }
 {
     let Ok(command) = play_command(alloc) else {
         return Err(5);
@@ -311,9 +329,11 @@ fn judge_words<S: AsStr, W: Write>(
     ensures asked { IfOk result (Asks (map S.text words.now)) }
     ensures silent { OnOk result (W.contents writer.new ≡ W.contents writer.old) }
     ensures status { IfErr result IsFault }
-    ensures accepted { (command : Wanted) → Accepts (map S.text words.now) command → IfErr result (λ s. s ≡ 5) }
-    ensures bad_trace { (limits : Most) → TakesGet (map S.text words.now) limits
-        → IfErr result (λ s. s ≡ 2 → Appends (W.contents writer.old) (W.contents writer.new) (codes "bad trace id\n")) }
+    ensures accepted { (command : CommandValue) → Accepts (map S.text words.now) command →
+        IfErr result (λ s. s ≡ 5) }
+    ensures bad_trace { (limits : LimitsValue) → TakesGet (map S.text words.now) limits
+        → IfErr result (λ s. s ≡ 2 → Appends (W.contents writer.old) (W.contents writer.new)
+        (codes "bad trace id\n")) }
 {
     if let Some((_, rest)) = words.split_first() {
         if let Some(name) = rest.first() {
@@ -353,9 +373,10 @@ fn answer<W: Output>(alloc: Global, output: &mut W, text: &[u8], status: u8) -> 
     requires { W.has_failed output.old ≡ false }
     ensures status { IsFaultOf result (W.has_failed output.new) }
     ensures memory { status ≡ 5 → result ≡ 5 }
-    ensures text { result ≡ 2 → (status ≡ 2) × Appends (W.contents output.old) (W.contents output.new) text.now }
+    ensures text { result ≡ 2 → (status ≡ 2)
+        × Appends (W.contents output.old) (W.contents output.new) text.now }
 {
-    // A text in memory fails for want of memory alone, so 4 means 5 here.
+    // A text in memory fails only where memory runs out, so 4 means 5 here.
     if status != 2 {
         return 5;
     }
@@ -373,7 +394,7 @@ fn answer<W: Output>(alloc: Global, output: &mut W, text: &[u8], status: u8) -> 
 /// # Errors
 ///
 /// The exit status: 2 for a fault of the words, a call for help or a trace's id that can't be read,
-/// 4 where the output failed, and 5 for want of memory.
+/// 4 where the output failed, and 5 where memory ran out.
 pub fn read_words<S: AsStr, W: Output>(
     alloc: Global,
     words: &[S],
@@ -384,9 +405,11 @@ pub fn read_words<S: AsStr, W: Output>(
     ensures silent { OnOk result (W.contents output.new ≡ W.contents output.old) }
     ensures works { OnOk result (W.has_failed output.new ≡ false) }
     ensures status { IfErr result (λ s. IsFaultOf s (W.has_failed output.new)) }
-    ensures accepted { (command : Wanted) → Accepts (map S.text words.now) command → IfErr result (λ s. s ≡ 5) }
-    ensures bad_trace { (limits : Most) → TakesGet (map S.text words.now) limits
-        → IfErr result (λ s. s ≡ 2 → Appends (W.contents output.old) (W.contents output.new) (codes "bad trace id\n")) }
+    ensures accepted { (command : CommandValue) → Accepts (map S.text words.now) command →
+        IfErr result (λ s. s ≡ 5) }
+    ensures bad_trace { (limits : LimitsValue) → TakesGet (map S.text words.now) limits
+        → IfErr result (λ s. s ≡ 2 → Appends (W.contents output.old) (W.contents output.new)
+        (codes "bad trace id\n")) }
 {
     let mut said = Vec::new(alloc);
     match judge_words(alloc, words, &mut said) {

@@ -1,4 +1,4 @@
--- What a store of one's own does, as functions of its entries.
+-- What a store that one owner has does, as functions of its entries.
 use Rattle.std.specs.Prelude.{◌≡◌, ℕ, ◌+◌, ◌⊎◌, [], ◌∷◌, ◌++◌, length, Result, Ok, Err, None, refl}
 use Rattle.std.proofs.Common.{append_assoc, sym, ◌∙◌, ap, subst, append-nil}
 use Rattle.jaeger_model.specs.declared.batch.Batch.{Batch}

@@ -1,4 +1,4 @@
-//! A store of one's own behind a session: each batch is handed in by one seat, and each answer is the
+//! A store that one owner has behind a session: each batch is handed in by one seat, and each answer is the
 //! store's at once.
 //!
 //! Contracts see a [`Direct`] as its limits and its list of entries. What it does is exact: a batch is
@@ -20,7 +20,7 @@ use trace_model::{Answer, Entry, Query, Refusal};
 /// The seat that hands in every batch.
 const SEAT: u16 = 0;
 
-/// A store of one's own.
+/// A store that one owner has.
 #[derive(Drop)]
 pub struct Direct {
     store: SpanStore,
@@ -35,7 +35,8 @@ impl Model for Direct {
 
     ghost view = { λ s. s.store };
 
-    ghost invariant = { λ s. IsLegal s.store.limits s.store.entries × (last_number 0 s.store.entries ≤ length s.store.entries) };
+    ghost invariant = { λ s. IsLegal s.store.limits s.store.entries
+        × (last_number 0 s.store.entries ≤ length s.store.entries) };
 }
 
 impl Direct {

@@ -19,7 +19,8 @@ use trace_model::{Entry, Limits};
 
 /// The fault of text that isn't hexadecimal.
 fn bad_hex(error: FromHexError) -> Result<LineFault, AllocError>
-    ensures { IfOk result (λ fault. (fault ≡ LineFault.BadHex) × (error ≢ FromHexError.OutOfMemory)) }
+    ensures { IfOk result (λ fault. (fault ≡ LineFault.BadHex)
+        × (error ≢ FromHexError.OutOfMemory)) }
 {
     match error {
         FromHexError::OutOfMemory => Err(AllocError),
@@ -29,7 +30,8 @@ fn bad_hex(error: FromHexError) -> Result<LineFault, AllocError>
 
 /// The fault of bytes that are no batch.
 fn undecodable(error: DecodeError) -> Result<LineFault, AllocError>
-    ensures { IfOk result (λ fault. (fault ≡ LineFault.Undecodable error) × (error ≢ DecodeError.Memory)) }
+    ensures { IfOk result (λ fault. (fault ≡ LineFault.Undecodable error)
+        × (error ≢ DecodeError.Memory)) }
 {
     match error {
         DecodeError::Memory => Err(AllocError),
@@ -97,7 +99,8 @@ fn take_batch(
     store: &mut SpanStore,
     line: &mut Vec<u8>,
 ) -> Result<Option<LineFault>, AllocError>
-    ensures { IfOk result (λ fault. record { fault = fault; held = store.new } ≡ judged store.old line.old.items) }
+    ensures { IfOk result (λ fault. record { fault = fault; held = store.new } ≡
+        judged store.old line.old.items) }
 {
     drop_blanks(line);
     if line.is_empty() {

@@ -47,9 +47,13 @@ fn finish<R: Input, W: Output>(
 ) -> Result<u8, Halt>
     requires input_works { R.has_failed input.old ≡ false }
     requires output_works { W.has_failed output.old ≡ false }
-    ensures ends { IfOk result (Finishes (R.remaining input.old) (R.remaining input.new) (W.contents output.old) (W.contents output.new) (R.has_failed input.new) (W.has_failed output.new)
+    ensures ends { IfOk result (Finishes (R.remaining input.old) (R.remaining input.new)
+        (W.contents output.old) (W.contents output.new) (R.has_failed input.new)
+        (W.has_failed output.new)
         (output_of limits trace) (status_for limits trace)) }
-    ensures stops { IfErr result (λ h. StopsShort (R.remaining input.old) (R.remaining input.new) (W.contents output.old) (W.contents output.new) (R.has_failed input.new) (W.has_failed output.new)
+    ensures stops { IfErr result (λ h. StopsShort (R.remaining input.old) (R.remaining input.new)
+        (W.contents output.old) (W.contents output.new) (R.has_failed input.new)
+        (W.has_failed output.new)
         (output_of limits trace) (status_by h)) }
 {
     let mut batches = Batches::new(alloc, keys, limits)?;
@@ -65,7 +69,7 @@ fn finish<R: Input, W: Output>(
 /// spans of the trace follow at the end of the input, or `trace not found`.
 ///
 /// The status is 0; 1 where the trace isn't found; 3, before 1, where a line couldn't be used; 4
-/// where a read or a write failed, or the limit of reads was met; 5 for want of memory.
+/// where a read or a write failed, or the limit of reads was met; 5 where memory ran out.
 pub fn run_get<R: Input, W: Output>(
     alloc: Global,
     keys: RandomState,
@@ -76,7 +80,8 @@ pub fn run_get<R: Input, W: Output>(
 ) -> u8
     requires input_works { R.has_failed input.old ≡ false }
     requires output_works { W.has_failed output.old ≡ false }
-    ensures { RunsAs (R.remaining input.old) (R.remaining input.new) (W.contents output.old) (W.contents output.new) (R.has_failed input.new) (W.has_failed output.new)
+    ensures { RunsAs (R.remaining input.old) (R.remaining input.new) (W.contents output.old)
+        (W.contents output.new) (R.has_failed input.new) (W.has_failed output.new)
         (output_of limits trace) (status_for limits trace) result }
 {
     match finish(alloc, keys, input, output, limits, trace) {

@@ -57,7 +57,8 @@ fn say_span(said: &mut Vec<u8>, placed: &Placed) -> Result<(), AllocError>
 /// Writes the lines of the spans.
 fn say_spans<W: Output>(alloc: Global, output: &mut W, spans: &[Shown]) -> Result<(), Halt>
     requires { W.has_failed output.old ≡ false }
-    ensures { Says (W.contents output.old) (W.contents output.new) (W.has_failed output.new) (flat_map shown_line spans.now) result }
+    ensures { Says (W.contents output.old) (W.contents output.new) (W.has_failed output.new)
+        (flat_map shown_line spans.now) result }
 {
     let mut page = Page::new(alloc);
     let mut said = Vec::new(alloc);
@@ -72,7 +73,8 @@ fn say_spans<W: Output>(alloc: Global, output: &mut W, spans: &[Shown]) -> Resul
 
 /// The shown spans of the trace, or None where there are none.
 fn find_trace(store: &SpanStore, trace: TraceId) -> Result<Option<Seq<Shown>>, AllocError>
-    ensures { IfOk result (λ found. found ≡ option_map (map unadjusted) (found_in store.now trace)) }
+    ensures { IfOk result (λ found. found ≡
+        option_map (map unadjusted) (found_in store.now trace)) }
 {
     let query = Query::Trace {
         id: trace,
@@ -88,7 +90,8 @@ fn find_trace(store: &SpanStore, trace: TraceId) -> Result<Option<Seq<Shown>>, A
 /// Writes that the trace isn't found.
 fn say_none<W: Output>(alloc: Global, output: &mut W) -> Result<(), Halt>
     requires { W.has_failed output.old ≡ false }
-    ensures { Says (W.contents output.old) (W.contents output.new) (W.has_failed output.new) (trace_lines None) result }
+    ensures { Says (W.contents output.old) (W.contents output.new) (W.has_failed output.new)
+        (trace_lines None) result }
 {
     say(alloc, output, b"trace not found\n")
 }
@@ -102,7 +105,8 @@ pub(crate) fn say_trace<W: Output>(
 ) -> Result<bool, Halt>
     requires { W.has_failed output.old ≡ false }
     ensures found { IfOk result (λ found. found ≡ is_some (found_in store.now trace)) }
-    ensures lines { Says (W.contents output.old) (W.contents output.new) (W.has_failed output.new) (trace_lines (found_in store.now trace)) result }
+    ensures lines { Says (W.contents output.old) (W.contents output.new) (W.has_failed output.new)
+        (trace_lines (found_in store.now trace)) result }
 {
     match find_trace(store, trace)? {
         Some(spans) => {

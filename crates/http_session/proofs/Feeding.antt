@@ -14,7 +14,7 @@ use Rattle.http_session.specs.declared.verdict.Verdict.{Verdict}
 use Rattle.http_session.specs.declared.verdict.Verdict.TheVariants.{Submit, Ask, Say}
 
 module _ (old new : List ℕ → Result Reported DecodeError) (piece : List ℕ) where
-  -- a fault that isn't for want of memory is the bytes'
+  -- a fault that isn't that memory ran out is the bytes'
   keeps : (e : DecodeError) → (e ≡ Memory → ⊥) → Faults old piece e → ((rest : List ℕ) → new rest ≡ Err e) → Follows old piece new
   keeps e some faults stays = inl (λ rest. (faults some).same rest ∙ sym (stays rest))
 

@@ -52,6 +52,6 @@ told_same v failed0 failed1 (Ok (Err breach)) same = same
 told_same v failed0 failed1 (Err why.Memory) same = same
 told_same v failed0 failed1 (Err why.Reading) same = same
 
--- memory was wanting, after so much was read
+-- memory ran out, after so much was read
 pub stops_for_memory : (in0 in1 : Option (List ℕ)) (failed : Bool) (old new : Received) → ReadsOn in0 in1 old new → Stops in0 in1 failed old why.Memory
 stops_for_memory in0 in1 failed old new reads = record { more = reads.more; read = reads.read; least = λ e. absurd (cc e) }

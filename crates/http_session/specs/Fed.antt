@@ -19,7 +19,7 @@ passes_joined s t u front back one two = tt
 
 -- ---- a batch
 
--- Whatever comes behind these bytes is answered as it would have been with them, or memory was wanting, and
+-- Whatever comes behind these bytes is answered as it would have been with them, or memory ran out, and
 -- that is answered from then on.
 abbrev pub Follows : (List ℕ → Result Batch DecodeError) → List ℕ → (List ℕ → Result Batch DecodeError) → Type 0
 Follows old w new = ((rest : List ℕ) → old (w ++ rest) ≡ new rest) ⊎ ((rest : List ℕ) → new rest ≡ Err Memory)

@@ -1,6 +1,6 @@
 -- What the head of a request asks, and what its body makes of that.
 use Rattle.std.specs.Prelude.{◌≡◌, ◌≢◌, ℕ, true, List, Result, Ok, Err}
-use Rattle.jaeger_model.specs.declared.batch.Batch.{Batch as Reported}
+use Rattle.jaeger_model.specs.declared.batch.Batch.{Batch as BatchValue}
 use Rattle.batch_codec.specs.declared.fault.DecodeError.{DecodeError}
 use Rattle.batch_codec.specs.declared.fault.DecodeError.TheVariants.{Memory}
 use Rattle.http_requests.specs.Asked.{Asked}
@@ -21,7 +21,7 @@ abbrev pub Asks : Asked → Question → Type 0
 Asks a q = (body : List ℕ) (v : Verdict) → Decides q body v → Judges a body v
 
 -- a batch that was read, or the fault; memory may be wanting for it
-abbrev pub JudgesRead : Result Reported DecodeError → Verdict → Type 0
+abbrev pub JudgesRead : Result BatchValue DecodeError → Verdict → Type 0
 JudgesRead read (Submit b) = read ≡ Ok b
 JudgesRead read (Say (BatchRefused f)) = (read ≡ Err f) × (f ≢ Memory)
 JudgesRead read (Say NoMemory) = Unit {0}

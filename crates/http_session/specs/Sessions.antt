@@ -161,7 +161,7 @@ IsCause Writing in_failed out_failed taken = (out_failed ≡ true) × (in_failed
 IsCause Memory in_failed out_failed taken = (in_failed ≡ false) × (out_failed ≡ false)
 
 -- A session that failed: the responses before are written whole, the next one as far as is told. The
--- store has gone on by the exchange that is due, so an accepted batch stays accepted. Want of memory holds
+-- store has gone on by the exchange that is due, so an accepted batch stays accepted. Running out of memory holds
 -- back no response that takes none.
 pub record FailsAs {S : Type 0} (submits : Submits S) (reads : Reads S) (in0 in1 out0 out1 : Option (List ℕ)) (s t : S) (in_failed out_failed : Bool) (fault : SessionFault) : Type 0 where
   pub taken : List ℕ

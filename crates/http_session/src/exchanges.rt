@@ -55,7 +55,8 @@ pub(crate) struct Silence {
 
 impl Silence {
     fn after(self, answered: u64) -> SessionFault
-        ensures { result ≡ record { answered = answered; written = self.written; cause = self.cause } }
+        ensures { result ≡
+            record { answered = answered; written = self.written; cause = self.cause } }
     {
         SessionFault {
             answered,
@@ -100,7 +101,8 @@ fn closes_behind(asked: bool, reply: &Reply) -> bool
 
 /// Writes a response, and takes no memory.
 fn speak<W: Output>(output: &mut W, response: &[u8]) -> Result<(), Silence>
-    ensures says { Says (W.contents output.old) (W.contents output.new) (W.has_failed output.old) (W.has_failed output.new) response.now result }
+    ensures says { Says (W.contents output.old) (W.contents output.new) (W.has_failed output.old)
+        (W.has_failed output.new) response.now result }
     ensures writing { IfErr result (λ e. e.cause ≡ Writing) }
 {
     match send(output, response) {
@@ -114,7 +116,8 @@ fn speak<W: Output>(output: &mut W, response: &[u8]) -> Result<(), Silence>
 
 /// Writes the response of a reply; it takes no memory where that is 202 or 500.
 fn say<W: Output>(alloc: Global, output: &mut W, reply: &Reply, close: bool) -> Result<(), Silence>
-    ensures says { Says (W.contents output.old) (W.contents output.new) (W.has_failed output.old) (W.has_failed output.new) (response_of reply.now close) result }
+    ensures says { Says (W.contents output.old) (W.contents output.new) (W.has_failed output.old)
+        (W.has_failed output.new) (response_of reply.now close) result }
     ensures spared { takes_no_memory reply.now ≡ true → IfErr result (λ e. e.cause ≢ Memory) }
 {
     if let Some(bytes) = reply.fixed(close) {
@@ -141,9 +144,14 @@ fn run_session<T, R: Input, W: Output, B: Backend<T>>(
     requires routes { router.now ≡ endpoint_rows }
     requires input_works { R.has_failed input.old ≡ false }
     requires output_works { W.has_failed output.old ≡ false }
-    ensures ended { IfOk result (λ e. EndsAs B.submits B.reads (R.remaining input.old) (R.remaining input.new) (W.contents output.old) (W.contents output.new) backend.old backend.new e.answered e.clean) }
-    ensures works { OnOk result ((R.has_failed input.new ≡ false) × (W.has_failed output.new ≡ false)) }
-    ensures fault { IfErr result (λ f. FailsAs B.submits B.reads (R.remaining input.old) (R.remaining input.new) (W.contents output.old) (W.contents output.new) backend.old backend.new (R.has_failed input.new) (W.has_failed output.new) f) }
+    ensures ended { IfOk result (λ e. EndsAs B.submits B.reads (R.remaining input.old)
+        (R.remaining input.new) (W.contents output.old) (W.contents output.new) backend.old
+        backend.new e.answered e.clean) }
+    ensures works { OnOk result ((R.has_failed input.new ≡ false)
+        × (W.has_failed output.new ≡ false)) }
+    ensures fault { IfErr result (λ f. FailsAs B.submits B.reads (R.remaining input.old)
+        (R.remaining input.new) (W.contents output.old) (W.contents output.new) backend.old
+        backend.new (R.has_failed input.new) (W.has_failed output.new) f) }
 {
     let mut received = Received::new(alloc);
     let mut answered = 0u64;
@@ -200,7 +208,7 @@ fn run_session<T, R: Input, W: Output, B: Backend<T>>(
 ///
 /// # Errors
 ///
-/// A device failed, the input was to be read more than 1,099,511,627,776 times, or memory was wanting
+/// A device failed, the input was to be read more than 1,099,511,627,776 times, or memory ran out
 /// for a head, a body, a query, or a response other than 202 and 500. A batch that was accepted before
 /// stays so.
 pub fn session<T, R: Input, W: Output, B: Backend<T>>(
@@ -213,13 +221,20 @@ pub fn session<T, R: Input, W: Output, B: Backend<T>>(
     requires input_works { R.has_failed input.old ≡ false }
     requires output_works { W.has_failed output.old ≡ false }
 
-    ensures ended { IfOk result (λ e. (ends : EndsAs B.submits B.reads (R.remaining input.old) (R.remaining input.new) (W.contents output.old) (W.contents output.new) backend.old backend.new e.answered e.clean)
-        × Related (B.knows backend.old) (B.limits backend.old) nothing_seen (ends.opens ++ last_of ends.ending)) }
+    ensures ended { IfOk result (λ e. (ends : EndsAs B.submits B.reads (R.remaining input.old)
+        (R.remaining input.new) (W.contents output.old) (W.contents output.new) backend.old
+        backend.new e.answered e.clean)
+        × Related (B.knows backend.old) (B.limits backend.old) nothing_seen
+        (ends.opens ++ last_of ends.ending)) }
 
-    ensures works { OnOk result ((R.has_failed input.new ≡ false) × (W.has_failed output.new ≡ false)) }
+    ensures works { OnOk result ((R.has_failed input.new ≡ false)
+        × (W.has_failed output.new ≡ false)) }
 
-    ensures fault { IfErr result (λ f. (fails : FailsAs B.submits B.reads (R.remaining input.old) (R.remaining input.new) (W.contents output.old) (W.contents output.new) backend.old backend.new (R.has_failed input.new) (W.has_failed output.new) f)
-        × Related (B.knows backend.old) (B.limits backend.old) nothing_seen (fails.opens ++ exchange_due fails.next)) }
+    ensures fault { IfErr result (λ f. (fails : FailsAs B.submits B.reads (R.remaining input.old)
+        (R.remaining input.new) (W.contents output.old) (W.contents output.new) backend.old
+        backend.new (R.has_failed input.new) (W.has_failed output.new) f)
+        × Related (B.knows backend.old) (B.limits backend.old) nothing_seen
+        (fails.opens ++ exchange_due fails.next)) }
 {
     let Ok(router) = endpoints(alloc) else {
         return Err(SessionFault {

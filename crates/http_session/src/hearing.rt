@@ -88,7 +88,8 @@ impl Sink for BatchBody {
 
     ghost takes_nothing = { λ s. follows_nothing (answers s.feeder) };
 
-    ghost takes_joined = { λ s t u front back. follows_joined (answers s.feeder) (answers t.feeder) (answers u.feeder) front back };
+    ghost takes_joined = { λ s t u front back. follows_joined (answers s.feeder) (answers t.feeder)
+        (answers u.feeder) front back };
 }
 
 /// The verdict, where the body was read to its end.
@@ -114,8 +115,10 @@ fn hear_body<R: Input>(
     question: Question,
 ) -> Result<Result<Verdict, Breach>, Interrupted>
     requires end { KnowsItsEnd received.old.ended (R.remaining input.old) }
-    ensures heard { IfOk result (HearsBody (R.remaining input.old) (R.remaining input.new) received.old received.new size question) }
-    ensures err { IfErr result (λ why. Stops (R.remaining input.old) (R.remaining input.new) (R.has_failed input.new) received.old why) }
+    ensures heard { IfOk result (HearsBody (R.remaining input.old) (R.remaining input.new)
+        received.old received.new size question) }
+    ensures err { IfErr result (λ why. Stops (R.remaining input.old) (R.remaining input.new)
+        (R.has_failed input.new) received.old why) }
     ensures same { SameUnlessReading (R.has_failed input.old) (R.has_failed input.new) result }
 {
     match question {
@@ -135,7 +138,7 @@ fn hear_body<R: Input>(
 ///
 /// # Errors
 ///
-/// The input failed, or memory was wanting for a head, a query or what is read at once.
+/// The input failed, or memory ran out for a head, a query or what is read at once.
 pub(crate) fn hear<R: Input>(
     alloc: Global,
     router: &Router<Endpoint>,
@@ -144,8 +147,10 @@ pub(crate) fn hear<R: Input>(
 ) -> Result<Heard, Interrupted>
     requires routes { router.now ≡ endpoint_rows }
     requires end { KnowsItsEnd received.old.ended (R.remaining input.old) }
-    ensures heard { IfOk result (Hears (R.remaining input.old) (R.remaining input.new) received.old received.new) }
-    ensures err { IfErr result (λ why. Stops (R.remaining input.old) (R.remaining input.new) (R.has_failed input.new) received.old why) }
+    ensures heard { IfOk result (Hears (R.remaining input.old) (R.remaining input.new) received.old
+        received.new) }
+    ensures err { IfErr result (λ why. Stops (R.remaining input.old) (R.remaining input.new)
+        (R.has_failed input.new) received.old why) }
     ensures same { SameUnlessReading (R.has_failed input.old) (R.has_failed input.new) result }
 {
     let mut head = Vec::new(alloc);

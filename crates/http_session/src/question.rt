@@ -26,7 +26,7 @@ pub(crate) enum Question {
 ///
 /// # Errors
 ///
-/// Want of memory alone.
+/// Out of memory, and nothing else.
 fn judge_query(
     alloc: Global,
     endpoint: Endpoint,

@@ -188,7 +188,7 @@ impl Reply {
     ///
     /// # Errors
     ///
-    /// Want of memory alone.
+    /// Out of memory, and nothing else.
     #[tactic(auto, unfolding(crate::specs::Replies::response_of))]
     pub fn response(&self, alloc: Global, close: bool) -> Result<Vec<u8>, AllocError>
         ensures { IfOk result (λ v. v.items ≡ response_of self.now close) }

@@ -11,7 +11,9 @@ use session_devices::Output;
 pub(crate) fn send<W: Output>(output: &mut W, bytes: &[u8]) -> Result<(), usize>
     ensures ok { OnOk result (Appends (W.contents output.old) (W.contents output.new) bytes.now) }
     ensures same { OnOk result (W.has_failed output.new ≡ W.has_failed output.old) }
-    ensures err { IfErr result (λ n. (n ≤ length bytes.now) × Appends (W.contents output.old) (W.contents output.new) (take n bytes.now) × (W.has_failed output.new ≡ true)) }
+    ensures err { IfErr result (λ n. (n ≤ length bytes.now)
+        × Appends (W.contents output.old) (W.contents output.new) (take n bytes.now)
+        × (W.has_failed output.new ≡ true)) }
 {
     let mut done = 0;
     while done < bytes.len() {

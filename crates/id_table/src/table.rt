@@ -29,7 +29,8 @@ impl Model for IdTable {
 
     ghost view = { λ t. record { ids = t.ids.items; room = t.room } };
 
-    ghost invariant = { λ t. IsHoused t.keys t.room (vec_capacity t.slots) (vec_capacity t.ids) t.slots.items t.ids.items };
+    ghost invariant = { λ t. IsHoused t.keys t.room (vec_capacity t.slots) (vec_capacity t.ids)
+        t.slots.items t.ids.items };
 }
 
 impl IdTable {

@@ -1,4 +1,4 @@
--- A session over a store of one's own takes one course: at each place of the bytes there is one next exchange.
+-- A session over a store that one owner has takes one course: at each place of the bytes there is one next exchange.
 use Rattle.std.proofs.Common.{◌≡◌, ◌≢◌, ℕ, ◌||◌, true, false, List, [], ◌∷◌, ◌++◌, map, All, length, refl, sym, ap, ◌∙◌, subst, arith, append_assoc, length-append}
 use Rattle.std.proofs.lemmas.List.Elements.{All-head, All-tail}
 use Rattle.trace_model.specs.Held.{Held}

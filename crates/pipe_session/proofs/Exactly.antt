@@ -1,4 +1,4 @@
--- A run over a store of one's own is exact.
+-- A run over a store that one owner has is exact.
 use Rattle.std.proofs.Common.{◌≡◌, ◌≢◌, ℕ, ◌⊎◌, List, [], ◌∷◌, map, Option, Some, None, Ok, refl, sym, ap, ◌∙◌, inl, inr}
 use Rattle.std.proofs.lemmas.List.Elements.{All-head, All-tail}
 use Rattle.jaeger_model.specs.declared.batch.Batch.{Batch}
@@ -20,7 +20,7 @@ Exactly s v reply t = (reply ≡ reply_at s v) × (t ≡ held_after s v)
 taken : (s t : Held) (b : Batch) (place : ℕ) → DirectSubmits s b (Ok place) t → Exactly s (Submit b) Accepted t
 taken s t b place d = (sym (ap reply_by d.0), d.1 ∙ sym (ap (λ o. held_by o s (next_entry s b)) d.0))
 
--- a refusal other than want of memory is the entries' own
+-- a refusal other than running out of memory is the entries' own
 refused_by : (o : Option Refusal) (s t : Held) (b : Batch) (why : Refusal) → refusal_by s (next_entry s b) ≡ o → why ≢ NoMemory → t ≡ s
     → (why ≡ NoMemory) ⊎ (why ≡ turned_away_by s (next_entry s b)) → Exactly s (Submit b) (Refused why) t
 refused_by o s t b why is memory same (inl none) = absurd (memory none)

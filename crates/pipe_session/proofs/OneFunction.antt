@@ -1,4 +1,4 @@
--- What a session over a store of one's own writes is one function of the bytes, the entries and the limits.
+-- What a session over a store that one owner has writes is one function of the bytes, the entries and the limits.
 use Rattle.std.proofs.Common.{◌≡◌, ℕ, ◌+◌, Bool, List, ◌++◌, length, take, Option, Some, None, sym, ap, ◌∙◌, append_assoc}
 use Rattle.std.proofs.lemmas.List.{append_cancel_left}
 use mathlib.Core.List.{IsPrefix}

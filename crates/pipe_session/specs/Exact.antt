@@ -1,4 +1,4 @@
--- What a store of one's own answers to a session's requests, as a function of them.
+-- What a store that one owner has answers to a session's requests, as a function of them.
 use Rattle.std.specs.Prelude.{◌≡◌, ◌≢◌, List, [], ◌∷◌, map, All, Option, Some, None}
 use Rattle.trace_model.specs.declared.refusal.Refusal.{Refusal}
 use Rattle.trace_model.specs.declared.refusal.Refusal.TheVariants.{NoMemory}

@@ -1,4 +1,4 @@
--- Sessions over a store of one's own in which memory was never wanting, or not up to some exchange.
+-- Sessions over a store that one owner has in which memory never ran out, or not up to some exchange.
 use Rattle.std.specs.Prelude.{◌≡◌, ◌≢◌, ℕ, ◌⊎◌, Bool, List, ◌++◌, All, Option, Some}
 use mathlib.Core.List.{IsPrefix}
 use Rattle.trace_model.specs.Held.{Held}
@@ -9,7 +9,7 @@ use Rattle.http_session.specs.declared.verdict.Remark.TheVariants.{NoMemory}
 use Rattle.http_session.specs.declared.verdict.Verdict.TheVariants.{Say}
 use Rattle.pipe_session.specs.Exact.{HasMemory}
 
--- memory was wanting neither for what was asked nor for what the store answers
+-- memory ran out neither for what was asked nor for what the store answers
 pub record NeverWants (xs : List Exchange) : Type 0 where
   pub asked : All (λ (x : Exchange). x.verdict ≢ Say NoMemory) xs
   pub answered : HasMemory xs
@@ -38,7 +38,7 @@ abbrev pub OneBegins : List ℕ → List ℕ → Type 0
 OneBegins w v = IsPrefix w v ⊎ IsPrefix v w
 
 -- A session that had these bytes to read, where s was held, wrote these first; and so does one that fails there,
--- in which memory was wanting for nothing that it answered.
+-- in which memory ran out for nothing that it answered.
 pub record WroteFirst (bytes before : List ℕ) (out : Option (List ℕ)) (s : Held) (first : List ℕ) : Type 0 where
   pub more : List ℕ
   pub written : out ≡ Some (before ++ (first ++ more))

@@ -1,4 +1,4 @@
-//! Facts about sessions over a store of one's own. Each function does nothing, and its contract is the
+//! Facts about sessions over a store that one owner has. Each function does nothing, and its contract is the
 //! fact.
 
 ghost use Rattle.std.specs.Prelude.{◌≡◌, ◌≢◌, ℕ, Bool, List, ◌∷◌, ◌++◌, Option, Some};
@@ -6,31 +6,36 @@ ghost use mathlib.Core.List.{IsPrefix};
 ghost use Rattle.trace_model.specs.Held.{Held};
 ghost use Rattle.direct_store.specs.Exactly.{DirectSubmits, DirectReads};
 ghost use Rattle.http_requests.specs.Asked.{Asked};
-ghost use Rattle.http_session.specs.Sessions.{Exchange as Turn, EndsAs, FailsAs, last_of, exchange_due, responses};
-ghost use Rattle.http_session.specs.declared.exchanges.SessionFault.{SessionFault as Fault};
+ghost use Rattle.http_session.specs.Sessions.{Exchange as ExchangeValue, EndsAs, FailsAs, last_of, exchange_due, responses};
+ghost use Rattle.http_session.specs.declared.exchanges.SessionFault.{SessionFault as SessionFaultValue};
 ghost use Rattle.http_session.specs.Verdicts.{Judges};
 ghost use Rattle.http_session.specs.declared.verdict.Remark.TheVariants.{NoMemory};
-ghost use Rattle.http_session.specs.declared.verdict.Verdict.{Verdict as Judgement};
+ghost use Rattle.http_session.specs.declared.verdict.Verdict.{Verdict as VerdictValue};
 ghost use Rattle.http_session.specs.declared.verdict.Verdict.TheVariants.{Say};
 ghost use Rattle.pipe_session.specs.OneFunction.{NeverWants, Finished, Failed, OneBegins, WroteFirst};
 
-/// What a request asks is told by the request, unless memory was wanting.
+/// What a request asks is told by the request, unless memory ran out.
 pub fn a_request_has_one_verdict()
-    ensures { (a : Asked) (body : List ℕ) (v w : Judgement) →
+    ensures { (a : Asked) (body : List ℕ) (v w : VerdictValue) →
         v ≢ Say NoMemory → w ≢ Say NoMemory → Judges a body v → Judges a body w → v ≡ w }
 {}
 
 /// What `pipe` promises of a session that ended is what the law below speaks of, where the bytes of the
 /// devices are known and memory was not wanting.
 pub fn a_session_that_ended_is_finished()
-    ensures { (bytes before : List ℕ) (left out : Option (List ℕ)) (s t : Held) (n : ℕ) (c : Bool) (ends : EndsAs DirectSubmits DirectReads (Some bytes) left (Some before) out s t n c) →
-        NeverWants (ends.opens ++ last_of ends.ending) → (written : List ℕ) × (out ≡ Some (before ++ written)) × Finished bytes s written t n c }
+    ensures { (bytes before : List ℕ) (left out : Option (List ℕ)) (s t : Held) (n : ℕ) (c : Bool)
+        (ends : EndsAs DirectSubmits DirectReads (Some bytes) left (Some before) out s t n c) →
+        NeverWants (ends.opens ++ last_of ends.ending) →
+        (written : List ℕ) × (out ≡ Some (before ++ written)) × Finished bytes s written t n c }
 {}
 
 /// The same of a session that failed.
 pub fn a_session_that_failed_is_failed()
-    ensures { (bytes before : List ℕ) (left out : Option (List ℕ)) (s t : Held) (i o : Bool) (fault : Fault) (fails : FailsAs DirectSubmits DirectReads (Some bytes) left (Some before) out s t i o fault) →
-        NeverWants (fails.opens ++ exchange_due fails.next) → (written : List ℕ) × (out ≡ Some (before ++ written)) × Failed bytes s written }
+    ensures { (bytes before : List ℕ) (left out : Option (List ℕ)) (s t : Held) (i o : Bool)
+        (fault : SessionFaultValue) (fails : FailsAs DirectSubmits DirectReads (Some bytes) left
+        (Some before) out s t i o fault) →
+        NeverWants (fails.opens ++ exchange_due fails.next) →
+        (written : List ℕ) × (out ≡ Some (before ++ written)) × Failed bytes s written }
 {}
 
 /// The bytes that a session writes are one function of the bytes of the input and the entries held at the
@@ -38,10 +43,11 @@ pub fn a_session_that_failed_is_failed()
 /// count of responses, and whether the input ended between two requests.
 pub fn bytes_written_are_one_function()
     ensures { (bytes : List ℕ) (s : Held) (w v : List ℕ) (t u : Held) (n m : ℕ) (c d : Bool) →
-        Finished bytes s w t n c → Finished bytes s v u m d → (w ≡ v) × (t ≡ u) × (n ≡ m) × (c ≡ d) }
+        Finished bytes s w t n c → Finished bytes s v u m d →
+        (w ≡ v) × (t ≡ u) × (n ≡ m) × (c ≡ d) }
 {}
 
-/// A session that fails, by a device or for want of memory elsewhere, has written a beginning of what one
+/// A session that fails, by a device or where memory ran out elsewhere, has written a beginning of what one
 /// that ends writes.
 pub fn a_failed_session_wrote_a_beginning()
     ensures { (bytes : List ℕ) (s : Held) (w v : List ℕ) (t : Held) (n : ℕ) (c : Bool) →
@@ -54,20 +60,24 @@ pub fn of_two_failed_sessions_one_wrote_a_beginning()
         Failed bytes s w → Failed bytes s v → OneBegins w v }
 {}
 
-/// The exchanges of a session that ended, before the first for which memory was wanting: their responses were
+/// The exchanges of a session that ended, before the first for which memory ran out: their responses were
 /// written first, and are those of a session that failed there. So they begin what any session writes in
 /// which memory never was wanting.
 pub fn what_an_ended_session_wrote_before_memory_was_wanting()
     ensures { (bytes before : List ℕ) (left out : Option (List ℕ)) (s t : Held) (n : ℕ) (c : Bool)
         (ends : EndsAs DirectSubmits DirectReads (Some bytes) left (Some before) out s t n c)
-        (xs rest : List Turn) (x : Turn) → ends.opens ++ last_of ends.ending ≡ xs ++ x ∷ rest →
+        (xs rest : List ExchangeValue) (x : ExchangeValue) →
+        ends.opens ++ last_of ends.ending ≡ xs ++ x ∷ rest →
         NeverWants xs → WroteFirst bytes before out s (responses xs) }
 {}
 
 /// The same of a session that failed.
 pub fn what_a_failed_session_wrote_before_memory_was_wanting()
-    ensures { (bytes before : List ℕ) (left out : Option (List ℕ)) (s t : Held) (i o : Bool) (fault : Fault)
-        (fails : FailsAs DirectSubmits DirectReads (Some bytes) left (Some before) out s t i o fault)
-        (xs rest : List Turn) (x : Turn) → fails.opens ++ exchange_due fails.next ≡ xs ++ x ∷ rest →
+    ensures { (bytes before : List ℕ) (left out : Option (List ℕ)) (s t : Held) (i o : Bool)
+        (fault : SessionFaultValue)
+        (fails : FailsAs DirectSubmits DirectReads (Some bytes) left (Some before) out s t i o
+        fault)
+        (xs rest : List ExchangeValue) (x : ExchangeValue) →
+        fails.opens ++ exchange_due fails.next ≡ xs ++ x ∷ rest →
         NeverWants xs → WroteFirst bytes before out s (responses xs) }
 {}

@@ -1,4 +1,4 @@
-//! A session over a store of one's own: what is answered is a function of what was asked.
+//! A session over a store that one owner has: what is answered is a function of what was asked.
 //!
 //! The reads are answered at exactly the entries held at the start followed by one for each batch
 //! accepted so far, in order. So the bytes written are one function of the bytes read, those entries and the
@@ -17,12 +17,12 @@ use std::alloc::Global;
 
 pub mod laws;
 
-/// Answers the requests of the input one after the other, from a store of one's own. It waits for nothing
+/// Answers the requests of the input one after the other, from a store that one owner has. It waits for nothing
 /// but the devices.
 ///
 /// # Errors
 ///
-/// A device failed, or memory was wanting. A batch that was accepted before stays so.
+/// A device failed, or memory ran out. A batch that was accepted before stays so.
 pub fn pipe<R: Input, W: Output>(
     alloc: Global,
     input: &mut R,
@@ -32,10 +32,15 @@ pub fn pipe<R: Input, W: Output>(
     requires input_works { R.has_failed input.old ≡ false }
     requires output_works { W.has_failed output.old ≡ false }
 
-    ensures ended { IfOk result (λ e. (ends : EndsAs DirectSubmits DirectReads (R.remaining input.old) (R.remaining input.new) (W.contents output.old) (W.contents output.new) store.old store.new e.answered e.clean)
+    ensures ended { IfOk result (λ e. (ends : EndsAs DirectSubmits DirectReads
+        (R.remaining input.old) (R.remaining input.new) (W.contents output.old)
+        (W.contents output.new) store.old store.new e.answered e.clean)
         × IsExact store.old (ends.opens ++ last_of ends.ending) store.new) }
 
-    ensures fault { IfErr result (λ f. (fails : FailsAs DirectSubmits DirectReads (R.remaining input.old) (R.remaining input.new) (W.contents output.old) (W.contents output.new) store.old store.new (R.has_failed input.new) (W.has_failed output.new) f)
+    ensures fault { IfErr result (λ f. (fails : FailsAs DirectSubmits DirectReads
+        (R.remaining input.old) (R.remaining input.new) (W.contents output.old)
+        (W.contents output.new) store.old store.new (R.has_failed input.new)
+        (W.has_failed output.new) f)
         × IsExact store.old (fails.opens ++ exchange_due fails.next) store.new) }
 {
     match session(&(), alloc, input, output, store) {

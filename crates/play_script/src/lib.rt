@@ -31,7 +31,7 @@ fn status_of(faulty: bool) -> u8
 /// skipped. The machine is one in which nothing has happened.
 ///
 /// The status is 0; 3 where a line told no step; 4 where a read or a write failed, or the limit of reads
-/// was met; 5 for want of memory.
+/// was met; 5 where memory ran out.
 pub fn run_play<R: Input, W: Output>(
     alloc: Global,
     keys: RandomState,
@@ -41,7 +41,8 @@ pub fn run_play<R: Input, W: Output>(
 ) -> u8
     requires input_works { R.has_failed input.old ≡ false }
     requires output_works { W.has_failed output.old ≡ false }
-    ensures { RunsAs (R.remaining input.old) (R.remaining input.new) (W.contents output.old) (W.contents output.new) (R.has_failed input.new) (W.has_failed output.new)
+    ensures { RunsAs (R.remaining input.old) (R.remaining input.new) (W.contents output.old)
+        (W.contents output.new) (R.has_failed input.new) (W.has_failed output.new)
         (output_of limits) (status_for limits) result }
 {
     let Ok(mut script) = Script::new(alloc, keys, limits) else {

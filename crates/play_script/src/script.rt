@@ -58,7 +58,8 @@ fn say_line(said: &mut Vec<u8>, text: &str) -> Result<(), AllocError>
 
 /// Says what came of a step.
 fn say_outcome(alloc: Global, said: &mut Vec<u8>, outcome: &Outcome) -> Result<(), AllocError>
-    ensures { OnOk result (said.new.items ≡ said.old.items ++ (outcome_line outcome.now ++ codes "\n")) }
+    ensures { OnOk result (said.new.items ≡
+        said.old.items ++ (outcome_line outcome.now ++ codes "\n")) }
 {
     let text = outcome_text(alloc, outcome)?;
     say_line(said, text.as_str())

@@ -5,7 +5,7 @@ use Rattle.trace_model.specs.declared.limits.Limits.{Limits}
 use Rattle.trace_server.specs.Serving.{Serves, StopsIn}
 
 -- the port can't be used, which is said in a line of its own (4); or a beginning of the line is written: 4
--- where the output failed, 5 for want of memory
+-- where the output failed, 5 where memory ran out
 abbrev pub TurnsDown : Option (List ℕ) → Option (List ℕ) → Bool → ℕ → Type 0
 TurnsDown out0 out1 out_failed status =
     (line : List ℕ)

@@ -38,7 +38,9 @@ where
         + Sync,
     requires input_works { R.has_failed input.old ≡ false }
     requires output_works { W.has_failed output.old ≡ false }
-    ensures { Runs (map S.text words.now) (R.remaining input.old) (R.remaining input.new) (W.contents output.old) (W.contents output.new) (R.has_failed input.new) (W.has_failed output.new) result }
+    ensures { Runs (map S.text words.now) (R.remaining input.old) (R.remaining input.new)
+        (W.contents output.old) (W.contents output.new) (R.has_failed input.new)
+        (W.has_failed output.new) result }
 {
     let Ok(keys) = RandomState::new(rt) else {
         return 5;

@@ -22,7 +22,7 @@ fn status_of(cause: Cause) -> u8
 
 /// Answers the HTTP requests of the input on the output, from a store that is empty at first, and gives
 /// the exit status: 0 where the session ended, by itself or by a response that closes it, 4 where a read
-/// or a write failed, and 5 for want of memory.
+/// or a write failed, and 5 where memory ran out.
 pub fn run_pipe<R: Input, W: Output>(
     alloc: Global,
     keys: RandomState,
@@ -32,7 +32,8 @@ pub fn run_pipe<R: Input, W: Output>(
 ) -> u8
     requires input_works { R.has_failed input.old ≡ false }
     requires output_works { W.has_failed output.old ≡ false }
-    ensures { Pipes (R.remaining input.old) (R.remaining input.new) (W.contents output.old) (W.contents output.new) (R.has_failed input.new) (W.has_failed output.new) limits result }
+    ensures { Pipes (R.remaining input.old) (R.remaining input.new) (W.contents output.old)
+        (W.contents output.new) (R.has_failed input.new) (W.has_failed output.new) limits result }
 {
     let Ok(opened) = SpanStore::open(alloc, keys, limits) else {
         return 5;

@@ -27,7 +27,8 @@ fn why_not(alloc: Global, port: u16, error: &io::Error) -> Result<Vec<u8>, Alloc
 /// Says why nothing can be served on a port, and gives the exit status.
 fn turn_down<W: Output>(alloc: Global, output: &mut W, port: u16, error: &io::Error) -> u8
     requires { W.has_failed output.old ≡ false }
-    ensures { TurnsDown (W.contents output.old) (W.contents output.new) (W.has_failed output.new) result }
+    ensures { TurnsDown (W.contents output.old) (W.contents output.new) (W.has_failed output.new)
+        result }
 {
     let Ok(line) = why_not(alloc, port, error) else {
         return 5;
@@ -54,7 +55,8 @@ where
     requires workers { (1 ≤ options.workers) × (options.workers ≤ 64) }
     requires queue { (1 ≤ options.queue) × (options.queue ≤ 4096) }
     requires output_works { W.has_failed output.old ≡ false }
-    ensures { ServesOrNot options.limits options.workers (W.contents output.old) (W.contents output.new) (W.has_failed output.new) result }
+    ensures { ServesOrNot options.limits options.workers (W.contents output.old)
+        (W.contents output.new) (W.has_failed output.new) result }
 {
     let address = SocketAddr::V4(SocketAddrV4::new(Ipv4Addr::LOCALHOST, options.port));
     let listener = match TcpListener::bind(rt, address) {

@@ -53,7 +53,7 @@ pub(crate) fn split_tag(tag: &str) -> Option<(&str, &str)>
 ///
 /// # Errors
 ///
-/// Want of memory alone.
+/// Out of memory, and nothing else.
 pub fn form_pairs(alloc: Global, form: &[u8]) -> Result<Vec<Pair>, AllocError>
     ensures { IfOk result (λ v. v.items ≡ pairs_of form.now) }
 {

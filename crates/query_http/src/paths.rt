@@ -26,7 +26,7 @@ pub enum Endpoint {
 ///
 /// # Errors
 ///
-/// Want of memory alone.
+/// Out of memory, and nothing else.
 pub fn endpoints(alloc: Global) -> Result<Router<Endpoint>, InsertError>
     ensures found { IfOk result (λ r. r ≡ endpoint_rows) }
     ensures memory { IfErr result (λ e. e ≡ OutOfMemory) }
@@ -75,7 +75,8 @@ fn part_of(endpoint: Endpoint, path: &str) -> &str
 /// The endpoint that the router finds.
 fn endpoint_of(router: &Router<Endpoint>, path: &str) -> Option<Endpoint>
     requires { router.now ≡ endpoint_rows }
-    ensures { MatchOption result (IsNoPath path.now) (λ e. (part : List ℕ) × IsPath e part path.now) }
+    ensures { MatchOption result (IsNoPath path.now) (λ e.
+        (part : List ℕ) × IsPath e part path.now) }
 {
     match router.at(path) {
         Ok(found) => Some(*found.value),

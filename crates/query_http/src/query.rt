@@ -166,7 +166,7 @@ fn read_links(pairs: &[Pair]) -> Result<Query, QueryFault>
 /// # Errors
 ///
 /// [`QueryFault::Bad`] with the first parameter that can't be read, in the order of the endpoint's
-/// table, or want of memory.
+/// table, or memory ran out.
 pub fn read_query(
     alloc: Global,
     endpoint: Endpoint,
@@ -201,7 +201,7 @@ pub fn path_and_form(target: &str) -> (&str, &str)
 /// # Errors
 ///
 /// [`QueryFault::NoPath`] where no endpoint has the path; [`QueryFault::Bad`] with the first parameter
-/// that can't be read, in the order of the endpoint's table; or want of memory.
+/// that can't be read, in the order of the endpoint's table; or memory ran out.
 pub fn parse_query(
     alloc: Global,
     router: &Router<Endpoint>,

@@ -93,7 +93,7 @@ fn push_close(out: &mut Vec<u8>, close: bool) -> Result<(), AllocError>
 ///
 /// # Errors
 ///
-/// Want of memory alone.
+/// Out of memory, and nothing else.
 pub fn respond(
     alloc: Global,
     status: u16,

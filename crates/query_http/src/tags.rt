@@ -58,7 +58,8 @@ fn object_texts(
     alloc: Global,
     members: &Map<String, Value>,
 ) -> Result<Vec<(Text, Text)>, QueryFault>
-    ensures { Asks (λ v. v.items) result (or_bad bad.Tags (texts_in (members_view members.now.entries))) }
+    ensures { Asks (λ v. v.items) result
+        (or_bad bad.Tags (texts_in (members_view members.now.entries))) }
 {
     let mut pairs = Vec::new(alloc);
     for (key, value) in members {

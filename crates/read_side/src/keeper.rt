@@ -51,9 +51,11 @@ impl<N: StoreName> Model for Keeper<N> {
     ghost view = { λ k. record { published = of_option [] (λ w. w.desk.shown.value.entries) k.writer; pending = entries_of (of_option [] (λ w. drop w.behind w.log.items) k.writer ++ k.late.items) } };
 
     ghost invariant = { λ k. IsSome k.writer × (k.journal.held.limits ≡ N.limits)
-        × (k.journal.held.entries ≡ of_option [] (λ w. w.desk.shown.value.entries) k.writer ++ entries_of (of_option [] (λ w. drop w.behind w.log.items) k.writer ++ k.late.items))
+        × (k.journal.held.entries ≡ of_option [] (λ w. w.desk.shown.value.entries) k.writer
+        ++ entries_of (of_option [] (λ w. drop w.behind w.log.items) k.writer ++ k.late.items))
         × (k.history ≡ k.journal.held.entries)
-        × Follow N.book (of_option [] (λ w. w.desk.shown.value.entries) k.writer) (of_option [] (λ w. drop w.behind w.log.items) k.writer ++ k.late.items) };
+        × Follow N.book (of_option [] (λ w. w.desk.shown.value.entries) k.writer)
+        (of_option [] (λ w. drop w.behind w.log.items) k.writer ++ k.late.items) };
 }
 
 impl<N: StoreName> Keeper<N> {
@@ -105,12 +107,15 @@ impl<N: StoreName> Keeper<N> {
     /// together, then [`Refusal::NoMemory`]: neither list has changed. [`Refusal::Deferred`]: the entry was
     /// accepted and the publish found no memory, so the entry is pending, and a later publish takes it in.
     pub fn admit<R: Wait>(&mut self, rt: &R, entry: Arc<Entry>) -> Result<Receipt<N>, Refusal>
-        ensures admissible { OnOk result (refusal_after N.limits self.old (arc_value entry) ≡ None) }
-        ensures published { OnOk result (self.new ≡ all_published (with_pending self.old (arc_value entry))) }
+        ensures admissible { OnOk result (refusal_after N.limits self.old (arc_value entry) ≡
+            None) }
+        ensures published { OnOk result (self.new ≡
+            all_published (with_pending self.old (arc_value entry))) }
         ensures receipt { IfOk result (λ r. r.entries ≡ self.new.published) }
         ensures place { IfOk result (λ r. r.place ≡ Some (length r.entries)) }
 
-        ensures refused { IfErr result (λ why. TurnsAway N.limits self.old (arc_value entry) why self.new) }
+        ensures refused { IfErr result (λ why.
+            TurnsAway N.limits self.old (arc_value entry) why self.new) }
 
         ensures legal { IsLegal N.limits (accepted self.new) }
     {
@@ -132,9 +137,11 @@ impl<N: StoreName> Keeper<N> {
 
     /// A receipt of the published list, for its last entry or for none.
     fn vouch(&self, entry: Option<Arc<Entry>>) -> Receipt<N>
-        requires { MatchOption entry (Unit {0}) (λ e. (before : List Entry) × (self.now.published ≡ before ++ arc_value e ∷ [])) }
+        requires { MatchOption entry (Unit {0}) (λ e.
+            (before : List Entry) × (self.now.published ≡ before ++ arc_value e ∷ [])) }
         ensures entries { result.entries ≡ self.now.published }
-        ensures place { result.place ≡ (if is_some entry then Some (length self.now.published) else None) }
+        ensures place { result.place ≡ (if is_some entry then Some (length self.now.published)
+            else None) }
     {
         let Some(writer) = &self.writer else {
             unreachable!()
@@ -147,12 +154,14 @@ impl<N: StoreName> Keeper<N> {
     /// Takes the entry in where nothing refuses it, behind the pending ones, and gives it back for a
     /// receipt. All memory is taken before anything changes.
     fn accept(&mut self, entry: Arc<Entry>) -> Result<Arc<Entry>, Refusal>
-        ensures admissible { OnOk result (refusal_after N.limits self.old (arc_value entry) ≡ None) }
+        ensures admissible { OnOk result (refusal_after N.limits self.old (arc_value entry) ≡
+            None) }
         ensures pending { OnOk result (self.new ≡ with_pending self.old (arc_value entry)) }
         ensures same { IfOk result (λ mine. arc_value mine ≡ arc_value entry) }
 
         ensures unchanged { IfErr result (λ _. self.new ≡ self.old) }
-        ensures reason { IfErr result (λ why. why ≡ unwrap_or (refusal_after N.limits self.old (arc_value entry)) NoMemory) }
+        ensures reason { IfErr result (λ why.
+            why ≡ unwrap_or (refusal_after N.limits self.old (arc_value entry)) NoMemory) }
 
         ensures legal { IsLegal N.limits (accepted self.new) }
     {
@@ -240,9 +249,11 @@ impl<N: StoreName> Keeper<N> {
 fn append_nothing<N: StoreName>(writer: &mut Copies<N>) -> bool
     ensures desk { writer.new.desk ≡ writer.old.desk }
     ensures entries { (late : List (Option Post)) →
-        entries_of (drop writer.new.behind writer.new.log.items ++ late) ≡ entries_of (drop writer.old.behind writer.old.log.items ++ late) }
+        entries_of (drop writer.new.behind writer.new.log.items ++ late) ≡
+        entries_of (drop writer.old.behind writer.old.log.items ++ late) }
     ensures follow { (b : Book) (xs : List Entry) (late : List (Option Post)) →
-        Follow b xs (drop writer.old.behind writer.old.log.items ++ late) → Follow b xs (drop writer.new.behind writer.new.log.items ++ late) }
+        Follow b xs (drop writer.old.behind writer.old.log.items ++ late) →
+        Follow b xs (drop writer.new.behind writer.new.log.items ++ late) }
 {
     match writer.append(Change::none()) {
         Ok(()) => true,
@@ -257,11 +268,18 @@ fn publish_late<N: StoreName, R: Wait>(
     mut writer: Copies<N>,
     late: &mut VecDeque<Change>,
 ) -> (Copies<N>, bool)
-    requires { Follow N.book writer.desk.shown.value.entries (drop writer.behind writer.log.items ++ late.old.items) }
-    ensures published { IsTrue result.1 → result.0.desk.shown.value.entries ≡ writer.desk.shown.value.entries ++ entries_of (drop writer.behind writer.log.items ++ late.old.items) }
-    ensures none_waits { IsTrue result.1 → drop result.0.behind result.0.log.items ++ late.new.items ≡ [] }
+    requires { Follow N.book writer.desk.shown.value.entries
+        (drop writer.behind writer.log.items ++ late.old.items) }
+    ensures published { IsTrue result.1 →
+        result.0.desk.shown.value.entries ≡
+        writer.desk.shown.value.entries ++ entries_of
+        (drop writer.behind writer.log.items ++ late.old.items) }
+    ensures none_waits { IsTrue result.1 →
+        drop result.0.behind result.0.log.items ++ late.new.items ≡ [] }
     ensures same { IsFalse result.1 → result.0.desk.shown.value ≡ writer.desk.shown.value }
-    ensures all_wait { IsFalse result.1 → drop result.0.behind result.0.log.items ++ late.new.items ≡ drop writer.behind writer.log.items ++ late.old.items }
+    ensures all_wait { IsFalse result.1 →
+        drop result.0.behind result.0.log.items ++ late.new.items ≡
+        drop writer.behind writer.log.items ++ late.old.items }
 {
     if !drain(&mut writer, late) {
         return (writer, false);
@@ -272,7 +290,8 @@ fn publish_late<N: StoreName, R: Wait>(
 /// Hands all late changes to the writer, as long as there is memory.
 fn drain<N: StoreName>(writer: &mut Copies<N>, late: &mut VecDeque<Change>) -> bool
     ensures desk { writer.new.desk ≡ writer.old.desk }
-    ensures all { drop writer.new.behind writer.new.log.items ++ late.new.items ≡ drop writer.old.behind writer.old.log.items ++ late.old.items }
+    ensures all { drop writer.new.behind writer.new.log.items ++ late.new.items ≡
+        drop writer.old.behind writer.old.log.items ++ late.old.items }
     ensures done { IsTrue result → late.new.items ≡ [] }
 {
     while let Some(change) = late.pop_front() {
@@ -288,8 +307,11 @@ fn drain<N: StoreName>(writer: &mut Copies<N>, late: &mut VecDeque<Change>) -> b
 fn show<N: StoreName, R: Wait>(rt: &R, writer: Copies<N>) -> (Copies<N>, bool)
     requires { Follow N.book writer.desk.shown.value.entries (drop writer.behind writer.log.items) }
     ensures { MatchBool result.1
-        ((result.0.desk.shown.value.entries ≡ writer.desk.shown.value.entries ++ entries_of (drop writer.behind writer.log.items)) × (drop result.0.behind result.0.log.items ≡ []))
-        ((result.0.desk.shown.value ≡ writer.desk.shown.value) × (drop result.0.behind result.0.log.items ≡ drop writer.behind writer.log.items)) }
+        ((result.0.desk.shown.value.entries ≡
+        writer.desk.shown.value.entries ++ entries_of (drop writer.behind writer.log.items))
+        × (drop result.0.behind result.0.log.items ≡ []))
+        ((result.0.desk.shown.value ≡ writer.desk.shown.value)
+        × (drop result.0.behind result.0.log.items ≡ drop writer.behind writer.log.items)) }
 {
     let (writer, shown) = writer.publish_as::<See<N>, R>(rt);
     match shown {

@@ -100,11 +100,13 @@ impl<N: StoreName> Pass<N> {
         ensures begins { OnOk result (IsPrefix self.old receipt.now.entries) }
 
         ensures reason { IfErr result (λ why. (why ≡ Behind (length self.old)) ⊎ (why ≡ Gone)) }
-        ensures behind { result ≡ Err (Behind (length self.old)) → length receipt.now.entries < length self.old }
+        ensures behind { result ≡ Err (Behind (length self.old)) →
+            length receipt.now.entries < length self.old }
 
         ensures old { IsPrefix self.old self.new }
         ensures told { IsPrefix receipt.now.entries self.new }
-        ensures gone { result ≡ Err Gone → (self.new ≡ self.old) ⊎ (self.new ≡ receipt.now.entries) }
+        ensures gone { result ≡ Err Gone →
+            (self.new ≡ self.old) ⊎ (self.new ≡ receipt.now.entries) }
     {
         let front = self.visitor.front();
         self.visitor.learn(receipt);

@@ -40,7 +40,9 @@ impl<N: StoreName> Model for Visitor<N> {
 
     ghost view = { λ p. take (max p.entered p.told) p.seen.log };
 
-    ghost invariant = { λ p. (p.seen.book ≡ N.book) × (p.entered ≤ length p.seen.log) × (p.told ≤ length p.seen.log) × IfSome p.entrance (λ r. p.entered ≤ length (view_at r.place)) };
+    ghost invariant = { λ p. (p.seen.book ≡ N.book) × (p.entered ≤ length p.seen.log)
+        × (p.told ≤ length p.seen.log) × IfSome p.entrance (λ r.
+        p.entered ≤ length (view_at r.place)) };
 }
 
 impl<N: StoreName> Visitor<N> {

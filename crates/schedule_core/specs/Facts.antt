@@ -56,7 +56,7 @@ pub record IsRun (limits : Limits) (steps : List Step) : Type 0 where
   pub counted : (seat : ℕ) → CountsFromOne seat (jobs limits steps)
   pub legal : IsLegal limits (accepted (led limits steps))
 
--- The outcomes are the machine's, which has begun anew; where memory was wanting, those of the steps before, and all others
+-- The outcomes are the machine's, which has begun anew; where memory ran out, those of the steps before, and all others
 -- are refused for that.
 pub record IsPlayed (limits : Limits) (steps : List Step) (os : List Outcome) : Type 0 where
   pub played : List Step

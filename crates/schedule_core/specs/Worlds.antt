@@ -11,7 +11,7 @@ abbrev pub Steps : Option Machine → Step → Outcome → Option Machine → Ty
 Steps None s o n = (o ≡ Refused NoMemory) × (n ≡ None)
 Steps (Some m) s o n = ((o ≡ (step m s).outcome) × (n ≡ Some (step m s).machine)) ⊎ ((o ≡ Refused NoMemory) × (n ≡ None))
 
--- the outcomes are the machine's; where memory was wanting, those of the steps before, and all others are refused for that
+-- the outcomes are the machine's; where memory ran out, those of the steps before, and all others are refused for that
 pub record PlaysAs (m : Machine) (steps : List Step) (os : List Outcome) : Type 0 where
   pub played : List Step
   pub rest : List Step

@@ -44,7 +44,8 @@ impl Model for Copies {
 impl Copies {
     /// Two empty copies.
     pub fn new(alloc: Global, keys: RandomState, limits: Limits) -> Result<Self, AllocError>
-        ensures { IfOk result (λ copies. copies ≡ record { limits = limits; before = []; history = []; pending = [] }) }
+        ensures { IfOk result (λ copies.
+            copies ≡ record { limits = limits; before = []; history = []; pending = [] }) }
     {
         let accepted = Journal::new(alloc, limits)?;
         let _legal = accepted.len();
@@ -69,7 +70,8 @@ impl Copies {
         ensures admissible { OnOk result (refusal_by (all_of self.old) (arc_value entry) ≡ None) }
         ensures admitted { OnOk result (self.new ≡ with_pending self.old (arc_value entry)) }
         ensures unchanged { OnErr result (self.new ≡ self.old) }
-        ensures reason { IfErr result (λ why. Some why ≡ refusal_by (all_of self.old) (arc_value entry)) }
+        ensures reason { IfErr result (λ why.
+            Some why ≡ refusal_by (all_of self.old) (arc_value entry)) }
     {
         self.accepted.admit(entry)?;
         Ok(())

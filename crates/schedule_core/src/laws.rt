@@ -3,69 +3,77 @@
 ghost use Rattle.std.specs.Prelude.{◌≡◌, ℕ, List, [], ◌++◌, length, drop, None, Some, false, slice_get};
 ghost use Rattle.std.specs.List.{All};
 ghost use mathlib.Core.List.{IsPrefix};
-ghost use Rattle.trace_model.specs.declared.limits.Limits.{Limits as Bounds};
-ghost use Rattle.trace_model.specs.declared.query.Query.{Query as Asked};
+ghost use Rattle.trace_model.specs.declared.limits.Limits.{Limits as LimitsValue};
+ghost use Rattle.trace_model.specs.declared.query.Query.{Query as QueryValue};
 ghost use Rattle.trace_model.specs.Histories.{IsLegal, RisesAfter};
-ghost use Rattle.schedule_core.specs.declared.step.Step.{Step as Move};
-ghost use Rattle.schedule_core.specs.declared.step.Step.TheVariants.{Read as Ask};
-ghost use Rattle.schedule_core.specs.Machine.{new_machine, outcomes, at_last, accepted, step, Reader as Stand, Visit};
+ghost use Rattle.schedule_core.specs.declared.step.Step.{Step as StepValue};
+ghost use Rattle.schedule_core.specs.declared.step.Step.TheVariants.{Read as ReadValue};
+ghost use Rattle.schedule_core.specs.Machine.{new_machine, outcomes, at_last, accepted, step, Reader as ReaderValue, Visit};
 ghost use Rattle.schedule_core.specs.Runs.{along, AllAlong, IsOf, NeverFalls, front_for, is_of, job_of, kept, verdict_of};
 ghost use Rattle.schedule_core.specs.Facts.{IsRun};
 
 /// The history only grows at its end.
 pub fn the_history_only_grows()
-    ensures { (limits : Bounds) (steps more : List Move) →
-        IsPrefix (at_last (new_machine limits) steps).history (at_last (new_machine limits) (steps ++ more)).history }
+    ensures { (limits : LimitsValue) (steps more : List StepValue) →
+        IsPrefix (at_last (new_machine limits) steps).history
+        (at_last (new_machine limits) (steps ++ more)).history }
 {}
 
 /// Each answer is the plain store's of a beginning of the last history, with as many entries as it says.
 pub fn each_answer_is_of_the_last_history()
-    ensures { (limits : Bounds) (steps : List Move) →
-        AllAlong (IsOf limits (at_last (new_machine limits) steps).history) steps (outcomes (new_machine limits) steps) }
+    ensures { (limits : LimitsValue) (steps : List StepValue) →
+        AllAlong (IsOf limits (at_last (new_machine limits) steps).history) steps
+        (outcomes (new_machine limits) steps) }
 {}
 
 /// The fronts that one reader is told never fall: of what it enters, of its answers and of what it learns.
 pub fn fronts_of_a_reader_never_fall()
-    ensures { (limits : Bounds) (steps : List Move) (reader : ℕ) →
+    ensures { (limits : LimitsValue) (steps : List StepValue) (reader : ℕ) →
         NeverFalls (along (front_for reader) steps (outcomes (new_machine limits) steps)) }
 {}
 
 /// A reader inside is answered the same, whatever others do meanwhile.
 pub fn a_look_stays_where_it_entered()
-    ensures { (limits : Bounds) (steps others : List Move) (reader : ℕ) (at : Stand) (visit : Visit) (query : Asked) →
-        slice_get (at_last (new_machine limits) steps).readers reader ≡ Some at → at.inside ≡ Some visit →
+    ensures { (limits : LimitsValue) (steps others : List StepValue) (reader : ℕ) (at : ReaderValue)
+        (visit : Visit) (query : QueryValue) →
+        slice_get (at_last (new_machine limits) steps).readers reader ≡ Some at →
+        at.inside ≡ Some visit →
         All (λ s. is_of reader s ≡ false) others →
-        (step (at_last (new_machine limits) (steps ++ others)) (Ask reader query)).outcome ≡ (step (at_last (new_machine limits) steps) (Ask reader query)).outcome }
+        (step (at_last (new_machine limits) (steps ++ others)) (ReadValue reader query)).outcome ≡
+        (step (at_last (new_machine limits) steps) (ReadValue reader query)).outcome }
 {}
 
 /// What is accepted, shown or not, is the jobs taken that were not refused, in the order in which they
 /// were handed in, each once.
 pub fn taken_jobs_are_accepted()
-    ensures { (limits : Bounds) (steps : List Move) →
+    ensures { (limits : LimitsValue) (steps : List StepValue) →
         accepted (at_last (new_machine limits) steps) ≡
-        kept (along job_of steps (outcomes (new_machine limits) steps)) (along verdict_of steps (outcomes (new_machine limits) steps)) }
+        kept (along job_of steps (outcomes (new_machine limits) steps))
+        (along verdict_of steps (outcomes (new_machine limits) steps)) }
 {}
 
 /// The jobs that wait are those that were handed in behind the last one taken.
 pub fn other_jobs_wait()
-    ensures { (limits : Bounds) (steps : List Move) →
+    ensures { (limits : LimitsValue) (steps : List StepValue) →
         (at_last (new_machine limits) steps).waiting ≡
-        drop (length (along verdict_of steps (outcomes (new_machine limits) steps))) (along job_of steps (outcomes (new_machine limits) steps)) }
+        drop (length (along verdict_of steps (outcomes (new_machine limits) steps)))
+        (along job_of steps (outcomes (new_machine limits) steps)) }
 {}
 
 /// The numbers of each seat's jobs rise.
 pub fn jobs_are_numbered()
-    ensures { (limits : Bounds) (steps : List Move) →
+    ensures { (limits : LimitsValue) (steps : List StepValue) →
         RisesAfter [] (along job_of steps (outcomes (new_machine limits) steps)) }
 {}
 
 /// What is accepted is legal: no entry stands twice, and no limit is passed.
 pub fn accepted_jobs_are_legal()
-    ensures { (limits : Bounds) (steps : List Move) → IsLegal limits (accepted (at_last (new_machine limits) steps)) }
+    ensures { (limits : LimitsValue) (steps : List StepValue) →
+        IsLegal limits (accepted (at_last (new_machine limits) steps)) }
 {}
 
 /// All of this of one list of steps, and two facts more: an accepted job is told by its own seat and number,
 /// and the jobs of each seat have the numbers 1, 2 and so on.
 pub fn every_run_keeps_the_promises()
-    ensures { (limits : Bounds) (steps : List Move) → IsRun limits steps }
+    ensures { (limits : LimitsValue) (steps : List StepValue) → IsRun limits steps }
 {}

@@ -76,7 +76,8 @@ impl Seats {
 
     /// Takes the job that waits longest.
     pub fn take(&mut self) -> Option<Arc<Entry>>
-        ensures { MatchOption result ((self.old.waiting ≡ []) × (self.new ≡ self.old)) (λ job. self.old ≡ record self.new { waiting = arc_value job ∷ self.new.waiting }) }
+        ensures { MatchOption result ((self.old.waiting ≡ []) × (self.new ≡ self.old)) (λ job.
+            self.old ≡ record self.new { waiting = arc_value job ∷ self.new.waiting }) }
     {
         self.waiting.pop_front()
     }

@@ -62,7 +62,8 @@ impl Stage {
     }
 
     fn put(&mut self, seat: u32, batch: Batch) -> Result<Outcome, AllocError>
-        ensures { IfOk result (λ o. record { outcome = o; machine = self.new } ≡ puts self.old seat batch (slice_get self.old.numbers seat)) }
+        ensures { IfOk result (λ o. record { outcome = o; machine = self.new } ≡
+            puts self.old seat batch (slice_get self.old.numbers seat)) }
     {
         match self.seats.hand_in(seat, batch)? {
             Some(number) => Ok(Outcome::Put { number }),
@@ -71,7 +72,8 @@ impl Stage {
     }
 
     fn take(&mut self) -> Result<Outcome, AllocError>
-        ensures { IfOk result (λ o. record { outcome = o; machine = self.new } ≡ takes self.old self.old.waiting) }
+        ensures { IfOk result (λ o. record { outcome = o; machine = self.new } ≡
+            takes self.old self.old.waiting) }
     {
         let Some(job) = self.seats.take() else {
             return Ok(Outcome::Idle);
@@ -80,7 +82,8 @@ impl Stage {
     }
 
     fn publish(&mut self) -> Result<Outcome, AllocError>
-        ensures { IfOk result (λ o. record { outcome = o; machine = self.new } ≡ publishes self.old) }
+        ensures { IfOk result (λ o. record { outcome = o; machine = self.new } ≡
+            publishes self.old) }
     {
         if let Some(reader) = self.readers.first_held(self.publishes()) {
             return Ok(Outcome::Held { reader });
@@ -100,7 +103,8 @@ impl Stage {
     }
 
     fn enter(&mut self, reader: u32) -> Outcome
-        ensures { record { outcome = result; machine = self.new } ≡ by_reader self.old reader (λ r. enters self.old reader r.inside) }
+        ensures { record { outcome = result; machine = self.new } ≡
+            by_reader self.old reader (λ r. enters self.old reader r.inside) }
     {
         let Some(place) = self.readers.get(reader) else {
             return Outcome::Unknown;
@@ -124,7 +128,8 @@ impl Stage {
     }
 
     fn read(&self, reader: u32, query: &Query) -> Result<Outcome, AllocError>
-        ensures { IfOk result (λ o. stays self.now o ≡ by_reader self.now reader (λ r. reads self.now query.now r.inside)) }
+        ensures { IfOk result (λ o. stays self.now o ≡
+            by_reader self.now reader (λ r. reads self.now query.now r.inside)) }
     {
         let Some(place) = self.readers.get(reader) else {
             return Ok(Outcome::Unknown);
@@ -148,7 +153,8 @@ impl Stage {
     }
 
     fn learn(&mut self, reader: u32, publish: u32) -> Outcome
-        ensures { record { outcome = result; machine = self.new } ≡ stepped self.old (Learn reader publish) }
+        ensures { record { outcome = result; machine = self.new } ≡
+            stepped self.old (Learn reader publish) }
     {
         let Some(place) = self.readers.get(reader) else {
             return Outcome::Unknown;
@@ -165,7 +171,8 @@ impl Stage {
     }
 
     fn leave(&mut self, reader: u32) -> Outcome
-        ensures { record { outcome = result; machine = self.new } ≡ stepped self.old (Leave reader) }
+        ensures { record { outcome = result; machine = self.new } ≡
+            stepped self.old (Leave reader) }
     {
         let Some(place) = self.readers.get(reader) else {
             return Outcome::Unknown;
@@ -185,7 +192,8 @@ impl Stage {
 
     /// Makes a step.
     pub fn step(&mut self, step: Step) -> Result<Outcome, AllocError>
-        ensures { IfOk result (λ o. record { outcome = o; machine = self.new } ≡ stepped self.old step) }
+        ensures { IfOk result (λ o. record { outcome = o; machine = self.new } ≡
+            stepped self.old step) }
     {
         match step {
             Step::Put { seat, batch } => self.put(seat, batch),
@@ -201,8 +209,11 @@ impl Stage {
 
 /// Accepts a job whose number is above those of its seat, or refuses it where a limit would be passed.
 fn judge(copies: &mut Copies, job: Arc<Entry>) -> Result<Outcome, AllocError>
-    requires above { last_number (arc_value job).seat (all_of copies.old).entries < (arc_value job).number }
-    ensures verdict { IfOk result (λ o. record { outcome = o; copies = copies.new } ≡ verdict copies.old (arc_value job) (has_room copies.old.limits (all_of copies.old).entries (arc_value job))) }
+    requires above { last_number (arc_value job).seat (all_of copies.old).entries
+        < (arc_value job).number }
+    ensures verdict { IfOk result (λ o. record { outcome = o; copies = copies.new } ≡
+        verdict copies.old (arc_value job)
+        (has_room copies.old.limits (all_of copies.old).entries (arc_value job))) }
     ensures unchanged { OnErr result (copies.new ≡ copies.old) }
 {
     let (seat, number) = (job.seat, job.number);
@@ -220,7 +231,8 @@ fn look(
     query: &Query,
 ) -> Result<Answer, AllocError>
     requires visits { Visits copies.now.before copies.now.history publishes inside }
-    ensures { IfOk result (λ a. a ≡ answer copies.now.limits (take inside.front copies.now.history) query.now) }
+    ensures { IfOk result (λ a. a ≡ answer copies.now.limits (take inside.front copies.now.history)
+        query.now) }
 {
     let answered = if inside.publishes == publishes {
         copies.answer(query)

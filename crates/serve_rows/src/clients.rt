@@ -97,7 +97,8 @@ pub fn visited<
     let ((status, output), pleased) = join(
         rt,
         || -> (u8, MemoryOutput)
-            requires { (1 ≤ options.now.workers) × (options.now.workers ≤ 64) × (1 ≤ options.now.queue) × (options.now.queue ≤ 4096) }
+            requires { (1 ≤ options.now.workers) × (options.now.workers ≤ 64)
+                × (1 ≤ options.now.queue) × (options.now.queue ≤ 4096) }
         { serve(rt, alloc, &listener, options, gate) },
         || guests.visit(rt, alloc, address),
     );

@@ -17,6 +17,7 @@ pub struct FirstWaits {
 }
 
 impl FirstWaits {
+    /// Before the first call.
     pub fn new() -> FirstWaits {
         FirstWaits {
             calls: AtomicU64::new(0),

@@ -1,4 +1,4 @@
-//! Sessions over a shared store give the bytes that they give over a store of one's own.
+//! Sessions over a shared store give the bytes that they give over a store that one owner has.
 
 ghost use Rattle.std.specs.Prelude.{◌≡◌};
 
@@ -21,7 +21,7 @@ use std::test::*;
 use std::thread::{Threads, join};
 use trace_model::Limits;
 
-/// What a session over a store of one's own writes.
+/// What a session over a store that one owner has writes.
 fn direct_bytes(
     alloc: Global,
     keys: RandomState,

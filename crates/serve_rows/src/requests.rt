@@ -29,12 +29,16 @@ pub const CUT: &[u8] =
 pub const HUGE: &[u8] =
     b"POST /api/traces HTTP/1.1\r\nContent-Type: application/x-thrift\r\nContent-Length: 5000000\r\n\r\n";
 
+/// The services are asked for.
 pub const SERVICES: &[u8] = b"GET /api/services HTTP/1.1\r\n\r\n";
 
+/// Trace 1 is asked for.
 pub const TRACE: &[u8] = b"GET /api/traces/1 HTTP/1.1\r\n\r\n";
 
+/// A path that no endpoint has.
 pub const NOWHERE: &[u8] = b"GET /api/x HTTP/1.1\r\n\r\n";
 
+/// A method that no endpoint has.
 pub const DELETE: &[u8] = b"DELETE /api/services HTTP/1.1\r\n\r\n";
 
 /// What is answered to a batch that was accepted.

@@ -55,9 +55,15 @@ impl ServiceIndex {
     ///
     /// # Errors
     ///
-    /// Want of memory; the index then is what it was.
+    /// Out of memory; the index then is what it was.
     pub fn add(&mut self, service: &Text, operation: &Text, kind: &str) -> Result<(), AllocError>
-        ensures ok { OnOk result (self.new ≡ insert_once listed_cmp self.old (record { service = service.now; operation = record { name = operation.now; kind = kind.now } })) }
+        ensures ok { OnOk result (self.new ≡
+            insert_once listed_cmp self.old
+            (record {
+              service = service.now;
+              operation = record
+                  { name = operation.now; kind = kind.now };
+            })) }
         ensures err { OnErr result (self.new ≡ self.old) }
     {
         let operation = Operation {
@@ -78,9 +84,15 @@ impl ServiceIndex {
     ///
     /// # Errors
     ///
-    /// Want of memory alone.
+    /// Out of memory, and nothing else.
     pub fn lists(&self, service: &Text, operation: &Text, kind: &str) -> Result<bool, AllocError>
-        ensures listed { IfOk result (λ known. known ≡ list_any (same_listed (record { service = service.now; operation = record { name = operation.now; kind = kind.now } })) self.now) }
+        ensures listed { IfOk result (λ known.
+            known ≡ list_any (same_listed
+            (record {
+              service = service.now;
+              operation = record
+                  { name = operation.now; kind = kind.now };
+            })) self.now) }
         ensures ordered { OnOk result (IsStrictlySortedBy listed_cmp self.now) }
     {
         let asked = named(self.alloc, operation, kind)?;
@@ -94,7 +106,7 @@ impl ServiceIndex {
     ///
     /// # Errors
     ///
-    /// Want of memory alone.
+    /// Out of memory, and nothing else.
     pub fn services(&self) -> Result<Vec<Text>, AllocError>
         ensures { IfOk result (λ names. names.items ≡ services_in self.now) }
     {
@@ -110,7 +122,7 @@ impl ServiceIndex {
     ///
     /// # Errors
     ///
-    /// Want of memory alone.
+    /// Out of memory, and nothing else.
     pub fn operations(&self, service: &Text, kind: &Text) -> Result<Vec<Operation>, AllocError>
         ensures { IfOk result (λ found. found.items ≡ operations_in service.now kind.now self.now) }
     {
@@ -124,7 +136,7 @@ impl ServiceIndex {
     ///
     /// # Errors
     ///
-    /// Want of memory alone.
+    /// Out of memory, and nothing else.
     pub fn names(&self, service: &Text) -> Result<Vec<Text>, AllocError>
         ensures { IfOk result (λ names. names.items ≡ names_in service.now self.now) }
     {
@@ -152,7 +164,8 @@ fn add_known(
     service: &Text,
     known: &BTreeSet<Operation>,
 ) -> Result<(), AllocError>
-    ensures { OnOk result (index.new ≡ fold (insert_once listed_cmp) index.old (listed_at service.now known.now.keys)) }
+    ensures { OnOk result (index.new ≡ fold (insert_once listed_cmp) index.old
+        (listed_at service.now known.now.keys)) }
 {
     for operation in known.iter() {
         index.add(service, &operation.name, operation.kind.as_str())?;

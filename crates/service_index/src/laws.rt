@@ -3,7 +3,7 @@
 ghost use Rattle.std.specs.List.{list_any};
 ghost use Rattle.std.specs.List.Sorted.{IsStrictlySortedBy};
 ghost use Rattle.std.specs.Prelude.{◌≡◌, true, ℕ, List, [], ◌∷◌, ◌++◌};
-ghost use Rattle.jaeger_model.specs.declared.placed.Placed.{Placed as Span};
+ghost use Rattle.jaeger_model.specs.declared.placed.Placed.{Placed as PlacedValue};
 ghost use Rattle.jaeger_model.specs.Texts.{insert_once};
 ghost use Rattle.trace_model.specs.Names.{services, operation_names, operations};
 ghost use Rattle.service_index.specs.Naming.{Names};
@@ -12,25 +12,31 @@ ghost use Rattle.service_index.specs.Listing.{Listed, same_listed, listed, liste
 
 /// What is listed of all arrivals answers as the plain store does.
 pub fn listed_answers()
-    ensures services { (ps : List Span) → services_in (listed_in ps) ≡ services ps }
-    ensures names { (service : List ℕ) (ps : List Span) → names_in service (listed_in ps) ≡ operation_names service ps }
-    ensures operations { (service kind : List ℕ) (ps : List Span) → operations_in service kind (listed_in ps) ≡ operations service kind ps }
+    ensures services { (ps : List PlacedValue) → services_in (listed_in ps) ≡ services ps }
+    ensures names { (service : List ℕ) (ps : List PlacedValue) →
+        names_in service (listed_in ps) ≡ operation_names service ps }
+    ensures operations { (service kind : List ℕ) (ps : List PlacedValue) →
+        operations_in service kind (listed_in ps) ≡ operations service kind ps }
 {}
 
 /// One more arrival lists what it reports, unless that is listed.
 pub fn listed_once_more()
     ensures none { listed_in [] ≡ [] }
-    ensures more { (ps : List Span) (p : Span) → listed_in (ps ++ p ∷ []) ≡ insert_once listed_cmp (listed_in ps) (listed p) }
+    ensures more { (ps : List PlacedValue) (p : PlacedValue) →
+        listed_in (ps ++ p ∷ []) ≡ insert_once listed_cmp (listed_in ps) (listed p) }
 {}
 
 /// What is listed is not listed again.
 #[tactic(auto, using(crate::proofs::Known::known_again))]
 pub fn listed_already()
-    ensures { (ls : List Listed) (l : Listed) → IsStrictlySortedBy listed_cmp ls → list_any (same_listed l) ls ≡ true → insert_once listed_cmp ls l ≡ ls }
+    ensures { (ls : List Listed) (l : Listed) → IsStrictlySortedBy listed_cmp ls →
+        list_any (same_listed l) ls ≡ true → insert_once listed_cmp ls l ≡ ls }
 {}
 
 /// More numbers with names leave an index what it was, and what it lists.
 pub fn more_names()
-    ensures indexed { (names more : Names) (index : Index) → Extends names more → IsIndexed names index → IsIndexed more index }
-    ensures listed { (names more : Names) (index : Index) → Extends names more → IsIndexed names index → listing_by more index ≡ listing_by names index }
+    ensures indexed { (names more : Names) (index : Index) → Extends names more →
+        IsIndexed names index → IsIndexed more index }
+    ensures listed { (names more : Names) (index : Index) → Extends names more →
+        IsIndexed names index → listing_by more index ≡ listing_by names index }
 {}

@@ -45,7 +45,8 @@ impl Model for NameIndex {
 
     ghost view = { λ i. record { operations = i.operations; services = i.services; newest = i.newest.items; earlier = i.earlier.items; used = i.used; room = i.room } };
 
-    ghost invariant = { λ i. (i.room ≤ vec_capacity i.newest) × (i.room ≤ vec_capacity i.earlier) × IsSized i.used i.room i.operations i.services i.newest.items i.earlier.items };
+    ghost invariant = { λ i. (i.room ≤ vec_capacity i.newest) × (i.room ≤ vec_capacity i.earlier)
+        × IsSized i.used i.room i.operations i.services i.newest.items i.earlier.items };
 }
 
 impl NameIndex {
@@ -54,7 +55,7 @@ impl NameIndex {
     ///
     /// # Errors
     ///
-    /// Want of memory alone.
+    /// Out of memory, and nothing else.
     pub fn with_room(alloc: Global, keys: RandomState, room: u32) -> Result<Self, AllocError>
         ensures empty { IfOk result (λ index. (names : Names) → listing_by names index ≡ []) }
         ensures used { IfOk result (λ index. index.used ≡ 0) }
@@ -97,7 +98,8 @@ impl NameIndex {
         requires held { n < (T.names texts.now).count }
         requires room { self.old.used < self.old.room }
 
-        ensures listed { listing_by (T.names texts.now) self.new ≡ listing_with (T.names texts.now) self.old n }
+        ensures listed { listing_by (T.names texts.now) self.new ≡
+            listing_with (T.names texts.now) self.old n }
         ensures used { self.new.used ≡ self.old.used + 1 }
         ensures room { self.new.room ≡ self.old.room }
         ensures indexed { IsIndexed (T.names texts.now) self.new }
@@ -128,7 +130,8 @@ impl NameIndex {
     /// Whether a span of the service with this operation and kind was added.
     pub fn knows<T: Texts>(&self, texts: &T, service: &str, operation: &str, kind: &str) -> bool
         requires { IsIndexed (T.names texts.now) self.now }
-        ensures { result ≡ has_operation service.now operation.now kind.now (listing_by (T.names texts.now) self.now) }
+        ensures { result ≡ has_operation service.now operation.now kind.now
+            (listing_by (T.names texts.now) self.now) }
     {
         let name = Name {
             service,
@@ -142,10 +145,11 @@ impl NameIndex {
     ///
     /// # Errors
     ///
-    /// Want of memory alone.
+    /// Out of memory, and nothing else.
     pub fn services_in<T: Texts>(&self, texts: &T) -> Result<Vec<Text>, AllocError>
         requires { IsIndexed (T.names texts.now) self.now }
-        ensures { IfOk result (λ names. names.items ≡ services_in (listing_by (T.names texts.now) self.now)) }
+        ensures { IfOk result (λ names. names.items ≡
+            services_in (listing_by (T.names texts.now) self.now)) }
     {
         let names = services_along(self.alloc, texts, self.services.numbers())?;
         texts_in_order(names)
@@ -156,7 +160,7 @@ impl NameIndex {
     ///
     /// # Errors
     ///
-    /// Want of memory alone.
+    /// Out of memory, and nothing else.
     pub fn operations_in<T: Texts>(
         &self,
         texts: &T,
@@ -164,7 +168,8 @@ impl NameIndex {
         kind: &Text,
     ) -> Result<Vec<Operation>, AllocError>
         requires { IsIndexed (T.names texts.now) self.now }
-        ensures { IfOk result (λ found. found.items ≡ operations_in service.now kind.now (listing_by (T.names texts.now) self.now)) }
+        ensures { IfOk result (λ found. found.items ≡
+            operations_in service.now kind.now (listing_by (T.names texts.now) self.now)) }
     {
         let operations = self.operations_of(texts, service.as_str())?;
         let known = operations_in_order(operations)?;
@@ -175,10 +180,11 @@ impl NameIndex {
     ///
     /// # Errors
     ///
-    /// Want of memory alone.
+    /// Out of memory, and nothing else.
     pub fn names_in<T: Texts>(&self, texts: &T, service: &Text) -> Result<Vec<Text>, AllocError>
         requires { IsIndexed (T.names texts.now) self.now }
-        ensures { IfOk result (λ names. names.items ≡ names_in service.now (listing_by (T.names texts.now) self.now)) }
+        ensures { IfOk result (λ names. names.items ≡
+            names_in service.now (listing_by (T.names texts.now) self.now)) }
     {
         let operations = self.operations_of(texts, service.as_str())?;
         let names = names_alone(self.alloc, operations)?;
@@ -205,7 +211,8 @@ impl NameIndex {
         service: &str,
     ) -> Result<Vec<Operation>, AllocError>
         requires { IsIndexed (T.names texts.now) self.now }
-        ensures { IfOk result (λ v. sorted_set operation_cmp v.items ≡ own_operations service.now (listing_by (T.names texts.now) self.now)) }
+        ensures { IfOk result (λ v. sorted_set operation_cmp v.items ≡
+            own_operations service.now (listing_by (T.names texts.now) self.now)) }
     {
         let row = self.service_row(texts, service) as usize;
         if row >= self.newest.len() {

@@ -56,7 +56,8 @@ fn walk<T: Texts>(slots: &[u32], numbers: &[u32], start: usize, texts: &T, name:
     requires start { start < length slots.now }
     requires marked { (k : ℕ) → get_or slots.now k 0 ≤ length numbers.now }
     requires numbers { AreNumbers (T.names texts.now) numbers.now }
-    ensures { Probed slots.now (map (T.names texts.now).at numbers.now) start (named name.entry) result }
+    ensures { Probed slots.now (map (T.names texts.now).at numbers.now) start (named name.entry)
+        result }
 {
     let mut at = start;
     for _passed in 0..slots.len() {
@@ -81,7 +82,7 @@ impl NameTable {
     ///
     /// # Errors
     ///
-    /// Want of memory alone.
+    /// Out of memory, and nothing else.
     pub fn with_room(alloc: Global, keys: RandomState, room: u32) -> Result<Self, AllocError>
         ensures numbers { IfOk result (λ table. table.numbers ≡ []) }
         ensures room { IfOk result (λ table. table.room ≡ room) }
@@ -122,7 +123,8 @@ impl NameTable {
         requires leads { IsNamed (T.names texts.now) self.old }
         requires held { n < (T.names texts.now).count }
         requires room { length self.old.numbers < self.old.room }
-        ensures row { result ≡ row_of (T.names texts.now) self.old.numbers ((T.names texts.now).at n) }
+        ensures row { result ≡ row_of (T.names texts.now) self.old.numbers
+            ((T.names texts.now).at n) }
         ensures numbers { self.new.numbers ≡ with_number (T.names texts.now) self.old.numbers n }
         ensures room { self.new.room ≡ self.old.room }
         ensures leads { IsNamed (T.names texts.now) self.new }

@@ -32,7 +32,8 @@ impl Model for ServicePlaces {
 
     ghost view = { λ p. record { services = p.services; newest = p.newest.items; earlier = p.earlier.items; batches = p.batches } };
 
-    ghost invariant = { λ p. (p.batches ≤ vec_capacity p.newest) × (p.batches ≤ vec_capacity p.earlier) };
+    ghost invariant = { λ p. (p.batches ≤ vec_capacity p.newest)
+        × (p.batches ≤ vec_capacity p.earlier) };
 }
 
 impl ServicePlaces {
@@ -41,7 +42,7 @@ impl ServicePlaces {
     ///
     /// # Errors
     ///
-    /// Want of memory alone.
+    /// Out of memory, and nothing else.
     pub fn with_room(alloc: Global, keys: RandomState, batches: u32) -> Result<Self, AllocError>
         ensures kept { IfOk result (λ places. IsKept [] places) }
         ensures batches { IfOk result (λ places. places.batches ≡ batches) }

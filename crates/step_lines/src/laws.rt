@@ -2,7 +2,7 @@
 
 ghost use Rattle.std.specs.Prelude.{◌≡◌, ◌≢◌, ◌↔◌, ◌∷◌, ◌++◌, ℕ, List, All, Some, None, codes, filter, not, true};
 ghost use Rattle.std.specs.Str.{is_utf8};
-ghost use Rattle.query_http.specs.declared.paths.Endpoint.{Endpoint as Place};
+ghost use Rattle.query_http.specs.declared.paths.Endpoint.{Endpoint as EndpointValue};
 ghost use Rattle.query_http.specs.Paths.{IsPath, IsNoPath};
 ghost use Rattle.step_lines.specs.Targets.{place_of};
 ghost use Rattle.step_lines.specs.Steps.{put_by, step_in};
@@ -10,7 +10,8 @@ ghost use Rattle.step_lines.specs.Words.{is_space};
 
 /// A path's place is the one endpoint that has it, and a path without a place has none.
 pub fn a_place_is_that_of_its_path()
-    ensures place { (path part : List ℕ) (e : Place) → (place_of path ≡ Some (e, part)) ↔ IsPath e part path }
+    ensures place { (path part : List ℕ) (e : EndpointValue) →
+        (place_of path ≡ Some (e, part)) ↔ IsPath e part path }
     ensures none { (path : List ℕ) → (place_of path ≡ None) ↔ IsNoPath path }
 {}
 
@@ -19,5 +20,6 @@ pub fn a_place_is_that_of_its_path()
 pub fn a_batch_is_what_stands_behind_its_seat()
     ensures { (seat hex : List ℕ) → All (λ c. c ≢ 32) seat →
         is_utf8 (codes "put " ++ (seat ++ 32 ∷ hex)) ≡ true →
-        step_in (codes "put " ++ (seat ++ 32 ∷ hex)) ≡ put_by seat (filter (λ c. not (is_space c)) hex) }
+        step_in (codes "put " ++ (seat ++ 32 ∷ hex)) ≡
+        put_by seat (filter (λ c. not (is_space c)) hex) }
 {}

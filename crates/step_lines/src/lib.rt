@@ -11,7 +11,7 @@
 //! * `batch`: the batch that hexadecimal text spells.
 //! * `target`: the query that a target asks.
 //! * `fault`: why a line is no step.
-//! * `stop`: why a reading stops, for a fault or for want of memory.
+//! * `stop`: why a reading stops, for a fault or because memory ran out.
 //! * `outcome`: the text of an outcome.
 //! * `laws`: facts about the definitions.
 #![tactic(auto)]

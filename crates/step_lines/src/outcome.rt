@@ -23,7 +23,7 @@ fn answered_text(alloc: Global, front: u64, answer: &Answer) -> Result<String, A
 ///
 /// # Errors
 ///
-/// Want of memory alone.
+/// Out of memory, and nothing else.
 pub fn outcome_text(alloc: Global, outcome: &Outcome) -> Result<String, AllocError>
     ensures { IfOk result (λ s. string_bytes s ≡ outcome_line outcome.now) }
 {

@@ -162,7 +162,7 @@ fn read_text(
 ///
 /// # Errors
 ///
-/// Want of memory alone.
+/// Out of memory, and nothing else.
 pub fn read_step(
     alloc: Global,
     router: &Router<Endpoint>,

@@ -7,12 +7,12 @@
 #![tactic(auto)]
 
 ghost use Rattle.std.specs.Prelude.{◌≡◌, ℕ, List, Result};
-ghost use Rattle.jaeger_model.specs.declared.batch.Batch.{Batch as Reported};
+ghost use Rattle.jaeger_model.specs.declared.batch.Batch.{Batch as BatchValue};
 ghost use Rattle.trace_model.specs.declared.entry.Entry.{Entry};
 ghost use Rattle.trace_model.specs.declared.limits.Limits.{Limits};
-ghost use Rattle.trace_model.specs.declared.query.Query.{Query as Asked};
-ghost use Rattle.trace_model.specs.declared.answer.Answer.{Answer as Given};
-ghost use Rattle.trace_model.specs.declared.refusal.Refusal.{Refusal as Refused};
+ghost use Rattle.trace_model.specs.declared.query.Query.{Query as QueryValue};
+ghost use Rattle.trace_model.specs.declared.answer.Answer.{Answer as AnswerValue};
+ghost use Rattle.trace_model.specs.declared.refusal.Refusal.{Refusal as RefusalValue};
 ghost use Rattle.store_backend.specs.Knowing.{SubmitKnows, ReadKnows};
 
 use jaeger_model::Batch;
@@ -29,10 +29,10 @@ pub trait Backend<T> {
 
     /// What handing a batch in may do. A store that promises no more than the law below says just that
     /// here.
-    ghost submits: { Self → Reported → Result ℕ Refused → Self → Type 0 };
+    ghost submits: { Self → BatchValue → Result ℕ RefusalValue → Self → Type 0 };
 
     /// What asking may do.
-    ghost reads: { Self → Asked → Result Given Refused → Self → Type 0 };
+    ghost reads: { Self → QueryValue → Result AnswerValue RefusalValue → Self → Type 0 };
 
     /// Hands a batch in. The answer is the place of its entry, the first one being 1.
     ///
@@ -51,9 +51,11 @@ pub trait Backend<T> {
         ensures { reads self.old query.now result self.new };
 
     /// Nothing known is forgotten, and an accepted batch stands in a list that is known then.
-    ghost submit_knows: { (s : Self) (b : Reported) (r : Result ℕ Refused) (t : Self) → submits s b r t → SubmitKnows limits knows s b r t };
+    ghost submit_knows: { (s : Self) (b : BatchValue) (r : Result ℕ RefusalValue) (t : Self) →
+        submits s b r t → SubmitKnows limits knows s b r t };
 
     /// Nothing known is forgotten, and an answer is the plain store's of a list that begins with every
     /// list known before and is known then.
-    ghost read_knows: { (s : Self) (q : Asked) (r : Result Given Refused) (t : Self) → reads s q r t → ReadKnows limits knows s q r t };
+    ghost read_knows: { (s : Self) (q : QueryValue) (r : Result AnswerValue RefusalValue)
+        (t : Self) → reads s q r t → ReadKnows limits knows s q r t };
 }

@@ -1,6 +1,6 @@
 ghost use Rattle.std.specs.Prelude.{◌≡◌, ℕ, ◌+◌, ◌<◌, ◌≤◌, [], Some, IfOk, IsTrue, ◌↔◌, length, position};
 ghost use Rattle.jaeger_model.specs.Parents.{same_trace};
-ghost use Rattle.jaeger_model.specs.declared.ids.TraceId.{TraceId as Trace};
+ghost use Rattle.jaeger_model.specs.declared.ids.TraceId.{TraceId as TraceIdValue};
 ghost use Rattle.id_table.specs.Probes.{AreOnce};
 ghost use Rattle.trace_assembly.specs.Rows.{spots_of, spots_in_row, with_spot, without_spots};
 
@@ -38,7 +38,9 @@ fn row_of(table: &mut IdTable, chains: &mut Chains, trace: TraceId) -> u32
     requires table_room { length table.old.ids < table.old.room }
     requires chains_room { length table.old.ids < chains.old.room }
     ensures row { position (same_trace trace) table.new.ids ≡ Some result }
-    ensures spots { (t : Trace) → spots_in_row chains.new.chains (position (same_trace t) table.new.ids) ≡ spots_in_row chains.old.chains (position (same_trace t) table.old.ids) }
+    ensures spots { (t : TraceIdValue) →
+        spots_in_row chains.new.chains (position (same_trace t) table.new.ids) ≡
+        spots_in_row chains.old.chains (position (same_trace t) table.old.ids) }
     ensures as_many { length chains.new.chains ≡ length table.new.ids }
     ensures once { AreOnce table.new.ids }
     ensures few { length table.new.ids ≤ length table.old.ids + 1 }
@@ -59,7 +61,7 @@ impl Assembly {
     /// An assembly with no spots, and room for so many, those that are hidden too. The keys are those of
     /// the hash by which a trace is found.
     pub fn with_room(alloc: Global, keys: RandomState, room: u32) -> Result<Self, AllocError>
-        ensures spots { IfOk result (λ assembly. (t : Trace) → spots_of assembly t ≡ []) }
+        ensures spots { IfOk result (λ assembly. (t : TraceIdValue) → spots_of assembly t ≡ []) }
         ensures used { IfOk result (λ assembly. assembly.used ≡ 0) }
         ensures room { IfOk result (λ assembly. assembly.room ≡ room) }
     {
@@ -96,7 +98,8 @@ impl Assembly {
     /// Adds a spot to a trace. No memory is taken.
     pub fn add(&mut self, trace: TraceId, spot: Spot)
         requires { self.old.used < self.old.room }
-        ensures spots { (t : Trace) → spots_of self.new t ≡ with_spot trace spot (spots_of self.old) t }
+        ensures spots { (t : TraceIdValue) →
+            spots_of self.new t ≡ with_spot trace spot (spots_of self.old) t }
         ensures used { self.new.used ≡ self.old.used + 1 }
         ensures room { self.new.room ≡ self.old.room }
     {
@@ -106,7 +109,8 @@ impl Assembly {
 
     /// Forgets the spots of a trace. Their room isn't given back.
     pub fn hide(&mut self, trace: TraceId)
-        ensures spots { (t : Trace) → spots_of self.new t ≡ without_spots trace (spots_of self.old) t }
+        ensures spots { (t : TraceIdValue) →
+            spots_of self.new t ≡ without_spots trace (spots_of self.old) t }
         ensures used { self.new.used ≡ self.old.used }
         ensures room { self.new.room ≡ self.old.room }
     {

@@ -43,7 +43,9 @@ impl Model for Chains {
 
     ghost view = { λ c. record { chains = chains_of c.marks.items c.ends.items; used = length c.marks.items; room = c.room } };
 
-    ghost invariant = { λ c. (c.room ≤ vec_capacity c.ends) × (c.room ≤ vec_capacity c.marks) × (c.room ≤ vec_capacity c.next) × IsChained c.room c.ends.items c.marks.items c.next.items };
+    ghost invariant = { λ c. (c.room ≤ vec_capacity c.ends) × (c.room ≤ vec_capacity c.marks)
+        × (c.room ≤ vec_capacity c.next)
+        × IsChained c.room c.ends.items c.marks.items c.next.items };
 }
 
 /// The spots of one trace, in the order in which they were added.
@@ -57,9 +59,9 @@ pub struct Spots<'a> {
 
 impl<'a> Model for Spots<'a> {
     ghost use Rattle.std.specs.Prelude.{List};
-    ghost use Rattle.trace_assembly.specs.declared.spot.Spot.{Spot as Where};
+    ghost use Rattle.trace_assembly.specs.declared.spot.Spot.{Spot as SpotValue};
 
-    ghost Value = { List Where };
+    ghost Value = { List SpotValue };
 
     ghost use Rattle.trace_assembly.specs.Links.{from, IsLinked};
 
@@ -183,7 +185,8 @@ impl Chains {
     pub fn add(&mut self, row: u32, spot: Spot)
         requires row { row < length self.old.chains }
         requires room { self.old.used < self.old.room }
-        ensures chains { self.new.chains ≡ slice_set self.old.chains row (get_or self.old.chains row [] ++ spot ∷ []) }
+        ensures chains { self.new.chains ≡
+            slice_set self.old.chains row (get_or self.old.chains row [] ++ spot ∷ []) }
         ensures used { self.new.used ≡ self.old.used + 1 }
         ensures room { self.new.room ≡ self.old.room }
     {

@@ -1,48 +1,59 @@
 //! Facts about the definitions. Each function does nothing, and its contract is the fact.
 
 ghost use Rattle.std.specs.Prelude.{◌≡◌, ◌+◌, ℕ, List, [], ◌∷◌, ◌++◌, map, length, false, Some, Option, IfSome, option_to_list, if◌then◌else◌};
-ghost use Rattle.jaeger_model.specs.declared.placed.Placed.{Placed as Span};
-ghost use Rattle.jaeger_model.specs.declared.ids.TraceId.{TraceId as Trace};
+ghost use Rattle.jaeger_model.specs.declared.placed.Placed.{Placed as PlacedValue};
+ghost use Rattle.jaeger_model.specs.declared.ids.TraceId.{TraceId as TraceIdValue};
 ghost use Rattle.jaeger_model.specs.Parents.{domain};
 ghost use Rattle.trace_model.specs.declared.entry.Entry.{Entry};
 ghost use Rattle.trace_model.specs.Histories.{arrivals};
 ghost use Rattle.trace_model.specs.Rings.{holds, arrive};
 ghost use Rattle.trace_model.specs.Showing.{trace_of, ring, spans_of_trace};
-ghost use Rattle.trace_assembly.specs.declared.spot.Spot.{Spot as Where};
+ghost use Rattle.trace_assembly.specs.declared.spot.Spot.{Spot as SpotValue};
 ghost use Rattle.trace_assembly.specs.Rows.{with_spot};
 ghost use Rattle.trace_assembly.specs.Located.{located_in, located, span_at, spans_in, spots_in, shown_spots, after_arrival};
 
 #[tactic(auto, using(crate::proofs::Places::spans_at_located_law))]
 /// The spans at the spots of a history, in order, are its arrivals.
 pub fn spots_name_the_arrivals()
-    ensures { (h : List Entry) → map (span_at h) (spots_in (located h)) ≡ map (λ p. Some p) (arrivals h) }
+    ensures { (h : List Entry) → map (span_at h) (spots_in (located h)) ≡
+        map (λ p. Some p) (arrivals h) }
 {}
 
 #[tactic(auto, using(crate::proofs::Places::located_push_law))]
 /// One more entry adds the spans of its batch, each at the entry's place and its own index.
 pub fn an_entry_adds_its_spans()
-    ensures { (h : List Entry) (e : Entry) → located (h ++ e ∷ []) ≡ located h ++ located_in (length h + 1) 0 (domain e.batch) }
+    ensures { (h : List Entry) (e : Entry) →
+        located (h ++ e ∷ []) ≡ located h ++ located_in (length h + 1) 0 (domain e.batch) }
 {}
 
 #[tactic(auto, using(crate::proofs::Feeding::shown_spots_push_law))]
 /// A trace in the ring keeps its spots and gains its own new one. Any other trace has none.
 pub fn spots_since_opened()
-    ensures { (n : ℕ) (ls : List (Where × Span)) (l : Where × Span) (t : Trace) →
-        shown_spots n (ls ++ l ∷ []) t ≡ (if holds (ring n (spans_in (ls ++ l ∷ []))) t then with_spot (trace_of l.1) l.0 (shown_spots n ls) t else []) }
+    ensures { (n : ℕ) (ls : List (SpotValue × PlacedValue)) (l : SpotValue × PlacedValue)
+        (t : TraceIdValue) →
+        shown_spots n (ls ++ l ∷ []) t ≡
+        (if holds (ring n (spans_in (ls ++ l ∷ []))) t then with_spot (trace_of l.1) l.0
+        (shown_spots n ls) t else []) }
 {}
 
 #[tactic(auto, using(crate::proofs::Feeding::after_arrival_law))]
 /// Where the spots of each trace are those of its shown spans, hiding the trace that leaves and then
 /// adding the spot of the newcomer keeps them so.
 pub fn fed_as_the_ring_says()
-    ensures { (n : ℕ) (ls : List (Where × Span)) (l : Where × Span) (left : Option Trace) (old new : List Trace) (spots : Trace → List Where) →
+    ensures { (n : ℕ) (ls : List (SpotValue × PlacedValue)) (l : SpotValue × PlacedValue)
+        (left : Option TraceIdValue) (old new : List TraceIdValue) (spots : TraceIdValue →
+        List SpotValue) →
         old ≡ ring n (spans_in ls) → new ≡ arrive n old (trace_of l.1) →
-        (if holds old (trace_of l.1) then old else old ++ trace_of l.1 ∷ []) ≡ option_to_list left ++ new → IfSome left (λ gone. holds new gone ≡ false) →
-        ((t : Trace) → spots t ≡ shown_spots n ls t) → (t : Trace) → after_arrival l left spots t ≡ shown_spots n (ls ++ l ∷ []) t }
+        (if holds old (trace_of l.1) then old else old ++ trace_of l.1 ∷ []) ≡
+        option_to_list left ++ new → IfSome left (λ gone. holds new gone ≡ false) →
+        ((t : TraceIdValue) → spots t ≡ shown_spots n ls t) → (t : TraceIdValue) →
+        after_arrival l left spots t ≡ shown_spots n (ls ++ l ∷ []) t }
 {}
 
 #[tactic(auto, using(crate::proofs::Feeding::spans_at_shown_law))]
 /// The spans at a trace's shown spots are its shown spans, in the order of their arrival.
 pub fn shown_spots_name_the_shown_spans()
-    ensures { (n : ℕ) (h : List Entry) (t : Trace) → map (span_at h) (shown_spots n (located h) t) ≡ map (λ p. Some p) (spans_of_trace n (arrivals h) t) }
+    ensures { (n : ℕ) (h : List Entry) (t : TraceIdValue) →
+        map (span_at h) (shown_spots n (located h) t) ≡
+        map (λ p. Some p) (spans_of_trace n (arrivals h) t) }
 {}

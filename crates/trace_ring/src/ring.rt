@@ -50,7 +50,8 @@ impl Model for Ring {
 
     ghost view = { λ r. record { limit = r.limit; ids = window r.table.ids r.rows.items; seen = r.table.ids; room = r.room } };
 
-    ghost invariant = { λ r. (r.room ≤ deque_capacity r.rows) × (r.room ≤ vec_capacity r.numbers) × IsRing r.limit r.room r.table r.rows.items r.first r.numbers.items };
+    ghost invariant = { λ r. (r.room ≤ deque_capacity r.rows) × (r.room ≤ vec_capacity r.numbers)
+        × IsRing r.limit r.room r.table r.rows.items r.first r.numbers.items };
 }
 
 /// The traces of a ring from some place on, the one opened longest ago first.
@@ -62,9 +63,9 @@ pub struct Traces<'a> {
 
 impl<'a> Model for Traces<'a> {
     ghost use Rattle.std.specs.Prelude.{List, drop};
-    ghost use Rattle.jaeger_model.specs.declared.ids.TraceId.{TraceId as Trace};
+    ghost use Rattle.jaeger_model.specs.declared.ids.TraceId.{TraceId as TraceIdValue};
 
-    ghost Value = { List Trace };
+    ghost Value = { List TraceIdValue };
 
     ghost view = { λ t. drop t.at t.ring.now.ids };
 }
@@ -211,8 +212,10 @@ impl Ring {
 
     /// The next trace that is opened makes the oldest one leave.
     fn is_full(&self) -> bool
-        ensures full { OnTrue result ((0 < self.now.limit) × (length self.now.ids ≡ self.now.limit)) }
-        ensures not_full { OnFalse result (0 < self.now.limit → length self.now.ids < self.now.limit) }
+        ensures full { OnTrue result ((0 < self.now.limit)
+            × (length self.now.ids ≡ self.now.limit)) }
+        ensures not_full { OnFalse result (0 < self.now.limit →
+            length self.now.ids < self.now.limit) }
     {
         self.limit != 0 && self.rows.len() >= self.limit as usize
     }

@@ -8,7 +8,7 @@ use std::alloc::{AllocError, Global};
 ///
 /// # Errors
 ///
-/// Want of memory alone.
+/// Out of memory, and nothing else.
 pub fn list_of<T: Drop>(alloc: Global, item: T) -> Result<Seq<T>, AllocError>
     ensures { IfOk result (λ items. items ≡ item ∷ []) }
 {
@@ -21,7 +21,7 @@ pub fn list_of<T: Drop>(alloc: Global, item: T) -> Result<Seq<T>, AllocError>
 ///
 /// # Errors
 ///
-/// Want of memory alone.
+/// Out of memory, and nothing else.
 pub fn text_tag(alloc: Global, key: &str, text: &str) -> Result<Tag, AllocError>
     ensures { IfOk result (λ tag. tag ≡ text_tag key.now text.now) }
 {
@@ -35,7 +35,7 @@ pub fn text_tag(alloc: Global, key: &str, text: &str) -> Result<Tag, AllocError>
 ///
 /// # Errors
 ///
-/// Want of memory alone.
+/// Out of memory, and nothing else.
 pub fn process(alloc: Global, service: &str) -> Result<Process, AllocError>
     ensures { IfOk result (λ process. process ≡ plain_process service.now) }
 {
@@ -48,7 +48,7 @@ pub fn process(alloc: Global, service: &str) -> Result<Process, AllocError>
 ///
 /// # Errors
 ///
-/// Want of memory alone.
+/// Out of memory, and nothing else.
 pub fn host_process(alloc: Global, service: &str, host: &str) -> Result<Process, AllocError>
     ensures { IfOk result (λ process. process ≡ host_process service.now host.now) }
 {
@@ -63,7 +63,7 @@ pub fn host_process(alloc: Global, service: &str, host: &str) -> Result<Process,
 ///
 /// # Errors
 ///
-/// Want of memory alone.
+/// Out of memory, and nothing else.
 pub fn span(alloc: Global, trace: u64, id: u64) -> Result<Span, AllocError>
     ensures { IfOk result (λ span. span ≡ root_span trace id) }
 {
@@ -88,7 +88,7 @@ pub fn span(alloc: Global, trace: u64, id: u64) -> Result<Span, AllocError>
 ///
 /// # Errors
 ///
-/// Want of memory alone.
+/// Out of memory, and nothing else.
 pub fn placed(alloc: Global, service: &str, span: Span) -> Result<Placed, AllocError>
     ensures { IfOk result (λ placed.
         placed ≡ record { process = plain_process service.now; span = span }) }
@@ -101,7 +101,7 @@ pub fn placed(alloc: Global, service: &str, span: Span) -> Result<Placed, AllocE
 ///
 /// # Errors
 ///
-/// Want of memory alone.
+/// Out of memory, and nothing else.
 pub fn batch(alloc: Global, service: &str, spans: Vec<Span>) -> Result<Batch, AllocError>
     ensures process { IfOk result (λ batch. batch.process ≡ plain_process service.now) }
     ensures spans { IfOk result (λ batch. batch.spans ≡ spans.items) }

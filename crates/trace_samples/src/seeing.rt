@@ -8,7 +8,7 @@ use std::alloc::{AllocError, Global};
 ///
 /// # Errors
 ///
-/// Want of memory alone.
+/// Out of memory, and nothing else.
 #[tactic(auto, using(std::proofs::lemmas::List::take_more))]
 pub fn seen_trace(alloc: Global, trace: &[Placed]) -> Result<Vec<Seen<'_>>, AllocError>
     ensures { IfOk result (λ all. map seen all.items ≡ trace.now) }
@@ -24,7 +24,7 @@ pub fn seen_trace(alloc: Global, trace: &[Placed]) -> Result<Vec<Seen<'_>>, Allo
 ///
 /// # Errors
 ///
-/// Want of memory alone.
+/// Out of memory, and nothing else.
 #[tactic(auto, using(std::proofs::lemmas::List::map_more))]
 pub fn seen_traces(alloc: Global, traces: &[Vec<Placed>]) -> Result<Vec<Vec<Seen<'_>>>, AllocError>
     ensures { IfOk result (λ all. traces_seen all.items ≡ map (λ t. t.items) traces.now) }

@@ -31,7 +31,7 @@ abbrev pub Reaches : {A X E : Type 0} → E → (A → X) → Reader X E → Rea
 Reaches short view old new piece left None = Waits short old new piece left
 Reaches short view old new piece left (Some x) = Comes old (λ w. Ok (view x, w)) piece left
 
--- the fault of a call; of want of memory nothing is said
+-- the fault of a call; of running out of memory nothing is said
 abbrev pub Refused : {X : Type 0} → (List ℕ → Result X WireError) → List ℕ → PieceError → Type 0
 Refused old piece (Wire e) = Refuses Truncated old piece e
 Refused old piece Memory = Unit {0}

@@ -8,7 +8,7 @@ use Rattle.query_http.specs.Paths.{trace_pattern, names_pattern}
 use Rattle.std.specs.Prelude.{codes}
 use Rattle.query_http.proofs.paths.endpoints.Goals as goal
 
--- a route that conflicts with none is refused for want of memory alone
+-- a route that conflicts with none is refused only where memory ran out
 module _ {T : Type 0} where
   only_memory : (p : List ℕ) (rows : RowsOf (RouteOf T)) (e : InsertError) → nearest p rows ≡ None → Refused p rows e → e ≡ OutOfMemory
   only_memory p rows (Conflict with) none (route, there, text) = search (none, there)
