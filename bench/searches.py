@@ -32,8 +32,8 @@ QUESTIONS = ["one of a common service", "20 of a common service", "20 of a commo
              "no such service", "no such operation", "no such tag", "no such duration", "no such start", "links of a hundredth", "links of all time"]
 
 # The program.
-MAIN = """//! Asks a store that holds the bodies of standard input each question so many times as its word says, and prints the nanoseconds of each and
-//! how much was found. A second word `load` has it print the nanoseconds of each batch that is applied instead.
+MAIN = """//! Asks a store that holds the bodies of standard input each question, or that of the third word alone, so many times as its first word says, and
+//! prints the nanoseconds of each and how much was found. With 0 times it prints the nanoseconds of each batch that is applied.
 #![tactic(auto)]
 
 use anyhow::{Result, bail};
@@ -42,7 +42,7 @@ use jaeger_model::{Seq, Text};
 use query_json::answer_text;
 use span_store::SpanStore;
 use std::alloc::Global;
-use std::env;
+use std::env::{self, Env};
 use std::hash::RandomState;
 use std::io::Read;
 use std::sync::Arc;
@@ -57,30 +57,53 @@ fn now<R: Clock>(rt: &R) -> u64 {
     }
 }
 
-/// The entries of the bodies, which are a length of four bytes and then that many bytes, each.
-fn entries(alloc: Global, input: &[u8]) -> Result<Vec<Arc<Entry>>> {
-    let mut entries = Vec::new(alloc);
-    let mut rest = input;
+/// The first of the bodies, which are a length of four bytes and then that many bytes, each, and those behind it.
+fn next_body(bodies: &[u8]) -> Option<(&[u8], &[u8])> {
+    let [a, b, c, d, tail @ ..] = bodies else {
+        return None;
+    };
+    let length = u32::from_be_bytes([*a, *b, *c, *d]) as usize;
+    if tail.len() < length {
+        return None;
+    }
+    Some(tail.split_at(length))
+}
+
+/// The entry of a body.
+fn entry_of(alloc: Global, body: &[u8], number: u64) -> Result<Arc<Entry>> {
+    let batch = decode(alloc, body)?;
+    let entry = Entry {
+        seat: 0,
+        number,
+        batch,
+    };
+    Ok(Arc::new(alloc, entry)?)
+}
+
+/// Applies an entry; its nanoseconds.
+fn applied<R: Clock>(rt: &R, store: &mut SpanStore, entry: Arc<Entry>) -> Result<u64> {
+    let begin = now(rt);
+    if let Err(why) = store.apply(entry) {
+        bail!("{why}");
+    }
+    Ok(now(rt).saturating_sub(begin))
+}
+
+/// Applies the entry of each body, and says what it took where that is asked for.
+fn filled<R: Clock + Print>(rt: &R, alloc: Global, store: &mut SpanStore, bodies: &[u8], telling: bool) -> Result<()> {
+    let mut rest = bodies;
     for before in 0..1_000_000u64 {
-        let [a, b, c, d, tail @ ..] = rest else {
+        let Some((body, after)) = next_body(rest) else {
             break;
         };
-        let length = u32::from_be_bytes([*a, *b, *c, *d]) as usize;
-        if tail.len() < length {
-            break;
+        let entry = entry_of(alloc, body, before + 1)?;
+        let took = applied(rt, store, entry)?;
+        if telling {
+            println!(rt; "apply {took} 0")?;
         }
-        let (body, after) = tail.split_at(length);
-        let batch = decode(alloc, body)?;
-        let number = before + 1;
-        let entry = Entry {
-            seat: 0,
-            number,
-            batch,
-        };
-        entries.push(Arc::new(alloc, entry)?)?;
         rest = after;
     }
-    Ok(entries)
+    Ok(())
 }
 
 /// All traces of a service, so many at most.
@@ -156,46 +179,57 @@ fn asked<R: Clock>(rt: &R, alloc: Global, store: &SpanStore, query: &Query, json
     Ok((took, size_of(&answer)))
 }
 
-/// Applies the entries; nanoseconds of each.
-fn filled<R: Clock>(rt: &R, alloc: Global, store: &mut SpanStore, entries: Vec<Arc<Entry>>) -> Result<Vec<u64>> {
-    let mut times = Vec::new(alloc);
-    for entry in entries {
-        let begin = now(rt);
-        if let Err(why) = store.apply(entry) {
-            bail!("{why}");
-        }
-        times.push(now(rt).saturating_sub(begin))?;
+/// Prints what a question took and found, so many times.
+fn asked_often<R: Clock + Print>(rt: &R, alloc: Global, store: &SpanStore, number: u32, rounds: u32, end_ms: i64) -> Result<()> {
+    let query = question(alloc, number, end_ms)?;
+    for _ in 0..rounds {
+        let (took, size) = asked(rt, alloc, store, &query, number == 2)?;
+        println!(rt; "{number} {took} {size}")?;
     }
-    Ok(times)
+    Ok(())
+}
+
+/// Fills the store, and asks each question so many times.
+fn measured<R: Clock + Print>(rt: &R, alloc: Global, store: &mut SpanStore, bodies: &[u8], asking: Asking) -> Result<()> {
+    filled(rt, alloc, store, bodies, asking.rounds == 0)?;
+    for number in 0..12u32 {
+        if asking.only.is_none() || asking.only == Some(number) {
+            asked_often(rt, alloc, store, number, asking.rounds, asking.end_ms)?;
+        }
+    }
+    Ok(())
+}
+
+/// How many rounds, the millisecond at which windows end, and the one question where not all are asked.
+#[derive(Clone, Copy)]
+struct Asking {
+    rounds: u32,
+    end_ms: i64,
+    only: Option<u32>,
+}
+
+fn words<R: Env + Alloc<A = Global>>(rt: &R, alloc: Global) -> Result<Asking> {
+    let words: Vec<String> = env::args(rt)?.collect(alloc)?;
+    Ok(Asking {
+        rounds: words.get(1).and_then(|word| word.parse().ok()).unwrap_or(0),
+        end_ms: words.get(2).and_then(|word| word.parse().ok()).unwrap_or(0),
+        only: words.get(3).and_then(|word| word.parse().ok()),
+    })
 }
 
 fn main(rt: HostRuntime) -> Result<()> {
     let alloc = rt.alloc();
-    let words: Vec<String> = env::args(&rt)?.collect(alloc)?;
-    let rounds: u32 = words.get(1).and_then(|word| word.parse().ok()).unwrap_or(0);
-    let end_ms: i64 = words.get(2).and_then(|word| word.parse().ok()).unwrap_or(0);
+    let asking = words(&rt, alloc)?;
     let keys = RandomState::new(&rt)?;
-    let mut input = Vec::new(alloc);
-    rt.stdin().read_to_end(&mut input)?;
+    let mut bodies = Vec::new(alloc);
+    rt.stdin().read_to_end(&mut bodies)?;
     let Some(limits) = Limits::new(1_000_000, 10_000_000, 0, 0) else {
         bail!("limits out of their ranges");
     };
     let mut store = SpanStore::open(alloc, keys, limits)?;
-    let times = filled(&rt, alloc, &mut store, entries(alloc, &input)?)?;
-    if rounds == 0 {
-        for took in times.iter() {
-            println!(&rt; "apply {took} 0")?;
-        }
-        return Ok(());
-    }
-    for number in 0..12u32 {
-        let query = question(alloc, number, end_ms)?;
-        for _ in 0..rounds {
-            let (took, size) = asked(&rt, alloc, &store, &query, number == 2)?;
-            println!(&rt; "{number} {took} {size}")?;
-        }
-    }
-    Ok(())
+    let result = measured(&rt, alloc, &mut store, &bodies, asking);
+    drop(store);
+    result
 }
 """
 
