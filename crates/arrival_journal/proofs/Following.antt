@@ -11,8 +11,8 @@ use Rattle.trace_model.specs.Histories.{last_number, span_count}
 use Rattle.trace_model.specs.Refusals.{has_room, refusal_of}
 use Rattle.trace_model.proofs.Legality.{legal_push, span_count_push}
 use Rattle.arrival_journal.specs.Invariants.{IsKept}
-use Rattle.arrival_journal.specs.declared.times.Times.{Times}
-use Rattle.arrival_journal.specs.Times.{times_in}
+use Rattle.arrival_journal.specs.declared.outline.Outline.{Outline}
+use Rattle.arrival_journal.specs.Outlines.{outline_in}
 use Rattle.std.proofs.lemmas.List.{map_push}
 
 -- what it is that the history takes the entry
@@ -53,17 +53,17 @@ last_push h e old new last rises noted seat =
     ] refl
     ∙ sym (last_number_push seat h e)
 
-pub kept_push : (limits : Limits) (h : List Entry) (most most' : ℕ) (times times' : List Times) (most_times most_times' spans : ℕ) (e : Entry) (old new : List ℕ) (seats seats' : ℕ)
-    → IsKept limits h most times most_times spans old seats → refusal_of limits h e ≡ None → times' ≡ times ++ times_in e ∷ []
-    → ((seat : ℕ) → get_or new seat 0 ≡ (if e.seat == seat then e.number else get_or old seat 0)) → most' ≡ most → most_times' ≡ most_times → seats' ≡ seats
-    → IsKept limits (h ++ e ∷ []) most' times' most_times' (spans + length e.batch.spans) new seats'
-kept_push limits h most most' times times' most_times most_times' spans e old new seats seats' kept none timed noted same same_times stays =
+pub kept_push : (limits : Limits) (h : List Entry) (most most' : ℕ) (outlines outlines' : List Outline) (most_outlines most_outlines' spans : ℕ) (e : Entry) (old new : List ℕ) (seats seats' : ℕ)
+    → IsKept limits h most outlines most_outlines spans old seats → refusal_of limits h e ≡ None → outlines' ≡ outlines ++ outline_in e ∷ []
+    → ((seat : ℕ) → get_or new seat 0 ≡ (if e.seat == seat then e.number else get_or old seat 0)) → most' ≡ most → most_outlines' ≡ most_outlines → seats' ≡ seats
+    → IsKept limits (h ++ e ∷ []) most' outlines' most_outlines' (spans + length e.batch.spans) new seats'
+kept_push limits h most most' outlines outlines' most_outlines most_outlines' spans e old new seats seats' kept none outlined noted same same_outlines stays =
     let follows = may_follow limits h e none in
     record {
       legal = legal_push limits h e kept.legal follows.rises follows.batches follows.spans;
       room = let room = kept.room in omega arith;
-      timed = timed ∙ ap (λ ts. ts ++ times_in e ∷ []) kept.timed ∙ sym (map_push times_in h e);
-      room_for_times = let room = kept.room_for_times in omega arith;
+      outlined = outlined ∙ ap (λ os. os ++ outline_in e ∷ []) kept.outlined ∙ sym (map_push outline_in h e);
+      room_for_outlines = let room = kept.room_for_outlines in omega arith;
       counted = ap (λ k. k + length e.batch.spans) kept.counted ∙ sym (span_count_push h e);
       last = last_push h e old new kept.last follows.rises noted;
       seats_fit = let fit = kept.seats_fit in omega arith;

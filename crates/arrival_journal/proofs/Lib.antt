@@ -1,3 +1,5 @@
 pub mod Following
+pub mod Gaining
+pub mod Numbers
 pub mod Places
 pub mod Widening

@@ -1,3 +1,5 @@
 pub mod Journals
 pub mod Invariants
 pub mod Times
+pub mod Tagging
+pub mod Outlines

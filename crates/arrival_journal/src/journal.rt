@@ -6,10 +6,10 @@ ghost use Rattle.trace_model.specs.Histories.{span_count, last_number, IsLegal};
 ghost use Rattle.trace_model.specs.Refusals.{followed_by};
 ghost use Rattle.trace_model.specs.Places.{entry_at};
 ghost use Rattle.arrival_journal.specs.Journals.{refusal_by};
-ghost use Rattle.arrival_journal.specs.Times.{times_in};
+ghost use Rattle.arrival_journal.specs.Outlines.{outline_in};
 
+use crate::outline::Outline;
 use crate::seats::{SEATS, note};
-use crate::times::Times;
 use std::alloc::{AllocError, Global};
 use std::marker::Model;
 use std::sync::Arc;
@@ -21,7 +21,7 @@ pub struct Journal {
     limits: Limits,
     entries: Vec<Arc<Entry>>,
     /// By entry.
-    times: Vec<Times>,
+    outlines: Vec<Outline>,
     spans: u64,
     /// By seat the number of its last entry, 0 where it has none, up to the last seat that has one.
     last_numbers: Vec<u64>,
@@ -40,23 +40,27 @@ impl Model for Journal {
     ghost view = { λ j. record { held = record { limits = j.limits; entries = map arc_value j.entries.items } } };
 
     ghost invariant = { λ j. IsKept j.limits (map arc_value j.entries.items)
-        (vec_capacity j.entries) j.times.items (vec_capacity j.times) j.spans j.last_numbers.items
+        (vec_capacity j.entries) j.outlines.items (vec_capacity j.outlines) j.spans j.last_numbers.items
         (vec_capacity j.last_numbers) };
 }
 
 impl Journal {
     /// A journal with no entry, and the room for all that its limits let it hold. Nothing takes memory
     /// from then on.
+    ///
+    /// # Errors
+    ///
+    /// Out of memory, and nothing else.
     pub fn new(alloc: Global, limits: Limits) -> Result<Self, AllocError>
         ensures { IfOk result (λ journal. journal.held ≡ record { limits = limits; entries = [] }) }
     {
         let entries = Vec::with_capacity(alloc, limits.batches as usize)?;
-        let times = Vec::with_capacity(alloc, limits.batches as usize)?;
+        let outlines = Vec::with_capacity(alloc, limits.batches as usize)?;
         let last_numbers = Vec::with_capacity(alloc, SEATS)?;
         Ok(Journal {
             limits,
             entries,
-            times,
+            outlines,
             spans: 0,
             last_numbers,
         })
@@ -107,12 +111,12 @@ impl Journal {
         self.entries.get(before)
     }
 
-    /// When the spans of the entry at a place start, and how long they last. It doesn't look at them.
-    pub fn times(&self, place: u64) -> Option<Times>
-        ensures { result ≡ option_map times_in (entry_at self.now.held.entries place) }
+    /// What is known of the entry at a place without a look at its spans.
+    pub fn outline(&self, place: u64) -> Option<Outline>
+        ensures { result ≡ option_map outline_in (entry_at self.now.held.entries place) }
     {
         let before = usize::try_from(place.checked_sub(1)?).ok()?;
-        self.times.get(before).copied()
+        self.outlines.get(before).copied()
     }
 
     /// The number of the seat's last entry, 0 if it has none.
@@ -125,9 +129,13 @@ impl Journal {
             .unwrap_or(0)
     }
 
-    /// Says whether the entry may follow: first whether its number is above the last one of its
-    /// seat ([`Refusal::Stale`]), then whether it and its spans are within the limits
-    /// ([`Refusal::JournalFull`], with the counts now held).
+    /// Says whether the entry may follow.
+    ///
+    /// # Errors
+    ///
+    /// First [`Refusal::Stale`], where its number is not above the last one of its seat; then
+    /// [`Refusal::JournalFull`], with the counts now held, where it or its spans would pass the limits.
+    /// Nothing else.
     pub fn judge(&self, entry: &Entry) -> Result<(), Refusal>
         ensures answer { result_err result ≡ refusal_by self.now.held entry.now }
         ensures legal { IsLegal self.now.held.limits self.now.held.entries }
@@ -155,15 +163,15 @@ impl Journal {
     {
         self.spans += entry.batch.spans.len() as u64;
         note(&mut self.last_numbers, entry.seat, entry.number);
-        self.times
-            .push_reserved(Times::of(entry.batch.spans.as_slice()));
+        self.outlines.push_reserved(Outline::of(&entry.batch));
         self.entries.push_reserved(entry);
     }
 
     /// Adds an entry at the end and gives its place, the first one being 1.
     ///
-    /// The refusals are those of [`judge`](Self::judge), and no others. Any of them leaves the entries
-    /// as they were.
+    /// # Errors
+    ///
+    /// Those of [`judge`](Self::judge), and no others. Any of them leaves the entries as they were.
     pub fn admit(&mut self, entry: Arc<Entry>) -> Result<u64, Refusal>
         ensures answer { result_err result ≡ refusal_by self.old.held (arc_value entry) }
         ensures admissible { OnOk result (refusal_by self.old.held (arc_value entry) ≡ None) }

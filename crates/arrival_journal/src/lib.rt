@@ -7,13 +7,19 @@
 //! never fails because memory ran out.
 //!
 //! * `journal`: the [`Journal`].
+//! * `outline`: what is known of an entry without a look at its spans, its [`Outline`].
 //! * `times`: bounds of the starts and durations of an entry's spans.
+//! * `tagging`: bits that tell which tags an entry can't have.
 //! * `seats`: the last numbers of seats.
 #![tactic(auto)]
 
 mod journal;
+mod outline;
 mod seats;
+mod tagging;
 mod times;
 
 pub use journal::Journal;
+pub use outline::Outline;
+pub use tagging::tag_place;
 pub use times::Times;

@@ -5,6 +5,8 @@ use Rattle.std.proofs.Math.Seq.{take-append_seam}
 use Rattle.httparse.specs.Grammar.{ChunkLine, print_chunk_line, HasNoChunkLine, NeverHasChunkLine, print_section, HasNoSection}
 use Rattle.httparse.specs.Spans.{IsChunkLineAt, IsSectionOf, IsSectionWithin, SectionOverflows, header_bytes, name_and_value}
 use Rattle.httparse.specs.declared.spans.HeaderSpan.{HeaderSpan}
+use Rattle.chunked_bodies.specs.declared.line.TheConstants.{MOST_LINE_BYTES}
+use Rattle.chunked_bodies.specs.declared.trailer.TheConstants.{MOST_TRAILER_BYTES, MOST_FIELDS}
 use Rattle.chunked_bodies.specs.Chunks.{IsSizeLine, IsSomeSizeLine, IsTrailer, HasNone, NeverHas}
 
 -- the bytes, and more, as the first n and the rest
@@ -44,24 +46,24 @@ module _ (Is : List ℕ → Type 0) (n : ℕ) (bytes front : List ℕ) (f : fron
 
 -- ---- size lines
 
-line_is_short : (text : List ℕ) → IsSomeSizeLine text → length text ≤ 256
+line_is_short : (text : List ℕ) → IsSomeSizeLine text → length text ≤ MOST_LINE_BYTES
 line_is_short text is = is.1.short
 
 no_line : (buf : List ℕ) → HasNoChunkLine buf → HasNone IsSomeSizeLine buf
 no_line buf none text rest is e = none is.1.line rest (is.1.is, e ∙ ap (λ l. l ++ rest) is.1.text_is)
 
-pub line_when_full : (bytes front : List ℕ) → front ≡ take 256 bytes → 256 ≤ length bytes → HasNoChunkLine front → NeverHas IsSomeSizeLine bytes
-line_when_full bytes front f full none = never_when_full IsSomeSizeLine 256 bytes front f line_is_short full (no_line front none)
+pub line_when_full : (bytes front : List ℕ) → front ≡ take MOST_LINE_BYTES bytes → MOST_LINE_BYTES ≤ length bytes → HasNoChunkLine front → NeverHas IsSomeSizeLine bytes
+line_when_full bytes front f full none = never_when_full IsSomeSizeLine MOST_LINE_BYTES bytes front f line_is_short full (no_line front none)
 
-pub line_when_short : (bytes front : List ℕ) → front ≡ take 256 bytes → length bytes < 256 → HasNoChunkLine front → HasNone IsSomeSizeLine bytes
-line_when_short bytes front f short none = more_when_short IsSomeSizeLine 256 bytes front f short (no_line front none)
+pub line_when_short : (bytes front : List ℕ) → front ≡ take MOST_LINE_BYTES bytes → length bytes < MOST_LINE_BYTES → HasNoChunkLine front → HasNone IsSomeSizeLine bytes
+line_when_short bytes front f short none = more_when_short IsSomeSizeLine MOST_LINE_BYTES bytes front f short (no_line front none)
 
-pub line_never : (bytes front : List ℕ) → front ≡ take 256 bytes → NeverHasChunkLine front → NeverHas IsSomeSizeLine bytes
-line_never bytes front f never = never_of_front IsSomeSizeLine 256 bytes front f (λ more. no_line (front ++ more) (never more))
+pub line_never : (bytes front : List ℕ) → front ≡ take MOST_LINE_BYTES bytes → NeverHasChunkLine front → NeverHas IsSomeSizeLine bytes
+line_never bytes front f never = never_of_front IsSomeSizeLine MOST_LINE_BYTES bytes front f (λ more. no_line (front ++ more) (never more))
 
-pub line_whole : (bytes front : List ℕ) (len size : ℕ) → front ≡ take 256 bytes → (l : ChunkLine) × IsChunkLineAt front len size l → IsSizeLine (take len bytes) size × (len ≤ length bytes)
+pub line_whole : (bytes front : List ℕ) (len size : ℕ) → front ≡ take MOST_LINE_BYTES bytes → (l : ChunkLine) × IsChunkLineAt front len size l → IsSizeLine (take len bytes) size × (len ≤ length bytes)
 line_whole bytes front len size f found =
-    let first = first_of_front IsSomeSizeLine 256 bytes front f (print_chunk_line found.0) (drop len front) len found.1.reads.1 found.1.len_is in (
+    let first = first_of_front IsSomeSizeLine MOST_LINE_BYTES bytes front f (print_chunk_line found.0) (drop len front) len found.1.reads.1 found.1.len_is in (
       record {
         line = found.0;
         is = found.1.reads.0;
@@ -74,30 +76,30 @@ line_whole bytes front len size f found =
 
 -- ---- trailers
 
-trailer_is_short : (text : List ℕ) → IsTrailer text → length text ≤ 8192
+trailer_is_short : (text : List ℕ) → IsTrailer text → length text ≤ MOST_TRAILER_BYTES
 trailer_is_short text is = is.short
 
 no_section : (buf : List ℕ) → HasNoSection buf → HasNone IsTrailer buf
 no_section buf none text rest is e = none is.fields is.last rest (is.are, e ∙ ap (λ l. l ++ rest) is.text_is)
 
-pub trailer_when_full : (bytes front : List ℕ) → front ≡ take 8192 bytes → 8192 ≤ length bytes → HasNoSection front → NeverHas IsTrailer bytes
-trailer_when_full bytes front f full none = never_when_full IsTrailer 8192 bytes front f trailer_is_short full (no_section front none)
+pub trailer_when_full : (bytes front : List ℕ) → front ≡ take MOST_TRAILER_BYTES bytes → MOST_TRAILER_BYTES ≤ length bytes → HasNoSection front → NeverHas IsTrailer bytes
+trailer_when_full bytes front f full none = never_when_full IsTrailer MOST_TRAILER_BYTES bytes front f trailer_is_short full (no_section front none)
 
-pub trailer_when_short : (bytes front : List ℕ) → front ≡ take 8192 bytes → length bytes < 8192 → HasNoSection front → HasNone IsTrailer bytes
-trailer_when_short bytes front f short none = more_when_short IsTrailer 8192 bytes front f short (no_section front none)
+pub trailer_when_short : (bytes front : List ℕ) → front ≡ take MOST_TRAILER_BYTES bytes → length bytes < MOST_TRAILER_BYTES → HasNoSection front → HasNone IsTrailer bytes
+trailer_when_short bytes front f short none = more_when_short IsTrailer MOST_TRAILER_BYTES bytes front f short (no_section front none)
 
 -- a section with more fields than the room has isn't a trailer
-pub trailer_never : (bytes front : List ℕ) (room : ℕ) → front ≡ take 8192 bytes → 64 ≤ room → SectionOverflows room front → NeverHas IsTrailer bytes
+pub trailer_never : (bytes front : List ℕ) (room : ℕ) → front ≡ take MOST_TRAILER_BYTES bytes → MOST_FIELDS ≤ room → SectionOverflows room front → NeverHas IsTrailer bytes
 trailer_never bytes front room f wide over =
-    never_of_front IsTrailer 8192 bytes front f (λ more text rest is e.
+    never_of_front IsTrailer MOST_TRAILER_BYTES bytes front f (λ more text rest is e.
     absurd (omega (arith, is.few, wide, over more is.fields is.last rest (is.are, e ∙ ap (λ l. l ++ rest) is.text_is))))
 
-pub trailer_whole : (bytes front : List ℕ) (headers : List HeaderSpan) (len count : ℕ) → front ≡ take 8192 bytes → length headers ≤ 64
+pub trailer_whole : (bytes front : List ℕ) (headers : List HeaderSpan) (len count : ℕ) → front ≡ take MOST_TRAILER_BYTES bytes → length headers ≤ MOST_FIELDS
     → IsSectionOf front 0 headers (len, count) → IsSectionWithin front headers len count → IsTrailer (take len bytes) × (len ≤ length bytes)
 trailer_whole bytes front headers len count f room found within =
     let at = found.2 in
     let long : len ≡ length (print_section found.0 found.1) = omega (arith, at.len_is) in
-    let first = first_of_front IsTrailer 8192 bytes front f (print_section found.0 found.1) (drop len front) len at.reads.1 long in
+    let first = first_of_front IsTrailer MOST_TRAILER_BYTES bytes front f (print_section found.0 found.1) (drop len front) len at.reads.1 long in
     let many : length found.0 ≡ count =
     sym (length-map found.0 name_and_value) ∙ ap length (sym at.fields_are) ∙ length-map (take count headers) (header_bytes front) ∙ length-take-le count headers within.count_fits in (
       record {

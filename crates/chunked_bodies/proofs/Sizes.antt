@@ -7,6 +7,7 @@ use Rattle.std.proofs.lemmas.List.Folds.{list_any-append, list_any_none}
 use Rattle.std.proofs.lemmas.List.{take_all}
 use Rattle.std.proofs.lemmas.List.Elements.{All-nil, All-from_recursion}
 use Rattle.httparse.specs.Grammar.{ChunkLine, IsChunkLine, print_chunk_line, print_extension, IsExtension, AllPass, is_ows, is_extension_byte, chunk_size, MayBecomeChunkLine}
+use Rattle.chunked_bodies.specs.declared.line.TheConstants.{MOST_LINE_BYTES}
 use Rattle.chunked_bodies.specs.Chunks.{IsSizeLine, IsSomeSizeLine, IsDecided, IsSized, texts, HasNone, Begins}
 
 abbrev has_feed : List ℕ → Bool
@@ -87,15 +88,15 @@ whole_line bytes l more is e feed =
     empty [] b e = e
     empty (x ∷ a) b e = absurd (omega (arith, ap length e))
 
-unended : (bytes : List ℕ) → MayBecomeChunkLine bytes → HasNone IsSomeSizeLine bytes → length bytes < 256 → (b : Bool) → b ≡ has_feed bytes → has_feed bytes ≡ false
+unended : (bytes : List ℕ) → MayBecomeChunkLine bytes → HasNone IsSomeSizeLine bytes → length bytes < MOST_LINE_BYTES → (b : Bool) → b ≡ has_feed bytes → has_feed bytes ≡ false
 unended bytes may none short false e = sym e
 unended bytes (more, l, reads) none short true e =
     let is : bytes ≡ print_chunk_line l = whole_line bytes l more reads.0 (reads.1 ∙ append-nil (print_chunk_line l)) (sym e) in
     absurd (none bytes [] (chunk_size l, record { line = l; is = reads.0; text_is = is; short = omega (arith, short); size_is = refl }) (sym (append-nil bytes)))
 
-pub line_unended : (bytes front : List ℕ) → front ≡ take 256 bytes → length bytes < 256 → MayBecomeChunkLine front → HasNone IsSomeSizeLine bytes → has_feed bytes ≡ false
+pub line_unended : (bytes front : List ℕ) → front ≡ take MOST_LINE_BYTES bytes → length bytes < MOST_LINE_BYTES → MayBecomeChunkLine front → HasNone IsSomeSizeLine bytes → has_feed bytes ≡ false
 line_unended bytes front f short may none =
-    unended bytes (subst MayBecomeChunkLine (f ∙ take_all 256 bytes (omega (arith, short))) may) none short (has_feed bytes) refl
+    unended bytes (subst MayBecomeChunkLine (f ∙ take_all MOST_LINE_BYTES bytes (omega (arith, short))) may) none short (has_feed bytes) refl
 
 -- ---- the last line
 

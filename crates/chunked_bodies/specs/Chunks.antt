@@ -3,13 +3,16 @@ use Rattle.std.specs.Prelude.{◌≡◌, ℕ, ◌+◌, ◌<◌, ◌≤◌, ◌�
 use Rattle.std.specs.List.{flat_map}
 use Rattle.httparse.specs.Ascii.{crlf_bytes}
 use Rattle.httparse.specs.Grammar.{ChunkLine, IsChunkLine, print_chunk_line, chunk_size, Field, IsField, LineEnd, print_section}
+use Rattle.chunked_bodies.specs.declared.line.TheConstants.{MOST_LINE_BYTES}
+use Rattle.chunked_bodies.specs.declared.trailer.TheConstants.{MOST_TRAILER_BYTES, MOST_FIELDS}
 
--- a line that tells a size, in hexadecimal digits and perhaps with an extension, of at most 256 bytes with CR LF
+-- A line that tells a size, in hexadecimal digits and perhaps with an extension, with its CR LF. The limit is a
+-- session's own: RFC 9112, section 7.1, has none.
 pub record IsSizeLine (text : List ℕ) (size : ℕ) : Type 0 where
   pub line : ChunkLine
   pub is : IsChunkLine line
   pub text_is : text ≡ print_chunk_line line
-  pub short : length text ≤ 256
+  pub short : length text ≤ MOST_LINE_BYTES
   pub size_is : size ≡ chunk_size line
 
 -- a chunk's text, and the data in it
@@ -30,14 +33,14 @@ texts cs = flat_map (λ (c : Chunk). c.text) cs
 abbrev pub contents : List Chunk → List ℕ
 contents cs = flat_map (λ (c : Chunk). c.content) cs
 
--- field lines and an empty line, of at most 8,192 bytes and 64 fields
+-- field lines and an empty line (RFC 9112, section 7.1.2), in limits of a session's own
 pub record IsTrailer (text : List ℕ) : Type 0 where
   pub fields : List Field
   pub last : LineEnd
   pub are : All IsField fields
   pub text_is : text ≡ print_section fields last
-  pub short : length text ≤ 8192
-  pub few : length fields ≤ 64
+  pub short : length text ≤ MOST_TRAILER_BYTES
+  pub few : length fields ≤ MOST_FIELDS
 
 -- Chunks, a line with the size 0 and a trailer. The body is the data of the chunks, of at most so many bytes.
 pub record IsBody (most : ℕ) (text body : List ℕ) : Type 0 where

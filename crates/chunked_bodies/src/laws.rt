@@ -1,7 +1,17 @@
 //! Facts about the definition. Each function does nothing, and its contract is the fact.
 
 ghost use Rattle.std.specs.Prelude.{◌≡◌, ◌≢◌, ℕ, List, ◌++◌};
+ghost use Rattle.chunked_bodies.specs.declared.line.TheConstants.{MOST_LINE_BYTES};
+ghost use Rattle.chunked_bodies.specs.declared.trailer.TheConstants.{MOST_TRAILER_BYTES, MOST_FIELDS};
 ghost use Rattle.chunked_bodies.specs.Chunks.{Reading as ReadingValue, Reading.{bad, not_yet}, Reads, IsDecided, IsSized, Begins, HasNone, NeverHas};
+
+/// The limits of a chunked body: the bytes of a size line with its CR LF, and the bytes and fields of a trailer
+/// with its empty line.
+pub fn a_chunked_body_has_these_limits()
+    ensures line { MOST_LINE_BYTES ≡ 256 }
+    ensures trailer { MOST_TRAILER_BYTES ≡ 8192 }
+    ensures fields { MOST_FIELDS ≡ 64 }
+{}
 
 /// What bytes come to is one answer: a whole body with these data and so many bytes of text, one that is
 /// too large at that line, none whatever follows, or none yet.

@@ -3,7 +3,7 @@ ghost use Rattle.chunked_bodies.specs.Looks.{LooksAtLine};
 use crate::front::front_of;
 use httparse::{Status, parse_chunk_size};
 
-/// The most bytes of a size line with its CR LF.
+/// How many bytes a size line has at most, with its CR LF. RFC 9112 sets no limit; this is a session's own.
 pub const MOST_LINE_BYTES: usize = 256;
 
 /// What stands at the front of the bytes received so far.
@@ -17,8 +17,8 @@ pub enum SizeLine {
     Never,
 }
 
-/// Looks for a size line of at most 256 bytes at the front of the bytes. An extension of the line is
-/// ignored (RFC 9112, section 7.1.1).
+/// Looks for a size line at the front of the bytes, in its limit of bytes. An extension of the line is ignored
+/// (RFC 9112, section 7.1.1).
 pub fn look_for_size(bytes: &[u8]) -> SizeLine
     ensures { LooksAtLine bytes.now result }
 {

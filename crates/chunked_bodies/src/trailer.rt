@@ -4,10 +4,10 @@ use crate::front::front_of;
 use httparse::Status;
 use httparse::spans::{EMPTY_HEADER_SPAN, parse_headers};
 
-/// The most bytes of a trailer with its empty line.
+/// How many bytes a trailer has at most, with its empty line: a limit of a session's own.
 pub const MOST_TRAILER_BYTES: usize = 8192;
 
-/// The most fields of a trailer.
+/// How many fields a trailer has at most: a limit of a session's own.
 const MOST_FIELDS: usize = 64;
 
 /// What stands at the front of the bytes received so far.
@@ -21,8 +21,8 @@ pub enum Trailer {
     Never,
 }
 
-/// Looks for a trailer of at most 8,192 bytes and 64 fields at the front of the bytes (RFC 9112, section
-/// 7.1.2). Its fields are ignored.
+/// Looks for a trailer at the front of the bytes, in its limits of bytes and fields (RFC 9112, section 7.1.2).
+/// Its fields are ignored.
 pub fn look_for_trailer(bytes: &[u8]) -> Trailer
     ensures { LooksAtTrailer bytes.now result }
 {

@@ -205,7 +205,7 @@ fn say_bad_trace<W: Write>(writer: &mut W) -> io::Result<()>
     writeln!(writer, "bad trace id")
 }
 
-/// The trace that is asked for, or the status once its fault is told.
+/// The trace that is asked for, or the status once its fault is written.
 fn trace_of<W: Write>(matches: &ArgMatches<'_>, writer: &mut W) -> Result<TraceId, u8>
     ensures trace { IfOk result (λ id. trace_in
         (first_value (found_of matches.now) (codes "TRACE")) ≡ Some id) }

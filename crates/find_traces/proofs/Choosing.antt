@@ -1,44 +1,12 @@
--- A ranking falls, and of the ranking those that pass a test are the ranking of those that pass it.
+-- Of a ranking those that pass a test are the ranking of those that pass it.
 use Rattle.std.proofs.Common.{◌≡◌, ℤ, Bool, true, false, cond, List, [], ◌∷◌, refl, sym, ap, ◌∙◌, arith}
 use Rattle.std.specs.Prelude.{int_lt, if◌then◌else◌, filter}
 use Rattle.std.specs.List.{AllByRecursion}
 use Rattle.std.proofs.lemmas.Int.{ints}
 use Rattle.std.proofs.lemmas.List.Elements.{All-filter, All-from_recursion, recursion_from_All}
 use Rattle.trace_model.specs.Searching.{put_by_start, ranked, StartsFall}
+use Rattle.trace_model.proofs.Falling.{NoneLater, ranked-falls}
 
--- none of ys starts later than x
-abbrev pub NoneLater : {X : Type 0} → (X → ℤ) → X → List X → Type 0
-NoneLater start x ys = AllByRecursion (λ y. int_lt (start x) (start y) ≡ false) ys
-
-falls_under : {X : Type 0} (start : X → ℤ) (x y : X) (ys : List X) → int_lt (start y) (start x) ≡ true → NoneLater start y ys → NoneLater start x ys
-falls_under start x y [] lt h = tt
-falls_under start x y (z ∷ ys) lt h = (above (start x) (start y) (start z) lt h.0, falls_under start x y ys lt h.1)
-  where
-    above : (a b c : ℤ) → int_lt b a ≡ true → int_lt b c ≡ false → int_lt a c ≡ false
-    above a b c p q = grind (arith, ints)
-
-none_put : {X : Type 0} (start : X → ℤ) (x y : X) (ys : List X) → int_lt (start y) (start x) ≡ false → NoneLater start y ys → NoneLater start y (put_by_start start x ys)
-none_put start x y [] late h = (late, tt)
-none_put start x y (z ∷ ys) late h = elim (int_lt (start z) (start x)) as (λ b. NoneLater start y (if b then x ∷ z ∷ ys else z ∷ put_by_start start x ys)) [
-  | true ↦ (late, h)
-  | false ↦ (h.0, none_put start x y ys late h.1)
-]
-
-pub falls_put : {X : Type 0} (start : X → ℤ) (x : X) (ys : List X) → StartsFall start ys → StartsFall start (put_by_start start x ys)
-falls_put start x [] h = (tt, tt)
-falls_put start x (y ∷ ys) h = elim (int_lt (start y) (start x)) as (λ b. int_lt (start y) (start x) ≡ b → StartsFall start (if b then x ∷ y ∷ ys else y ∷ put_by_start start x ys)) [
-  | true ↦ λ e. ((turned (start x) (start y) e, falls_under start x y ys e h.0), h)
-  | false ↦ λ e. (none_put start x y ys e h.0, falls_put start x ys h.1)
-] refl
-  where
-    turned : (a b : ℤ) → int_lt b a ≡ true → int_lt a b ≡ false
-    turned a b p = grind (arith, ints)
-
-pub ranked-falls : {X : Type 0} (start : X → ℤ) (xs : List X) → StartsFall start (ranked start xs)
-ranked-falls start [] = tt
-ranked-falls start (x ∷ xs) = falls_put start x (ranked start xs) (ranked-falls start xs)
-
--- ---- ranking and choosing commute
 module _ {X : Type 0} (start : X → ℤ) (p : X → Bool) where
   -- all of ys start before x
   abbrev Behind : X → List X → Type 0

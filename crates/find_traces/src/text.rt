@@ -1,4 +1,4 @@
-//! Whether a tag's value reads as a text, told without making the value's text.
+//! Whether a tag's value reads as a text, determined without making the value's text.
 
 ghost use Rattle.std.specs.Prelude.{◌≡◌, ◌<◌, [], ◌∷◌};
 ghost use Rattle.std.specs.Fmt.{signed_decimal};

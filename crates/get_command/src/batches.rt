@@ -93,7 +93,7 @@ fn drop_blanks(line: &mut Vec<u8>)
     line.retain(|c| is_written(*c));
 }
 
-/// Takes the batch of a line into the store, and tells why where it can't.
+/// Takes the batch of a line into the store, and returns why where it can't.
 fn take_batch(
     alloc: Global,
     store: &mut SpanStore,
@@ -138,6 +138,10 @@ impl Model for Batches {
 
 impl Batches {
     /// Nothing is held.
+    ///
+    /// # Errors
+    ///
+    /// Out of memory, and nothing else.
     pub fn new(alloc: Global, keys: RandomState, limits: Limits) -> Result<Self, AllocError>
         ensures { IfOk result (λ batches. batches ≡ nothing_held limits) }
     {

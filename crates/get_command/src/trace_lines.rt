@@ -96,7 +96,7 @@ fn say_none<W: Output>(alloc: Global, output: &mut W) -> Result<(), Halt>
     say(alloc, output, b"trace not found\n")
 }
 
-/// Writes the spans of the trace, or that it isn't found, and tells whether it is.
+/// Writes the spans of the trace, or that it isn't found, and returns whether it is.
 pub(crate) fn say_trace<W: Output>(
     alloc: Global,
     output: &mut W,

@@ -6,10 +6,10 @@
 //! they are found slowly.
 //!
 //! * `table`: the [`IdTable`].
-//! * `places`: the places in which its rows are found.
+//! * `sought`: an id that is sought in the places of its rows.
 #![tactic(auto)]
 
-mod places;
+mod sought;
 mod table;
 
 pub use table::IdTable;

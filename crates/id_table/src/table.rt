@@ -2,8 +2,9 @@ ghost use Rattle.std.specs.Prelude.{◌≡◌, ◌<◌, ◌≤◌, [], ◌∷◌
 ghost use Rattle.jaeger_model.specs.Parents.{same_trace};
 ghost use Rattle.id_table.specs.Rows.{id_at};
 
-use crate::places::{Probe, first_place, make_place, mark, walk};
+use crate::sought::{SoughtId, id_hash};
 use jaeger_model::TraceId;
+use row_places::RowPlaces;
 use std::alloc::{AllocError, Global};
 use std::hash::RandomState;
 use std::marker::Model;
@@ -12,11 +13,8 @@ use std::marker::Model;
 #[derive(Drop)]
 pub struct IdTable {
     keys: RandomState,
-    room: u32,
-    /// An id's row and one more, at the first place that was free from where its hash points on; 0
-    /// where a place is free. More than half of the places are. There are only as many as the ids need:
-    /// the rest of the room isn't touched.
-    slots: Vec<u32>,
+    /// Lead to the rows of the ids by their hashes.
+    places: RowPlaces,
     ids: Vec<TraceId>,
 }
 
@@ -27,27 +25,24 @@ impl Model for IdTable {
 
     ghost Value = { Rows };
 
-    ghost view = { λ t. record { ids = t.ids.items; room = t.room } };
+    ghost view = { λ t. record { ids = t.ids.items; room = t.places.room } };
 
-    ghost invariant = { λ t. IsHoused t.keys t.room (vec_capacity t.slots) (vec_capacity t.ids)
-        t.slots.items t.ids.items };
+    ghost invariant = { λ t. IsHoused t.keys t.places (vec_capacity t.ids) t.ids.items };
 }
 
 impl IdTable {
     /// A table with no id and room for so many.
+    ///
+    /// # Errors
+    ///
+    /// Out of memory, and nothing else.
     pub fn with_room(alloc: Global, keys: RandomState, room: u32) -> Result<Self, AllocError>
         ensures ids { IfOk result (λ table. table.ids ≡ []) }
         ensures room { IfOk result (λ table. table.room ≡ room) }
     {
-        let mut slots = Vec::with_capacity(alloc, 2 * room as usize + 1)?;
+        let places = RowPlaces::with_room(alloc, room)?;
         let ids = Vec::with_capacity(alloc, room as usize)?;
-        slots.push_reserved(0);
-        Ok(IdTable {
-            keys,
-            room,
-            slots,
-            ids,
-        })
+        Ok(IdTable { keys, places, ids })
     }
 
     /// How many ids were added.
@@ -62,7 +57,7 @@ impl IdTable {
     pub fn has_room(&self) -> bool
         ensures { IsTrue result ↔ (length self.now.ids < self.now.room) }
     {
-        self.used() < self.room
+        self.used() < self.places.room()
     }
 
     /// The id of a row.
@@ -77,12 +72,12 @@ impl IdTable {
     pub fn find(&self, id: TraceId) -> Option<u32>
         ensures { result ≡ position (same_trace id) self.now.ids }
     {
-        let start = first_place(&self.keys, self.slots.len(), id);
-        match walk(&self.slots, &self.ids, start, id) {
-            Probe::Row(row) => Some(row),
-            Probe::Free(_) => None,
-            Probe::Full => None,
-        }
+        let sought = SoughtId {
+            keys: self.keys,
+            ids: &self.ids,
+            id,
+        };
+        self.places.find(id_hash(self.keys, id), &sought)
     }
 
     /// Adds an id that isn't in the table, and gives its row. No memory is taken.
@@ -94,8 +89,12 @@ impl IdTable {
         ensures room { self.new.room ≡ self.old.room }
     {
         let row = self.used();
-        make_place(&self.keys, &mut self.slots, &self.ids, self.room);
-        mark(&self.keys, &mut self.slots, &self.ids, id);
+        let rows = SoughtId {
+            keys: self.keys,
+            ids: &self.ids,
+            id,
+        };
+        self.places.mark(id_hash(self.keys, id), &rows);
         self.ids.push_reserved(id);
         row
     }

@@ -233,11 +233,11 @@ takes_in pass v other w may not theirs quiet items views b at apart its =
     stays-none true h e = refl
     stays-none false h e = e
 
--- what a push tells of the queue
+-- what a push says of the queue
 pub full : (pass : ℕ) (v : QueueView) → v.submits ≡ true → Learns Balanced pass v (Queued v)
 full pass v may items views b at = (b.3, b.4 v.seat ∙ sym ((b.6 pass v at).0 may).1)
 
--- what a pop tells of the queue
+-- what a pop says of the queue
 pub waits : (pass : ℕ) (v : QueueView) → v.takes ≡ true → Learns Balanced pass v (Waiting v)
 waits pass v may items views b at = let mine = (b.6 pass v at).1 may in
     go b.1 b.2 v.made v.ended (v.taken ++ items) (λ s. ap (λ z. jobs_of s (z ++ items)) mine.1 ∙ b.4 s) b.5 mine.3

@@ -86,7 +86,7 @@ spent = queue_view false false 0 0 [] [] []
 abbrev pub took_in : QueueView → QueueView → QueueView
 took_in v w = record v { ended = ended_seat w.seat w.handed ∷ v.ended }
 
--- ---- what a step tells of the queue
+-- ---- what a step says of the queue
 
 -- behind some jobs that were taken, these queued ones end with all that the seat handed in
 abbrev pub Queued : QueueView → List Entry → Type 0

@@ -34,8 +34,8 @@ pub enum Turn {
 
 /// The clerk of a desk. Contracts see all jobs that it took, and an account of each one.
 ///
-/// Where it goes without [`run`](Self::run) or [`leave`](Self::leave), each ticket that still waits is told
-/// that no reply comes.
+/// Where it goes without [`run`](Self::run) or [`leave`](Self::leave), each ticket that still waits gets
+/// the answer that no reply comes.
 #[derive(Drop)]
 pub struct Clerk<N: StoreName> {
     inbox: Inbox<N>,
@@ -44,7 +44,7 @@ pub struct Clerk<N: StoreName> {
     alloc: Global,
 }
 
-/// Tells the tickets, when it goes, that the clerk has ended.
+/// Lets the tickets know, when it goes, that the clerk has ended.
 pub(crate) struct Ending<N: StoreName> {
     shared: Arc<Shared<N>>,
 }
@@ -203,7 +203,7 @@ impl<N: StoreName> Clerk<N> {
     }
 
     /// Leaves the books at once. Jobs that wait stay in the queue, from where [`Books::take_in`] hands them
-    /// back; their tickets are told that no reply comes, or that the desk was closed.
+    /// back; their tickets get the answer that no reply comes, or that the desk was closed.
     pub fn leave(self, keeper: Keeper<N>) -> Books<N>
         ensures taken { result.inbox.taken ≡ self.taken }
         ensures accounts { result.accounts.items ≡ self.accounts }

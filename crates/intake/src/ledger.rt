@@ -12,10 +12,15 @@ use trace_model::Entry;
 /// [`Books`] but for their keeper, for an owner who has it elsewhere. Unlike books it may be dropped.
 #[derive(Drop)]
 pub struct Ledger<N: StoreName> {
+    /// One for each job that was judged, in the order taken.
     pub accounts: Vec<Account>,
+    /// How many were acknowledged.
     pub acknowledged: u64,
+    /// How many were refused.
     pub refused: u64,
+    /// The jobs that were taken and not judged, in the order taken.
     pub left: Vec<Arc<Entry>>,
+    /// The clerk's end of the queue.
     pub inbox: Inbox<N>,
 }
 

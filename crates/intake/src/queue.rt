@@ -45,7 +45,7 @@ impl<N: StoreName> Protocol<Job<N>, QueueView> for InOrder<N> {
     ghost first = { first_view };
 }
 
-/// The step that hands a job in, and what is told where the queue is full.
+/// The step that hands a job in, and what is returned where the queue is full.
 pub struct PutJob;
 
 impl<N: StoreName> Outcome<Job<N>, QueueView> for PutJob {
@@ -60,7 +60,7 @@ impl<N: StoreName> Lesson<Job<N>, QueueView> for PutJob {
     ghost fact = { Queued };
 }
 
-/// The step that takes a job, and what is told where there is none.
+/// The step that takes a job, and what is returned where there is none.
 pub struct TakeJob;
 
 impl<N: StoreName> Outcome<Job<N>, QueueView> for TakeJob {

@@ -10,3 +10,7 @@ MayHandIn desk s = (s.desk ≡ desk) × (s.hands_in ≡ true)
 -- it is of the same desk, and may hand in if it might
 abbrev pub Stays : SeatValue → SeatValue → Type 0
 Stays old new = (new.desk ≡ old.desk) × (new.hands_in ≡ old.hands_in)
+
+-- each of four seats may
+abbrev pub AllMayHandIn : TableId → SeatValue → SeatValue → SeatValue → SeatValue → Type 0
+AllMayHandIn desk a b c d = MayHandIn desk a × MayHandIn desk b × MayHandIn desk c × MayHandIn desk d

@@ -5,7 +5,7 @@ ghost use Rattle.std.specs.Prelude.{◌≡◌, true, map, All, IfSome};
 ghost use Rattle.std.specs.Arc.{arc_value};
 ghost use Rattle.intake.specs.Books.{Balances};
 ghost use Rattle.intake.specs.Seats.{IsNewSeat};
-ghost use Rattle.intake_rows.specs.Seats.{MayHandIn, Stays};
+ghost use Rattle.intake_rows.specs.Seats.{AllMayHandIn, Stays};
 
 use crate::house::batch;
 use intake::{Ack, Books, Clerk, Desk, Ledger, Seat, Ticket, Turn, desk};
@@ -110,10 +110,8 @@ fn unused_seat<N: StoreName>(alloc: Global, seat: Seat<N>) -> Handed<N>
 /// The four seats of the clerk's desk.
 fn four_of<N: StoreName>(alloc: Global, clerk: &Clerk<N>, seats: Vec<Seat<N>>) -> Option<Four<N>>
     requires { All (IsNewSeat clerk.now.desk 8) seats.items }
-    ensures a { IfSome result (λ f. MayHandIn clerk.now.desk f.a.seat) }
-    ensures b { IfSome result (λ f. MayHandIn clerk.now.desk f.b.seat) }
-    ensures c { IfSome result (λ f. MayHandIn clerk.now.desk f.c.seat) }
-    ensures d { IfSome result (λ f. MayHandIn clerk.now.desk f.d.seat) }
+    ensures { IfSome result (λ f.
+        AllMayHandIn clerk.now.desk f.a.seat f.b.seat f.c.seat f.d.seat) }
 {
     let mut seats = seats;
     let d = next_seat(clerk, &mut seats)?;
@@ -323,10 +321,8 @@ fn left_over<N: StoreName, R: Wait>(
 ) -> Option<u64>
     requires books { Balances books.inbox.taken books.accounts.items
         (map arc_value books.left.items) }
-    requires a { MayHandIn books.inbox.desk handed.a.seat }
-    requires b { MayHandIn books.inbox.desk handed.b.seat }
-    requires c { MayHandIn books.inbox.desk handed.c.seat }
-    requires d { MayHandIn books.inbox.desk handed.d.seat }
+    requires seats { AllMayHandIn books.inbox.desk handed.a.seat handed.b.seat
+        handed.c.seat handed.d.seat }
 {
     let mut books = books;
     let Four {
@@ -363,10 +359,8 @@ fn leaves<N: StoreName, R: Wait>(
     keeper: Keeper<N>,
     floor: Floor<N>,
 ) -> bool
-    requires a { MayHandIn clerk.desk floor.four.a.seat }
-    requires b { MayHandIn clerk.desk floor.four.b.seat }
-    requires c { MayHandIn clerk.desk floor.four.c.seat }
-    requires d { MayHandIn clerk.desk floor.four.d.seat }
+    requires seats { AllMayHandIn clerk.desk floor.four.a.seat floor.four.b.seat
+        floor.four.c.seat floor.four.d.seat }
 {
     let mut clerk = clerk;
     let mut keeper = keeper;
@@ -392,10 +386,8 @@ fn races<N: StoreName + Send + Sync, R: Threads + Wait + Sync>(
     keeper: Keeper<N>,
     floor: Floor<N>,
 ) -> bool
-    requires a { MayHandIn clerk.desk floor.four.a.seat }
-    requires b { MayHandIn clerk.desk floor.four.b.seat }
-    requires c { MayHandIn clerk.desk floor.four.c.seat }
-    requires d { MayHandIn clerk.desk floor.four.d.seat }
+    requires seats { AllMayHandIn clerk.desk floor.four.a.seat floor.four.b.seat
+        floor.four.c.seat floor.four.d.seat }
 {
     let mut floor = floor;
     let mut office = Office {

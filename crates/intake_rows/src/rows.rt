@@ -102,7 +102,7 @@ fn came_back<N: StoreName>(
     }
 }
 
-/// The place that a ticket is told, or the refusal.
+/// The place that a ticket returns, or the refusal.
 fn told<N: StoreName, R: Wait>(
     rt: &R,
     answer: Option<Result<Ticket<N>, (Refusal, Batch)>>,
@@ -265,7 +265,7 @@ fn clerk_gone<N: StoreName, R: Wait>(rt: &R, alloc: Global, house: House<N>, clo
     told(rt, waiting) == Err(wanted)
 }
 
-/// 1 where the queue took the batch, 100 where the seat was told that the queue was full.
+/// 1 where the queue took the batch, 100 where the seat was refused because the queue was full.
 fn taken_or_full<N: StoreName, R: Wait>(rt: &R, alloc: Global, seat: &mut Seat<N>) -> u64 {
     match hands_in(rt, alloc, seat, 1) {
         Some(Ok(_)) => 1,

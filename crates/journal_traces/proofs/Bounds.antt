@@ -1,4 +1,4 @@
--- Where the bounds of the spans' times don't meet those of the search, no span meets the search.
+-- Where the outline of an entry doesn't meet the search, no span meets it.
 use Rattle.std.proofs.Common.{◌≡◌, ℤ, ◌≤ℤ◌, Bool, true, false, ◌&&◌, cond, List, [], ◌∷◌, map, refl, sym, ap, ◌∙◌, arith}
 use Rattle.std.specs.Prelude.{Option, Some, None, int_le, not, option_map}
 use Rattle.std.specs.List.{list_all, AllByRecursion}
@@ -11,10 +11,13 @@ use Rattle.jaeger_model.specs.declared.span.Span.{Span}
 use Rattle.trace_model.specs.declared.query.Find.{Find}
 use Rattle.trace_model.specs.Searching.{is_named, is_timed, has_tag, at_least, at_most, bound}
 use Rattle.arrival_journal.specs.declared.times.Times.{Times}
-use Rattle.arrival_journal.specs.Times.{times_of, times_in, starts, durations, latest, earliest}
+use Rattle.arrival_journal.specs.Times.{times_of, starts, durations, latest, earliest}
+use Rattle.arrival_journal.specs.declared.outline.Outline.{Outline}
+use Rattle.arrival_journal.specs.Outlines.{outline_of, outline_in}
 use Rattle.trace_model.specs.declared.entry.Entry.{Entry}
 use Rattle.journal_traces.specs.Picked.{meets, met, met_or_none}
 use Rattle.journal_traces.specs.Pruned.{may_meet}
+use Rattle.journal_traces.proofs.Asked.{AreSet, all_set, all_marked}
 
 -- the span's start and duration lie in these bounds
 pub record Within (t : Times) (s : Span) : Type 0 where
@@ -59,10 +62,22 @@ lowered (Some h) x y le e = by (int_le y h) refl
     by true f = refl
     by false f = absurd (omega (arith, ints))
 
-meeting : (q : Find) (o : Process) (t : Times) (s : Span) → Within t s → meets q o s ≡ true → may_meet q t ≡ true
-meeting q o t s w m =
+-- what is known of a span of this process by an outline
+record Outlined (ol : Outline) (o : Process) (s : Span) : Type 0 where
+  pub within : Within ol.times s
+  pub set : AreSet ol.tags o s
+
+outlined : (ol : Outline) (o : Process) (ss : List Span) → AllByRecursion (Within ol.times) ss → AllByRecursion (AreSet ol.tags o) ss → AllByRecursion (Outlined ol o) ss
+outlined ol o [] w t = tt
+outlined ol o (s ∷ ss) w t = (record { within = w.0; set = t.0 }, outlined ol o ss w.1 t.1)
+
+meeting : (q : Find) (o : Process) (ol : Outline) (s : Span) → Outlined ol o s → meets q o s ≡ true → may_meet q ol ≡ true
+meeting q o ol s known m =
     let p : Placed = record { process = o; span = s } in
-    let timed = (both (is_named q p) (is_timed q p) (both (is_named q p && is_timed q p) (list_all (has_tag p) q.tags) m).0).1 in
+    let t = ol.times in
+    let w = known.within in
+    let parts = both (is_named q p && is_timed q p) (list_all (has_tag p) q.tags) m in
+    let timed = (both (is_named q p) (is_timed q p) parts.0).1 in
     let long : Bool = at_least (bound q.duration_min) s.duration in
     let short : Bool = at_most (bound q.duration_max) s.duration in
     let late : Bool = at_least q.start_min s.start in
@@ -74,25 +89,28 @@ meeting q o t s w m =
     let b' = lowered (bound q.duration_max) s.duration t.duration_min w.duration_low ab.1 in
     let c' = raised q.start_min s.start t.start_max w.start_high c.1 in
     let d' = lowered q.start_max s.start t.start_min w.start_low d.1 in
-    λ i. (a' i && b' i) && (c' i && d' i)
+    let e' = all_marked ol.tags p q.tags known.set parts.1 in
+    λ i. (a' i && b' i) && (c' i && d' i) && e' i
 
-none_met : (q : Find) (o : Process) (t : Times) (ss : List Span) → AllByRecursion (Within t) ss → may_meet q t ≡ false → met q o ss ≡ []
-none_met q o t [] w none = refl
-none_met q o t (s ∷ ss) w none = elim (meets q o s) as (λ b. meets q o s ≡ b → cond b (s ∷ met q o ss) (met q o ss) ≡ []) [
-  | true ↦ λ m. absurd (false≢true (sym none ∙ meeting q o t s w.0 m))
-  | false ↦ λ _. none_met q o t ss w.1 none
+none_met : (q : Find) (o : Process) (ol : Outline) (ss : List Span) → AllByRecursion (Outlined ol o) ss → may_meet q ol ≡ false → met q o ss ≡ []
+none_met q o ol [] known none = refl
+none_met q o ol (s ∷ ss) known none = elim (meets q o s) as (λ b. meets q o s ≡ b → cond b (s ∷ met q o ss) (met q o ss) ≡ []) [
+  | true ↦ λ m. absurd (false≢true (sym none ∙ meeting q o ol s known.0 m))
+  | false ↦ λ _. none_met q o ol ss known.1 none
 ] refl
 
--- no span of these meets the search
-pub passed : (q : Find) (o : Process) (ss : List Span) → may_meet q (times_of ss) ≡ false → met q o ss ≡ []
-passed q o ss none = none_met q o (times_of ss) ss (all_within ss) none
+-- no span of the entry meets the search
+passed : (q : Find) (e : Entry) → may_meet q (outline_in e) ≡ false → met q e.batch.process e.batch.spans ≡ []
+unfolding outline_of
+passed q e none =
+    none_met q e.batch.process (outline_in e) e.batch.spans (outlined (outline_in e) e.batch.process e.batch.spans (all_within e.batch.spans) (all_set e.batch)) none
 
 -- ---- at a place
-pub passed_there : (q : Find) (e : Option Entry) (t : Times) → Some t ≡ option_map times_in e → may_meet q t ≡ false → met_or_none q e ≡ []
-passed_there q None t e none = absurd (cc e)
-passed_there q (Some x) t e none = let same : t ≡ times_in x = cc e in passed q x.batch.process x.batch.spans (ap (may_meet q) (sym same) ∙ none)
+pub passed_there : (q : Find) (e : Option Entry) (ol : Outline) → Some ol ≡ option_map outline_in e → may_meet q ol ≡ false → met_or_none q e ≡ []
+passed_there q None ol e none = absurd (cc e)
+passed_there q (Some x) ol e none = let same : ol ≡ outline_in x = cc e in passed q x (ap (may_meet q) (sym same) ∙ none)
 
-pub none_there : (q : Find) (e : Option Entry) → None ≡ option_map times_in e → met_or_none q e ≡ []
+pub none_there : (q : Find) (e : Option Entry) → None ≡ option_map outline_in e → met_or_none q e ≡ []
 none_there q None e = refl
 none_there q (Some x) e = absurd (cc e)
 

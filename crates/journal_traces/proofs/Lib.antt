@@ -1,4 +1,5 @@
 pub mod Adopting
+pub mod Asked
 pub mod Marking
 pub mod Spots
 pub mod Bounds

@@ -12,7 +12,9 @@ use Rattle.trace_model.specs.declared.entry.Entry.{Entry}
 use Rattle.trace_model.specs.Linking.{is_between, in_window}
 use Rattle.trace_model.specs.Places.{entry_at}
 use Rattle.arrival_journal.specs.declared.times.Times.{Times}
-use Rattle.arrival_journal.specs.Times.{times_of, times_in}
+use Rattle.arrival_journal.specs.Times.{times_in}
+use Rattle.arrival_journal.specs.declared.outline.Outline.{Outline}
+use Rattle.arrival_journal.specs.Outlines.{outline_of, outline_in}
 use Rattle.trace_assembly.specs.declared.spot.Spot.{Spot}
 use Rattle.journal_traces.specs.Pruned.{may_reach}
 use Rattle.journal_traces.specs.Standing.{spans_named}
@@ -55,14 +57,15 @@ none_placed e l t b (s ∷ ss) w none zero =
     ap (λ (x : Bool). x || false) (window-adopted e l (record { process = b.process; span = s }) ∙ not_reaching e l t s w.0 none)
 none_placed e l t b (s ∷ ss) w none (suc i) = none_placed e l t b ss w.1 none i
 
-none_at : (e l : ℤ) (o : Option Entry) (i : ℕ) (t : Times) → Some t ≡ option_map times_in o → may_reach e l t ≡ false
+none_at : (e l : ℤ) (o : Option Entry) (i : ℕ) (ol : Outline) → Some ol ≡ option_map outline_in o → may_reach e l ol.times ≡ false
     → list_any (in_window e l) (cons_option (option_and_then (λ (x : Entry). slice_get (domain x.batch) i) o) []) ≡ false
-none_at e l None i t is none = absurd (cc is)
-none_at e l (Some x) i t is none =
-    let same : t ≡ times_in x = cc is in
-    none_placed e l (times_in x) x.batch x.batch.spans (all_within x.batch.spans) (ap (may_reach e l) (sym same) ∙ none) i
+unfolding outline_of
+none_at e l None i ol is none = absurd (cc is)
+none_at e l (Some x) i ol is none =
+    let same : ol ≡ outline_in x = cc is in
+    none_placed e l (times_in x) x.batch x.batch.spans (all_within x.batch.spans) (ap (λ (o : Outline). may_reach e l o.times) (sym same) ∙ none) i
 
 -- no span at this spot starts in the window
-pub none_starts : (e l : ℤ) (h : List Entry) (s : Spot) (t : Times) → Some t ≡ option_map times_in (entry_at h s.place) → may_reach e l t ≡ false
+pub none_starts : (e l : ℤ) (h : List Entry) (s : Spot) (ol : Outline) → Some ol ≡ option_map outline_in (entry_at h s.place) → may_reach e l ol.times ≡ false
     → list_any (in_window e l) (spans_named h (s ∷ [])) ≡ false
-none_starts e l h s t is none = none_at e l (entry_at h s.place) s.index t is none
+none_starts e l h s ol is none = none_at e l (entry_at h s.place) s.index ol is none

@@ -1,8 +1,12 @@
 -- Entries that a search passes over.
-use Rattle.std.specs.Prelude.{ℤ, pos, ◌-ℤ◌, ◌*ℤ◌, int_lt, Bool, ◌&&◌}
+use Rattle.std.specs.Prelude.{ℕ, ℤ, pos, ◌-ℤ◌, ◌*ℤ◌, ◌==◌, int_lt, Bool, ◌&&◌, List}
+use Rattle.std.specs.Int.{bit_at}
+use Rattle.std.specs.List.{list_all}
 use Rattle.trace_model.specs.declared.query.Find.{Find}
 use Rattle.trace_model.specs.Searching.{at_least, at_most, bound}
 use Rattle.arrival_journal.specs.declared.times.Times.{Times}
+use Rattle.arrival_journal.specs.declared.outline.Outline.{Outline}
+use Rattle.arrival_journal.specs.Tagging.{tag_place}
 
 -- the bounds of the spans' durations and those of the search meet
 abbrev pub may_last : Find → Times → Bool
@@ -12,8 +16,16 @@ may_last q t = at_least (bound q.duration_min) t.duration_max && at_most (bound 
 abbrev pub may_start : Find → Times → Bool
 may_start q t = at_least q.start_min t.start_max && at_most q.start_max t.start_min
 
-abbrev pub may_meet : Find → Times → Bool
-may_meet q t = may_last q t && may_start q t
+-- the bit of an asked tag is among these
+abbrev pub is_marked : ℕ → List ℕ × List ℕ → Bool
+is_marked bits asked = bit_at bits (tag_place asked.0 asked.1) == 1
+
+-- that of each asked tag is
+abbrev pub may_tell : Find → ℕ → Bool
+may_tell q bits = list_all (is_marked bits) q.tags
+
+abbrev pub may_meet : Find → Outline → Bool
+may_meet q o = may_last q o.times && may_start q o.times && may_tell q o.tags
 
 -- some start between these bounds may lie strictly between those of the window
 abbrev pub may_reach : ℤ → ℤ → Times → Bool

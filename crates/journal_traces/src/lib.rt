@@ -3,7 +3,7 @@
 //!
 //! * `standing`: the spans that spots name.
 //! * `gathering`: these spans, copied.
-//! * `pruning`: entries that a search passes over by the bounds of their spans' times.
+//! * `pruning`: entries that a search passes over by their outlines.
 //! * `searching`: which traces a search by a service looks at.
 //! * `candidates`: these traces, as a search looks at them.
 //! * `seeing`: the spans of the traces in a window of time.

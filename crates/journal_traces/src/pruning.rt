@@ -1,9 +1,10 @@
-//! Entries that a search, or a look at a window of time, passes over by the bounds of their spans' times.
+//! Entries that a search, or a look at a window of time, passes over by their outlines.
 
 ghost use Rattle.std.specs.Prelude.{◌≡◌};
-ghost use Rattle.journal_traces.specs.Pruned.{may_last, may_start, may_meet, may_reach};
+ghost use Rattle.journal_traces.specs.Pruned.{may_last, may_start, is_marked, may_tell, may_meet, may_reach};
 
-use arrival_journal::Times;
+use arrival_journal::{Outline, Times, tag_place};
+use jaeger_model::Text;
 use span_steps::{duration_bound, is_at_least, is_at_most, may_be_in_window};
 use trace_model::Find;
 
@@ -22,11 +23,32 @@ fn may_start(times: Times, query: &Find) -> bool
     is_at_least(query.start_min, times.start_max) && is_at_most(query.start_max, times.start_min)
 }
 
-/// The same of both. Where they may not, none of the spans has to be looked at.
-pub(crate) fn may_meet(times: Times, query: &Find) -> bool
-    ensures { result ≡ may_meet query.now times }
+/// Whether the bit of an asked tag is among these.
+fn is_marked(bits: u128, asked: &(Text, Text)) -> bool
+    ensures { result ≡ is_marked bits asked.now }
 {
-    may_last(times, query) && may_start(times, query)
+    (bits >> tag_place(asked.0.as_str(), asked.1.as_str())) & 1 == 1
+}
+
+/// Whether spans with these bits may have each of the asked tags.
+fn may_tell(bits: u128, query: &Find) -> bool
+    ensures { result ≡ may_tell query.now bits }
+{
+    query
+        .tags
+        .as_slice()
+        .iter()
+        .all(|asked| is_marked(bits, asked))
+}
+
+/// Whether spans of an entry with this outline may meet the search. Where they may not, none of the spans
+/// has to be looked at.
+pub(crate) fn may_meet(outline: Outline, query: &Find) -> bool
+    ensures { result ≡ may_meet query.now outline }
+{
+    may_last(outline.times, query)
+        && may_start(outline.times, query)
+        && may_tell(outline.tags, query)
 }
 
 /// Whether spans with starts in these bounds may start strictly within the window. Where they may not, none

@@ -9,7 +9,6 @@ ghost use Rattle.trace_ring.specs.Windows.{NoneTwice};
 ghost use Rattle.journal_traces.specs.Picked.{reaches, meets, met, met_at, met_along, same_before};
 
 use crate::pruning::may_meet;
-use crate::seeing::ring_ids;
 use arrival_journal::Journal;
 use find_traces::is_match;
 use jaeger_model::{Process, Seen, Span, TraceId};
@@ -65,12 +64,12 @@ fn mark_spans(marks: &mut [bool], ring: &Ring, process: &Process, spans: &[Span]
     }
 }
 
-/// Whether no span of the entry at a place can meet the search, by the bounds of their times alone.
+/// Whether no span of the entry at a place can meet the search, by its outline alone.
 fn is_passed(journal: &Journal, place: u64, query: &Find) -> bool
     ensures { OnTrue result (met_at query.now journal.now.held.entries place ≡ []) }
 {
-    match journal.times(place) {
-        Some(times) => !may_meet(times, query),
+    match journal.outline(place) {
+        Some(outline) => !may_meet(outline, query),
         None => true,
     }
 }
@@ -111,21 +110,22 @@ fn marks_along(
     Ok(marks)
 }
 
-/// The spots of the traces that are marked, in their order.
+/// The spots of the traces of the ring that are marked, in their order. Most traces came to the ring and to
+/// the assembly in the same order, so that few of them are looked up.
 fn marked_spots<'a>(
     alloc: Global,
+    ring: &Ring,
     assembly: &'a Assembly,
-    ids: &[TraceId],
     marks: &[bool],
 ) -> Result<Vec<Spots<'a>>, AllocError>
-    requires { length ids.now ≡ length marks.now }
-    ensures { (p : TraceIdValue → Bool) → marks.now ≡ map p ids.now →
-        IfOk result (λ v. v.items ≡ map (spots_of assembly.now) (filter p ids.now)) }
+    requires { length ring.now.ids ≡ length marks.now }
+    ensures { (p : TraceIdValue → Bool) → marks.now ≡ map p ring.now.ids →
+        IfOk result (λ v. v.items ≡ map (spots_of assembly.now) (filter p ring.now.ids)) }
 {
     let mut spots = Vec::new(alloc);
-    for (place, id) in ids.iter().enumerate() {
+    for place in 0..ring.len() {
         if marks[place] {
-            spots.push(assembly.spots(*id))?;
+            spots.push(assembly.spots_near(ring.row_at(place), ring.trace_at(place)))?;
         }
     }
     Ok(spots)
@@ -151,6 +151,5 @@ pub fn spots_along<'a>(
         ring.now.ids)) }
 {
     let marks = marks_along(alloc, ring, journal, places, query)?;
-    let ids = ring_ids(alloc, ring)?;
-    marked_spots(alloc, assembly, &ids, &marks)
+    marked_spots(alloc, ring, assembly, &marks)
 }

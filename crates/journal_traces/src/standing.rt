@@ -99,8 +99,8 @@ fn is_outside(journal: &Journal, spot: Spot, end_ms: i64, lookback_ms: i64) -> b
     ensures { OnTrue result (list_any (in_window end_ms lookback_ms)
         (spans_named journal.now.held.entries (spot ∷ [])) ≡ false) }
 {
-    match journal.times(spot.place) {
-        Some(times) => !may_reach(times, end_ms, lookback_ms),
+    match journal.outline(spot.place) {
+        Some(outline) => !may_reach(outline.times, end_ms, lookback_ms),
         None => false,
     }
 }

@@ -42,7 +42,7 @@ KnowsPlace limits e place known =
     (list : List Entry) × IsLegal limits list × StandsAt list place e × IsPrefix list known
 
 -- the seat handed the batch in, and its own entry stands at the place of a list that is known then; or,
--- at a refusal, it did not, for the seat's reason, or it did, for the reason that its ticket was told
+-- at a refusal, it did not, for the seat's reason, or it did, for the reason that its ticket returned
 abbrev pub LiveSubmits : Limits → LiveValue → Batch → Result ℕ Refusal → LiveValue → Type 0
 LiveSubmits limits s b (Ok place) t =
     IsPrefix s.known t.known × HandsIn s.seat b t.seat

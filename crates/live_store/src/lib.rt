@@ -1,7 +1,7 @@
 //! A store behind a session that others share: one seat hands its batches in, and one pass reads.
 //!
-//! Contracts see a [`Live`] as its seat and the longest list that its pass knows. What it hands in is told
-//! to the pass before the call returns, so a session reads its own writes. What its calls do is told by
+//! Contracts see a [`Live`] as its seat and the longest list that its pass knows. Its pass
+//! learns what it hands in before the call returns, so a session reads its own writes. What its calls do is said by
 //! relations of seat and list, so that the seat's list of jobs is known at a session's end.
 #![tactic(auto)]
 

@@ -17,7 +17,7 @@ fn is_same(got: Result<Batch, DecodeError>, whole: Result<Batch, DecodeError>) -
     }
 }
 
-/// Two pieces, and the end, which tells what a piece was refused for.
+/// Two pieces, and the end, which shows what a piece was refused for.
 fn fed(alloc: Global, first: &[u8], second: &[u8]) -> Result<Batch, DecodeError> {
     let mut feeder = Feeder::new(alloc);
     let _ = feeder.feed(alloc, first);

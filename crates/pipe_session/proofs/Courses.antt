@@ -15,7 +15,7 @@ use Rattle.pipe_session.proofs.OneVerdict.{one_verdict}
 
 -- ---- the next exchange
 
--- a request stands at the front of the bytes, and this is what becomes of it where s is held
+-- a request stands at the beginning of the bytes, and this is what becomes of it where s is held
 pub record Asks (bytes : List ℕ) (s : Held) (x : Exchange) (rest : List ℕ) : Type 0 where
   pub exchange : IsExchange x
   pub front : bytes ≡ x.text ++ rest
@@ -107,7 +107,7 @@ one_course bytes s (x ∷ xs) (y ∷ ys) e f t u one other =
 
 -- ---- the course that a session took
 
--- the exchanges stand at the front of the bytes one behind the other, and are what the entries answer
+-- the exchanges stand at the beginning of the bytes one behind the other, and are what the entries answer
 pub record Stand (bytes : List ℕ) (s : Held) (xs : List Exchange) (behind : List ℕ) (t : Held) : Type 0 where
   pub front : bytes ≡ texts xs ++ behind
   pub memory : All (λ (x : Exchange). x.verdict ≢ Say NoMemory) xs

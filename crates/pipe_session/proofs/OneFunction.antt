@@ -11,7 +11,7 @@ use Rattle.pipe_session.proofs.Exactly.{exact}
 use Rattle.pipe_session.proofs.Courses.{Stand, ends_at, Goes, goes, one_course}
 use Rattle.pipe_session.proofs.Beginnings.{spoken, Stops, stops, due_at, meant_begins, part_begins}
 
--- the exchanges of a run in which memory wasn't wanting stand at the front of the bytes
+-- the exchanges of a run in which memory didn't run out stand at the beginning of the bytes
 stand : (bytes taken rest left : List ℕ) (s t : Held) (xs : List Exchange) → bytes ≡ taken ++ left → taken ≡ texts xs ++ rest → Run DirectSubmits DirectReads s xs t → NeverWants xs
     → Stand bytes s xs (rest ++ left) t
 stand bytes taken rest left s t xs read split run memory =

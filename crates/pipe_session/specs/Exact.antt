@@ -43,7 +43,7 @@ abbrev pub held_at_last : Held → List Verdict → Held
 held_at_last s [] = s
 held_at_last s (v ∷ vs) = held_at_last (held_after s v) vs
 
--- memory was not wanting for the store's answers
+-- memory did not run out for the store's answers
 abbrev pub HasMemory : List Exchange → Type 0
 HasMemory xs = All (λ (x : Exchange). x.reply ≢ Refused NoMemory) xs
 

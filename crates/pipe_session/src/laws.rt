@@ -14,14 +14,14 @@ ghost use Rattle.http_session.specs.declared.verdict.Verdict.{Verdict as Verdict
 ghost use Rattle.http_session.specs.declared.verdict.Verdict.TheVariants.{Say};
 ghost use Rattle.pipe_session.specs.OneFunction.{NeverWants, Finished, Failed, OneBegins, WroteFirst};
 
-/// What a request asks is told by the request, unless memory ran out.
+/// What a request asks is determined by the request, unless memory ran out.
 pub fn a_request_has_one_verdict()
     ensures { (a : Asked) (body : List ℕ) (v w : VerdictValue) →
         v ≢ Say NoMemory → w ≢ Say NoMemory → Judges a body v → Judges a body w → v ≡ w }
 {}
 
 /// What `pipe` promises of a session that ended is what the law below speaks of, where the bytes of the
-/// devices are known and memory was not wanting.
+/// devices are known and memory did not run out.
 pub fn a_session_that_ended_is_finished()
     ensures { (bytes before : List ℕ) (left out : Option (List ℕ)) (s t : Held) (n : ℕ) (c : Bool)
         (ends : EndsAs DirectSubmits DirectReads (Some bytes) left (Some before) out s t n c) →
@@ -62,8 +62,8 @@ pub fn of_two_failed_sessions_one_wrote_a_beginning()
 
 /// The exchanges of a session that ended, before the first for which memory ran out: their responses were
 /// written first, and are those of a session that failed there. So they begin what any session writes in
-/// which memory never was wanting.
-pub fn what_an_ended_session_wrote_before_memory_was_wanting()
+/// which memory never ran out.
+pub fn what_an_ended_session_wrote_before_memory_ran_out()
     ensures { (bytes before : List ℕ) (left out : Option (List ℕ)) (s t : Held) (n : ℕ) (c : Bool)
         (ends : EndsAs DirectSubmits DirectReads (Some bytes) left (Some before) out s t n c)
         (xs rest : List ExchangeValue) (x : ExchangeValue) →
@@ -72,7 +72,7 @@ pub fn what_an_ended_session_wrote_before_memory_was_wanting()
 {}
 
 /// The same of a session that failed.
-pub fn what_a_failed_session_wrote_before_memory_was_wanting()
+pub fn what_a_failed_session_wrote_before_memory_ran_out()
     ensures { (bytes before : List ℕ) (left out : Option (List ℕ)) (s t : Held) (i o : Bool)
         (fault : SessionFaultValue)
         (fails : FailsAs DirectSubmits DirectReads (Some bytes) left (Some before) out s t i o

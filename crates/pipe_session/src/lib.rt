@@ -5,9 +5,11 @@
 //! limits: `laws`.
 #![tactic(auto)]
 
-ghost use Rattle.std.specs.Prelude.{◌≡◌, ◌++◌, false, IfOk, IfErr};
+ghost use Rattle.std.specs.Prelude.{◌≡◌, ◌++◌, false, IfOk, IfErr, OnOk};
 ghost use Rattle.direct_store.specs.Exactly.{DirectSubmits, DirectReads};
+ghost use Rattle.http_requests.specs.Waiting.{source_of};
 ghost use Rattle.http_session.specs.Sessions.{EndsAs, FailsAs, last_of, exchange_due};
+ghost use Rattle.http_session.specs.InTurn.{ReadsInTurn, ReadsInTurnUpTo};
 ghost use Rattle.pipe_session.specs.Exact.{IsExact};
 
 use direct_store::Direct;
@@ -35,13 +37,19 @@ pub fn pipe<R: Input, W: Output>(
     ensures ended { IfOk result (λ e. (ends : EndsAs DirectSubmits DirectReads
         (R.remaining input.old) (R.remaining input.new) (W.contents output.old)
         (W.contents output.new) store.old store.new e.answered e.clean)
-        × IsExact store.old (ends.opens ++ last_of ends.ending) store.new) }
+        × IsExact store.old (ends.opens ++ last_of ends.ending) store.new
+        × ReadsInTurn R.gives input.old input.new ends.opens ends.taken) }
+
+    ensures works { OnOk result ((R.has_failed input.new ≡ false)
+        × (W.has_failed output.new ≡ false)) }
 
     ensures fault { IfErr result (λ f. (fails : FailsAs DirectSubmits DirectReads
         (R.remaining input.old) (R.remaining input.new) (W.contents output.old)
         (W.contents output.new) store.old store.new (R.has_failed input.new)
         (W.has_failed output.new) f)
-        × IsExact store.old (fails.opens ++ exchange_due fails.next) store.new) }
+        × IsExact store.old (fails.opens ++ exchange_due fails.next) store.new
+        × ReadsInTurnUpTo (source_of R.remaining R.gives) input.old input.new
+        (R.has_failed input.new) fails.opens fails.taken fails.next) }
 {
     match session(&(), alloc, input, output, store) {
         Ok(ended) => Ok(ended),

@@ -45,6 +45,10 @@ fn all_traces(
 }
 
 /// The shown spans of a trace in the order in which they arrived, or None where there are none.
+///
+/// # Errors
+///
+/// Out of memory, and nothing else.
 pub fn get_trace(
     alloc: Global,
     entries: &[Arc<Entry>],

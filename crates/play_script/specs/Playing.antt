@@ -12,7 +12,7 @@ use Rattle.step_lines.specs.Steps.{step_in}
 use Rattle.text_lines.specs.Lines.{lines_of}
 use Rattle.text_lines.specs.Taking.{Said, Takes}
 
--- what a line comes to: what is written, whether it tells no step, and the machine after it
+-- what a line comes to: what is written, whether it is no step, and the machine after it
 pub record Played : Type 0 where
   pub text : List ℕ
   pub faulty : Bool
@@ -51,7 +51,7 @@ any_faulty n m (line ∷ rest) = (played n m line).faulty || any_faulty (n + 1) 
 
 -- ---- the whole
 
--- 3 where a line told no step
+-- 3 where a line was no step
 abbrev pub play_status : Bool → ℕ
 play_status true = 3
 play_status false = 0

@@ -1,11 +1,11 @@
 //! A machine that takes a step from each line.
-ghost use Rattle.std.specs.Prelude.{◌≡◌, ◌≢◌, ◌++◌, IfOk, OnOk, codes, false};
+ghost use Rattle.std.specs.Prelude.{◌≡◌, ◌≢◌, ◌++◌, IfOk, OnOk, Some, codes, false};
 ghost use Rattle.query_http.specs.Paths.{endpoint_rows};
 ghost use Rattle.trace_model.specs.declared.refusal.Refusal.TheVariants.{NoMemory};
 ghost use Rattle.schedule_core.specs.declared.outcome.Outcome.TheVariants.{Refused};
 ghost use Rattle.schedule_core.specs.Machine.{new_machine};
 ghost use Rattle.step_lines.specs.OutcomeLines.{outcome_line};
-ghost use Rattle.play_script.specs.Playing.{IsMade, MakesStep, StandsAt, step_fault_line};
+ghost use Rattle.play_script.specs.Playing.{IsMade, MakesStep, step_fault_line};
 
 use matchit::Router;
 use query_http::{Endpoint, endpoints};
@@ -18,7 +18,7 @@ use step_lines::{StepFault, outcome_text, read_step};
 use text_lines::LineTaker;
 use trace_model::{Limits, Refusal};
 
-/// Says that a line tells no step.
+/// Says that a line is no step.
 fn say_fault(said: &mut Vec<u8>, number: u64, fault: StepFault) -> Result<(), AllocError>
     ensures { OnOk result (said.new.items ≡ said.old.items ++ step_fault_line number fault) }
 {
@@ -28,7 +28,7 @@ fn say_fault(said: &mut Vec<u8>, number: u64, fault: StepFault) -> Result<(), Al
     }
 }
 
-/// The outcome tells that no memory was found.
+/// The outcome says that memory ran out.
 fn is_no_memory(outcome: &Outcome) -> bool
     ensures { result ≡ false → outcome.now ≢ Refused NoMemory }
 {
@@ -100,15 +100,19 @@ impl Model for Script {
 
 impl Script {
     /// A machine in which nothing has happened.
+    ///
+    /// # Errors
+    ///
+    /// Out of memory, and nothing else.
     pub fn new(alloc: Global, keys: RandomState, limits: Limits) -> Result<Self, AllocError>
-        ensures { IfOk result (λ s. StandsAt s (new_machine limits)) }
+        ensures { IfOk result (λ s. s ≡ Some (new_machine limits)) }
     {
         let Ok(router) = endpoints(alloc) else {
             return Err(AllocError);
         };
         Ok(Script {
             router,
-            world: World::new(alloc, keys, limits),
+            world: World::new(alloc, keys, limits)?,
         })
     }
 }

@@ -1,5 +1,5 @@
 -- What `pipe` writes for what it reads.
-use Rattle.std.specs.Prelude.{◌≡◌, ℕ, ◌⊎◌, ◌++◌, Bool, List, [], Option}
+use Rattle.std.specs.Prelude.{◌≡◌, ℕ, ◌⊎◌, ◌++◌, Bool, false, List, [], Option}
 use Rattle.trace_model.specs.declared.limits.Limits.{Limits}
 use Rattle.trace_model.specs.Held.{Held}
 use Rattle.direct_store.specs.Exactly.{DirectSubmits, DirectReads}
@@ -14,13 +14,15 @@ cause_status Reading = 4
 cause_status Writing = 4
 cause_status Memory = 5
 
--- a session from an empty store that ended
-pub record PipesToTheEnd (in0 in1 out0 out1 : Option (List ℕ)) (limits : Limits) : Type 0 where
+-- a session from an empty store that ended; no device had failed
+pub record PipesToTheEnd (in0 in1 out0 out1 : Option (List ℕ)) (in_failed out_failed : Bool) (limits : Limits) : Type 0 where
   pub answered : ℕ
   pub clean : Bool
   pub last : Held
   pub ends : EndsAs DirectSubmits DirectReads in0 in1 out0 out1 (record { limits = limits; entries = [] }) last answered clean
   pub exact : IsExact (record { limits = limits; entries = [] }) (ends.opens ++ last_of ends.ending) last
+  pub input_works : in_failed ≡ false
+  pub output_works : out_failed ≡ false
 
 -- one that failed
 pub record PipesUpTo (in0 in1 out0 out1 : Option (List ℕ)) (in_failed out_failed : Bool) (limits : Limits) (status : ℕ) : Type 0 where
@@ -32,4 +34,4 @@ pub record PipesUpTo (in0 in1 out0 out1 : Option (List ℕ)) (in_failed out_fail
 
 abbrev pub Pipes : Option (List ℕ) → Option (List ℕ) → Option (List ℕ) → Option (List ℕ) → Bool → Bool → Limits → ℕ → Type 0
 Pipes in0 in1 out0 out1 in_failed out_failed limits status =
-    ((status ≡ 0) × PipesToTheEnd in0 in1 out0 out1 limits) ⊎ PipesUpTo in0 in1 out0 out1 in_failed out_failed limits status
+    ((status ≡ 0) × PipesToTheEnd in0 in1 out0 out1 in_failed out_failed limits) ⊎ PipesUpTo in0 in1 out0 out1 in_failed out_failed limits status

@@ -18,8 +18,8 @@ use std::thread::Threads;
 use std::time::Clock;
 
 /// Does what the words ask for, and gives the exit status: 4 exactly where a device failed or the limit of
-/// reads was met. Words that ask for nothing, and a trace's id that can't be read, are answered on the
-/// output, and nothing is read then. `serve` reads nothing of the input either.
+/// reads was met, and of `serve` also where a socket did. Words that ask for nothing, and a trace's id that
+/// can't be read, are answered on the output, and nothing is read then. `serve` reads nothing of the input either.
 ///
 /// A further subcommand has a line here, and one in `Does` of `specs/Running.antt`.
 pub fn run<H, S: AsStr, R: Input, W: Output>(

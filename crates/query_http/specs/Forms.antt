@@ -5,6 +5,14 @@ use Rattle.std.specs.Str.Lossy.{utf8_lossy}
 use Rattle.form_urlencoded.specs.Form.{raw_pairs, decode}
 use Rattle.jaeger_model.specs.Texts.{same_text}
 
+-- the byte behind which the query of a target stands (RFC 3986, section 3.4)
+abbrev pub question_mark : ℕ
+question_mark = 63
+
+-- the byte between the key and the value of a tag that is asked for
+abbrev pub colon : ℕ
+colon = 58
+
 -- what stands before and behind the first such byte; None where there is none
 abbrev pub split_at : ℕ → List ℕ → Option (List ℕ × List ℕ)
 split_at c s = if nat_lt (position_or_len (λ b. b == c) s) (length s) then Some (before_first (λ b. b == c) s, after_first (λ b. b == c) s) else None

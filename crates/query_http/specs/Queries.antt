@@ -14,7 +14,7 @@ use Rattle.query_http.specs.declared.fault.Parameter.TheVariants as bad
 use Rattle.query_http.specs.declared.paths.Endpoint.{Endpoint}
 use Rattle.query_http.specs.declared.paths.Endpoint.TheVariants as at
 use Rattle.query_http.specs.Faults.{parameter_name}
-use Rattle.query_http.specs.Forms.{parameter, values_of, split_at}
+use Rattle.query_http.specs.Forms.{parameter, values_of, split_at, question_mark, colon}
 use Rattle.query_http.specs.Numbers.{read_number, read_duration}
 
 infixl 10 ◌>>=◌
@@ -75,7 +75,7 @@ limit_at ps = number_at bad.Limit ps >>= λ n. Ok (unwrap_or n 100)
 -- a key and a text around the first colon of each `tag`
 abbrev pub tags_from : List (List ℕ) → Result Pairs Parameter
 tags_from [] = Ok []
-tags_from (t ∷ ts) = or_bad bad.Tag (split_at 58 t) >>= λ p. tags_from ts >>= λ ps. Ok (p ∷ ps)
+tags_from (t ∷ ts) = or_bad bad.Tag (split_at colon t) >>= λ p. tags_from ts >>= λ ps. Ok (p ∷ ps)
 
 -- the members of an object, all of them texts, in the order of their keys
 abbrev pub texts_in : Members → Option Pairs
@@ -164,7 +164,7 @@ query_at at.Dependencies part ps = links_at ps
 
 -- a target up to its first `?`, and what stands behind that
 abbrev pub path_of : List ℕ → List ℕ
-path_of target = (unwrap_or (split_at 63 target) (target, [])).0
+path_of target = (unwrap_or (split_at question_mark target) (target, [])).0
 
 abbrev pub form_of : List ℕ → List ℕ
-form_of target = (unwrap_or (split_at 63 target) (target, [])).1
+form_of target = (unwrap_or (split_at question_mark target) (target, [])).1

@@ -1,5 +1,5 @@
 ghost use Rattle.std.specs.Prelude.{◌≡◌, ◌++◌, ℕ, List, IfOk, map, option_copied, option_map, string_bytes};
-ghost use Rattle.query_http.specs.Forms.{pairs_of, is_given, parameter, values_of, split_at};
+ghost use Rattle.query_http.specs.Forms.{pairs_of, is_given, parameter, values_of, split_at, question_mark, colon};
 
 use std::alloc::{AllocError, Global};
 use std::marker::Model;
@@ -37,14 +37,14 @@ impl Pair {
 
 /// What stands before the first `?` and what stands behind it.
 pub(crate) fn split_query(target: &str) -> Option<(&str, &str)>
-    ensures { option_map (λ p. (p.0.now, p.1.now)) result ≡ split_at 63 target.now }
+    ensures { option_map (λ p. (p.0.now, p.1.now)) result ≡ split_at question_mark target.now }
 {
     target.split_once('?')
 }
 
 /// What stands before the first colon and what stands behind it.
 pub(crate) fn split_tag(tag: &str) -> Option<(&str, &str)>
-    ensures { option_map (λ p. (p.0.now, p.1.now)) result ≡ split_at 58 tag.now }
+    ensures { option_map (λ p. (p.0.now, p.1.now)) result ≡ split_at colon tag.now }
 {
     tag.split_once(':')
 }

@@ -26,7 +26,7 @@ pub(crate) struct Visitor<N: StoreName> {
     seen: Seen<Entry, u64, Law>,
     /// How many entries it has entered.
     entered: u64,
-    /// How many entries a receipt has told of.
+    /// How many entries the longest receipt vouched for that it has learnt.
     told: u64,
     of: PhantomData<N>,
 }

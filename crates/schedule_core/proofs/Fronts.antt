@@ -1,4 +1,4 @@
--- The fronts that a reader is told never fall.
+-- The fronts that are reported to a reader never fall.
 use Rattle.std.proofs.Common.{◌≡◌, ℕ, ◌≤◌, ◌⊎◌, Bool, true, false, List, [], ◌∷◌, ◌++◌, length, take, Some, inl, inr, refl, sym, ap, ◌∙◌, subst, arith}
 use Rattle.std.specs.Prelude.{slice_get, slice_set, nat_le, ◌==◌, if◌then◌else◌}
 use Rattle.std.specs.Option.{option_map_or}
@@ -30,7 +30,7 @@ seen_elsewhere readers r i new other = ap (λ o. option_map_or (λ (a : Reader).
 
 -- ---- one step
 
--- between these readers what one has seen grows, and a front that it is told is of that
+-- between these readers what one has seen grows, and a front that is reported to it is of that
 record Tells (r : ℕ) (before after : List Reader) (fronts : List ℕ) : Type 0 where
   grows : seen_front before r ≤ seen_front after r
   told : (fronts ≡ []) ⊎ (fronts ≡ seen_front after r ∷ [])
@@ -38,7 +38,7 @@ record Tells (r : ℕ) (before after : List Reader) (fronts : List ℕ) : Type 0
 tells_none : (r : ℕ) (readers : List Reader) (fronts : List ℕ) → fronts ≡ [] → Tells r readers readers fronts
 tells_none r readers fronts none = record { grows = omega arith; told = inl none }
 
--- nothing is told, whosever step it is
+-- nothing is reported, whosever step it is
 untold : (b : Bool) (fronts : List ℕ) → fronts ≡ [] → (if b then fronts else []) ≡ []
 untold true fronts none = none
 untold false fronts none = refl

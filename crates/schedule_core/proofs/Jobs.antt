@@ -14,7 +14,7 @@ use Rattle.schedule_core.proofs.Numbering.{numbered_put, numbered_taken}
 
 -- ---- what a step does to the jobs
 
--- Whatever jobs and verdicts come later: those that the step tells of stand in front of them.
+-- Whatever jobs and verdicts come later: those that the step reports stand in front of them.
 record Passes (m n : Machine) (jobs : List Entry) (verdicts : List Bool) : Type 0 where
   accepts : (js : List Entry) (vs : List Bool)
       → accepted n ++ kept (n.waiting ++ js) vs ≡ accepted m ++ kept (m.waiting ++ (jobs ++ js)) (verdicts ++ vs)

@@ -1,4 +1,5 @@
 pub mod Beginnings
+pub mod Following
 pub mod Numbering
 pub mod StepCases
 pub mod Fitting

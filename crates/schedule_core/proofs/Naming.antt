@@ -1,4 +1,4 @@
--- By which seat and number an accepted job is told, and how the jobs of a seat are numbered.
+-- By which seat and number an accepted job is reported, and how the jobs of a seat are numbered.
 use Rattle.std.proofs.Common.{◌≡◌, ℕ, ◌+◌, ◌⊎◌, zero, suc, true, false, List, [], ◌∷◌, ◌++◌, length, map, replicate, Some, inl, inr, refl, sym, ap, ◌∙◌, subst, append_assoc}
 use Rattle.std.specs.Prelude.{slice_get, slice_index, slice_set, if◌then◌else◌, ◌==◌}
 use Rattle.std.specs.List.{range_with_len}
@@ -18,7 +18,7 @@ names_append : (a b : List Entry) → map name_of (a ++ b) ≡ map name_of a ++ 
 names_append [] b = refl
 names_append (j ∷ a) b = ap (λ l. name_of j ∷ l) (names_append a b)
 
--- what is accepted is named by what was accepted before and by what is told
+-- what is accepted is named by what was accepted before and by what is reported
 Names : Machine → Machine → List (ℕ × ℕ) → Type 0
 Names m n told = map name_of (accepted n) ≡ map name_of (accepted m) ++ told
 

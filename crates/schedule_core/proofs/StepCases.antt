@@ -15,7 +15,7 @@ use Rattle.schedule_core.specs.declared.outcome.Outcome.TheVariants.{Idle, Publi
 use Rattle.schedule_core.specs.Machine.{Machine, Reader, Visit, Stepped, stays, accepted, handed_in, puts, judged, takes, holds, published, publishes_by, with_reader, enters, reads, longer, learns_list, learns, leaves, front_of, step}
 use Rattle.schedule_core.specs.Runs.{job_of, verdict_of, told_by, front_in, IsOf}
 
--- the step changed nothing, and its outcome tells nothing
+-- the step changed nothing, and its outcome reports nothing
 pub record Silent (s : Step) (o : Outcome) : Type 0 where
   pub job : job_of s o ≡ []
   pub verdict : verdict_of s o ≡ []

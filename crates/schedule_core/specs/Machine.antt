@@ -76,7 +76,7 @@ puts m seat batch (Some last) = if nat_lt last 18446744073709551615 then handed_
 abbrev pub full : Machine → Refusal
 full m = JournalFull (length (accepted m)) (span_count (accepted m))
 
--- the job at the front goes to pending if no limit is passed by history and pending with it, and is dropped otherwise
+-- the first job goes to pending if no limit is passed by history and pending with it, and is dropped otherwise
 abbrev pub judged : Machine → Entry → List Entry → Bool → Stepped
 judged m job rest true = record { outcome = Taken job.seat job.number; machine = record m { waiting = rest; pending = m.pending ++ job ∷ [] } }
 judged m job rest false = record { outcome = Refused (full m); machine = record m { waiting = rest } }

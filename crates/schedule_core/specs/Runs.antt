@@ -1,4 +1,4 @@
--- Runs of the machine: what their steps and outcomes tell.
+-- Runs of the machine: what their steps and outcomes report.
 use Rattle.std.specs.Prelude.{◌≡◌, ℕ, ◌≤◌, Bool, true, false, List, [], ◌∷◌, ◌++◌, length, take, if◌then◌else◌, ◌==◌}
 use Rattle.std.specs.List.{All}
 use Rattle.trace_model.specs.declared.entry.Entry.{Entry}
@@ -10,7 +10,7 @@ use Rattle.schedule_core.specs.declared.step.Step.TheVariants as ask
 use Rattle.schedule_core.specs.declared.outcome.Outcome.{Outcome}
 use Rattle.schedule_core.specs.declared.outcome.Outcome.TheVariants.{Put, Taken, Refused, Entered, Answered, Learnt}
 
--- what each step and its outcome tell, one after the other
+-- what each step and its outcome report, one after the other
 abbrev pub along : {A : Type 0} → (Step → Outcome → List A) → List Step → List Outcome → List A
 along f [] os = []
 along f (s ∷ ss) [] = []
@@ -46,7 +46,7 @@ kept (j ∷ js) (false ∷ vs) = kept js vs
 abbrev pub name_of : Entry → ℕ × ℕ
 name_of e = (e.seat, e.number)
 
--- those by which a job is told that was taken and accepted
+-- those by which a job is reported that was taken and accepted
 abbrev pub told_by : Step → Outcome → List (ℕ × ℕ)
 told_by s (Taken seat number) = (seat, number) ∷ []
 told_by s o = []
@@ -72,7 +72,7 @@ front_in (Answered front answer) = front ∷ []
 front_in (Learnt front) = front ∷ []
 front_in o = []
 
--- the front that the reader is told
+-- the front that is reported to the reader
 abbrev pub front_for : ℕ → Step → Outcome → List ℕ
 front_for r s o = if is_of r s then front_in o else []
 

@@ -43,6 +43,10 @@ impl Model for Copies {
 
 impl Copies {
     /// Two empty copies.
+    ///
+    /// # Errors
+    ///
+    /// Out of memory, and nothing else.
     pub fn new(alloc: Global, keys: RandomState, limits: Limits) -> Result<Self, AllocError>
         ensures { IfOk result (λ copies.
             copies ≡ record { limits = limits; before = []; history = []; pending = [] }) }
@@ -65,7 +69,12 @@ impl Copies {
         self.shown.len()
     }
 
-    /// Accepts an entry, which is pending then, or refuses it and changes nothing.
+    /// Accepts an entry, which is pending then.
+    ///
+    /// # Errors
+    ///
+    /// The refusal by what is accepted, pending entries too ([`Refusal::Stale`], [`Refusal::JournalFull`]).
+    /// Nothing has changed then.
     pub fn admit(&mut self, entry: Arc<Entry>) -> Result<(), Refusal>
         ensures admissible { OnOk result (refusal_by (all_of self.old) (arc_value entry) ≡ None) }
         ensures admitted { OnOk result (self.new ≡ with_pending self.old (arc_value entry)) }
@@ -77,7 +86,11 @@ impl Copies {
         Ok(())
     }
 
-    /// Makes all that is accepted the history. Where no memory was found the history stays.
+    /// Makes all that is accepted the history.
+    ///
+    /// # Errors
+    ///
+    /// Out of memory, and nothing else. The history stays then, and what is pending stays pending.
     pub fn publish(&mut self) -> Result<(), AllocError>
         ensures turned { OnOk result (self.new ≡ turned self.old) }
         ensures stays { OnErr result (self.new ≡ record self.old { before = self.new.before }) }
@@ -88,6 +101,10 @@ impl Copies {
     }
 
     /// The answer at the history.
+    ///
+    /// # Errors
+    ///
+    /// [`Refusal::NoMemory`], and nothing else.
     pub fn answer(&self, query: &Query) -> Result<Answer, Refusal>
         ensures answer { IfOk result (λ a. a ≡ answer self.now.limits self.now.history query.now) }
         ensures reason { IfErr result (λ why. why ≡ NoMemory) }
@@ -96,6 +113,10 @@ impl Copies {
     }
 
     /// The answer at the history before the last publish.
+    ///
+    /// # Errors
+    ///
+    /// [`Refusal::NoMemory`], and nothing else.
     pub fn answer_before(&self, query: &Query) -> Result<Answer, Refusal>
         ensures answer { IfOk result (λ a. a ≡ answer self.now.limits self.now.before query.now) }
         ensures reason { IfErr result (λ why. why ≡ NoMemory) }
@@ -104,21 +125,24 @@ impl Copies {
     }
 }
 
-/// Applies the entry to the store, which is unchanged where that fails.
+/// Applies an entry that may follow to the store, which is unchanged where the entry can't be copied.
 fn add(store: &mut SpanStore, entry: &Arc<Entry>) -> Result<(), AllocError>
+    requires { refusal_by store.old (arc_value entry.now) ≡ None }
     ensures added { OnOk result (store.new ≡ followed_by store.old (arc_value entry.now)) }
     ensures unchanged { OnErr result (store.new ≡ store.old) }
 {
     match store.apply(Arc::try_clone(entry)?) {
         Ok(_) => Ok(()),
-        Err(_) => Err(AllocError),
+        Err(_) => unreachable!(),
     }
 }
 
 /// Brings the store, which holds the first of the entries, up to all of them, as far as memory is found.
+/// The entries are legal.
 #[tactic(auto, using(crate::proofs::Beginnings::joined))]
 fn catch_up(store: &mut SpanStore, entries: &[Arc<Entry>]) -> Result<(), AllocError>
     requires begins { IsPrefix store.old.entries (map arc_value entries.now) }
+    requires legal { IsLegal store.old.limits (map arc_value entries.now) }
     ensures limits { store.new.limits ≡ store.old.limits }
     ensures all { OnOk result (store.new.entries ≡ map arc_value entries.now) }
     ensures begins { IsPrefix store.new.entries (map arc_value entries.now) }

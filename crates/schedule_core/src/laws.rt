@@ -26,7 +26,7 @@ pub fn each_answer_is_of_the_last_history()
         (outcomes (new_machine limits) steps) }
 {}
 
-/// The fronts that one reader is told never fall: of what it enters, of its answers and of what it learns.
+/// The fronts that are reported to one reader never fall: of what it enters, of its answers and of what it learns.
 pub fn fronts_of_a_reader_never_fall()
     ensures { (limits : LimitsValue) (steps : List StepValue) (reader : ℕ) →
         NeverFalls (along (front_for reader) steps (outcomes (new_machine limits) steps)) }
@@ -72,7 +72,7 @@ pub fn accepted_jobs_are_legal()
         IsLegal limits (accepted (at_last (new_machine limits) steps)) }
 {}
 
-/// All of this of one list of steps, and two facts more: an accepted job is told by its own seat and number,
+/// All of this of one list of steps, and two facts more: an accepted job is reported by its own seat and number,
 /// and the jobs of each seat have the numbers 1, 2 and so on.
 pub fn every_run_keeps_the_promises()
     ensures { (limits : LimitsValue) (steps : List StepValue) → IsRun limits steps }

@@ -1,10 +1,10 @@
 //! The stepped machine: a store with jobs that wait, publishes and readers, moved one step at a time.
 //!
-//! Its steps are those of running threads, each made at once and told by its outcome: a seat hands a job
+//! Its steps are those of running threads, each made at once and reported by its outcome: a seat hands a job
 //! in, the clerk takes one, the keeper publishes, a reader enters, asks, learns and leaves. [`World`]
 //! keeps two copies of the store, as the threads do, and is proved to answer as a machine that has none.
 //!
-//! * `step`: what the machine is told to do.
+//! * `step`: what the machine can be asked to do.
 //! * `outcome`: what came of it.
 //! * `seats`: jobs that wait, and the numbers of the seats.
 //! * `readers`: where the readers stand.

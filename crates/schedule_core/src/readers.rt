@@ -56,6 +56,10 @@ impl Model for Readers {
 
 impl Readers {
     /// All readers are outside and have seen nothing.
+    ///
+    /// # Errors
+    ///
+    /// Out of memory, and nothing else.
     pub fn new(alloc: Global) -> Result<Readers, AllocError>
         ensures { IfOk result (λ s. s ≡ replicate 64 (record { seen = 0; inside = None })) }
     {

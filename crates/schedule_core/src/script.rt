@@ -16,7 +16,7 @@ use trace_model::Limits;
 ///
 /// # Errors
 ///
-/// No memory was found for the list of outcomes. A step that finds none, and each later one, is refused by
+/// No memory was found for the machine or for the list of outcomes. A step that finds none, and each later one, is refused by
 /// its outcome.
 pub fn play(
     alloc: Global,
@@ -26,7 +26,7 @@ pub fn play(
 ) -> Result<Vec<Outcome>, AllocError>
     ensures { IfOk result (λ outcomes. IsPlayed limits steps.items outcomes.items) }
 {
-    let mut world = World::new(alloc, keys, limits);
+    let mut world = World::new(alloc, keys, limits)?;
     let outcomes = outcomes_of(alloc, &mut world, steps);
     drop(world);
     outcomes

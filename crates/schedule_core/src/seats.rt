@@ -36,6 +36,10 @@ impl Model for Seats {
 
 impl Seats {
     /// Seats that have handed in nothing.
+    ///
+    /// # Errors
+    ///
+    /// Out of memory, and nothing else.
     pub fn new(alloc: Global) -> Result<Seats, AllocError>
         ensures { IfOk result (λ s. s ≡ record { waiting = []; numbers = replicate 64 0 }) }
     {
@@ -55,7 +59,12 @@ impl Seats {
         last.checked_add(1)
     }
 
-    /// Puts the batch, as the seat's next job, behind those that wait, and gives its number.
+    /// Puts the batch, as the seat's next job, behind those that wait, and gives its number; `None` where
+    /// there is no such seat or its numbers are used up.
+    ///
+    /// # Errors
+    ///
+    /// Out of memory, and nothing else. Nothing has changed then.
     pub fn hand_in(&mut self, seat: u32, batch: Batch) -> Result<Option<u64>, AllocError>
         ensures number { IfOk result (λ number. number ≡ next_number self.old.numbers seat) }
         ensures queued { IfOk result (λ number. self.new ≡ queued self.old seat batch number) }

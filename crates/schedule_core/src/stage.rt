@@ -47,6 +47,10 @@ impl Model for Stage {
 
 impl Stage {
     /// A machine in which nothing has happened.
+    ///
+    /// # Errors
+    ///
+    /// Out of memory, and nothing else.
     pub fn new(alloc: Global, keys: RandomState, limits: Limits) -> Result<Stage, AllocError>
         ensures { IfOk result (λ s. s ≡ new_machine limits) }
     {
@@ -190,7 +194,11 @@ impl Stage {
         Outcome::Left
     }
 
-    /// Makes a step.
+    /// Makes a step, and says what it came to.
+    ///
+    /// # Errors
+    ///
+    /// Out of memory, and nothing else.
     pub fn step(&mut self, step: Step) -> Result<Outcome, AllocError>
         ensures { IfOk result (λ o. record { outcome = o; machine = self.new } ≡
             stepped self.old step) }

@@ -1,7 +1,7 @@
 use jaeger_model::Batch;
 use trace_model::Query;
 
-/// What the machine is told to do. Seats and readers have the numbers 0 to 63.
+/// What the machine can be asked to do. Seats and readers have the numbers 0 to 63.
 #[derive(Drop)]
 pub enum Step {
     /// A seat hands in a batch.

@@ -1,11 +1,11 @@
-ghost use Rattle.std.specs.Prelude.{◌≡◌, ◌⊎◌, Option, Some, None};
+ghost use Rattle.std.specs.Prelude.{◌≡◌, Option, Some, IfOk};
 ghost use Rattle.schedule_core.specs.Machine.{Machine, new_machine};
 ghost use Rattle.schedule_core.specs.Worlds.{Steps};
 
 use crate::outcome::Outcome;
 use crate::stage::Stage;
 use crate::step::Step;
-use std::alloc::Global;
+use std::alloc::{AllocError, Global};
 use std::hash::RandomState;
 use std::marker::Model;
 use trace_model::{Limits, Refusal};
@@ -23,17 +23,19 @@ impl Model for World {
 }
 
 impl World {
-    /// A machine in which nothing has happened, or one that has found no memory. The keys are those of
-    /// its stores.
-    pub fn new(alloc: Global, keys: RandomState, limits: Limits) -> Self
-        ensures { (result ≡ Some (new_machine limits)) ⊎ (result ≡ None) }
+    /// A machine in which nothing has happened. The keys are those of its stores.
+    ///
+    /// # Errors
+    ///
+    /// Out of memory, and nothing else.
+    pub fn new(alloc: Global, keys: RandomState, limits: Limits) -> Result<Self, AllocError>
+        ensures { IfOk result (λ world. world ≡ Some (new_machine limits)) }
     {
-        World {
-            stage: Stage::new(alloc, keys, limits).ok(),
-        }
+        let stage = Stage::new(alloc, keys, limits)?;
+        Ok(World { stage: Some(stage) })
     }
 
-    /// Makes a step and tells what came of it.
+    /// Makes a step and returns what came of it.
     pub fn step(&mut self, step: Step) -> Outcome
         ensures { Steps self.old step result self.new }
     {

@@ -1,9 +1,10 @@
 -- An index stays what it was when more numbers have names.
 use Rattle.std.proofs.Common.{◌≡◌, ℕ, suc, ◌<◌, List, [], ◌∷◌, map, length, get_or, refl, sym, ap, subst, arith}
 use Rattle.jaeger_model.specs.Texts.{sorted_set}
+use Rattle.row_places.specs.Leading.{LeadsTo}
 use Rattle.service_index.specs.Listing.{Listed, listed_cmp}
 use Rattle.service_index.specs.Naming.{Names, service_alone, services_of}
-use Rattle.service_index.specs.Probes.{Table, start_of, IsTable, AreNumbers, IsNamed}
+use Rattle.service_index.specs.Probes.{Table, hashes_of, AreOnce, AreNumbers, IsNamed}
 use Rattle.service_index.specs.Indexes.{Index, listing_by, owners, IsLinked, IsIndexed, Extends}
 
 map_agree : {X : Type 0} (count : ℕ) (f g : ℕ → X) → ((n : ℕ) → n < count → f n ≡ g n) → (numbers : List ℕ) → ((r : ℕ) → r < length numbers → get_or numbers r 0 < count) → map f numbers ≡ map g numbers
@@ -14,10 +15,15 @@ map_agree count f g same (n ∷ numbers) held =
     λ i. first i ∷ rest i
 
 pub named_extends : (names more : Names) (t : Table) → Extends names more → IsNamed names t → IsNamed more t
-named_extends names more t e h = record {
-  numbers = record { held = λ r below. let b = h.numbers.held r below in let c = e.count in omega arith };
-  leads = subst (IsTable (start_of t.keys (length t.slots)) t.room t.slots) (sym (map_agree names.count more.at names.at e.same t.numbers h.numbers.held)) h.leads;
-}
+named_extends names more t e h =
+    let same : map names.at t.numbers ≡ map more.at t.numbers = sym (map_agree names.count more.at names.at e.same t.numbers h.numbers.held) in
+    record {
+      fits = h.fits;
+      within = h.within;
+      numbers = record { held = λ r below. let b = h.numbers.held r below in let c = e.count in omega arith };
+      once = subst AreOnce same h.once;
+      leads = subst (λ (xs : List Listed). LeadsTo (hashes_of t.keys xs) t.slots) same h.leads;
+    }
 
 services_extend : (names more : Names) → Extends names more → Extends (services_of names) (services_of more)
 services_extend names more e = record {

@@ -95,7 +95,7 @@ pub distinct : (names : Names) (t : Table) → IsNamed (services_of names) t →
 distinct names t h i j below within same =
     let l = length-map t.numbers (services_of names).at in
     let m = length-map t.numbers (λ n. (names.at n).service) in
-    h.leads.once i j below (omega arith) (alone_at names t.numbers i (omega arith) ∙ ap service_alone same ∙ sym (alone_at names t.numbers j (omega arith)))
+    h.once i j below (omega arith) (alone_at names t.numbers i (omega arith) ∙ ap service_alone same ∙ sym (alone_at names t.numbers j (omega arith)))
 
 -- ---- one more row
 newest_more : (rows : List (List ℕ)) (new service : List ℕ) (at below : ℕ) → below ≤ length rows → IsNewest rows service at below → IsNewest (rows ++ new ∷ []) service at below

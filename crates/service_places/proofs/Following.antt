@@ -1,16 +1,23 @@
 -- One more entry.
-use Rattle.std.proofs.Common.{◌≡◌, ℕ, suc, false, ◌+◌, ◌<◌, ◌≤◌, List, [], ◌∷◌, ◌++◌, map, length, get_or, refl, sym, ap, subst, ◌∙◌, arith, length-append}
+use Rattle.std.proofs.Common.{◌≡◌, ℕ, false, ◌+◌, ◌-◌, ◌<◌, ◌≤◌, List, [], ◌∷◌, ◌++◌, length, get_or, sym, ap, subst, ◌∙◌, arith, length-append}
 use Rattle.std.proofs.Math.ListN.{set}
-use Rattle.std.proofs.lemmas.List.{length-map, map_push, get_or_append_left, get_or_push, length-set}
+use Rattle.std.proofs.lemmas.List.{length-map, map_push, get_or_append_left, get_or_push}
 use Rattle.std.specs.List.{list_any}
 use Rattle.jaeger_model.specs.Texts.{same_text}
 use Rattle.trace_model.specs.declared.entry.Entry.{Entry}
-use Rattle.service_index.specs.Naming.{Names, service_alone}
+use Rattle.service_index.specs.Naming.{service_alone}
 use Rattle.service_index.specs.Probes.{Table, IsNamed, row_of, with_number}
 use Rattle.service_index.specs.Indexes.{owners, IsNewest, IsLinked, Extends}
 use Rattle.service_index.proofs.Extending.{named_extends, owners_extend}
-use Rattle.service_index.proofs.Linking.{distinct, linked_known, linked_new, number_known, number_new, row_within, service_own, service_new, none_of}
+use Rattle.service_index.proofs.Linking.{distinct, linked_known, linked_new, number_known, number_new, service_own, service_new, none_of}
 use Rattle.service_places.specs.Reported.{Reported, reporters, names_of, IsKept}
+
+-- how many entries stand before the last one
+pub last_number : (h0 h : List Entry) (e : Entry) (count : ℕ) → h0 ++ e ∷ [] ≡ h → length h ≡ count → count - 1 ≡ length h0
+last_number h0 h e count is counted =
+    let one = length-append h0 (e ∷ []) in
+    let all : length (h0 ++ e ∷ []) ≡ length h = ap length is in
+    omega arith
 
 reporters_push : (h0 h : List Entry) (e : Entry) → h0 ++ e ∷ [] ≡ h → reporters h ≡ reporters h0 ++ e.batch.process.service ∷ []
 reporters_push h0 h e is = ap reporters (sym is) ∙ map_push (λ (e : Entry). e.batch.process.service) h0 e

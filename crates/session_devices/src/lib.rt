@@ -1,7 +1,7 @@
-//! Readers and writers of a session, which tell their bytes and whether they have failed.
+//! Readers and writers of a session, whose bytes contracts can name, and which remember whether they failed.
 //!
 //! A session over an [`Input`] and an [`Output`] can be spoken of by the bytes that were read and
-//! written, and a failure is told from an end by the device itself.
+//! written, and a failure is no end: the device itself says which it was.
 //!
 //! * `watched`: std's readers and writers, watched.
 //! * `memory`: devices over memory.
@@ -31,7 +31,7 @@ pub trait Input {
 
     ghost has_failed: { Self → Bool };
 
-    /// Reads some bytes to the front of the buffer and tells how many. 0 for a buffer with room says
+    /// Reads some bytes to the beginning of the buffer and returns how many. 0 for a buffer with room says
     /// that the input has ended.
     ///
     /// # Errors
@@ -57,7 +57,7 @@ pub trait Output {
 
     ghost has_failed: { Self → Bool };
 
-    /// Writes some bytes from the front of the buffer, at least one where it has any, and tells how
+    /// Writes some bytes from the beginning of the buffer, at least one where it has any, and returns how
     /// many.
     ///
     /// # Errors

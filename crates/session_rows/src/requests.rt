@@ -44,7 +44,7 @@ impl Sink for Joined {
     ghost takes_joined = { λ s t u front back one two. tt };
 }
 
-/// A request at the front of some bytes.
+/// A request at the beginning of some bytes.
 #[derive(Drop)]
 pub(crate) struct Taken {
     pub(crate) head: Vec<u8>,

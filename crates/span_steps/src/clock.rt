@@ -64,6 +64,10 @@ fn clock_at(max_skew: u64, host: Text, delta: i128, span: &Span) -> Clock
 }
 
 /// The clock of a span whose parent is not in its trace: its own host's, with no delta.
+///
+/// # Errors
+///
+/// Out of memory, and nothing else.
 pub fn root_clock(alloc: Global, placed: &Placed, max_skew: u64) -> Result<Clock, AllocError>
     ensures { IfOk result (λ c. c ≡ clock_at max_skew (host_of placed.now) (pos 0)
         placed.now.span) }
@@ -88,6 +92,10 @@ fn new_delta(above: &Clock, span: &Span) -> i128
 
 /// The clock of a span whose parent has this one: the parent's where the span is of the same host,
 /// else its own host's, with a delta that puts the span inside its parent where there is room.
+///
+/// # Errors
+///
+/// Out of memory, and nothing else.
 pub fn clock_below(
     alloc: Global,
     above: &Clock,

@@ -107,7 +107,11 @@ impl SpanStore {
         self.journal.is_empty()
     }
 
-    /// Says whether the entry may follow, as [`apply`](Self::apply) does.
+    /// Says whether the entry may follow.
+    ///
+    /// # Errors
+    ///
+    /// The one of [`apply`](Self::apply).
     pub fn judge(&self, entry: &Entry) -> Result<(), Refusal>
         ensures { result_err result ≡ refusal_by self.now entry.now }
     {

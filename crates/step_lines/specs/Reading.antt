@@ -4,7 +4,7 @@ use Rattle.step_lines.specs.declared.fault.StepFault.{StepFault}
 use Rattle.step_lines.specs.declared.stop.Stop.{Stop}
 use Rattle.step_lines.specs.declared.stop.Stop.TheVariants.{Fault, Memory}
 
--- the reading's value, or the fault that it tells, unless memory ran out
+-- the reading's value, or the fault that it reports, unless memory ran out
 abbrev pub Reads : {X Y : Type 0} → (X → Y) → Result X Stop → Result Y StepFault → Type 0
 Reads view (Ok x) read = read ≡ Ok (view x)
 Reads view (Err (Fault f)) read = read ≡ Err f

@@ -1,4 +1,4 @@
--- The step that a line tells.
+-- The step that a line names.
 use Rattle.std.specs.Prelude.{ℕ, ◌==◌, ◌&&◌, not, List, [], ◌∷◌, length, Result, Ok, Err, if◌then◌else◌, codes}
 use Rattle.std.specs.List.{concat}
 use Rattle.std.specs.Str.{is_utf8}

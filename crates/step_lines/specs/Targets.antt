@@ -22,7 +22,7 @@ is_part part = nat_lt 0 (length part) && list_all (λ b. not (b == 47)) part
 abbrev pub whole : List ℕ → List ℕ → Option (List ℕ)
 whole text path = if same_text path text then Some [] else None
 
--- the path without so many bytes at its front and at its end
+-- the path without so many bytes at its beginning and at its end
 abbrev pub cut : ℕ → ℕ → List ℕ → List ℕ
 cut front end path = take (length path - front - end) (drop front path)
 

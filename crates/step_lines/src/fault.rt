@@ -5,7 +5,7 @@ use batch_codec::DecodeError;
 use query_http::Parameter;
 use std::fmt;
 
-/// Why a line is no step. A bad step is told before every other fault, and running out of memory is none.
+/// Why a line is no step. A bad step is reported before every other fault, and running out of memory is none.
 #[derive(Clone, Copy, Debug, PartialEq, Eq)]
 pub enum StepFault {
     /// Its words are none of a step's.

@@ -1,7 +1,7 @@
-//! Lines of a script for the stepped machine: what step a line tells, and the line of an outcome.
+//! Lines of a script for the stepped machine: which step a line names, and the line of an outcome.
 //!
 //! [`read_step`] gives a line's step or its fault, and [`outcome_text`] the text of an outcome. Unless
-//! memory is wanting, both are proved to be functions that `specs/` defines: `step_in` and
+//! memory runs out, both are proved to be functions that `specs/` defines: `step_in` and
 //! `outcome_line`. A line stands without its end. A script's empty lines, and the numbers of its lines,
 //! are its reader's matter.
 //!

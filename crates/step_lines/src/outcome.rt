@@ -18,7 +18,7 @@ fn answered_text(alloc: Global, front: u64, answer: &Answer) -> Result<String, A
 
 /// The text of an outcome, as a line without its end.
 ///
-/// An answer is told as the body of the HTTP response that gives it, so a trace that isn't found as the
+/// An answer is written as the body of the HTTP response that gives it, so a trace that isn't found as the
 /// error 404.
 ///
 /// # Errors

@@ -97,7 +97,7 @@ fn read_learn(words: &[&[u8]]) -> Result<Step, Stop>
     Ok(Step::Learn { reader, publish })
 }
 
-/// The step that a first word tells with the words behind it.
+/// The step that a first word names with the words behind it.
 fn read_by(
     alloc: Global,
     router: &Router<Endpoint>,
@@ -124,7 +124,7 @@ fn read_by(
     }
 }
 
-/// The step that a line's words tell.
+/// The step that a line's words name.
 fn read_words(alloc: Global, router: &Router<Endpoint>, words: &[&[u8]]) -> Result<Step, Stop>
     requires { router.now ≡ endpoint_rows }
     ensures { Reads (λ s. s) result (step_of (map (λ w. w.now) words.now)) }
@@ -136,7 +136,7 @@ fn read_words(alloc: Global, router: &Router<Endpoint>, words: &[&[u8]]) -> Resu
     read_by(alloc, router, verb, words)
 }
 
-/// The step that the words of a line tell.
+/// The step that the words of a line name.
 fn read_text(
     alloc: Global,
     router: &Router<Endpoint>,
@@ -153,10 +153,10 @@ fn read_text(
     }
 }
 
-/// The step that a line tells, or why it tells none. The line is without its end, and can be any bytes;
+/// The step that a line names, or why it names none. The line is without its end, and can be any bytes;
 /// bytes that are no UTF-8 are a bad step, whichever word is the first.
 ///
-/// [`StepFault::BadStep`] is told before the other faults; then of a batch [`StepFault::BadHex`] before
+/// [`StepFault::BadStep`] is reported before the other faults; then of a batch [`StepFault::BadHex`] before
 /// [`StepFault::Undecodable`], and of a target [`StepFault::NoSuchPath`] before
 /// [`StepFault::BadParameter`].
 ///

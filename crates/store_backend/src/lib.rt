@@ -38,7 +38,7 @@ pub trait Backend<T> {
     ///
     /// # Errors
     ///
-    /// The batch was not accepted, for the reason told.
+    /// The batch was not accepted, for the reason that is returned.
     fn submit(&mut self, rt: &T, alloc: Global, batch: Batch) -> Result<u64, Refusal>
         ensures { submits self.old batch result self.new };
 
@@ -46,7 +46,7 @@ pub trait Backend<T> {
     ///
     /// # Errors
     ///
-    /// There is no answer, for the reason told.
+    /// There is no answer, for the reason that is returned.
     fn read(&mut self, alloc: Global, query: &Query) -> Result<Answer, Refusal>
         ensures { reads self.old query.now result self.new };
 

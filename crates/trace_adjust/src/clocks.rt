@@ -63,7 +63,7 @@ fn clock_near(
     }
 }
 
-/// Sets the clock of the span at the place, where it is not set and its parent's is known. Tells
+/// Sets the clock of the span at the place, where it is not set and its parent's is known. Returns
 /// whether it is set now and was not before.
 fn settle(
     alloc: Global,
@@ -118,7 +118,7 @@ fn settle_at(
     Ok(is_set)
 }
 
-/// Sets each clock that can be set, from the first span to the last, and tells whether there was
+/// Sets each clock that can be set, from the first span to the last, and returns whether there was
 /// one.
 fn settle_all(
     alloc: Global,

@@ -2,6 +2,7 @@ pub mod Shows
 pub mod Traces
 pub mod Rising
 pub mod Ranking
+pub mod Falling
 pub mod Chains
 pub mod Legality
 pub mod Parents

@@ -3,7 +3,7 @@
 //!
 //! * `limits`, `entry`, `refusal`: what is kept, and why an entry is turned away.
 //! * `query`, `answer`: what can be asked, and what is answered.
-//! * `clock`: what a span tells the spans below it of its host's clock.
+//! * `clock`: what the spans below a span are given of its host's clock.
 //!
 //! `specs/` says what is shown and answered. The program of crate `plain_store` computes it, and
 //! crate `store_laws` says in the subject's own words what it comes to.

@@ -20,6 +20,9 @@ use Rattle.trace_ring.specs.Numbers.{window, IsRing}
 pub length_window : (ids : List TraceId) (rows : List ℕ) → length (window ids rows) ≡ length rows
 length_window ids rows = length-map rows (λ row. id_at ids row)
 
+pub window_few : (limit : ℕ) (ids : List TraceId) (rows : List ℕ) → (0 < limit → length (window ids rows) < limit) → 0 < limit → length rows < limit
+window_few limit ids rows few pos = subst (λ (n : ℕ). n < limit) (length_window ids rows) (few pos)
+
 window_at : (ids : List TraceId) (rows : List ℕ) (p : ℕ) → p < length rows → id_at (window ids rows) p ≡ id_at ids (get_or rows p 0)
 window_at ids rows p below = get_or-map (λ row. id_at ids row) rows p 0 no_id below
 
@@ -65,6 +68,11 @@ rows_once limit room table rows first numbers h i j below within e =
     let fits = h.fits in
     let n : (first + i) % 2 ^ 64 ≡ (first + j) % 2 ^ 64 = sym (h.numbered i (omega arith)) ∙ ap (λ r. get_or numbers r 0) e ∙ h.numbered j within in
     let same = same_number first i j (omega arith) (omega arith) n in
+    omega arith
+
+pub row_numbered : (limit room : ℕ) (table : Rows) (rows : List ℕ) (first : ℕ) (numbers : List ℕ) (row : ℕ) → IsRing limit room table rows first numbers → row < length table.ids → row < length numbers
+row_numbered limit room table rows first numbers row h known =
+    let many = h.as_many in
     omega arith
 
 pub place_is : (limit room : ℕ) (table : Rows) (rows : List ℕ) (first : ℕ) (numbers : List ℕ) (row p place : ℕ) → IsRing limit room table rows first numbers → place ≡ (get_or numbers row 0 + (2 ^ 64 - first)) % 2 ^ 64

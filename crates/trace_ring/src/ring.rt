@@ -91,6 +91,10 @@ impl Ring {
     /// A ring with no trace, in which the newest `limit` traces will stay, or all where it is 0, and room
     /// for so many traces in all, those that left too. The keys are those of the hash by which a trace
     /// is found.
+    ///
+    /// # Errors
+    ///
+    /// Out of memory, and nothing else.
     pub fn with_room(
         alloc: Global,
         keys: RandomState,
@@ -162,11 +166,20 @@ impl Ring {
     }
 
     /// The trace at a place of the ring, the oldest one at 0.
-    fn trace_at(&self, place: usize) -> TraceId
+    pub fn trace_at(&self, place: usize) -> TraceId
         requires { place < length self.now.ids }
         ensures { result ≡ id_at self.now.ids place }
     {
         self.table.id(self.rows[place])
+    }
+
+    /// How many traces were seen before that at a place of the ring.
+    pub fn row_at(&self, place: usize) -> u32
+        requires { place < length self.now.ids }
+        ensures known { result < length self.now.seen }
+        ensures row { id_at self.now.seen result ≡ id_at self.now.ids place }
+    {
+        self.rows[place]
     }
 
     /// How many traces of the ring were opened before that of the row; `None` where it isn't in the

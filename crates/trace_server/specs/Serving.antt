@@ -64,7 +64,7 @@ Ends out0 out1 out_failed text failed status =
     ((status ≡ status_if failed) × Appends out0 out1 text × (out_failed ≡ false))
     ⊎ StopsIn out0 out1 out_failed text status
 
--- it said nothing: the socket has no address (4), or memory or threads were wanting (5)
+-- it said nothing: the socket has no address (4), or memory or threads ran out (5)
 abbrev pub IsSilent : Option (List ℕ) → Option (List ℕ) → Bool → ℕ → Type 0
 IsSilent out0 out1 out_failed status =
     ((status ≡ 4) ⊎ (status ≡ 5)) × (out1 ≡ out0) × (out_failed ≡ false)

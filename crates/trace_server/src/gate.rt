@@ -1,8 +1,8 @@
-//! What is told of each call that a worker makes of the store.
+//! What hears of each call that a worker makes of the store.
 
 use std::sync::Wait;
 
-/// Is told of each call that a worker makes of the store, for tests that want two calls at one time.
+/// Hears of each call that a worker makes of the store, for tests that want two calls at one time.
 ///
 /// Workers count from 0, and a worker's own calls from 1. A count that has come to its end stays there.
 pub trait Gate {

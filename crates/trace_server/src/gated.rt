@@ -1,4 +1,4 @@
-//! A store whose calls a gate is told of.
+//! A store of whose calls a gate hears.
 
 ghost use Rattle.std.specs.Prelude.{◌≡◌};
 ghost use mathlib.Core.List.{IsPrefix};
@@ -13,7 +13,7 @@ use std::sync::Wait;
 use store_backend::Backend;
 use trace_model::{Answer, Query, Refusal};
 
-/// A worker's store, whose calls the gate is told of. Contracts see the store alone.
+/// A worker's store, of whose calls the gate hears. Contracts see the store alone.
 #[derive(Drop)]
 pub(crate) struct Gated<'a, N: StoreName, G, R> {
     rt: &'a R,

@@ -7,8 +7,8 @@
 //! alone.
 //!
 //! * `options`: how many workers, how long a queue, how many sessions.
-//! * `gate`: what is told of each call that a worker makes of the store.
-//! * `gated`: a store whose calls a gate is told of.
+//! * `gate`: what hears of each call that a worker makes of the store.
+//! * `gated`: a store of whose calls a gate hears.
 //! * `connection`: one connection, from its first byte to its last.
 //! * `worker`: a worker, who serves one connection after the other. `crew`: work among threads.
 //! * `house`: a store with its desk and its clerk.

@@ -107,7 +107,7 @@ fn staff<N: StoreName + Send + Sync, G: Gate + Sync, R: Threads + Wait + Clock +
             workers
         },
     );
-    // Both are there; `join` doesn't tell what is left in the slot.
+    // Both are there; the contract of `join` doesn't say what is left in the slot.
     let books = match (slot, ledger) {
         (Some(keeper), Some(ledger)) => Some(ledger.with(keeper)),
         (Some(keeper), None) => {

@@ -236,6 +236,41 @@ fn names_and_ids(rt: HostRuntime) -> Result<(), Fail> {
     shows_items(&rt, alloc, Answer::Ids(Seq::from_vec(ids)), want, 2)
 }
 
+const MANY: usize = 1_000;
+
+fn many_names(alloc: Global) -> Result<Answer, AllocError> {
+    let mut names = Vec::new(alloc);
+    for _ in 0..MANY {
+        names.push(Text::from_str(alloc, "n")?)?;
+    }
+    Ok(Answer::Names(Seq::from_vec(names)))
+}
+
+fn many_spans(alloc: Global) -> Result<Answer, AllocError> {
+    let mut spans = Vec::new(alloc);
+    for _ in 0..MANY {
+        spans.push(shown(alloc, "a", span(alloc)?)?)?;
+    }
+    Ok(Answer::Trace(Some(Seq::from_vec(spans))))
+}
+
+/// How long the text of the answer is, and that of its tree.
+fn lengths(alloc: Global, answer: &Answer) -> Result<(usize, usize), Fail> {
+    let text = text_of(alloc, answer)?;
+    let tree = tree_text(alloc, answer)?;
+    Ok((text.len(), tree.len()))
+}
+
+/// No text gives up past a size.
+#[test]
+fn large_answers(rt: HostRuntime) -> Result<(), Fail> {
+    let alloc = rt.alloc();
+    assert_eq!(rt; lengths(alloc, &many_names(alloc)?)?, (4_058, 4_058));
+    let (text, tree) = lengths(alloc, &many_spans(alloc)?)?;
+    assert!(rt; text == tree && text > 100 * MANY);
+    Ok(())
+}
+
 #[test]
 fn missing_trace(rt: HostRuntime) -> Result<(), Fail> {
     let want =

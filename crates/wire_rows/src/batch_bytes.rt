@@ -1,7 +1,8 @@
-use batch_codec::{DecodeError, decode, encode};
+use batch_codec::{DecodeError, Part, decode, encode};
 use jaeger_model::{Batch, Seq};
 use std::alloc::{AllocError, Global};
 use std::test::*;
+use thrift_binary::WireError;
 use trace_samples::process;
 
 /// The bytes of hexadecimal text; spaces are skipped.
@@ -94,6 +95,32 @@ fn outcome(alloc: Global, hex: &str) -> Result<String, Fail> {
         text.push_str(span.operation.as_str())?;
     }
     Ok(text)
+}
+
+/// Each kind of fault has a text, and so has each struct that may lack a field.
+#[test]
+fn texts_of_faults(rt: HostRuntime) -> Result<(), Fail> {
+    for (fault, text) in [
+        (DecodeError::Wire(WireError::TooDeep), "4 TooDeep"),
+        (DecodeError::Missing(Part::Batch, 2), "7 Missing Batch 2"),
+        (
+            DecodeError::Missing(Part::Process, 1),
+            "7 Missing Process 1",
+        ),
+        (DecodeError::Missing(Part::Span, 9), "7 Missing Span 9"),
+        (
+            DecodeError::Missing(Part::SpanRef, 4),
+            "7 Missing SpanRef 4",
+        ),
+        (DecodeError::Missing(Part::Log, 1), "7 Missing Log 1"),
+        (DecodeError::Missing(Part::Tag, 2), "7 Missing Tag 2"),
+        (DecodeError::BadEnum, "8 BadEnum"),
+        (DecodeError::Trailing, "9 Trailing"),
+        (DecodeError::Memory, "22 NoMemory"),
+    ] {
+        assert_eq!(rt; fault.text(rt.alloc())?.as_str(), text);
+    }
+    Ok(())
 }
 
 /// A batch up to its process's one tag, and what follows that.

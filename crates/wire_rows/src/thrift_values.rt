@@ -52,6 +52,29 @@ fn after_a_refusal(rt: HostRuntime) {
     assert_eq!(rt; WireError::Truncated.name(), "Truncated");
 }
 
+/// Each fault is printed as its name: a body of `fmt` that always fails meets its contract.
+#[test]
+fn printed_faults(rt: HostRuntime) -> Result<(), Fail> {
+    let alloc = rt.alloc();
+    for (fault, name) in [
+        (WireError::Truncated, "Truncated"),
+        (WireError::BadLength, "BadLength"),
+        (WireError::BadType, "BadType"),
+        (WireError::TooDeep, "TooDeep"),
+        (WireError::BadBool, "BadBool"),
+        (WireError::BadText, "BadText"),
+    ] {
+        assert_eq!(rt; format!(in alloc; "{fault}")?.as_str(), name);
+    }
+    for (fault, name) in [
+        (WriteError::BadLength, "BadLength"),
+        (WriteError::Memory, "NoMemory"),
+    ] {
+        assert_eq!(rt; format!(in alloc; "{fault}")?.as_str(), name);
+    }
+    Ok(())
+}
+
 /// A struct, its bytes written by hand from the protocol's description.
 const STRUCT: [u8; 55] = [
     0x02, 0x00, 0x01, 0x01, // true

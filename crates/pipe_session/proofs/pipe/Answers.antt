@@ -2,7 +2,11 @@ use Rattle.pipe_session.proofs.Exactly.{exact}
 use Rattle.pipe_session.proofs.pipe.Goals as goal
 
 pub returns-in-Ok-clause-ended : goal.returns-in-Ok-clause-ended
-returns-in-Ok-clause-ended g c = let ends = c.in-Ok.ensures.ended.0 in (ends, exact _ _ _ ends.run)
+returns-in-Ok-clause-ended g c =
+    let ended = c.in-Ok.ensures.ended in
+    let ends = ended.0 in (ends, exact _ _ _ ends.run, ended.2)
 
 pub returns-in-Err-clause-fault : goal.returns-in-Err-clause-fault
-returns-in-Err-clause-fault g c = let fails = c.in-Err.ensures.fault.0 in (fails, exact _ _ _ fails.run)
+returns-in-Err-clause-fault g c =
+    let failed = c.in-Err.ensures.fault in
+    let fails = failed.0 in (fails, exact _ _ _ fails.run, failed.2)

@@ -10,7 +10,7 @@ returns-in-Some c =
     let q = c.args.query.now in
     let e = entry_at c.args.journal.now.held.entries c.args.place in
     OnTrue_from _ (met_at q c.args.journal.now.held.entries c.args.place ≡ [])
-    (λ no. passed_there q e c.in-Some.times (sym c.in-Some.is ∙ c.times.ensures) (sym c.may_meet.ensures ∙ denied c.may_meet.result no))
+    (λ no. passed_there q e c.in-Some.outline (sym c.in-Some.is ∙ c.outline.ensures) (sym c.may_meet.ensures ∙ denied c.may_meet.result no))
 
 pub returns-in-None : goal.returns-in-None
-returns-in-None c = none_there c.args.query.now (entry_at c.args.journal.now.held.entries c.args.place) (sym c.in-None.is ∙ c.times.ensures)
+returns-in-None c = none_there c.args.query.now (entry_at c.args.journal.now.held.entries c.args.place) (sym c.in-None.is ∙ c.outline.ensures)

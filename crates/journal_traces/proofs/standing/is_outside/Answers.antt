@@ -14,5 +14,5 @@ returns-in-Some c =
     let e = to_z-of_z w64 c.args.end_ms c.ranges.end_ms in
     let l = to_z-of_z w64 c.args.lookback_ms c.ranges.lookback_ms in
     OnTrue_from _ (list_any (in_window c.args.end_ms c.args.lookback_ms) (spans_named h (c.args.spot ∷ [])) ≡ false)
-    (λ no. none_starts c.args.end_ms c.args.lookback_ms h c.args.spot c.in-Some.times (sym c.in-Some.is ∙ c.times.ensures)
+    (λ no. none_starts c.args.end_ms c.args.lookback_ms h c.args.spot c.in-Some.outline (sym c.in-Some.is ∙ c.outline.ensures)
     (sym (rw (e, l) at c.may_reach.ensures) ∙ denied c.may_reach.result no))

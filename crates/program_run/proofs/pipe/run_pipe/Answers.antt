@@ -33,7 +33,19 @@ returns-in_default g c =
 pub returns-in-Ok-pipe : goal.returns-in-Ok-pipe
 returns-in-Ok-pipe g c =
     let both = rw (c.new-store.ensures, c.in-Ok.ensures) at c.in-Ok-pipe.ensures.ended in
-    inl (refl, record { answered = _; clean = _; last = _; ends = both.0; exact = both.1 })
+    let works = c.in-Ok-pipe.ensures.works in
+    inl (
+      refl,
+      record {
+        answered = _;
+        clean = _;
+        last = _;
+        ends = both.0;
+        exact = both.1;
+        input_works = works.0;
+        output_works = works.1;
+      },
+    )
 
 pub returns : goal.returns
 returns g c =

@@ -11,6 +11,14 @@ new-requires-2-clause-rule g c =
 pub reader-requires : goal.reader-requires
 reader-requires g c = admits _ _
 
+pub loop-made-init : goal.loop-made-init
+loop-made-init g c =
+    let none : All (λ (p : List Entry). p ≡ []) [] = search rules in (
+      (let P : List (List Entry) → Type 0 = λ z. All (λ p. p ≡ []) z in subst P (sym c.in_ok-passes.ensures.items) none),
+      c.in_ok-passes.ensures.len,
+      c.in_ok-passes.ensures.capacity,
+    )
+
 pub loop-made-preserved : goal.loop-made-preserved
 loop-made-preserved g c =
     let empty : c.new-pass.result ≡ [] = search rules in (

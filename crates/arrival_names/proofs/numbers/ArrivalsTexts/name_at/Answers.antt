@@ -7,8 +7,8 @@ use Rattle.service_index.specs.Listing.{Listed}
 use Rattle.arrival_names.proofs.Naming.{said, entry_is}
 use Rattle.arrival_names.proofs.numbers.ArrivalsTexts.name_at.Goals as goal
 
-pub returns-clause-service : goal.returns-clause-service
-returns-clause-service c =
+pub returns : goal.returns
+returns c =
     let a = c.args.self.now in
     let h = map arc_value a.entries.now in
     let x = c.index-self-before.result in
@@ -21,36 +21,9 @@ returns-clause-service c =
     let spans = c.as_slice.ensures ∙ ap (λ (e : Entry). e.batch.spans) (c.deref.ensures ∙ sym (ap (arc_value {X = Entry} {Z = Global}) c.index-self-before.is)) in
     let here = c.index-as_slice-index.is ∙ ap (λ ss. get_or ss (c.args.n - get_or a.firsts.now (get_or a.entry_of.now c.args.n 0) 0) s) spans in
     let is = said h a.entry_of.now a.firsts.now c.args.n (arc_value x) s a.numbered below there here in
-    c.as_str.ensures.value ∙ ap (λ (e : Entry). e.batch.process.service) (c.deref-2.ensures ∙ sym (ap (arc_value {X = Entry} {Z = Global}) c.index-self-before.is)) ∙ sym (ap (λ (l : Listed). l.service) is)
-
-pub returns-clause-operation : goal.returns-clause-operation
-returns-clause-operation c =
-    let a = c.args.self.now in
-    let h = map arc_value a.entries.now in
-    let x = c.index-self-before.result in
-    let s = c.index-as_slice-index.result in
-    let many = a.numbered.as_many in
-    let below : c.args.n < length a.entry_of.now = omega arith in
-    let entry = (a.numbered.at c.args.n below).entry in
-    let l = length-map a.entries.now (arc_value {X = Entry} {Z = Global}) in
-    let there = entry_is a.entries.now (get_or a.entry_of.now c.args.n 0) x (omega arith) c.index-self-before.is in
-    let spans = c.as_slice.ensures ∙ ap (λ (e : Entry). e.batch.spans) (c.deref.ensures ∙ sym (ap (arc_value {X = Entry} {Z = Global}) c.index-self-before.is)) in
-    let here = c.index-as_slice-index.is ∙ ap (λ ss. get_or ss (c.args.n - get_or a.firsts.now (get_or a.entry_of.now c.args.n 0) 0) s) spans in
-    let is = said h a.entry_of.now a.firsts.now c.args.n (arc_value x) s a.numbered below there here in
-    c.as_str-2.ensures.value ∙ sym (ap (λ (l : Listed). l.operation.name) is)
-
-pub returns-clause-kind : goal.returns-clause-kind
-returns-clause-kind c =
-    let a = c.args.self.now in
-    let h = map arc_value a.entries.now in
-    let x = c.index-self-before.result in
-    let s = c.index-as_slice-index.result in
-    let many = a.numbered.as_many in
-    let below : c.args.n < length a.entry_of.now = omega arith in
-    let entry = (a.numbered.at c.args.n below).entry in
-    let l = length-map a.entries.now (arc_value {X = Entry} {Z = Global}) in
-    let there = entry_is a.entries.now (get_or a.entry_of.now c.args.n 0) x (omega arith) c.index-self-before.is in
-    let spans = c.as_slice.ensures ∙ ap (λ (e : Entry). e.batch.spans) (c.deref.ensures ∙ sym (ap (arc_value {X = Entry} {Z = Global}) c.index-self-before.is)) in
-    let here = c.index-as_slice-index.is ∙ ap (λ ss. get_or ss (c.args.n - get_or a.firsts.now (get_or a.entry_of.now c.args.n 0) 0) s) spans in
-    let is = said h a.entry_of.now a.firsts.now c.args.n (arc_value x) s a.numbered below there here in
-    c.kind_of.ensures ∙ sym (ap (λ (l : Listed). l.operation.kind) is)
+    record {
+      service =
+          c.as_str.ensures.value ∙ ap (λ (e : Entry). e.batch.process.service) (c.deref-2.ensures ∙ sym (ap (arc_value {X = Entry} {Z = Global}) c.index-self-before.is)) ∙ sym (ap (λ (l : Listed). l.service) is);
+      operation = c.as_str-2.ensures.value ∙ sym (ap (λ (l : Listed). l.operation.name) is);
+      kind = c.kind_of.ensures ∙ sym (ap (λ (l : Listed). l.operation.kind) is);
+    }

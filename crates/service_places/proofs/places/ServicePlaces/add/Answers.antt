@@ -1,38 +1,38 @@
-use Rattle.std.proofs.Common.{◌≡◌, ◌∙◌, ◌+◌, ◌-◌, ◌<◌, ◌≤◌, List, ℕ, [], ◌∷◌, ◌++◌, map, length, get_or, refl, ap, sym, subst, arith, length-append}
+use Rattle.std.proofs.Common.{◌≡◌, ◌∙◌, ◌+◌, ◌-◌, ◌<◌, ◌≤◌, List, ℕ, [], ◌∷◌, ◌++◌, map, length, refl, ap, sym, subst, arith}
 use Rattle.std.specs.Arc.{arc_value}
 use Rattle.std.specs.Global.{Global}
 use Rattle.std.proofs.Math.ListN.{set}
 use Rattle.std.proofs.lemmas.List.{length-map, get_or_read}
 use Rattle.trace_model.specs.declared.entry.Entry.{Entry}
+use Rattle.service_index.specs.Probes.{Table}
 use Rattle.service_index.proofs.Extending.{named_extends}
 use Rattle.arrival_names.specs.Numbers.{before_last}
 use Rattle.arrival_names.proofs.Naming.{last_of}
 use Rattle.service_places.specs.Reported.{Reported, IsKept, names_of}
-use Rattle.service_places.proofs.Following.{extends_one, kept_own, kept_new, newest_rows}
+use Rattle.service_places.proofs.Following.{last_number, extends_one, kept_own, kept_new, newest_rows}
 use Rattle.service_places.proofs.places.ServicePlaces.add.Goals as goal
+
+abbrev seen : Table → List ℕ → List ℕ → ℕ → Reported
+seen services newest earlier batches = record { services = services; newest = newest; earlier = earlier; batches = batches }
 
 pub add-service-requires-clause-leads : goal.add-service-requires-clause-leads
 add-service-requires-clause-leads c =
     let h : List Entry = map (arc_value {X = Entry} {Z = Global}) c.args.entries.now in
     let l : length h ≡ length c.args.entries.now = length-map c.args.entries.now (arc_value {X = Entry} {Z = Global}) in
     let last = last_of h (omega (arith, c.requires.some)) in
-    let was = c.self.inside in
-    let old : Reported = record { services = was.services; newest = was.newest.items; earlier = was.earlier.items; batches = was.batches } in
+    let old = seen c.self.inside.services c.self.inside.newest.items c.self.inside.earlier.items c.self.inside.batches in
     let kept : IsKept (before_last h) old = subst (IsKept (before_last h)) (sym c.self.view_is) c.requires.kept in
-    named_extends (names_of (before_last h)) (names_of h) was.services (extends_one (before_last h) h last.0 last.1) kept.named
+    named_extends (names_of (before_last h)) (names_of h) old.services (extends_one (before_last h) h last.0 last.1) kept.named
 
 pub returns-then-service-len-clause-kept : goal.returns-then-service-len-clause-kept
 returns-then-service-len-clause-kept c =
     let h : List Entry = map (arc_value {X = Entry} {Z = Global}) c.args.entries.now in
     let l : length h ≡ length c.args.entries.now = length-map c.args.entries.now (arc_value {X = Entry} {Z = Global}) in
     let last = last_of h (omega (arith, c.requires.some)) in
-    let was = c.self.inside in
-    let old : Reported = record { services = was.services; newest = was.newest.items; earlier = was.earlier.items; batches = was.batches } in
+    let old = seen c.self.inside.services c.self.inside.newest.items c.self.inside.earlier.items c.self.inside.batches in
     let kept : IsKept (before_last h) old = subst (IsKept (before_last h)) (sym c.self.view_is) c.requires.kept in
-    let one = length-append (before_last h) (last.0 ∷ []) in
-    let all : length (before_last h ++ last.0 ∷ []) ≡ length h = ap length last.1 in
     let n = length c.args.entries.now - 1 in
-    let at : n ≡ length (before_last h) = omega arith in
+    let at = last_number (before_last h) h last.0 (length c.args.entries.now) last.1 l in
     let s = c.add-service.result in
     let rows = newest_rows (before_last h) old kept in
     let within : s < length old.newest = omega (arith, c.if-service-len.true) in
@@ -46,13 +46,10 @@ returns-else-service-len-clause-kept c =
     let h : List Entry = map (arc_value {X = Entry} {Z = Global}) c.args.entries.now in
     let l : length h ≡ length c.args.entries.now = length-map c.args.entries.now (arc_value {X = Entry} {Z = Global}) in
     let last = last_of h (omega (arith, c.requires.some)) in
-    let was = c.self.inside in
-    let old : Reported = record { services = was.services; newest = was.newest.items; earlier = was.earlier.items; batches = was.batches } in
+    let old = seen c.self.inside.services c.self.inside.newest.items c.self.inside.earlier.items c.self.inside.batches in
     let kept : IsKept (before_last h) old = subst (IsKept (before_last h)) (sym c.self.view_is) c.requires.kept in
-    let one = length-append (before_last h) (last.0 ∷ []) in
-    let all : length (before_last h ++ last.0 ∷ []) ≡ length h = ap length last.1 in
     let n = length c.args.entries.now - 1 in
-    let at : n ≡ length (before_last h) = omega arith in
+    let at = last_number (before_last h) h last.0 (length c.args.entries.now) last.1 l in
     let s = c.add-service.result in
     let rows = newest_rows (before_last h) old kept in
     let beyond : length old.services.numbers ≤ s = omega (arith, c.if-service-len.false) in

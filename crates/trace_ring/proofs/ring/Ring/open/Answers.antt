@@ -4,7 +4,7 @@ use Rattle.id_table.specs.Rows.{id_at}
 use Rattle.trace_model.specs.Rings.{holds}
 use Rattle.trace_ring.specs.Windows.{Window}
 use Rattle.trace_ring.specs.Numbers.{window, IsRing}
-use Rattle.trace_ring.proofs.Ringing.{length_window, none_held, ring_room, ring_opened}
+use Rattle.trace_ring.proofs.Ringing.{window_few, none_held, ring_room, ring_opened}
 use Rattle.trace_ring.proofs.ring.Ring.open.Goals as goal
 
 pub push_back_reserved-requires : goal.push_back_reserved-requires
@@ -14,10 +14,7 @@ push_back_reserved-requires c =
     let row = c.args.row in
     let known = subst (λ (w : Window). row < length w.seen) (sym c.self.view_is) c.requires.known in
     let absent = none_held (id_at t.table.ids row) (window t.table.ids t.rows.items) (ap (λ (w : Window). holds w.ids (id_at w.seen row)) c.self.view_is ∙ c.requires.absent) in
-    let l = length_window t.table.ids t.rows.items in
-    let few : 0 < t.limit → length t.rows.items < t.limit = λ pos.
-    let w = subst (λ (w : Window). 0 < w.limit → length w.ids < w.limit) (sym c.self.view_is) c.requires.within pos in
-    subst (λ (n : ℕ). n < t.limit) l w in
+    let few = window_few t.limit t.table.ids t.rows.items (subst (λ (w : Window). 0 < w.limit → length w.ids < w.limit) (sym c.self.view_is) c.requires.within) in
     let room = ring_room t.limit t.room t.table t.rows.items t.first t.numbers.items row h known absent few in
     omega (arith, c.self.invariant.0)
 
@@ -28,10 +25,7 @@ invariant_of-self c =
     let row = c.args.row in
     let known = subst (λ (w : Window). row < length w.seen) (sym c.self.view_is) c.requires.known in
     let absent = none_held (id_at t.table.ids row) (window t.table.ids t.rows.items) (ap (λ (w : Window). holds w.ids (id_at w.seen row)) c.self.view_is ∙ c.requires.absent) in
-    let l = length_window t.table.ids t.rows.items in
-    let few : 0 < t.limit → length t.rows.items < t.limit = λ pos.
-    let w = subst (λ (w : Window). 0 < w.limit → length w.ids < w.limit) (sym c.self.view_is) c.requires.within pos in
-    subst (λ (n : ℕ). n < t.limit) l w in
+    let few = window_few t.limit t.table.ids t.rows.items (subst (λ (w : Window). 0 < w.limit → length w.ids < w.limit) (sym c.self.view_is) c.requires.within) in
     let len : length t.rows.items ≡ c.len.result = omega arith in (
       omega (arith, c.self.invariant.0),
       omega (arith, c.self.invariant.1),

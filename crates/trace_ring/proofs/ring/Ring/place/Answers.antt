@@ -4,7 +4,7 @@ use Rattle.std.proofs.lemmas.List.{get_or_read}
 use Rattle.jaeger_model.specs.Parents.{same_trace}
 use Rattle.id_table.specs.Rows.{id_at}
 use Rattle.trace_ring.specs.Windows.{Window}
-use Rattle.trace_ring.proofs.Ringing.{place_is, place_none, place_some}
+use Rattle.trace_ring.proofs.Ringing.{row_numbered, place_is, place_none, place_some}
 use Rattle.trace_ring.proofs.ring.Ring.place.Goals as goal
 
 pub returns-then-place-len : goal.returns-then-place-len
@@ -13,9 +13,7 @@ returns-then-place-len c =
     let h = c.self.invariant.2 in
     let row = c.args.row in
     let known = subst (λ (w : Window). row < length w.seen) (sym c.self.view_is) c.requires in
-    let within = h.within in
-    let many = h.as_many in
-    let number = get_or_read t.numbers.items row c.index.result.now (omega arith) c.index.ensures 0 in
+    let number = get_or_read t.numbers.items row c.index.result.now (row_numbered t.limit t.room t.table t.rows.items t.first t.numbers.items row h known) c.index.ensures 0 in
     let place : ℕ = (c.index.result.now + (2 ^ 64 - t.first)) % 2 ^ 64 in
     let is = ap (λ n. (n + (2 ^ 64 - t.first)) % 2 ^ 64) number in
     place_none t.limit t.room t.table t.rows.items t.first t.numbers.items row h known (λ p pn e.
@@ -30,9 +28,7 @@ returns-then-index-row c =
     let h = c.self.invariant.2 in
     let row = c.args.row in
     let known = subst (λ (w : Window). row < length w.seen) (sym c.self.view_is) c.requires in
-    let within = h.within in
-    let many = h.as_many in
-    let number = get_or_read t.numbers.items row c.index.result.now (omega arith) c.index.ensures 0 in
+    let number = get_or_read t.numbers.items row c.index.result.now (row_numbered t.limit t.room t.table t.rows.items t.first t.numbers.items row h known) c.index.ensures 0 in
     let place : ℕ = (c.index.result.now + (2 ^ 64 - t.first)) % 2 ^ 64 in
     let is = ap (λ n. (n + (2 ^ 64 - t.first)) % 2 ^ 64) number in
     place_none t.limit t.room t.table t.rows.items t.first t.numbers.items row h known (λ p pn e.
@@ -46,9 +42,7 @@ returns c =
     let h = c.self.invariant.2 in
     let row = c.args.row in
     let known = subst (λ (w : Window). row < length w.seen) (sym c.self.view_is) c.requires in
-    let within = h.within in
-    let many = h.as_many in
-    let number = get_or_read t.numbers.items row c.index.result.now (omega arith) c.index.ensures 0 in
+    let number = get_or_read t.numbers.items row c.index.result.now (row_numbered t.limit t.room t.table t.rows.items t.first t.numbers.items row h known) c.index.ensures 0 in
     let place : ℕ = (c.index.result.now + (2 ^ 64 - t.first)) % 2 ^ 64 in
     let is = ap (λ n. (n + (2 ^ 64 - t.first)) % 2 ^ 64) number in
     let below : place < length t.rows.items = omega arith in

@@ -1,0 +1,13 @@
+use Rattle.std.proofs.Common.{◌∙◌, ap, bit_or}
+use Rattle.std.proofs.lemmas.List.{take_all}
+use Rattle.std.specs.List.{fold}
+use Rattle.arrival_journal.specs.Tagging.{with_tag}
+use Rattle.arrival_journal.proofs.Gaining.{tag_more}
+use Rattle.arrival_journal.proofs.tagging.with_tags.Goals as goal
+
+pub loop-tag-preserved : goal.loop-tag-preserved
+loop-tag-preserved c =
+    (λ i. bit_or (c.loop-tag.invariant i) (c.bit_of-bits.ensures i)) ∙ tag_more c.args.before c.args.tags.now c.loop-tag.tag-index c.tag-item.result c.loop-tag-test.true c.tag-item.is
+
+pub returns : goal.returns
+returns c = c.loop-tag.invariant ∙ ap (fold with_tag c.args.before) (take_all c.loop-tag.tag-index c.args.tags.now c.loop-tag-test.false)

@@ -1,0 +1,47 @@
+-- Bits that tell which tags an entry can't have, without a look at its spans.
+use Rattle.std.specs.Prelude.{ℕ, ◌+◌, ◌*◌, ◌/◌, ◌%◌, ◌-◌, ◌^◌, ◌==◌, Bool, true, ◌||◌, ◌&&◌, List, [], ◌∷◌, ◌++◌, length, get_or, flat_map, nat_le, if◌then◌else◌}
+use Rattle.std.specs.Int.Bits.{bit_or}
+use Rattle.std.specs.List.{fold}
+use Rattle.jaeger_model.specs.declared.tag.Tag.{Tag}
+use Rattle.jaeger_model.specs.declared.span.Log.{Log}
+use Rattle.jaeger_model.specs.declared.span.Span.{Span}
+use Rattle.jaeger_model.specs.declared.batch.Batch.{Batch}
+use Rattle.jaeger_model.specs.Tags.{tag_text}
+
+-- a number for a text, by its length and by its first, middle and last byte
+abbrev pub mixed : List ℕ → ℕ
+mixed w = length w % 128 + 3 * get_or w 0 0 + 5 * get_or w (length w / 2) 0 + 7 * get_or w (length w - 1) 0
+
+-- 0 to 9, a to f, t and -
+abbrev pub begins_number : ℕ → Bool
+begins_number c = (nat_le 48 c && nat_le c 57) || (nat_le 97 c && nat_le c 102) || (c == 116) || (c == 45)
+
+-- a value that is no text may be written so: a number, a flag, or bytes
+abbrev pub may_be_number : List ℕ → Bool
+may_be_number [] = true
+may_be_number (c ∷ w) = begins_number c
+
+-- 0 for each text that may be that of a number
+abbrev pub text_part : List ℕ → ℕ
+text_part w = if may_be_number w then 0 else 41 + 11 * mixed w
+
+-- which of 128 bits stands for the tags with this key and this text
+abbrev pub tag_place : List ℕ → List ℕ → ℕ
+tag_place key text = (mixed key + text_part text) % 128
+
+abbrev pub bit_of : Tag → ℕ
+bit_of t = 2 ^ tag_place t.key (tag_text t.value)
+
+abbrev pub with_tag : ℕ → Tag → ℕ
+with_tag bits t = bit_or bits (bit_of t)
+
+abbrev pub fields_of : List Log → List Tag
+fields_of logs = flat_map (λ (l : Log). l.fields) logs
+
+-- the tags of a span and of its logs
+abbrev pub own_tags : Span → List Tag
+own_tags s = s.tags ++ fields_of s.logs
+
+-- the bits of the tags of the process, of its spans and of their logs
+abbrev pub bits_of : Batch → ℕ
+bits_of b = fold with_tag 0 (b.process.tags ++ flat_map own_tags b.spans)

@@ -1,0 +1,140 @@
+//! Bits that tell which tags an entry can't have, without a look at its spans.
+
+ghost use Rattle.std.specs.Prelude.{◌≡◌, ◌<◌, get_or, flat_map};
+ghost use Rattle.std.specs.List.{fold};
+ghost use Rattle.jaeger_model.specs.Tags.{tag_text, hex_text};
+ghost use Rattle.arrival_journal.specs.Tagging.{mixed, begins_number, may_be_number, text_part, tag_place, bit_of, with_tag, fields_of, own_tags, bits_of};
+
+use jaeger_model::{Batch, Log, Span, Tag, Value};
+
+/// The byte at an index, 0 behind the end.
+fn byte_at(bytes: &[u8], at: usize) -> u8
+    ensures { result ≡ get_or bytes.now at 0 }
+{
+    bytes.get(at).copied().unwrap_or(0)
+}
+
+/// A number for a text, by its length and by its first, middle and last byte. It reads no other.
+fn mixed(text: &str) -> u32
+    ensures exact { result ≡ mixed text.now }
+    ensures within { result < 4096 }
+{
+    let bytes = text.as_bytes();
+    let length = bytes.len();
+    let first = u32::from(byte_at(bytes, 0));
+    let middle = u32::from(byte_at(bytes, length / 2));
+    let last = u32::from(byte_at(bytes, length.saturating_sub(1)));
+    (length % 128) as u32 + 3 * first + 5 * middle + 7 * last
+}
+
+/// Whether numbers, flags or bytes may begin so as text.
+fn begins_number(byte: u8) -> bool
+    ensures { result ≡ begins_number byte }
+{
+    (b'0' <= byte && byte <= b'9') || (b'a' <= byte && byte <= b'f') || byte == b't' || byte == b'-'
+}
+
+/// Whether a value that is no text may be written so.
+fn may_be_number(text: &str) -> bool
+    ensures { result ≡ may_be_number text.now }
+{
+    match text.as_bytes() {
+        [first, ..] => begins_number(*first),
+        _ => true,
+    }
+}
+
+/// What a tag's text adds to its place: the same for all that may be the text of a number.
+fn text_part(text: &str) -> u32
+    ensures exact { result ≡ text_part text.now }
+    ensures within { result < 65536 }
+{
+    if may_be_number(text) {
+        0
+    } else {
+        41 + 11 * mixed(text)
+    }
+}
+
+/// The same for the text of bytes, which isn't made: it may be that of a number.
+fn hex_part(bytes: &[u8]) -> u32
+    ensures exact { result ≡ text_part (hex_text bytes.now) }
+    ensures within { result < 65536 }
+{
+    if let Some(first) = bytes.first() {
+        let _first = *first;
+    }
+    0
+}
+
+/// The same for a value, whose text isn't made.
+fn value_part(value: &Value) -> u32
+    ensures exact { result ≡ text_part (tag_text value.now) }
+    ensures within { result < 65536 }
+{
+    match value {
+        Value::Text(text) => text_part(text.as_str()),
+        Value::Double(bytes) => hex_part(bytes),
+        Value::Bool(_) => 0,
+        Value::Long(_) => 0,
+        Value::Bytes(bytes) => hex_part(bytes.as_slice()),
+    }
+}
+
+/// Which of 128 bits stands for the tags with this key and this text.
+pub fn tag_place(key: &str, text: &str) -> u32
+    ensures exact { result ≡ tag_place key.now text.now }
+    ensures within { result < 128 }
+{
+    (mixed(key) + text_part(text)) % 128
+}
+
+/// The bit of a tag.
+fn bit_of(tag: &Tag) -> u128
+    ensures { result ≡ bit_of tag.now }
+{
+    1u128 << ((mixed(tag.key.as_str()) + value_part(&tag.value)) % 128)
+}
+
+/// The bits with those of more tags.
+fn with_tags(before: u128, tags: &[Tag]) -> u128
+    ensures { result ≡ fold with_tag before tags.now }
+{
+    let mut bits = before;
+    for tag in tags {
+        bits |= bit_of(tag);
+    }
+    bits
+}
+
+/// The bits with those of the fields of more logs.
+fn with_logs(before: u128, logs: &[Log]) -> u128
+    ensures { result ≡ fold with_tag before (fields_of logs.now) }
+{
+    let mut bits = before;
+    for log in logs {
+        bits = with_tags(bits, log.fields.as_slice());
+    }
+    bits
+}
+
+/// The bits with those of the tags of more spans and of their logs.
+fn with_spans(before: u128, spans: &[Span]) -> u128
+    ensures { result ≡ fold with_tag before (flat_map own_tags spans.now) }
+{
+    let mut bits = before;
+    for span in spans {
+        bits = with_logs(with_tags(bits, span.tags.as_slice()), span.logs.as_slice());
+    }
+    bits
+}
+
+/// The bits of the tags of the process, of its spans and of their logs.
+pub(crate) fn bits_of(batch: &Batch) -> u128
+    ensures { result ≡ bits_of batch.now }
+{
+    with_spans(
+        with_tags(0, batch.process.tags.as_slice()),
+        batch.spans.as_slice(),
+    )
+}

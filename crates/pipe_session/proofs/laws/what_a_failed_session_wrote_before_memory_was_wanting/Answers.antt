@@ -1,5 +1,0 @@
-use Rattle.pipe_session.proofs.Wanting.{failed_before}
-use Rattle.pipe_session.proofs.laws.what_a_failed_session_wrote_before_memory_was_wanting.Goals as goal
-
-pub returns : goal.returns
-returns c = failed_before

@@ -1,5 +1,0 @@
-use Rattle.pipe_session.proofs.Wanting.{ended_before}
-use Rattle.pipe_session.proofs.laws.what_an_ended_session_wrote_before_memory_was_wanting.Goals as goal
-
-pub returns : goal.returns
-returns c = ended_before

@@ -1,0 +1,124 @@
+//! Walks over places, each of which has 0 where it is free, else a row and one more.
+
+ghost use Rattle.std.specs.Prelude.{◌≡◌, ℕ, ◌+◌, ◌*◌, ◌^◌, ◌<◌, ◌≤◌, List, [], ◌∷◌, ◌++◌, length, get_or, count_by, replicate, vec_capacity};
+ghost use Rattle.row_places.specs.Leading.{start_of, place_after, is_taken, steps, AreTaken, Walked, LeadsTo};
+
+use crate::sought::Sought;
+
+/// The place where the walk for a hash begins.
+pub(crate) fn first_place(places: usize, hash: u64) -> usize
+    requires { 0 < places }
+    ensures value { result ≡ start_of hash places }
+    ensures within { result < places }
+{
+    (hash % places as u64) as usize
+}
+
+/// The place after this one: after the last comes the first.
+fn next_place(places: usize, at: usize) -> usize
+    requires { at < places }
+    ensures value { result ≡ place_after places at }
+    ensures within { result < places }
+{
+    if at + 1 == places { 0 } else { at + 1 }
+}
+
+/// Walks over the places, each at most once, to a row that is sought or to a free place.
+pub(crate) fn walk<S: Sought>(slots: &[u32], start: usize, sought: &S) -> Option<u32>
+    requires can_read { S.can_read sought.now }
+    requires start { start < length slots.now }
+    requires known { (k : ℕ) → get_or slots.now k 0 ≤ length (S.hashes sought.now) }
+    ensures { Walked slots.now start (length (S.hashes sought.now)) (S.is_sought sought.now)
+        result }
+{
+    let mut at = start;
+    for _passed in 0..slots.len() {
+        let slot = slots[at];
+        if slot == 0 {
+            return None;
+        }
+        let row = slot - 1;
+        if sought.is_sought(row as usize) {
+            return Some(row);
+        }
+        at = next_place(slots.len(), at);
+    }
+    None
+}
+
+/// Walks to the first place that is free.
+fn free_place(slots: &[u32], start: usize) -> usize
+    requires start { start < length slots.now }
+    requires free { count_by is_taken slots.now < length slots.now }
+    ensures within { result < length slots.now }
+    ensures free { get_or slots.now result 0 ≡ 0 }
+    ensures taken { AreTaken slots.now start (steps (length slots.now) start result) }
+{
+    let mut at = start;
+    for _passed in 0..slots.len() {
+        if slots[at] == 0 {
+            return at;
+        }
+        at = next_place(slots.len(), at);
+    }
+    unreachable!()
+}
+
+/// Marks a place of the row that comes behind all others, by its hash.
+pub(crate) fn mark_row(slots: &mut [u32], hash: u64, row: u32)
+    requires fits { row + 1 < 2 ^ 32 }
+    requires half { 2 * row + 2 < length slots.old }
+    requires taken { count_by is_taken slots.old ≡ row }
+    ensures length { length slots.new ≡ length slots.old }
+    ensures leads { (hashes : List ℕ) → length hashes ≡ row → LeadsTo hashes slots.old
+        → LeadsTo (hashes ++ hash ∷ []) slots.new }
+{
+    let start = first_place(slots.len(), hash);
+    let at = free_place(slots, start);
+    slots[at] = row + 1;
+}
+
+/// So many places, all of them free.
+fn set_free(slots: &mut Vec<u32>, places: usize)
+    requires { places ≤ vec_capacity slots.old }
+    ensures items { slots.new.items ≡ replicate places 0 }
+    ensures capacity { vec_capacity slots.new ≡ vec_capacity slots.old }
+{
+    slots.clear();
+    for _set in 0..places {
+        slots.push_reserved(0);
+    }
+}
+
+/// Spreads the rows over so many places.
+fn spread<S: Sought>(slots: &mut Vec<u32>, rows: &S, places: usize)
+    requires can_read { S.can_read rows.now }
+    requires fits { length (S.hashes rows.now) < 2 ^ 32 }
+    requires capacity { places ≤ vec_capacity slots.old }
+    requires half { 2 * length (S.hashes rows.now) < places }
+    ensures length { length slots.new.items ≡ places }
+    ensures leads { LeadsTo (S.hashes rows.now) slots.new.items }
+    ensures capacity { vec_capacity slots.new ≡ vec_capacity slots.old }
+{
+    set_free(slots, places);
+    for row in 0..rows.rows() {
+        mark_row(slots, rows.hash_at(row), row as u32);
+    }
+}
+
+/// Sees to it that more than half of the places are free once one more row has its place. Where they
+/// wouldn't be, the rows are spread over about twice as many.
+pub(crate) fn make_place<S: Sought>(slots: &mut Vec<u32>, rows: &S, room: u32)
+    requires can_read { S.can_read rows.now }
+    requires more { length (S.hashes rows.now) < room }
+    requires capacity { 2 * room < vec_capacity slots.old }
+    requires leads { LeadsTo (S.hashes rows.now) slots.old.items }
+    ensures half { 2 * length (S.hashes rows.now) + 2 < length slots.new.items }
+    ensures leads { LeadsTo (S.hashes rows.now) slots.new.items }
+    ensures capacity { vec_capacity slots.new ≡ vec_capacity slots.old }
+{
+    let needed = rows.rows() + 1;
+    if slots.len() <= 2 * needed {
+        spread(slots, rows, 2 * (2 * needed).min(room as usize) + 1);
+    }
+}
