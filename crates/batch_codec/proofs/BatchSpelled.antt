@@ -4,7 +4,6 @@ use Rattle.std.specs.Prelude.{IfOk}
 use Rattle.std.proofs.lemmas.Bool.{eqb-true}
 use Rattle.std.proofs.lemmas.List.{append-nil}
 use Rattle.jaeger_model.specs.declared.batch.Batch.{Batch}
-use Rattle.thrift_binary.specs.Reading.{is_code}
 use Rattle.thrift_binary.specs.Spelling.{Front, Field}
 use Rattle.thrift_binary.proofs.Found.{bind_ok, pass_ok, ok_is}
 use Rattle.batch_codec.specs.declared.fault.DecodeError.{DecodeError}
@@ -17,7 +16,7 @@ use Rattle.batch_codec.specs.BatchReading.{take_batch, batch_from, batch_at, at_
 use Rattle.batch_codec.specs.Batches.{BatchField, whole_batch, IsBatch, Answers}
 use Rattle.batch_codec.specs.SpelledBatches.{DecodesWhatIsSpelled}
 use Rattle.batch_codec.proofs.ValuesSpelled.{Agrees, is_i64}
-use Rattle.batch_codec.proofs.Structs.{known_found, known_again, known_coded, skipped_found, skipped_again, skipped_coded, struct_found, struct_again, required_found, is_list}
+use Rattle.batch_codec.proofs.Structs.{known_found, known_again, skipped_found, skipped_again, struct_found, struct_again, required_found, is_list}
 use Rattle.batch_codec.proofs.ProcessSpelled.{is_process}
 use Rattle.batch_codec.proofs.SpanSpelled.{is_span}
 
@@ -36,14 +35,6 @@ batch_field_again s f t r =
     known_again (is_list is_span) (λ x. record s { spans = Some x }) f.code 15 f.id (pos 2) f.text t r _ _ (
     known_again is_i64 (λ x. record s { seq_no = Some x }) f.code 10 f.id (pos 3) f.text t r _ _ (
     skipped_again s f.code f.text t r)))
-
-pub batch_field_coded : (s : BatchSlots) (f : Field) (t : BatchSlots) → BatchField s f t → is_code f.code ≡ true
-unfolding BatchField
-batch_field_coded s f t =
-    known_coded _ f.code 12 f.id (pos 1) _ refl (
-    known_coded _ f.code 15 f.id (pos 2) _ refl (
-    known_coded _ f.code 10 f.id (pos 3) _ refl (
-    λ m. skipped_coded f.code f.text m.0)))
 
 all_there : (s : BatchSlots) (x : Batch) → s.process ≡ Some x.process → s.spans ≡ Some x.spans → s.seq_no ≡ x.seq_no → s ≡ whole_batch x
 all_there s x a b c = rw (a, b, c) refl
@@ -66,7 +57,7 @@ pub is_batch : Agrees batch_at IsBatch
 unfolding batch_at IsBatch
 is_batch = record {
   found = struct_found take_batch BatchField no_batch batch_from (λ s x. s ≡ whole_batch x) takes made;
-  again = struct_again take_batch BatchField no_batch batch_from (λ s x. s ≡ whole_batch x) batch_field_coded batch_field_again makes;
+  again = struct_again take_batch BatchField no_batch batch_from (λ s x. s ≡ whole_batch x) batch_field_again makes;
 }
 
 -- ---- all of the bytes

@@ -13,7 +13,7 @@ use Rattle.jaeger_model.specs.declared.span.Span.{Span}
 use Rattle.jaeger_model.specs.declared.batch.Process.{Process}
 use Rattle.jaeger_model.specs.declared.batch.Batch.{Batch}
 use Rattle.thrift_binary.specs.Spelling.{Field}
-use Rattle.thrift_binary.specs.Writing.{i32_text, i64_text, list_text}
+use Rattle.thrift_binary.specs.Writing.{i32_text, i64_text, list_text, HasHead}
 use Rattle.thrift_binary.proofs.Written.{bool_written, i32_written, i64_written, string_written, double_written, fields_written, list_written}
 use Rattle.batch_codec.specs.declared.tag.TagSlots.{TagSlots}
 use Rattle.batch_codec.specs.declared.tag.TagType.{TagType}
@@ -68,21 +68,21 @@ all_map P Q f (x ∷ xs) a = (f x a.0, all_map P Q f xs a.1)
 list_spelled : {A : Type 0} (Is : A → Type 0) (Spells : List ℕ → A → Type 0) (one : A → List ℕ) → ((x : A) → Is x → Spells (one x) x) → (xs : List A) → AreProper Is xs → IsStructList Spells (list_text 12 one xs) xs
 list_spelled Is Spells one each xs p = list_written 12 Spells one xs (all_map Is (λ x. Spells (one x) x) each xs p.1) p.0
 
--- ids of fields that a field's two bytes hold
-abbrev AllIds : List Field → Type 0
-AllIds fs = AllByRecursion (λ (f : Field). SFits w16 f.id) fs
+-- a head can spell the type and the id of each of them
+abbrev AllHaveHeads : List Field → Type 0
+AllHaveHeads fs = AllByRecursion HasHead fs
 
-ids-append : (fs gs : List Field) → AllIds fs → AllIds gs → AllIds (fs ++ gs)
-ids-append [] gs a b = b
-ids-append (f ∷ fs) gs a b = (a.0, ids-append fs gs a.1 b)
+heads-append : (fs gs : List Field) → AllHaveHeads fs → AllHaveHeads gs → AllHaveHeads (fs ++ gs)
+heads-append [] gs a b = b
+heads-append (f ∷ fs) gs a b = (a.0, heads-append fs gs a.1 b)
 
-ids_if_any : {A : Type 0} (i : ℤ) (one : A → List ℕ) (xs : List A) → SFits w16 i → AllIds (list_if_any i one xs)
-ids_if_any i one [] s = tt
-ids_if_any i one (x ∷ xs) s = (s, tt)
+heads_if_any : {A : Type 0} (i : ℤ) (one : A → List ℕ) (xs : List A) → SFits w16 i → AllHaveHeads (list_if_any i one xs)
+heads_if_any i one [] s = tt
+heads_if_any i one (x ∷ xs) s = ((s, refl), tt)
 
-ids_number : (i : ℤ) (z : Option ℤ) → SFits w16 i → AllIds (number_if_any i z)
-ids_number i None s = tt
-ids_number i (Some z) s = (s, tt)
+heads_number : (i : ℤ) (z : Option ℤ) → SFits w16 i → AllHaveHeads (number_if_any i z)
+heads_number i None s = tt
+heads_number i (Some z) s = ((s, refl), tt)
 
 -- ---- Tag
 
@@ -93,12 +93,12 @@ tag_gathered t (values.Bool x) = record no_tag { key = Some t.key; kind = Some t
 tag_gathered t (values.Long x) = record no_tag { key = Some t.key; kind = Some types.Long; long = x }
 tag_gathered t (values.Bytes x) = record no_tag { key = Some t.key; kind = Some types.Binary; binary = x }
 
-value_ids : (v : Value) → SFits w16 (value_field v).id
-value_ids (values.Text x) = sfits_lit tt
-value_ids (values.Double x) = sfits_lit tt
-value_ids (values.Bool x) = sfits_lit tt
-value_ids (values.Long x) = sfits_lit tt
-value_ids (values.Bytes x) = sfits_lit tt
+value_head : (v : Value) → HasHead (value_field v)
+value_head (values.Text x) = (sfits_lit tt, refl)
+value_head (values.Double x) = (sfits_lit tt, refl)
+value_head (values.Bool x) = (sfits_lit tt, refl)
+value_head (values.Long x) = (sfits_lit tt, refl)
+value_head (values.Bytes x) = (sfits_lit tt, refl)
 
 tag_value : (k : List ℕ) (v : Value) → IsProperValue v → (t : TagSlots) × TagField (record no_tag { key = Some k; kind = Some (value_type v) }) (value_field v) t × (t.key ≡ Some k) × (t.kind ≡ Some (value_type v)) × (v ≡ value_named (value_type v) t)
 unfolding TagField
@@ -114,7 +114,7 @@ tag_spelled t p =
     let v = tag_value t.key t.value p.value in
     record {
       fields = tag_fields t;
-      spelled = fields_written (tag_fields t) (sfits_lit tt, (sfits_lit tt, (value_ids t.value, tt)));
+      spelled = fields_written (tag_fields t) ((sfits_lit tt, refl), ((sfits_lit tt, refl), (value_head t.value, tt)));
       gathered = v.0;
       gathers = (
         record no_tag { key = Some t.key },
@@ -131,7 +131,7 @@ unfolding canon_log IsLog LogField
 log_spelled l p =
     record {
       fields = log_fields l;
-      spelled = fields_written (log_fields l) (sfits_lit tt, (sfits_lit tt, tt));
+      spelled = fields_written (log_fields l) ((sfits_lit tt, refl), ((sfits_lit tt, refl), tt));
       gathered = whole_log l;
       gathers = (
         record no_log { at = Some l.at },
@@ -148,7 +148,7 @@ unfolding canon_reference IsReference ReferenceField
 reference_spelled r p =
     record {
       fields = reference_fields r;
-      spelled = fields_written (reference_fields r) (sfits_lit tt, (sfits_lit tt, (sfits_lit tt, (sfits_lit tt, tt))));
+      spelled = fields_written (reference_fields r) ((sfits_lit tt, refl), ((sfits_lit tt, refl), ((sfits_lit tt, refl), ((sfits_lit tt, refl), tt))));
       gathered = whole_reference r;
       gathers = (
         record no_reference { kind = Some r.kind },
@@ -173,7 +173,7 @@ unfolding canon_process IsProcess ProcessField
 process_spelled p q =
     record {
       fields = process_fields p;
-      spelled = fields_written (process_fields p) (sfits_lit tt, ids_if_any (pos 2) canon_tag p.tags (sfits_lit tt));
+      spelled = fields_written (process_fields p) ((sfits_lit tt, refl), heads_if_any (pos 2) canon_tag p.tags (sfits_lit tt));
       gathered = whole_process p;
       gathers = (
         record no_process { service = Some p.service },
@@ -185,7 +185,7 @@ process_spelled p q =
 
 -- ---- Span
 
--- what is gathered of a span behind its front, and so on
+-- what is gathered of a span behind its beginning, and so on
 front_slots : Span → List SpanRef → SpanSlots
 front_slots s xs = record no_span { trace_low = Some s.trace.low; trace_high = Some s.trace.high; id = Some s.id.0; parent = Some s.parent.0; operation = Some s.operation; references = xs }
 
@@ -253,24 +253,24 @@ span_gathers s p =
     let two = gathers-append SpanField (front_slots s []) (front_slots s s.references) (whole_span s) r (span_middle s ++ (t ++ l)) (references_gather s p) three in
     gathers-append SpanField no_span (front_slots s []) (whole_span s) (span_front s) (r ++ (span_middle s ++ (t ++ l))) (front_gathers s p.front) two
 
-span_ids : (s : Span) → AllIds (span_fields s)
-span_ids s =
+span_heads : (s : Span) → AllHaveHeads (span_fields s)
+span_heads s =
     let r = list_if_any (pos 6) canon_reference s.references in
     let t = list_if_any (pos 10) canon_tag s.tags in
     let l = list_if_any (pos 11) canon_log s.logs in
-    let front : AllIds (span_front s) = (sfits_lit tt, (sfits_lit tt, (sfits_lit tt, (sfits_lit tt, (sfits_lit tt, tt))))) in
-    let middle : AllIds (span_middle s) = (sfits_lit tt, (sfits_lit tt, (sfits_lit tt, tt))) in
-    ids-append (span_front s) (r ++ (span_middle s ++ (t ++ l))) front
-    (ids-append r (span_middle s ++ (t ++ l)) (ids_if_any (pos 6) canon_reference s.references (sfits_lit tt))
-    (ids-append (span_middle s) (t ++ l) middle
-    (ids-append t l (ids_if_any (pos 10) canon_tag s.tags (sfits_lit tt)) (ids_if_any (pos 11) canon_log s.logs (sfits_lit tt)))))
+    let front : AllHaveHeads (span_front s) = ((sfits_lit tt, refl), ((sfits_lit tt, refl), ((sfits_lit tt, refl), ((sfits_lit tt, refl), ((sfits_lit tt, refl), tt))))) in
+    let middle : AllHaveHeads (span_middle s) = ((sfits_lit tt, refl), ((sfits_lit tt, refl), ((sfits_lit tt, refl), tt))) in
+    heads-append (span_front s) (r ++ (span_middle s ++ (t ++ l))) front
+    (heads-append r (span_middle s ++ (t ++ l)) (heads_if_any (pos 6) canon_reference s.references (sfits_lit tt))
+    (heads-append (span_middle s) (t ++ l) middle
+    (heads-append t l (heads_if_any (pos 10) canon_tag s.tags (sfits_lit tt)) (heads_if_any (pos 11) canon_log s.logs (sfits_lit tt)))))
 
 pub span_spelled : (s : Span) → IsProperSpan s → IsSpan (canon_span s) s
 unfolding canon_span IsSpan
 span_spelled s p =
     record {
       fields = span_fields s;
-      spelled = fields_written (span_fields s) (span_ids s);
+      spelled = fields_written (span_fields s) (span_heads s);
       gathered = whole_span s;
       gathers = span_gathers s p;
       makes = refl;
@@ -288,7 +288,7 @@ unfolding canon IsBatch BatchField
 batch_spelled b p =
     record {
       fields = batch_fields b;
-      spelled = fields_written (batch_fields b) (sfits_lit tt, (sfits_lit tt, ids_number (pos 3) b.seq_no (sfits_lit tt)));
+      spelled = fields_written (batch_fields b) ((sfits_lit tt, refl), ((sfits_lit tt, refl), heads_number (pos 3) b.seq_no (sfits_lit tt)));
       gathered = whole_batch b;
       gathers = (
         record no_batch { process = Some b.process },

@@ -28,7 +28,7 @@ bad_is d e h = cc
 good_is : (b c : Batch) → good b ≡ good c → b ≡ c
 good_is b c h = cc
 
--- ---- from a batch at the front to all of the bytes
+-- ---- from a batch at the beginning to all of the bytes
 
 of_err : (v : List ℕ) (e : DecodeError) → batch_at v ≡ Err e → decoded v ≡ bad e
 unfolding decoded

@@ -25,17 +25,17 @@ use Rattle.batch_codec.specs.Batches.{Gathers, IsText, IsId, IsTagType, IsRefKin
 use Rattle.batch_codec.specs.LastCounts.{is_known, OthersAreValues, LastCounts, known_of_tag, known_of_log, known_of_reference, known_of_process, known_of_span, known_of_batch, LastOfTag, LastOfLog, LastOfReference, LastOfProcess, LastOfSpan, LastOfBatch, TagLast, LogLast, ReferenceLast, ProcessLast, SpanLast, BatchLast}
 use Rattle.batch_codec.proofs.Structs.{path_gathers}
 use Rattle.batch_codec.proofs.OneDivision.{the_same, one_division, one_value}
-use Rattle.batch_codec.proofs.TagSpelled.{is_tag, tag_field_coded, tag_field_again}
+use Rattle.batch_codec.proofs.TagSpelled.{is_tag, tag_field_again}
 use Rattle.batch_codec.specs.TagReading.{take_tag}
-use Rattle.batch_codec.proofs.LogSpelled.{is_log, log_field_coded, log_field_again}
+use Rattle.batch_codec.proofs.LogSpelled.{is_log, log_field_again}
 use Rattle.batch_codec.specs.LogReading.{take_log}
-use Rattle.batch_codec.proofs.ReferenceSpelled.{is_reference, reference_field_coded, reference_field_again}
+use Rattle.batch_codec.proofs.ReferenceSpelled.{is_reference, reference_field_again}
 use Rattle.batch_codec.specs.ReferenceReading.{take_reference}
-use Rattle.batch_codec.proofs.ProcessSpelled.{is_process, process_field_coded, process_field_again}
+use Rattle.batch_codec.proofs.ProcessSpelled.{is_process, process_field_again}
 use Rattle.batch_codec.specs.ProcessReading.{take_process}
-use Rattle.batch_codec.proofs.SpanSpelled.{is_span, span_field_coded, span_field_again}
+use Rattle.batch_codec.proofs.SpanSpelled.{is_span, span_field_again}
 use Rattle.batch_codec.specs.SpanReading.{take_span}
-use Rattle.batch_codec.proofs.BatchSpelled.{is_batch, batch_field_coded, batch_field_again}
+use Rattle.batch_codec.proofs.BatchSpelled.{is_batch, batch_field_again}
 use Rattle.batch_codec.specs.BatchReading.{take_batch}
 
 -- a field of this type and id, or another
@@ -206,7 +206,7 @@ tag_back w x a =
 
 tag_one : (w : List ℕ) (x y : Tag) (a : LastCounts known_of_tag LastOfTag w x) (b : LastCounts known_of_tag LastOfTag w y) → (a.fields ≡ b.fields) × (x ≡ y)
 tag_one w x y a b = (
-  one_division take_tag TagField tag_field_coded tag_field_again a.fields b.fields w no_tag _ _ a.spelled b.spelled (tag_gathers w x a) (tag_gathers w y b),
+  one_division take_tag TagField tag_field_again a.fields b.fields w no_tag _ _ a.spelled b.spelled (tag_gathers w x a) (tag_gathers w y b),
   one_value is_tag w x y (tag_back w x a) (tag_back w y b),
 )
 
@@ -279,7 +279,7 @@ log_back w x a = record {
 
 log_one : (w : List ℕ) (x y : Log) (a : LastCounts known_of_log LastOfLog w x) (b : LastCounts known_of_log LastOfLog w y) → (a.fields ≡ b.fields) × (x ≡ y)
 log_one w x y a b = (
-  one_division take_log LogField log_field_coded log_field_again a.fields b.fields w no_log _ _ a.spelled b.spelled (log_gathers w x a) (log_gathers w y b),
+  one_division take_log LogField log_field_again a.fields b.fields w no_log _ _ a.spelled b.spelled (log_gathers w x a) (log_gathers w y b),
   one_value is_log w x y (log_back w x a) (log_back w y b),
 )
 
@@ -364,7 +364,7 @@ reference_back w x a = record {
 
 reference_one : (w : List ℕ) (x y : SpanRef) (a : LastCounts known_of_reference LastOfReference w x) (b : LastCounts known_of_reference LastOfReference w y) → (a.fields ≡ b.fields) × (x ≡ y)
 reference_one w x y a b = (
-  one_division take_reference ReferenceField reference_field_coded reference_field_again a.fields b.fields w no_reference _ _ a.spelled b.spelled (reference_gathers w x a) (reference_gathers w y b),
+  one_division take_reference ReferenceField reference_field_again a.fields b.fields w no_reference _ _ a.spelled b.spelled (reference_gathers w x a) (reference_gathers w y b),
   one_value is_reference w x y (reference_back w x a) (reference_back w y b),
 )
 
@@ -437,7 +437,7 @@ process_back w x a = record {
 
 process_one : (w : List ℕ) (x y : Process) (a : LastCounts known_of_process LastOfProcess w x) (b : LastCounts known_of_process LastOfProcess w y) → (a.fields ≡ b.fields) × (x ≡ y)
 process_one w x y a b = (
-  one_division take_process ProcessField process_field_coded process_field_again a.fields b.fields w no_process _ _ a.spelled b.spelled (process_gathers w x a) (process_gathers w y b),
+  one_division take_process ProcessField process_field_again a.fields b.fields w no_process _ _ a.spelled b.spelled (process_gathers w x a) (process_gathers w y b),
   one_value is_process w x y (process_back w x a) (process_back w y b),
 )
 
@@ -564,7 +564,7 @@ span_back w x a = record {
 
 span_one : (w : List ℕ) (x y : Span) (a : LastCounts known_of_span LastOfSpan w x) (b : LastCounts known_of_span LastOfSpan w y) → (a.fields ≡ b.fields) × (x ≡ y)
 span_one w x y a b = (
-  one_division take_span SpanField span_field_coded span_field_again a.fields b.fields w no_span _ _ a.spelled b.spelled (span_gathers w x a) (span_gathers w y b),
+  one_division take_span SpanField span_field_again a.fields b.fields w no_span _ _ a.spelled b.spelled (span_gathers w x a) (span_gathers w y b),
   one_value is_span w x y (span_back w x a) (span_back w y b),
 )
 
@@ -643,7 +643,7 @@ batch_back w x a = record {
 
 batch_one : (w : List ℕ) (x y : Batch) (a : LastCounts known_of_batch LastOfBatch w x) (b : LastCounts known_of_batch LastOfBatch w y) → (a.fields ≡ b.fields) × (x ≡ y)
 batch_one w x y a b = (
-  one_division take_batch BatchField batch_field_coded batch_field_again a.fields b.fields w no_batch _ _ a.spelled b.spelled (batch_gathers w x a) (batch_gathers w y b),
+  one_division take_batch BatchField batch_field_again a.fields b.fields w no_batch _ _ a.spelled b.spelled (batch_gathers w x a) (batch_gathers w y b),
   one_value is_batch w x y (batch_back w x a) (batch_back w y b),
 )
 

@@ -1,7 +1,6 @@
 -- A log that is read is spelled so, and one that is spelled so is read.
 use Rattle.std.proofs.Common.{◌≡◌, ℕ, ℤ, pos, true, List, ◌++◌, Some, Ok, refl, ap, ◌∙◌}
 use Rattle.jaeger_model.specs.declared.span.Log.{Log}
-use Rattle.thrift_binary.specs.Reading.{is_code}
 use Rattle.thrift_binary.specs.Spelling.{Front, Field}
 use Rattle.thrift_binary.proofs.Found.{ok_is}
 use Rattle.batch_codec.specs.declared.fault.Part.TheVariants as parts
@@ -10,7 +9,7 @@ use Rattle.batch_codec.specs.Gathered.{no_log}
 use Rattle.batch_codec.specs.LogReading.{take_log, log_from, log_at}
 use Rattle.batch_codec.specs.Batches.{LogField, whole_log, IsLog}
 use Rattle.batch_codec.proofs.ValuesSpelled.{Agrees, is_i64}
-use Rattle.batch_codec.proofs.Structs.{known_found, known_again, known_coded, skipped_found, skipped_again, skipped_coded, struct_found, struct_again, required_found, is_list}
+use Rattle.batch_codec.proofs.Structs.{known_found, known_again, skipped_found, skipped_again, struct_found, struct_again, required_found, is_list}
 use Rattle.batch_codec.proofs.TagSpelled.{is_tag}
 
 takes : (s : LogSlots) (c : ℕ) (i : ℤ) (w : List ℕ) (t : LogSlots) (r : List ℕ) → take_log s c i w ≡ Ok (t, r) → Front (λ v. LogField s (record { code = c; id = i; text = v }) t) w r
@@ -26,13 +25,6 @@ log_field_again s f t r =
     known_again is_i64 (λ x. record s { at = Some x }) f.code 10 f.id (pos 1) f.text t r _ _ (
     known_again (is_list is_tag) (λ x. record s { fields = Some x }) f.code 15 f.id (pos 2) f.text t r _ _ (
     skipped_again s f.code f.text t r))
-
-pub log_field_coded : (s : LogSlots) (f : Field) (t : LogSlots) → LogField s f t → is_code f.code ≡ true
-unfolding LogField
-log_field_coded s f t =
-    known_coded _ f.code 10 f.id (pos 1) _ refl (
-    known_coded _ f.code 15 f.id (pos 2) _ refl (
-    λ m. skipped_coded f.code f.text m.0))
 
 all_there : (s : LogSlots) (x : Log) → s.at ≡ Some x.at → s.fields ≡ Some x.fields → s ≡ whole_log x
 all_there s x a b = rw (a, b) refl
@@ -55,5 +47,5 @@ pub is_log : Agrees log_at IsLog
 unfolding log_at IsLog
 is_log = record {
   found = struct_found take_log LogField no_log log_from (λ s x. s ≡ whole_log x) takes made;
-  again = struct_again take_log LogField no_log log_from (λ s x. s ≡ whole_log x) log_field_coded log_field_again makes;
+  again = struct_again take_log LogField no_log log_from (λ s x. s ≡ whole_log x) log_field_again makes;
 }

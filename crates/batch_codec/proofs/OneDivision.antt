@@ -1,7 +1,7 @@
 -- The bytes of a struct divide into fields in one way, and spell one value.
 use Rattle.std.proofs.Common.{◌≡◌, ℕ, ℤ, true, List, [], ◌∷◌, ◌++◌, Option, Some, None, Ok, refl, sym, ap, subst, ◌∙◌}
 use Rattle.std.proofs.lemmas.List.{append_cancel_right}
-use Rattle.thrift_binary.specs.Reading.{is_code, field_at}
+use Rattle.thrift_binary.specs.Reading.{field_at}
 use Rattle.thrift_binary.specs.Fields.{Take}
 use Rattle.thrift_binary.specs.Spelling.{Field, IsHead, IsFields}
 use Rattle.thrift_binary.proofs.Found.{ok_is}
@@ -35,8 +35,8 @@ abbrev no_field : List ℕ → Head
 no_field r = (None, r)
 
 -- the head of a field is read, or the stop byte
-head_read : (f : Field) (h r w : List ℕ) → IsHead h f → w ≡ h ++ (f.text ++ r) → is_code f.code ≡ true → field_at w ≡ Ok (a_field f r)
-head_read f h r w head parts coded = ap field_at parts ∙ field_again h (f.text ++ r) f head coded
+head_read : (f : Field) (h r w : List ℕ) → IsHead h f → w ≡ h ++ (f.text ++ r) → field_at w ≡ Ok (a_field f r)
+head_read f h r w head parts = ap field_at parts ∙ field_again h (f.text ++ r) f head
 
 stop_read : (w : List ℕ) → w ≡ 0 ∷ [] → field_at w ≡ Ok (no_field [])
 stop_read w e = ap field_at e ∙ stop_again []
@@ -48,14 +48,13 @@ not_both w f r a b = none (ap (λ (p : Head). p.0) (ok_is (no_field []) (a_field
     none e = absurd cc
 
 module _ {S : Type 0} (take : Take S DecodeError) (Does : S → Field → S → Type 0)
-    (coded : (s : S) (f : Field) (t : S) → Does s f t → is_code f.code ≡ true)
     (again : (s : S) (f : Field) (t : S) (r : List ℕ) → Does s f t → take s f.code f.id (f.text ++ r) ≡ Ok (t, r)) where
   pub one_division : (fs gs : List Field) (w : List ℕ) (s t u : S) → IsFields fs w → IsFields gs w → Gathers Does s fs t → Gathers Does s gs u → fs ≡ gs
   one_division [] [] w s t u a b p q = refl
-  one_division [] (g ∷ gs) w s t u a (h, r, head, parts, b) p (v, d, q) = absurd (not_both w g r (stop_read w a) (head_read g h r w head parts (coded s g v d)))
-  one_division (f ∷ fs) [] w s t u (h, r, head, parts, a) b (v, d, p) q = absurd (not_both w f r (stop_read w b) (head_read f h r w head parts (coded s f v d)))
+  one_division [] (g ∷ gs) w s t u a (h, r, head, parts, b) p (v, d, q) = absurd (not_both w g r (stop_read w a) (head_read g h r w head parts))
+  one_division (f ∷ fs) [] w s t u (h, r, head, parts, a) b (v, d, p) q = absurd (not_both w f r (stop_read w b) (head_read f h r w head parts))
   one_division (f ∷ fs) (g ∷ gs) w s t u (h, r, head, parts, a) (h2, r2, head2, parts2, b) (v, d, p) (v2, d2, q) =
-      let heads : a_field f r ≡ a_field g r2 = ok_is (a_field f r) (a_field g r2) (sym (head_read f h r w head parts (coded s f v d)) ∙ head_read g h2 r2 w head2 parts2 (coded s g v2 d2)) in
+      let heads : a_field f r ≡ a_field g r2 = ok_is (a_field f r) (a_field g r2) (sym (head_read f h r w head parts) ∙ head_read g h2 r2 w head2 parts2) in
       let names : named f ≡ named g = the_same (ap (λ (x : Head). x.0) heads) in
       let code : f.code ≡ g.code = ap (λ (x : ℕ × ℤ). x.0) names in
       let id : f.id ≡ g.id = ap (λ (x : ℕ × ℤ). x.1) names in

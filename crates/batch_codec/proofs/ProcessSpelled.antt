@@ -1,7 +1,6 @@
 -- A process that is read is spelled so, and one that is spelled so is read.
 use Rattle.std.proofs.Common.{◌≡◌, ℕ, ℤ, pos, true, List, ◌++◌, Some, Ok, refl, ap, ◌∙◌}
 use Rattle.jaeger_model.specs.declared.batch.Process.{Process}
-use Rattle.thrift_binary.specs.Reading.{is_code}
 use Rattle.thrift_binary.specs.Spelling.{Front, Field}
 use Rattle.thrift_binary.proofs.Found.{ok_is}
 use Rattle.batch_codec.specs.declared.fault.Part.TheVariants as parts
@@ -10,7 +9,7 @@ use Rattle.batch_codec.specs.Gathered.{no_process}
 use Rattle.batch_codec.specs.ProcessReading.{take_process, process_from, process_at}
 use Rattle.batch_codec.specs.Batches.{ProcessField, whole_process, IsProcess}
 use Rattle.batch_codec.proofs.ValuesSpelled.{Agrees, is_text}
-use Rattle.batch_codec.proofs.Structs.{known_found, known_again, known_coded, skipped_found, skipped_again, skipped_coded, struct_found, struct_again, required_found, is_list}
+use Rattle.batch_codec.proofs.Structs.{known_found, known_again, skipped_found, skipped_again, struct_found, struct_again, required_found, is_list}
 use Rattle.batch_codec.proofs.TagSpelled.{is_tag}
 
 takes : (s : ProcessSlots) (c : ℕ) (i : ℤ) (w : List ℕ) (t : ProcessSlots) (r : List ℕ) → take_process s c i w ≡ Ok (t, r) → Front (λ v. ProcessField s (record { code = c; id = i; text = v }) t) w r
@@ -26,13 +25,6 @@ process_field_again s f t r =
     known_again is_text (λ x. record s { service = Some x }) f.code 11 f.id (pos 1) f.text t r _ _ (
     known_again (is_list is_tag) (λ x. record s { tags = x }) f.code 15 f.id (pos 2) f.text t r _ _ (
     skipped_again s f.code f.text t r))
-
-pub process_field_coded : (s : ProcessSlots) (f : Field) (t : ProcessSlots) → ProcessField s f t → is_code f.code ≡ true
-unfolding ProcessField
-process_field_coded s f t =
-    known_coded _ f.code 11 f.id (pos 1) _ refl (
-    known_coded _ f.code 15 f.id (pos 2) _ refl (
-    λ m. skipped_coded f.code f.text m.0))
 
 all_there : (s : ProcessSlots) (x : Process) → s.service ≡ Some x.service → s.tags ≡ x.tags → s ≡ whole_process x
 all_there s x a b = rw (a, b) refl
@@ -54,5 +46,5 @@ pub is_process : Agrees process_at IsProcess
 unfolding process_at IsProcess
 is_process = record {
   found = struct_found take_process ProcessField no_process process_from (λ s x. s ≡ whole_process x) takes made;
-  again = struct_again take_process ProcessField no_process process_from (λ s x. s ≡ whole_process x) process_field_coded process_field_again makes;
+  again = struct_again take_process ProcessField no_process process_from (λ s x. s ≡ whole_process x) process_field_again makes;
 }

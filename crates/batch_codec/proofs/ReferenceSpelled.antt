@@ -1,7 +1,6 @@
 -- A reference that is read is spelled so, and one that is spelled so is read.
 use Rattle.std.proofs.Common.{◌≡◌, ℕ, ℤ, pos, true, List, ◌++◌, Some, Ok, refl, ap, ◌∙◌}
 use Rattle.jaeger_model.specs.declared.span.SpanRef.{SpanRef}
-use Rattle.thrift_binary.specs.Reading.{is_code}
 use Rattle.thrift_binary.specs.Spelling.{Front, Field}
 use Rattle.thrift_binary.proofs.Found.{ok_is}
 use Rattle.batch_codec.specs.declared.fault.Part.TheVariants as parts
@@ -10,7 +9,7 @@ use Rattle.batch_codec.specs.Gathered.{no_reference}
 use Rattle.batch_codec.specs.ReferenceReading.{take_reference, reference_from, reference_at}
 use Rattle.batch_codec.specs.Batches.{ReferenceField, whole_reference, IsReference}
 use Rattle.batch_codec.proofs.ValuesSpelled.{Agrees, is_kind, is_id}
-use Rattle.batch_codec.proofs.Structs.{known_found, known_again, known_coded, skipped_found, skipped_again, skipped_coded, struct_found, struct_again, required_found}
+use Rattle.batch_codec.proofs.Structs.{known_found, known_again, skipped_found, skipped_again, struct_found, struct_again, required_found}
 
 takes : (s : ReferenceSlots) (c : ℕ) (i : ℤ) (w : List ℕ) (t : ReferenceSlots) (r : List ℕ) → take_reference s c i w ≡ Ok (t, r) → Front (λ v. ReferenceField s (record { code = c; id = i; text = v }) t) w r
 unfolding take_reference ReferenceField
@@ -29,15 +28,6 @@ reference_field_again s f t r =
     known_again is_id (λ x. record s { trace_high = Some x }) f.code 10 f.id (pos 3) f.text t r _ _ (
     known_again is_id (λ x. record s { id = Some x }) f.code 10 f.id (pos 4) f.text t r _ _ (
     skipped_again s f.code f.text t r))))
-
-pub reference_field_coded : (s : ReferenceSlots) (f : Field) (t : ReferenceSlots) → ReferenceField s f t → is_code f.code ≡ true
-unfolding ReferenceField
-reference_field_coded s f t =
-    known_coded _ f.code 8 f.id (pos 1) _ refl (
-    known_coded _ f.code 10 f.id (pos 2) _ refl (
-    known_coded _ f.code 10 f.id (pos 3) _ refl (
-    known_coded _ f.code 10 f.id (pos 4) _ refl (
-    λ m. skipped_coded f.code f.text m.0))))
 
 all_there : (s : ReferenceSlots) (x : SpanRef) → s.kind ≡ Some x.kind → s.trace_low ≡ Some x.trace.low → s.trace_high ≡ Some x.trace.high → s.id ≡ Some x.id.0 → s ≡ whole_reference x
 all_there s x a b c d = rw (a, b, c, d) refl
@@ -62,5 +52,5 @@ pub is_reference : Agrees reference_at IsReference
 unfolding reference_at IsReference
 is_reference = record {
   found = struct_found take_reference ReferenceField no_reference reference_from (λ s x. s ≡ whole_reference x) takes made;
-  again = struct_again take_reference ReferenceField no_reference reference_from (λ s x. s ≡ whole_reference x) reference_field_coded reference_field_again makes;
+  again = struct_again take_reference ReferenceField no_reference reference_from (λ s x. s ≡ whole_reference x) reference_field_again makes;
 }

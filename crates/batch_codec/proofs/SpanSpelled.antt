@@ -1,7 +1,6 @@
 -- A span that is read is spelled so, and one that is spelled so is read.
 use Rattle.std.proofs.Common.{◌≡◌, ℕ, ℤ, pos, true, List, ◌++◌, Some, Ok, refl, ap, ◌∙◌}
 use Rattle.jaeger_model.specs.declared.span.Span.{Span}
-use Rattle.thrift_binary.specs.Reading.{is_code}
 use Rattle.thrift_binary.specs.Spelling.{Front, Field}
 use Rattle.thrift_binary.proofs.Found.{ok_is}
 use Rattle.batch_codec.specs.declared.fault.Part.TheVariants as parts
@@ -10,7 +9,7 @@ use Rattle.batch_codec.specs.Gathered.{no_span}
 use Rattle.batch_codec.specs.SpanReading.{take_span, span_from, span_at}
 use Rattle.batch_codec.specs.Batches.{SpanField, whole_span, IsSpan}
 use Rattle.batch_codec.proofs.ValuesSpelled.{Agrees, is_text, is_id, is_i32, is_i64}
-use Rattle.batch_codec.proofs.Structs.{known_found, known_again, known_coded, skipped_found, skipped_again, skipped_coded, struct_found, struct_again, required_found, is_list}
+use Rattle.batch_codec.proofs.Structs.{known_found, known_again, skipped_found, skipped_again, struct_found, struct_again, required_found, is_list}
 use Rattle.batch_codec.proofs.TagSpelled.{is_tag}
 use Rattle.batch_codec.proofs.LogSpelled.{is_log}
 use Rattle.batch_codec.proofs.ReferenceSpelled.{is_reference}
@@ -47,22 +46,6 @@ span_field_again s f t r =
     known_again (is_list is_log) (λ x. record s { logs = x }) f.code 15 f.id (pos 11) f.text t r _ _ (
     skipped_again s f.code f.text t r)))))))))))
 
-pub span_field_coded : (s : SpanSlots) (f : Field) (t : SpanSlots) → SpanField s f t → is_code f.code ≡ true
-unfolding SpanField
-span_field_coded s f t =
-    known_coded _ f.code 10 f.id (pos 1) _ refl (
-    known_coded _ f.code 10 f.id (pos 2) _ refl (
-    known_coded _ f.code 10 f.id (pos 3) _ refl (
-    known_coded _ f.code 10 f.id (pos 4) _ refl (
-    known_coded _ f.code 11 f.id (pos 5) _ refl (
-    known_coded _ f.code 15 f.id (pos 6) _ refl (
-    known_coded _ f.code 8 f.id (pos 7) _ refl (
-    known_coded _ f.code 10 f.id (pos 8) _ refl (
-    known_coded _ f.code 10 f.id (pos 9) _ refl (
-    known_coded _ f.code 15 f.id (pos 10) _ refl (
-    known_coded _ f.code 15 f.id (pos 11) _ refl (
-    λ m. skipped_coded f.code f.text m.0)))))))))))
-
 all_there : (s : SpanSlots) (x : Span) → s.trace_low ≡ Some x.trace.low → s.trace_high ≡ Some x.trace.high → s.id ≡ Some x.id.0 → s.parent ≡ Some x.parent.0 → s.operation ≡ Some x.operation → s.references ≡ x.references → s.flags ≡ Some x.flags → s.start ≡ Some x.start → s.duration ≡ Some x.duration → s.tags ≡ x.tags → s.logs ≡ x.logs → s ≡ whole_span x
 all_there s x a b c d e f g h i j k = rw (a, b, c, d, e, f, g, h, i, j, k) refl
 
@@ -90,5 +73,5 @@ pub is_span : Agrees span_at IsSpan
 unfolding span_at IsSpan
 is_span = record {
   found = struct_found take_span SpanField no_span span_from (λ s x. s ≡ whole_span x) takes made;
-  again = struct_again take_span SpanField no_span span_from (λ s x. s ≡ whole_span x) span_field_coded span_field_again makes;
+  again = struct_again take_span SpanField no_span span_from (λ s x. s ≡ whole_span x) span_field_again makes;
 }

@@ -51,14 +51,6 @@ known_again {A = A} {S = S} {read = read} {Spells = Spells} value set c d i j v 
     by true (x, spells, t-is) = let h = value.again v r x spells in rw (h, t-is) refl
     by false o = more o
 
--- a known type is one of the table, as is that of a skipped value
-pub known_coded : (A : Type 0) (c d : ℕ) (i j : ℤ) (Others : Type 0) → is_code d ≡ true → (Others → is_code c ≡ true) → MatchBool (eqb c d && int_eq i j) A Others → is_code c ≡ true
-known_coded A c d i j Others coded more is = by (eqb c d) (int_eq i j) refl is
-  where
-    by : (a b : Bool) → eqb c d ≡ a → MatchBool (a && b) A Others → is_code c ≡ true
-    by true b e m = let same : c ≡ d = eqb-true c d e in rw same coded
-    by false b e m = more m
-
 pub skipped_found : {S : Type 0} (s : S) (c : ℕ) (w : List ℕ) (t : S) (r : List ℕ) → skipped s c w ≡ Ok (t, r) → Front (λ v. IsValue 64 c v × (t ≡ s)) w r
 skipped_found {S = S} s c w t r e =
     let k = bind_ok (lift wire (skip_at c w)) (λ x. Ok (s, x.1)) (t, r) e in
@@ -73,41 +65,6 @@ skipped_found {S = S} s c w t r e =
 
 pub skipped_again : {S : Type 0} (s : S) (c : ℕ) (v : List ℕ) (t : S) (r : List ℕ) → IsValue 64 c v × (t ≡ s) → skipped s c (v ++ r) ≡ Ok (t, r)
 skipped_again s c v t r (is, same) = let h = skip_again c v r is in rw (h, same) refl
-
-skipped_coded_wide : (a b c d e f g : Bool) → 0 < cond (a || b) 1 (cond d 2 (cond e 4 (cond (c || f) 8 0))) → (a || b || c || d || e || f || g) ≡ true
-skipped_coded_wide true b c d e f g h = refl
-skipped_coded_wide false true c d e f g h = refl
-skipped_coded_wide false false true d e f g h = refl
-skipped_coded_wide false false false true e f g h = refl
-skipped_coded_wide false false false false true f g h = refl
-skipped_coded_wide false false false false false true g h = refl
-skipped_coded_wide false false false false false false g h = absurd (omega arith)
-
-or_true : (a : Bool) → (a || true) ≡ true
-or_true true = refl
-or_true false = refl
-
-both_true : (a b : Bool) → (a && b) ≡ true → (a ≡ true) × (b ≡ true)
-both_true true true e = (refl, refl)
-both_true true false e = absurd cc
-both_true false b e = absurd cc
-
-pub skipped_coded : (c : ℕ) (v : List ℕ) → IsValue 64 c v → is_code c ≡ true
-unfolding IsValue
-skipped_coded c v is = by (ltb 11 c && ltb c 16) refl is
-  where
-    leaf : (a : Bool) → eqb c 11 ≡ a → MatchBool a ((bytes : List ℕ) × IsString v bytes) ((length v ≡ width c) × (0 < width c)) → is_code c ≡ true
-    leaf true e h = let c-is : c ≡ 11 = eqb-true c 11 e in rw c-is refl
-    leaf false e h = skipped_coded_wide (eqb c 2) (eqb c 3) (eqb c 4) (eqb c 6) (eqb c 8) (eqb c 10) (ltb 10 c && ltb c 16) h.1
-
-    by : (a : Bool) → (ltb 11 c && ltb c 16) ≡ a → MatchBool a (IsContainer (IsValue 63) c v) (IsLeaf c v) → is_code c ≡ true
-    by true e h =
-        let p = both_true (ltb 11 c) (ltb c 16) e in
-        let more : 11 < c = ltb-true 11 c p.0 in
-        let above : ltb 10 c ≡ true = lt-ltb 10 c (omega arith) in
-        let below : ltb c 16 ≡ true = p.1 in
-        rw (above, below) (or_true (eqb c 2 || eqb c 3 || eqb c 4 || eqb c 6 || eqb c 8 || eqb c 10))
-    by false e h = leaf (eqb c 11) refl h
 
 -- ---- lists of structs
 
@@ -156,12 +113,11 @@ module _ {S X : Type 0} (take : Take S DecodeError) (Does : S → Field → S �
       took : (s : S) (c : ℕ) (i : ℤ) (w : List ℕ) (t : S) (r : List ℕ) → take s c i w ≡ Ok (t, r) → Took Does s c i w t r
       took s c i w t r e = let m = takes s c i w t r e in record { text = m.text; parts = m.parts; does = m.spells }
 
-  pub struct_again : ((s : S) (f : Field) (t : S) → Does s f t → is_code f.code ≡ true)
-      → ((s : S) (f : Field) (t : S) (r : List ℕ) → Does s f t → take s f.code f.id (f.text ++ r) ≡ Ok (t, r))
+  pub struct_again : ((s : S) (f : Field) (t : S) (r : List ℕ) → Does s f t → take s f.code f.id (f.text ++ r) ≡ Ok (t, r))
       → ((s : S) (x : X) → Makes s x → from s ≡ Ok x)
       → Again struct_at (IsStruct Does none Makes)
-  struct_again coded again made t r x is =
-      let fields = fields_again wire take Does coded again is.fields none is.gathered t r is.spelled (path_gathers Does is.fields none is.gathered is.gathers) in
+  struct_again again made t r x is =
+      let fields = fields_again wire take Does again is.fields none is.gathered t r is.spelled (path_gathers Does is.fields none is.gathered is.gathers) in
       let whole = made is.gathered x is.makes in
       rw (fields, whole) refl
 

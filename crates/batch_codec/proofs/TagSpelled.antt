@@ -2,7 +2,6 @@
 use Rattle.std.proofs.Common.{◌≡◌, ℕ, ℤ, pos, true, List, ◌++◌, Some, Ok, refl, sym, ap, ◌∙◌}
 use Rattle.jaeger_model.specs.declared.tag.Tag.{Tag}
 use Rattle.jaeger_model.specs.declared.tag.Value.{Value}
-use Rattle.thrift_binary.specs.Reading.{is_code}
 use Rattle.thrift_binary.specs.Spelling.{Front, Field}
 use Rattle.thrift_binary.proofs.Found.{ok_is}
 use Rattle.batch_codec.specs.declared.fault.Part.TheVariants as parts
@@ -11,7 +10,7 @@ use Rattle.batch_codec.specs.Gathered.{no_tag, value_named}
 use Rattle.batch_codec.specs.TagReading.{take_tag, tag_from, tag_at}
 use Rattle.batch_codec.specs.Batches.{TagField, MakesTag, IsTag}
 use Rattle.batch_codec.proofs.ValuesSpelled.{Agrees, is_text, is_type, is_double, is_bool, is_i64, is_binary}
-use Rattle.batch_codec.proofs.Structs.{known_found, known_again, known_coded, skipped_found, skipped_again, skipped_coded, struct_found, struct_again, required_found}
+use Rattle.batch_codec.proofs.Structs.{known_found, known_again, skipped_found, skipped_again, struct_found, struct_again, required_found}
 
 takes : (s : TagSlots) (c : ℕ) (i : ℤ) (w : List ℕ) (t : TagSlots) (r : List ℕ) → take_tag s c i w ≡ Ok (t, r) → Front (λ v. TagField s (record { code = c; id = i; text = v }) t) w r
 unfolding take_tag TagField
@@ -37,18 +36,6 @@ tag_field_again s f t r =
     known_again is_binary (λ x. record s { binary = x }) f.code 11 f.id (pos 7) f.text t r _ _ (
     skipped_again s f.code f.text t r)))))))
 
-pub tag_field_coded : (s : TagSlots) (f : Field) (t : TagSlots) → TagField s f t → is_code f.code ≡ true
-unfolding TagField
-tag_field_coded s f t =
-    known_coded _ f.code 11 f.id (pos 1) _ refl (
-    known_coded _ f.code 8 f.id (pos 2) _ refl (
-    known_coded _ f.code 11 f.id (pos 3) _ refl (
-    known_coded _ f.code 4 f.id (pos 4) _ refl (
-    known_coded _ f.code 2 f.id (pos 5) _ refl (
-    known_coded _ f.code 10 f.id (pos 6) _ refl (
-    known_coded _ f.code 11 f.id (pos 7) _ refl (
-    λ m. skipped_coded f.code f.text m.0)))))))
-
 made : (s : TagSlots) (x : Tag) → tag_from s ≡ Ok x → MakesTag s x
 unfolding tag_from
 made s x e =
@@ -73,5 +60,5 @@ pub is_tag : Agrees tag_at IsTag
 unfolding tag_at IsTag
 is_tag = record {
   found = struct_found take_tag TagField no_tag tag_from MakesTag takes made;
-  again = struct_again take_tag TagField no_tag tag_from MakesTag tag_field_coded tag_field_again makes;
+  again = struct_again take_tag TagField no_tag tag_from MakesTag tag_field_again makes;
 }

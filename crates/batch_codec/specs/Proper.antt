@@ -1,4 +1,4 @@
--- Batches that a program can hold and four-byte lengths can tell: texts are UTF-8, numbers are in the
+-- Batches that a program can hold and four-byte lengths can say: texts are UTF-8, numbers are in the
 -- ranges of their types, and no length is above 2,147,483,647.
 use Rattle.std.specs.Prelude.{◌≡◌, ℕ, ℤ, ◌<◌, ◌^◌, List, length, Option, Some, None}
 use Rattle.std.specs.Str.{IsUtf8}

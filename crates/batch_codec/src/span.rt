@@ -93,7 +93,7 @@ pub(crate) struct SpanNumbers {
 }
 
 /// The numbers of a span, or the first of its required fields that is missing, the operation too.
-#[tactic(auto, unfolding(crate::specs::SpanNumbers::numbers_from))]
+#[tactic(auto, unfolding(crate::specs::SpanNumbers::numbers_from, crate::specs::SpanReading::span_from))]
 fn numbers_of(slots: &SpanSlots<'_>) -> Result<SpanNumbers, DecodeError>
     ensures { result ≡ numbers_from slots.now }
 {

@@ -216,7 +216,7 @@ module _ {A E : Type 0} (short : E) (read : List ℕ → Result (A × List ℕ) 
     before = λ m h. early_unless (take m s.text) (s.before m h);
   }
 
-  -- a fault that needs no byte is told at the first one
+  -- a fault that needs no byte is reported at the first one
   settled_first : (b : ℕ) (u : List ℕ) (e : E) → ((v : List ℕ) → read v ≡ Err e) → Settled short (unless_empty short read) (b ∷ u) (λ v. Err e)
   settled_first b u e always = record {
     text = b ∷ [];

@@ -58,13 +58,13 @@ got_none c i r v e = none_some (c, i) (ap (λ (x : Option (ℕ × ℤ) × List �
     none_some : (x : ℕ × ℤ) → Some x ≡ None → ⊥
     none_some x h = absurd cc
 
--- a number in the front of a longer text
+-- a number at the beginning of a longer text
 pub big_number-take : (n : ℕ) (w : List ℕ) → n ≤ length w → big_number n w ≡ big_number n (take n w)
 big_number-take n w le =
     let long : n ≤ length (take n w) = omega (arith, length-take n w) in
     ap (λ v. big_number n v) (sym (take-append-drop n w)) ∙ big_from-append n (take n w) (drop n w) long
 
--- what was read of the front
+-- what was read of the beginning
 pub record Takes (w text rest : List ℕ) : Type 0 where
   pub parts : w ≡ text ++ rest
 
@@ -179,6 +179,7 @@ pub record Headed (w : List ℕ) (c : ℕ) (i : ℤ) (r : List ℕ) : Type 0 whe
   pub parts : w ≡ (c ∷ text) ++ r
   pub long : length text ≡ 2
   pub value : cast_signed w16 (big_number 2 text) ≡ i
+  pub coded : is_code c ≡ true
 
 field_behind_found : (c d : ℕ) (i : ℤ) (w r : List ℕ) → field_behind c w ≡ Ok (Some (d, i), r) → Headed (c ∷ w) d i r
 field_behind_found c d i w r e = by (eqb c 0) e
@@ -191,7 +192,7 @@ field_behind_found c d i w r e = by (eqb c 0) e
         let first : c ≡ d = ap first_of p.1 in
         let second : b.0.0 ≡ i = ap second_of p.1 in
         let third : b.0.1 ≡ r = ap rest_of p.1 in
-        record { text = s.text; parts = ap (λ (t : List ℕ). c ∷ t) (s.parts ∙ ap (λ (t : List ℕ). s.text ++ t) third) ∙ ap (λ (x : ℕ). (x ∷ s.text) ++ r) first; long = s.long; value = s.value ∙ second }
+        record { text = s.text; parts = ap (λ (t : List ℕ). c ∷ t) (s.parts ∙ ap (λ (t : List ℕ). s.text ++ t) third) ∙ ap (λ (x : ℕ). (x ∷ s.text) ++ r) first; long = s.long; value = s.value ∙ second; coded = subst (λ x. is_code x ≡ true) first p.0 }
 
     by : (z : Bool) → cond z (stopped w) (signed_at w16 2 w >>= typed c) ≡ Ok (Some (d, i), r) → Headed (c ∷ w) d i r
     by true h = let none : Option (ℕ × ℤ) × List ℕ = (None, w) in absurd (got_none d i r w (sym (ok_is none (got d i r) h)))
@@ -231,7 +232,7 @@ pub record Fielded {S : Type 0} (P : S → Field → S → Type 0) (s : S) (w : 
   pub spells : IsFields fields text
   pub path : Path P s fields t
 
--- the value of a field is read from its front alone
+-- the value of a field is read from its beginning alone
 pub record Took {S : Type 0} (P : S → Field → S → Type 0) (s : S) (c : ℕ) (i : ℤ) (w : List ℕ) (t : S) (r : List ℕ) : Type 0 where
   pub text : List ℕ
   pub parts : w ≡ text ++ r
@@ -264,7 +265,7 @@ module _ {S E : Type 0} (wire : WireError → E) (take : Take S E) (P : S → Fi
             fields = field ∷ rest.fields;
             text = (f.0 ∷ hd.text) ++ (k.text ++ rest.text);
             parts = whole;
-            spells = (f.0 ∷ hd.text, rest.text, (hd.text, hd.long, hd.value, refl), refl, rest.spells);
+            spells = (f.0 ∷ hd.text, rest.text, (hd.text, hd.long, hd.value, refl, hd.coded), refl, rest.spells);
             path = (x.0.0, k.does, rest.path);
           }
 
@@ -295,4 +296,4 @@ pub string_front : (w bytes r : List ℕ) → string_at w ≡ Ok (bytes, r) → 
 string_front w bytes r e = let s = string_found w bytes r e in record { text = s.text; parts = s.parts; spells = s.spells }
 
 pub field_front : (w : List ℕ) (c : ℕ) (i : ℤ) (r : List ℕ) → field_at w ≡ Ok (Some (c, i), r) → Front (IsFieldHead c i) w r
-field_front w c i r e = let h = field_found w c i r e in record { text = c ∷ h.text; parts = h.parts; spells = (h.text, h.long, h.value, refl) }
+field_front w c i r e = let h = field_found w c i r e in record { text = c ∷ h.text; parts = h.parts; spells = (h.text, h.long, h.value, refl, h.coded) }

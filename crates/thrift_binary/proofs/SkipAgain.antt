@@ -60,7 +60,7 @@ module _ (value : ℕ → Skip) (Value : ℕ → List ℕ → Type 0) (again : (
   struct_again : Passes (struct value) (IsStructOf Value)
   unfolding struct
   struct_again t r (fs, spells, all) =
-      fields_again (λ x. x) (λ s c i. value c) (Kept Value) (λ s f u d. coded f.code f.text d) (λ s f u v d. again f.code f.text v d) fs tt tt t r spells (all_kept_again Value fs all)
+      fields_again (λ x. x) (λ s c i. value c) (Kept Value) (λ s f u v d. again f.code f.text v d) fs tt tt t r spells (all_kept_again Value fs all)
 
   first_coded : (c n : ℕ) (w : List ℕ) → IsRun (Value c) n w → (eqb n 0 || is_code c) ≡ true
   first_coded c zero w run = refl

@@ -6,7 +6,7 @@ use Rattle.std.proofs.Math.Facts.{Fits-of_z}
 use Rattle.byteorder.specs.Endian.{big_bytes, big_number}
 use Rattle.byteorder.specs.Numbers.{big_number-reads_back, length-bytes_high_first}
 use Rattle.thrift_binary.specs.Spelling.{IsBool, IsI32, IsI64, IsDouble, IsSize, IsString, Field, IsHead, IsFields, IsEach, IsListHead, IsTypedList}
-use Rattle.thrift_binary.specs.Writing.{bool_text, i32_text, i64_text, size_text, string_text, field_text, list_head_text, fields_text, list_text}
+use Rattle.thrift_binary.specs.Writing.{bool_text, i32_text, i64_text, size_text, string_text, field_text, list_head_text, fields_text, list_text, HasHead}
 
 -- n bytes of a number are read back
 number_back : (n x : ℕ) → x < 256 ^ n → big_number n (big_bytes n x) ≡ x
@@ -38,17 +38,17 @@ pub string_written : (bytes : List ℕ) → length bytes < 2 ^ 31 → IsString (
 unfolding string_text
 string_written bytes lt = (size_text (length bytes), size_written (length bytes) lt, refl)
 
-pub field_written : (f : Field) → SFits w16 f.id → IsHead (field_text f.code f.id) f
+pub field_written : (f : Field) → HasHead f → IsHead (field_text f.code f.id) f
 unfolding field_text
-field_written f fits = (big_bytes 2 (cast_unsigned w16 f.id), length-bytes_high_first 2 (cast_unsigned w16 f.id), (let g = Fits-of_z fits in signed_back w16 2 f.id fits g.fits), refl)
+field_written f (fits, coded) = (big_bytes 2 (cast_unsigned w16 f.id), length-bytes_high_first 2 (cast_unsigned w16 f.id), (let g = Fits-of_z fits in signed_back w16 2 f.id fits g.fits), refl, coded)
 
 pub list_head_written : (c n : ℕ) → n < 2 ^ 31 → IsListHead c n (list_head_text c n)
 unfolding list_head_text
 list_head_written c n lt = (c, size_text n, (λ some. refl), size_written n lt, refl)
 
-pub fields_written : (fs : List Field) → AllByRecursion (λ f. SFits w16 f.id) fs → IsFields fs (fields_text fs)
-fields_written [] fit = refl
-fields_written (f ∷ fs) fit = (field_text f.code f.id, fields_text fs, field_written f fit.0, refl, fields_written fs fit.1)
+pub fields_written : (fs : List Field) → AllByRecursion HasHead fs → IsFields fs (fields_text fs)
+fields_written [] all = refl
+fields_written (f ∷ fs) all = (field_text f.code f.id, fields_text fs, field_written f all.0, refl, fields_written fs all.1)
 
 each_written : {A : Type 0} (Spells : List ℕ → A → Type 0) (one : A → List ℕ) (xs : List A) → AllByRecursion (λ x. Spells (one x) x) xs → IsEach Spells xs (flat_map one xs)
 each_written Spells one [] all = refl

@@ -5,7 +5,7 @@ use Rattle.std.specs.Prelude.{◌≡◌, ℕ, ◌<◌, ◌≤◌, List, ◌++◌
 abbrev pub Reader : Type 0 → Type 0 → Type 0
 Reader A E = List ℕ → Result (A × List ℕ) E
 
--- The front `text` of w settles what is read: whatever follows it the answer is this one, and each shorter beginning of it is too short.
+-- The beginning `text` of w settles what is read: whatever follows it the answer is this one, and each shorter beginning of it is too short.
 pub record Settled {A E : Type 0} (short : E) (read : List ℕ → Result (A × List ℕ) E) (w : List ℕ) (answer : List ℕ → Result (A × List ℕ) E) : Type 0 where
   pub text : List ℕ
   pub rest : List ℕ

@@ -1,8 +1,9 @@
 -- The one spelling of each value that is written, and what a call on an output does.
-use Rattle.std.specs.Prelude.{◌≡◌, ℕ, ℤ, ◌^◌, List, [], ◌∷◌, ◌++◌, length, Bool, true, false, nat_lt, Result, Ok, Err, MatchBool, codes}
+use Rattle.std.specs.Prelude.{◌≡◌, ℕ, ℤ, ◌^◌, List, [], ◌∷◌, ◌++◌, length, Bool, true, false, nat_lt, Result, Ok, Err, MatchBool, FitsSigned, codes}
 use Rattle.std.specs.Int.{w16, w32, w64, cast_unsigned}
 use Rattle.std.specs.List.{flat_map}
 use Rattle.byteorder.specs.Endian.{big_bytes}
+use Rattle.thrift_binary.specs.Reading.{is_code}
 use Rattle.thrift_binary.specs.Spelling.{Field}
 use Rattle.thrift_binary.specs.declared.out.WriteError.{WriteError}
 use Rattle.thrift_binary.specs.declared.out.WriteError.TheVariants.{BadLength, Memory}
@@ -30,6 +31,10 @@ string_text bytes = size_text (length bytes) ++ bytes
 -- a field's type and id
 unfoldable pub field_text : ℕ → ℤ → List ℕ
 field_text c i = c ∷ big_bytes 2 (cast_unsigned w16 i)
+
+-- a head can spell the field's type, which is one of the table's, and its id
+abbrev pub HasHead : Field → Type 0
+HasHead f = FitsSigned w16 f.id × (is_code f.code ≡ true)
 
 -- the byte after a struct's last field
 abbrev pub stop_text : List ℕ

@@ -8,10 +8,10 @@ use crate::types;
 use byteorder::{BigEndian, ByteOrder};
 use std::marker::Model;
 
-/// Reads values from the front of bytes, in the Thrift binary protocol. It takes no memory.
+/// Reads values from the beginning of bytes, in the Thrift binary protocol. It takes no memory.
 ///
 /// Contracts see a cursor as the list of the bytes that are left. A call that succeeds takes the bytes of its value
-/// from the front. A refusal leaves no bytes, so every later call answers [`WireError::Truncated`].
+/// from the beginning. A refusal leaves no bytes, so every later call answers [`WireError::Truncated`].
 ///
 /// Each clause `exact` names the reading from left to right (`specs/Reading.antt`) that the call is, faults included;
 /// each clause `spelled` says that the bytes taken spell the value, by the protocol's rules for whole texts
@@ -67,9 +67,13 @@ impl<'a> Cursor<'a> {
         Ok(front)
     }
 
-    /// A bool: one byte, 1 for true and 0 for false. Any other byte is [`WireError::BadBool`].
+    /// A bool: one byte, 1 for true and 0 for false.
     ///
     /// (Thrift binary protocol, base types; Apache's readers take other bytes too.)
+    ///
+    /// # Errors
+    ///
+    /// [`WireError::Truncated`] without a byte; [`WireError::BadBool`] where it is another one.
     #[tactic(auto, unfolding(crate::specs::Reading::bool_at))]
     #[inline]
     pub fn read_bool(&mut self) -> Result<bool, WireError>
@@ -87,6 +91,10 @@ impl<'a> Cursor<'a> {
     /// The eight bytes of a double as they stand, the highest first; they are not interpreted.
     ///
     /// (Thrift binary protocol, base types.)
+    ///
+    /// # Errors
+    ///
+    /// [`WireError::Truncated`] where fewer bytes are left.
     #[inline]
     pub fn read_double(&mut self) -> Result<[u8; 8], WireError>
         ensures exact { Reads (λ x. x) (bytes_at 8) self.old result self.new }
@@ -102,6 +110,10 @@ impl<'a> Cursor<'a> {
     /// A signed number of 32 bits, the highest byte first: an i32 or an enum.
     ///
     /// (Thrift binary protocol, integer and enum encoding.)
+    ///
+    /// # Errors
+    ///
+    /// [`WireError::Truncated`] where fewer than four bytes are left.
     #[inline]
     pub fn read_i32(&mut self) -> Result<i32, WireError>
         ensures exact { Reads (λ x. x) (signed_at w32 4) self.old result self.new }
@@ -119,6 +131,10 @@ impl<'a> Cursor<'a> {
     /// A signed number of 64 bits, the highest byte first: an i64.
     ///
     /// (Thrift binary protocol, integer encoding.)
+    ///
+    /// # Errors
+    ///
+    /// [`WireError::Truncated`] where fewer than eight bytes are left.
     #[inline]
     pub fn read_i64(&mut self) -> Result<i64, WireError>
         ensures exact { Reads (λ x. x) (signed_at w64 8) self.old result self.new }
@@ -188,9 +204,12 @@ impl<'a> Cursor<'a> {
     }
 
     /// The bytes of a string or binary: a length of four bytes, then that many bytes. Nothing is copied.
-    /// A negative length is [`WireError::BadLength`].
     ///
     /// (Thrift binary protocol, string and binary encoding.)
+    ///
+    /// # Errors
+    ///
+    /// [`WireError::BadLength`] where the length is negative; [`WireError::Truncated`] where bytes are missing.
     #[tactic(auto, unfolding(crate::specs::Reading::string_at))]
     #[inline]
     pub fn read_bytes(&mut self) -> Result<&'a [u8], WireError>
@@ -203,9 +222,13 @@ impl<'a> Cursor<'a> {
     }
 
     /// The type and the id of the next field of a struct; `None` at the stop byte, which is taken too.
-    /// A type outside the table ([`crate::types`]) is [`WireError::BadType`], once the id was there.
     ///
     /// (Thrift binary protocol, struct encoding.)
+    ///
+    /// # Errors
+    ///
+    /// [`WireError::Truncated`] where bytes are missing; [`WireError::BadType`] where the type is outside the
+    /// table ([`crate::types`]), once the id was there.
     #[tactic(auto, unfolding(crate::specs::Reading::field_at))]
     #[inline]
     pub fn field(&mut self) -> Result<Option<(u8, i16)>, WireError>
@@ -226,10 +249,14 @@ impl<'a> Cursor<'a> {
         Ok(Some((code, id)))
     }
 
-    /// The type and the number of the elements of a list or set. A negative number is [`WireError::BadLength`];
-    /// a type outside the table ([`crate::types`]) is [`WireError::BadType`], except before no elements.
+    /// The type and the number of the elements of a list or set.
     ///
     /// (Thrift binary protocol, list and set encoding.)
+    ///
+    /// # Errors
+    ///
+    /// [`WireError::Truncated`] where bytes are missing; else [`WireError::BadLength`] where the number is negative;
+    /// else [`WireError::BadType`] where the type is outside the table ([`crate::types`]), except before no elements.
     #[tactic(auto, unfolding(crate::specs::Reading::list_at))]
     #[inline]
     pub fn list_head(&mut self) -> Result<(u8, u32), WireError>

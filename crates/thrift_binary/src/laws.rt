@@ -15,7 +15,7 @@ ghost use Rattle.thrift_binary.specs.Reading.{bool_at, bytes_at, signed_at, fiel
 ghost use Rattle.thrift_binary.specs.Skipping.{skip_at};
 ghost use Rattle.thrift_binary.specs.Cuts.{FaultsHavePlaces, ValuesHaveEnds, ShortStaysShort};
 ghost use Rattle.thrift_binary.specs.Spelling.{Field, IsBool, IsI32, IsI64, IsDouble, IsString, IsFieldHead, IsHead, IsFields, IsListHead, IsValue};
-ghost use Rattle.thrift_binary.specs.Writing.{bool_text, i32_text, i64_text, string_text, field_text, stop_text, list_head_text, fields_text};
+ghost use Rattle.thrift_binary.specs.Writing.{bool_text, i32_text, i64_text, string_text, field_text, stop_text, list_head_text, fields_text, HasHead};
 ghost use Rattle.thrift_binary.specs.declared.fault.WireError.TheVariants.{Truncated};
 
 /// A skipped value of any type.
@@ -65,7 +65,7 @@ pub fn spelled_values_are_read()
     ensures i64 { (t r : List ℕ) (z : ℤ) → IsI64 t z → signed_at w64 8 (t ++ r) ≡ Ok (z, r) }
     ensures double { (t r bytes : List ℕ) → IsDouble t bytes → bytes_at 8 (t ++ r) ≡ Ok (bytes, r) }
     ensures bytes { (t r bytes : List ℕ) → IsString t bytes → string_at (t ++ r) ≡ Ok (bytes, r) }
-    ensures field { (t r : List ℕ) (c : ℕ) (i : ℤ) → IsFieldHead c i t → is_code c ≡ true
+    ensures field { (t r : List ℕ) (c : ℕ) (i : ℤ) → IsFieldHead c i t
         → field_at (t ++ r) ≡ Ok (Some (c, i), r) }
     ensures stop { (r : List ℕ) → field_at (stop_text ++ r) ≡ Ok (None, r) }
     ensures list_head { (c n : ℕ) (t r : List ℕ) → IsListHead c n t → is_code c ≡ true
@@ -80,8 +80,7 @@ pub fn written_values_spell()
     ensures i64 { (z : ℤ) → FitsSigned w64 z → IsI64 (i64_text z) z }
     ensures double { (bytes : List ℕ) → length bytes ≡ 8 → IsDouble bytes bytes }
     ensures bytes { (bytes : List ℕ) → length bytes < 2 ^ 31 → IsString (string_text bytes) bytes }
-    ensures field { (f : Field) → FitsSigned w16 f.id → IsHead (field_text f.code f.id) f }
+    ensures field { (f : Field) → HasHead f → IsHead (field_text f.code f.id) f }
     ensures list_head { (c n : ℕ) → n < 2 ^ 31 → IsListHead c n (list_head_text c n) }
-    ensures fields { (fs : List Field) → AllByRecursion (λ f. FitsSigned w16 f.id) fs →
-        IsFields fs (fields_text fs) }
+    ensures fields { (fs : List Field) → AllByRecursion HasHead fs → IsFields fs (fields_text fs) }
 {}

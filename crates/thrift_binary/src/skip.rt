@@ -47,11 +47,13 @@ impl<'a> Cursor<'a> {
     /// 64 levels of containers. A container that holds none has one level. A bool may be any byte here, and a
     /// string any bytes.
     ///
-    /// Without bytes the answer is [`WireError::Truncated`]. Else a type outside the table is
-    /// [`WireError::BadType`], and a container below 64 levels is [`WireError::TooDeep`], before any of its bytes
-    /// is read.
-    ///
     /// (Thrift binary protocol, all encodings; the bound on levels is this crate's own.)
+    ///
+    /// # Errors
+    ///
+    /// [`WireError::Truncated`] without bytes. Else the first fault in the value: [`WireError::BadType`] at a type
+    /// outside the table, [`WireError::TooDeep`] at a container below 64 levels, before any of its bytes is read,
+    /// [`WireError::BadLength`] at a negative size, or [`WireError::Truncated`].
     #[tactic(auto, unfolding(crate::specs::Skipping::skip_at))]
     pub fn skip(&mut self, code: u8) -> Result<(), WireError>
         ensures exact { Reads (λ _. tt) (skip_at code) self.old result self.new }
