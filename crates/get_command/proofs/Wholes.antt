@@ -72,12 +72,12 @@ module _ (in0 in1 out0 out1 out2 : Option (List ℕ)) (i o : Bool) (limits : Lim
   pub stops_early : held0 ≡ nothing_held limits → (h : Halt) → AnswersSome TakesBatch in0 in1 out0 out1 held0 i o h
       → StopsShort in0 in1 out0 out1 i o (output_of limits id) (status_by h)
   stops_early start h a =
-      let all = a.taken ++ a.rest in
-      let r = each_judged held0 1 a.lines a.said a.last a.each in
-      let more = faults_append 1 (nothing_held limits) a.lines a.others in
+      let all = a.first.taken ++ a.first.rest in
+      let r = each_judged held0 1 a.first.lines a.first.said a.first.last a.first.each in
+      let more = faults_append 1 (nothing_held limits) a.first.lines a.first.others in
       let tail = trace_lines (found_in (held_after (nothing_held limits) (lines_of all)) id) in
-      let whole : output_of limits id all ≡ a.said.text ++ (more.0 ++ tail) =
-      ap (λ ls. fault_lines 1 (nothing_held limits) ls ++ tail) a.split ∙ ap (λ x. x ++ tail) more.1
-      ∙ append_assoc (fault_lines 1 (nothing_held limits) a.lines) more.0 tail
-      ∙ ap (λ x. x ++ (more.0 ++ tail)) (sym (r.1 ∙ ap (λ x. fault_lines 1 x a.lines) start)) in
-      stops_some TakesBatch in0 in1 out0 out1 held0 i o h (output_of limits id) a (some_more out0 out1 a.said.text (more.0 ++ tail) (output_of limits id all) whole a.written)
+      let whole : output_of limits id all ≡ a.first.said.text ++ (more.0 ++ tail) =
+      ap (λ ls. fault_lines 1 (nothing_held limits) ls ++ tail) a.first.split ∙ ap (λ x. x ++ tail) more.1
+      ∙ append_assoc (fault_lines 1 (nothing_held limits) a.first.lines) more.0 tail
+      ∙ ap (λ x. x ++ (more.0 ++ tail)) (sym (r.1 ∙ ap (λ x. fault_lines 1 x a.first.lines) start)) in
+      stops_some TakesBatch in0 in1 out0 out1 held0 i o h (output_of limits id) a (some_more out0 out1 a.first.said.text (more.0 ++ tail) (output_of limits id all) whole a.written)

@@ -47,7 +47,7 @@ module _ (in0 in1 out0 out1 : Option (List ℕ)) (i o : Bool) (limits : Limits) 
       → StopsShort in0 in1 out0 out1 i o (output_of limits) status
   stops stands h a status is =
       let start = new_machine limits in
-      let r = each_played w0 start 1 a.lines a.said a.last stands a.each in
-      let more = texts_append 1 start a.lines a.others in
-      let whole : output_of limits (a.taken ++ a.rest) ≡ a.said.text ++ more.0 = ap (texts_of 1 start) a.split ∙ more.1 ∙ ap (λ x. x ++ more.0) (sym r.0) in
-      rw is (stops_some TakesStep in0 in1 out0 out1 w0 i o h (output_of limits) a (some_more out0 out1 a.said.text more.0 (output_of limits (a.taken ++ a.rest)) whole a.written))
+      let r = each_played w0 start 1 a.first.lines a.first.said a.first.last stands a.first.each in
+      let more = texts_append 1 start a.first.lines a.first.others in
+      let whole : output_of limits (a.first.taken ++ a.first.rest) ≡ a.first.said.text ++ more.0 = ap (texts_of 1 start) a.first.split ∙ more.1 ∙ ap (λ x. x ++ more.0) (sym r.0) in
+      rw is (stops_some TakesStep in0 in1 out0 out1 w0 i o h (output_of limits) a (some_more out0 out1 a.first.said.text more.0 (output_of limits (a.first.taken ++ a.first.rest)) whole a.written))

@@ -160,19 +160,21 @@ stops takes in0 in1 in2 out0 out1 out2 s t feed w1 w2 n faulty i o h f l last =
     let rest = rest_behind in0 in2 in
     let read = Consumes-trans in0 in1 in2 f.taken l.taken f.read l.read in
     record {
-      taken = f.taken ++ l.taken;
-      rest = rest;
-      lines = f.lines;
-      others = lines_of (feed.waiting ++ (l.taken ++ rest));
-      said = f.said;
-      last = t;
-      read = read;
-      held = holds_both in0 in2 (f.taken ++ l.taken) read;
-      split = ap lines_of (append_assoc f.taken l.taken rest) ∙ f.split (l.taken ++ rest)
-          (λ e. ap (λ x. x ++ rest) (l.stays e) ∙ none_at_end in0 in1 in2 f.taken l.taken f.read l.read (f.end e));
-      each = f.each;
+      first = record {
+        taken = f.taken ++ l.taken;
+        rest = rest;
+        lines = f.lines;
+        others = lines_of (feed.waiting ++ (l.taken ++ rest));
+        said = f.said;
+        last = t;
+        read = read;
+        held = holds_both in0 in2 (f.taken ++ l.taken) read;
+        split = ap lines_of (append_assoc f.taken l.taken rest) ∙ f.split (l.taken ++ rest)
+            (λ e. ap (λ x. x ++ rest) (l.stays e) ∙ none_at_end in0 in1 in2 f.taken l.taken f.read l.read (f.end e));
+        each = f.each;
+        why = why_weaker h i o _ _ (λ met. omega (arith, f.least met.0, met.1, length-append f.taken l.taken)) l.why;
+      };
       wrote = moves_then out0 out1 out2 f.said.text w1 w2 f.wrote last;
-      why = why_weaker h i o _ _ (λ met. omega (arith, f.least met.0, met.1, length-append f.taken l.taken)) l.why;
     }
 
 -- nothing was read any more
@@ -218,33 +220,45 @@ holds_all (Some x) (Some y) taken c e = c ∙ ap (λ z. taken ++ z) e
 pub all_lost : {S : Type 0} (takes : Takes S) (in0 in1 out0 out1 out2 : Option (List ℕ)) (s t : S) (w w2 : List ℕ) (faulty i o : Bool) (h : Halt)
     → TookAll takes in0 in1 out0 out1 s t w faulty → Moves out1 out2 w w2 → h ≡ Device → o ≡ true → AnswersSome takes in0 in1 out0 out2 s i o h
 all_lost takes in0 in1 out0 out1 out2 s t w w2 faulty i o h a last is failed = rw is record {
-  taken = a.input;
-  rest = [];
-  lines = lines_of a.input;
-  others = [];
-  said = a.said;
-  last = t;
-  read = a.read;
-  held = holds_all in0 in1 a.input a.read a.whole;
-  split = ap lines_of (append-nil a.input) ∙ sym (append-nil (lines_of a.input));
-  each = a.each;
+  first = record {
+    taken = a.input;
+    rest = [];
+    lines = lines_of a.input;
+    others = [];
+    said = a.said;
+    last = t;
+    read = a.read;
+    held = holds_all in0 in1 a.input a.read a.whole;
+    split = ap lines_of (append-nil a.input) ∙ sym (append-nil (lines_of a.input));
+    each = a.each;
+    why = inr (inl failed);
+  };
   written = some_written out0 out2 a.said.text w2 (moves_then out0 out1 out2 a.said.text w w2 a.wrote last);
-  why = inr (inl failed);
 }
 
 pub some_answered : {S : Type 0} (takes : Takes S) (in0 in1 out0 out1 out2 : Option (List ℕ)) (s : S) (w w2 : List ℕ) (i o o2 : Bool) (h h2 : Halt)
-    → (a : TookSome takes in0 in1 out0 out1 s w i o h) → Moves out1 out2 w w2 → (IsWhy h i o (MOST_READS ≤ length a.taken) → IsWhy h2 i o2 (MOST_READS ≤ length a.taken)) → AnswersSome takes in0 in1 out0 out2 s i o2 h2
+    → (a : TookSome takes in0 in1 out0 out1 s w i o h) → Moves out1 out2 w w2 → (IsWhy h i o (MOST_READS ≤ length a.first.taken) → IsWhy h2 i o2 (MOST_READS ≤ length a.first.taken)) → AnswersSome takes in0 in1 out0 out2 s i o2 h2
 some_answered takes in0 in1 out0 out1 out2 s w w2 i o o2 h h2 a last why = record {
-  taken = a.taken;
-  rest = a.rest;
-  lines = a.lines;
-  others = a.others;
-  said = a.said;
-  last = a.last;
-  read = a.read;
-  held = a.held;
-  split = a.split;
-  each = a.each;
-  written = some_written out0 out2 a.said.text w2 (moves_then out0 out1 out2 a.said.text w w2 a.wrote last);
-  why = why a.why;
+  first = record {
+    taken = a.first.taken;
+    rest = a.first.rest;
+    lines = a.first.lines;
+    others = a.first.others;
+    said = a.first.said;
+    last = a.first.last;
+    read = a.first.read;
+    held = a.first.held;
+    split = a.first.split;
+    each = a.first.each;
+    why = why a.first.why;
+  };
+  written = some_written out0 out2 a.first.said.text w2 (moves_then out0 out1 out2 a.first.said.text w w2 a.wrote last);
+}
+
+-- what waits to be written is left
+pub some_left : {S : Type 0} (takes : Takes S) (in0 in1 out0 out1 : Option (List ℕ)) (s : S) (w : List ℕ) (i o : Bool) (h h2 : Halt)
+    → h ≡ h2 → TookSome takes in0 in1 out0 out1 s w i o h → AnswersSome takes in0 in1 out0 out1 s i o h2
+some_left takes in0 in1 out0 out1 s w i o h h2 is a = rw (sym is) record {
+  first = a.first;
+  written = some_written out0 out1 a.first.said.text w a.wrote;
 }

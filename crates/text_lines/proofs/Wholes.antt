@@ -39,15 +39,15 @@ stops_all takes in0 in1 out0 out1 out2 s t faulty i o h output_of a some why ie 
 
 -- not all lines were taken
 pub stops_some : {S : Type 0} (takes : Takes S) (in0 in1 out0 out1 : Option (List ℕ)) (s : S) (i o : Bool) (h : Halt) (output_of : List ℕ → List ℕ)
-    → (a : AnswersSome takes in0 in1 out0 out1 s i o h) → WritesSome out0 out1 (output_of (a.taken ++ a.rest)) → StopsShort in0 in1 out0 out1 i o output_of (status_by h)
+    → (a : AnswersSome takes in0 in1 out0 out1 s i o h) → WritesSome out0 out1 (output_of (a.first.taken ++ a.first.rest)) → StopsShort in0 in1 out0 out1 i o output_of (status_by h)
 stops_some takes in0 in1 out0 out1 s i o h output_of a some = record {
   halt = h;
-  taken = a.taken;
-  rest = a.rest;
-  read = a.read;
-  held = a.held;
+  taken = a.first.taken;
+  rest = a.first.rest;
+  read = a.first.read;
+  held = a.first.held;
   written = some;
-  why = a.why;
+  why = a.first.why;
   status_is = refl;
 }
 

@@ -14,7 +14,7 @@ status_by Memory = 5
 abbrev pub BothWork : Bool → Bool → Type 0
 BothWork in_failed out_failed = (in_failed ≡ false) × (out_failed ≡ false)
 
--- a device failed, or the limit was met; where memory is wanting neither device has failed
+-- a device failed, or the limit was met; where memory ran out neither device has failed
 abbrev pub IsWhy : Halt → Bool → Bool → Type 0 → Type 0
 IsWhy Device in_failed out_failed Met = (in_failed ≡ true) ⊎ (out_failed ≡ true) ⊎ Met
 IsWhy Memory in_failed out_failed Met = BothWork in_failed out_failed
@@ -24,7 +24,7 @@ abbrev pub IsWhyOf : Halt → Bool → Type 0
 IsWhyOf Device out_failed = out_failed ≡ true
 IsWhyOf Memory out_failed = out_failed ≡ false
 
--- some bytes were written off the front of what was to be written
+-- some bytes were written off the beginning of what was to be written
 abbrev pub Moves : Option (List ℕ) → Option (List ℕ) → List ℕ → List ℕ → Type 0
 Moves out0 out1 waited waits = (written : List ℕ) × Appends out0 out1 written × (waited ≡ written ++ waits)
 

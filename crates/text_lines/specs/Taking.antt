@@ -38,8 +38,8 @@ pub record AnswersAll {S : Type 0} (takes : Takes S) (in0 in1 out0 out1 : Option
   pub written : Appends out0 out1 said.text
   pub faulty_is : faulty ≡ said.faulty
 
--- the first lines of the input were taken, and a beginning of what was said to them was written
-pub record AnswersSome {S : Type 0} (takes : Takes S) (in0 in1 out0 out1 : Option (List ℕ)) (s : S) (in_failed out_failed : Bool) (halt : Halt) : Type 0 where
+-- the first lines of the input were taken, and no more for this reason
+pub record FirstLines {S : Type 0} (takes : Takes S) (in0 in1 : Option (List ℕ)) (s : S) (in_failed out_failed : Bool) (halt : Halt) : Type 0 where
   pub taken : List ℕ
   pub rest : List ℕ
   pub lines : List (List ℕ)
@@ -50,8 +50,12 @@ pub record AnswersSome {S : Type 0} (takes : Takes S) (in0 in1 out0 out1 : Optio
   pub held : Holds in0 (taken ++ rest)
   pub split : lines_of (taken ++ rest) ≡ lines ++ others
   pub each : TakesEach takes s 1 lines said last
-  pub written : WritesSome out0 out1 said.text
   pub why : IsWhy halt in_failed out_failed (MOST_READS ≤ length taken)
+
+-- the first lines of the input were taken, and a beginning of what was said to them was written
+pub record AnswersSome {S : Type 0} (takes : Takes S) (in0 in1 out0 out1 : Option (List ℕ)) (s : S) (in_failed out_failed : Bool) (halt : Halt) : Type 0 where
+  pub first : FirstLines takes in0 in1 s in_failed out_failed halt
+  pub written : WritesSome out0 out1 first.said.text
 
 -- ---- on the way, with a page of text that waits to be written
 
@@ -82,15 +86,5 @@ pub record TookAll {S : Type 0} (takes : Takes S) (in0 in1 out0 out1 : Option (L
 
 -- the first lines of it were
 pub record TookSome {S : Type 0} (takes : Takes S) (in0 in1 out0 out1 : Option (List ℕ)) (s : S) (waits : List ℕ) (in_failed out_failed : Bool) (halt : Halt) : Type 0 where
-  pub taken : List ℕ
-  pub rest : List ℕ
-  pub lines : List (List ℕ)
-  pub others : List (List ℕ)
-  pub said : Said
-  pub last : S
-  pub read : Consumes in0 in1 taken
-  pub held : Holds in0 (taken ++ rest)
-  pub split : lines_of (taken ++ rest) ≡ lines ++ others
-  pub each : TakesEach takes s 1 lines said last
-  pub wrote : Moves out0 out1 said.text waits
-  pub why : IsWhy halt in_failed out_failed (MOST_READS ≤ length taken)
+  pub first : FirstLines takes in0 in1 s in_failed out_failed halt
+  pub wrote : Moves out0 out1 first.said.text waits

@@ -9,7 +9,7 @@ use crate::taker::LineTaker;
 use session_devices::{Input, Output};
 use std::alloc::Global;
 
-/// Takes all lines, and tells whether one was a fault; some of what is said to them may wait on the page
+/// Takes all lines, and returns whether one was a fault; some of what is said to them may wait on the page
 /// at the end.
 fn take_lines<R: Input, W: Output, T: LineTaker>(
     alloc: Global,
@@ -43,7 +43,7 @@ fn take_lines<R: Input, W: Output, T: LineTaker>(
     Ok(faulty)
 }
 
-/// Hands the lines of the input to the taker, one by one, writes what it says to them, and tells whether
+/// Hands the lines of the input to the taker, one by one, writes what it says to them, and returns whether
 /// one was a fault. What was said is written before each read.
 ///
 /// # Errors

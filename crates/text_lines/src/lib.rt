@@ -3,7 +3,7 @@
 //! [`answer_lines`] takes the lines of an [`Input`](session_devices::Input) and hands each to a
 //! [`LineTaker`], whose words are written before the next read, so that a person at a terminal sees
 //! what came of a line. Where it ends, all of the input was taken, and what was written is what was
-//! said to its lines, in order. Where a device fails or memory is wanting, what was written is a
+//! said to its lines, in order. Where a device fails or memory runs out, what was written is a
 //! beginning of that.
 //!
 //! * `answering`: the lines of an input, answered one by one.

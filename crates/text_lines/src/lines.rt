@@ -39,6 +39,10 @@ impl Model for Lines {
 
 impl Lines {
     /// Nothing was read.
+    ///
+    /// # Errors
+    ///
+    /// Out of memory, and nothing else.
     pub fn new(alloc: Global) -> Result<Lines, AllocError>
         ensures { IfOk result (λ s. s ≡ record { waiting = []; left = MOST_READS; ended = false }) }
     {
@@ -100,7 +104,7 @@ impl Lines {
         Ok(())
     }
 
-    /// Takes the next line off the input, without its end, and tells whether there was one. A carriage
+    /// Takes the next line off the input, without its end, and returns whether there was one. A carriage
     /// return right before the line feed belongs to the line's end. What is behind the last line feed
     /// is a line too, unless it is empty.
     ///

@@ -1,7 +1,7 @@
 use Rattle.std.proofs.Common.{rules, inl, inr, ◌≡◌}
 use Rattle.std.proofs.lemmas.Result.{err_from_is_err_and}
 use Rattle.text_lines.specs.declared.halt.Halt.TheVariants.{Device, Memory}
-use Rattle.text_lines.proofs.Progress.{all_lost, some_answered}
+use Rattle.text_lines.proofs.Progress.{all_lost, some_answered, some_left}
 use Rattle.text_lines.proofs.answering.answer_lines.Goals as goal
 
 pub returns-in_err-hand_out-in-Ok-clause-some : goal.returns-in_err-hand_out-in-Ok-clause-some
@@ -21,3 +21,6 @@ returns-in-Err-Memory-clause-some g c =
     let memory : c.in-Err-Memory.field-0 ≡ Memory = search rules in
     some_answered g.T.LineTaker.takes _ _ _ _ _ _ _ _ _ _ _ _ Memory c.in-Err-Memory.ensures.some c.hand_out-in-Err-Memory.ensures.moves
     (λ why. let w = rw memory at why in (w.0, c.in_ok-hand_out-in-Err-Memory.ensures.works))
+
+pub returns-clause-some : goal.returns-clause-some
+returns-clause-some g c = some_left g.T.LineTaker.takes _ _ _ _ _ _ _ _ _ Device c.in-Err-Device.field-0-is c.in-Err-Device.ensures.some
