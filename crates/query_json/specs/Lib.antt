@@ -1,2 +1,4 @@
 pub mod Naming
+pub mod Numbering
+pub mod Order
 pub mod Trees

@@ -1,8 +1,10 @@
-ghost use Rattle.std.specs.Prelude.{◌≡◌, IfOk, map, string_bytes};
+ghost use Rattle.std.specs.Prelude.{◌≡◌, ◌+◌, ◌<◌, ◌^◌, IfOk, List, map, string_bytes};
 ghost use Rattle.serde_json.specs.View.{view};
-ghost use Rattle.query_json.specs.Trees.{list, processes_tree, span_tree, trace_id_text, trace_of, trace_tree, warnings_tree};
+ghost use Rattle.jaeger_model.specs.declared.batch.Process.{Process as ProcessValue};
+ghost use Rattle.query_json.specs.Naming.{place};
+ghost use Rattle.query_json.specs.Trees.{list, processes_of, processes_tree, span_tree, trace_id_text, trace_of, trace_tree, warnings_tree};
 
-use crate::naming::{place_of, process_name, processes_of};
+use crate::naming::{Numbering, process_name};
 use crate::tree::{Tree, list};
 use crate::values::flags_number;
 use jaeger_model::{Process, Seq, Text, span_text, trace_text};
@@ -20,12 +22,15 @@ fn warnings_json(alloc: Global, warnings: &[Text]) -> Result<Value, AllocError>
     list(alloc, warnings)
 }
 
-fn span_json(alloc: Global, processes: &[&Process], shown: &Shown) -> Result<Value, AllocError>
-    ensures { IfOk result (λ v. view v ≡ span_tree (map (λ p. p.now) processes.now) shown.now) }
+/// A span whose process has this number.
+fn span_json(alloc: Global, number: usize, shown: &Shown) -> Result<Value, AllocError>
+    requires { number + 1 < 2 ^ 64 }
+    ensures { (ps : List ProcessValue) → number ≡ place shown.now.placed.process ps →
+        IfOk result (λ v. view v ≡ span_tree ps shown.now) }
 {
     let span = &shown.placed.span;
     let logs = list(alloc, span.logs.as_slice())?;
-    let process = process_name(alloc, place_of(processes, &shown.placed.process))?;
+    let process = process_name(alloc, number)?;
     let references = list(alloc, span.references.as_slice())?;
     let id = span_text(alloc, span.id)?;
     let tags = list(alloc, span.tags.as_slice())?;
@@ -46,15 +51,19 @@ fn span_json(alloc: Global, processes: &[&Process], shown: &Shown) -> Result<Val
     })
 }
 
-fn spans_json(alloc: Global, processes: &[&Process], spans: &[Shown]) -> Result<Value, AllocError>
-    ensures { IfOk result (λ v. view v ≡
-        list (map (span_tree (map (λ p. p.now) processes.now)) spans.now)) }
+/// The spans of a trace, and their processes, each once, in the order of their numbers.
+fn spans_json(alloc: Global, spans: &[Shown]) -> Result<(Value, Vec<&Process>), AllocError>
+    ensures spans { IfOk result (λ r. view r.0 ≡
+        list (map (span_tree (processes_of spans.now)) spans.now)) }
+    ensures processes { IfOk result (λ r. map (λ p. p.now) r.1.items ≡ processes_of spans.now) }
 {
+    let mut numbering = Numbering::new(alloc);
     let mut trees = Vec::new(alloc);
     for span in spans {
-        trees.push(span_json(alloc, processes, span)?)?;
+        let number = numbering.number_of(&span.placed.process)?;
+        trees.push(span_json(alloc, number, span)?)?;
     }
-    Ok(Value::Array(trees))
+    Ok((Value::Array(trees), numbering.into_processes()))
 }
 
 /// The processes under their names.
@@ -96,9 +105,8 @@ impl Tree for Seq<Shown> {
 
     fn to_json(&self, alloc: Global) -> Result<Value, AllocError> {
         let shown = self.as_slice();
-        let known = processes_of(alloc, shown)?;
+        let (spans, known) = spans_json(alloc, shown)?;
         let processes = processes_json(alloc, &known)?;
-        let spans = spans_json(alloc, &known, shown)?;
         let id = trace_id_text(alloc, shown)?;
         trace_json(alloc, processes, spans, id)
     }
