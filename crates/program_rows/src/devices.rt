@@ -1,4 +1,5 @@
 //! Devices that fail.
+use crate::host::Host;
 use crate::runs::{HEAD, SPAN, TAIL, joined};
 use program_run::run;
 use session_devices::Watched;
@@ -6,12 +7,7 @@ use std::alloc::Global;
 use std::io;
 use std::io::{Error, ErrorKind, Read, Write};
 use std::net::{Net, TcpListener, TcpStream};
-use std::process::Abort;
-use std::random::RandomSource;
-use std::sync::Wait;
 use std::test::Fail;
-use std::thread::Threads;
-use std::time::Clock;
 
 /// A reader of a text, some bytes a call, whose one call fails.
 #[derive(Drop)]
@@ -56,16 +52,8 @@ impl Write for Full {
 
 /// Runs the words over the input with a reader that fails at each of its calls, and with a writer of each
 /// room below the output's size: each run ends with 4 after a beginning of the output.
-fn check_failures<
-    A: Abort
-        + Threads
-        + Wait
-        + Clock
-        + RandomSource
-        + Net<Stream = TcpStream, Listener = TcpListener>
-        + Sync,
->(
-    rt: &A,
+fn check_failures<H: Host + Net<Stream = TcpStream, Listener = TcpListener>>(
+    rt: &H,
     alloc: Global,
     words: &[&str],
     input: &[u8],

@@ -7,6 +7,8 @@ mod devices;
 #[cfg(test)]
 mod getting;
 #[cfg(test)]
+mod host;
+#[cfg(test)]
 mod piping;
 #[cfg(test)]
 mod playing;

@@ -1,5 +1,6 @@
 //! `play`.
 use crate::runs::{HEAD, TAIL, check, check_bytes};
+use std::alloc::Global;
 use std::test::Fail;
 
 const WORDS: [&str; 2] = ["jaeger_one", "play"];
@@ -31,6 +32,30 @@ fn a_reader_inside_does_not_see_the_publish(rt: HostRuntime) -> Result<(), Fail>
             LISTED,
         ],
     )
+}
+
+/// What is said of so many batches that are put and taken.
+fn taken_by_one(alloc: Global, batches: u32) -> Result<String, Fail> {
+    let mut said = String::new(alloc);
+    for number in 1..=batches {
+        let lines = format!(in alloc; "put {number}\ntaken 0 {number}\n")?;
+        said.push_str(lines.as_str())?;
+    }
+    Ok(said)
+}
+
+/// As many batches as the machine takes, published at once.
+#[test]
+fn a_thousand_batches(rt: HostRuntime) -> Result<(), Fail> {
+    let alloc = rt.alloc();
+    let mut input = Vec::new(alloc);
+    for _ in 0..1_000u32 {
+        input.extend_from_slice(&["put 0 ", HEAD, TAIL, "\ntake\n"])?;
+    }
+    input.push("publish\nenter 0\n")?;
+    let said = taken_by_one(alloc, 1_000)?;
+    let output = [said.as_str(), "published 1000\nentered 1000\n"];
+    check(&rt, alloc, &WORDS, input.as_slice(), 0, &output)
 }
 
 #[test]

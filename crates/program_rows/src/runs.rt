@@ -1,14 +1,10 @@
 //! Runs of the program over memory.
+use crate::host::Host;
 use program_run::run;
 use session_devices::Watched;
 use std::alloc::Global;
 use std::net::{Net, TcpListener, TcpStream};
-use std::process::Abort;
-use std::random::RandomSource;
-use std::sync::Wait;
 use std::test::Fail;
-use std::thread::Threads;
-use std::time::Clock;
 
 /// A batch of service `a` with one span of trace 1, up to and from the end of the operation.
 pub(crate) const HEAD: &str =
@@ -32,16 +28,8 @@ pub(crate) fn joined(alloc: Global, pieces: &[&str]) -> Result<String, Fail> {
 }
 
 /// Runs the words over the input, and looks at the status and the output.
-pub(crate) fn check<
-    A: Abort
-        + Threads
-        + Wait
-        + Clock
-        + RandomSource
-        + Net<Stream = TcpStream, Listener = TcpListener>
-        + Sync,
->(
-    rt: &A,
+pub(crate) fn check<H: Host + Net<Stream = TcpStream, Listener = TcpListener>>(
+    rt: &H,
     alloc: Global,
     words: &[&str],
     input: &[&str],
@@ -53,16 +41,8 @@ pub(crate) fn check<
 }
 
 /// The same of any bytes.
-pub(crate) fn check_bytes<
-    A: Abort
-        + Threads
-        + Wait
-        + Clock
-        + RandomSource
-        + Net<Stream = TcpStream, Listener = TcpListener>
-        + Sync,
->(
-    rt: &A,
+pub(crate) fn check_bytes<H: Host + Net<Stream = TcpStream, Listener = TcpListener>>(
+    rt: &H,
     alloc: Global,
     words: &[&str],
     input: &[u8],

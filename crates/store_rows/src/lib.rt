@@ -6,13 +6,19 @@
 //! * `rings`: `trace_ring`, `trace_assembly`, and which spans the plain store shows.
 //! * `names`: `service_index`, and the names of the plain store.
 //! * `stores`: `span_store`, put the same questions as the plain store of its entries.
+//! * `collisions`: ids and names that a key doesn't spread.
+//! * `large`: a store of many entries.
 //! * `entries`: entries for these.
 #![tactic(auto)]
 
 #[cfg(test)]
+mod collisions;
+#[cfg(test)]
 mod entries;
 #[cfg(test)]
 mod journals;
+#[cfg(test)]
+mod large;
 #[cfg(test)]
 mod limits;
 #[cfg(test)]

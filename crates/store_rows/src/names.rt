@@ -4,7 +4,9 @@ use crate::entries::entry;
 use jaeger_model::{Placed, Text, kind_of};
 use plain_store::{operation_names, operations, plain_answer, services};
 use service_index::ServiceIndex;
+use span_store::replayed_answer;
 use std::alloc::{AllocError, Global};
+use std::hash::RandomState;
 use std::process::Abort;
 use std::sync::Arc;
 use std::test::*;
@@ -161,11 +163,22 @@ fn served(alloc: Global) -> Result<Vec<Arc<Entry>>, AllocError> {
     Ok(entries)
 }
 
+/// Limits by which one trace is shown, so that the first two of that history have left.
+fn one_trace() -> Result<Limits, Fail> {
+    Ok(Limits::new(10, 10, 1, 0).ok_or("limits")?)
+}
+
 /// What the plain store answers of that history.
 fn answer_of(alloc: Global, query: &Query) -> Result<Answer, Fail> {
-    let limits = Limits::new(10, 10, 0, 0).ok_or("limits")?;
     let entries = served(alloc)?;
-    Ok(plain_answer(alloc, &entries, limits, query)?)
+    Ok(plain_answer(alloc, &entries, one_trace()?, query)?)
+}
+
+/// What the store answers of it.
+fn store_answer_of(alloc: Global, keys: RandomState, query: &Query) -> Result<Answer, Fail> {
+    let entries = served(alloc)?;
+    let answer = replayed_answer(alloc, keys, one_trace()?, &entries, query);
+    Ok(answer.ok().ok_or("refused")?)
 }
 
 fn expect_names(rt: &impl Abort, answer: &Answer, wanted: &[&str]) {
@@ -183,9 +196,22 @@ fn expect_names(rt: &impl Abort, answer: &Answer, wanted: &[&str]) {
 fn names_plainly(rt: HostRuntime) -> Result<(), Fail> {
     let alloc = rt.alloc();
     expect_names(&rt, &answer_of(alloc, &Query::Services)?, &["b", "c"]);
-    let service = Text::from_str(alloc, "c")?;
+    let service = Text::from_str(alloc, "b")?;
     let query = Query::OperationNames { service };
     expect_names(&rt, &answer_of(alloc, &query)?, &["op"]);
+    Ok(())
+}
+
+/// Names stay, though their traces leave.
+#[test]
+fn names_in_the_store(rt: HostRuntime) -> Result<(), Fail> {
+    let alloc = rt.alloc();
+    let keys = RandomState::new(&rt)?;
+    let answer = store_answer_of(alloc, keys, &Query::Services)?;
+    expect_names(&rt, &answer, &["b", "c"]);
+    let service = Text::from_str(alloc, "b")?;
+    let query = Query::OperationNames { service };
+    expect_names(&rt, &store_answer_of(alloc, keys, &query)?, &["op"]);
     Ok(())
 }
 
@@ -202,9 +228,20 @@ fn expect_one_operation(rt: &impl Abort, answer: &Answer) {
 #[test]
 fn one_operation_plainly(rt: HostRuntime) -> Result<(), Fail> {
     let alloc = rt.alloc();
-    let service = Text::from_str(alloc, "c")?;
+    let service = Text::from_str(alloc, "b")?;
     let kind = Text::new(alloc);
     let answer = answer_of(alloc, &Query::Operations { service, kind })?;
+    expect_one_operation(&rt, &answer);
+    Ok(())
+}
+
+#[test]
+fn one_operation_in_the_store(rt: HostRuntime) -> Result<(), Fail> {
+    let alloc = rt.alloc();
+    let keys = RandomState::new(&rt)?;
+    let service = Text::from_str(alloc, "b")?;
+    let kind = Text::new(alloc);
+    let answer = store_answer_of(alloc, keys, &Query::Operations { service, kind })?;
     expect_one_operation(&rt, &answer);
     Ok(())
 }

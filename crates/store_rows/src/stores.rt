@@ -80,6 +80,18 @@ fn find(alloc: Global, seed: u64) -> Result<Find, Fail> {
     })
 }
 
+/// What the plain store of the store's entries answers, as text.
+fn plainly(alloc: Global, store: &SpanStore, query: &Query) -> Result<String, AllocError> {
+    let answer = plain_answer(alloc, store.entries(), store.limits(), query)?;
+    Ok(format!(in alloc; "{answer:?}")?)
+}
+
+/// What the store answers, as text.
+fn quickly(alloc: Global, store: &SpanStore, query: &Query) -> Result<String, AllocError> {
+    let answer = store.answer(query).ok().ok_or(AllocError)?;
+    Ok(format!(in alloc; "{answer:?}")?)
+}
+
 /// The same question to the store and to the plain store of its entries.
 fn same_answer(
     rt: &impl Abort,
@@ -87,14 +99,9 @@ fn same_answer(
     store: &SpanStore,
     query: Query,
 ) -> Result<(), Fail> {
-    let plain = plain_answer(alloc, store.entries(), store.limits(), &query)?;
-    let Ok(quick) = store.answer(&query) else {
-        return Err(AllocError.into());
-    };
-    assert_eq!(rt;
-        format!(in alloc; "{quick:?}")?,
-        format!(in alloc; "{plain:?}")?
-    );
+    let quick = quickly(alloc, store, &query)?;
+    let plain = plainly(alloc, store, &query)?;
+    assert_eq!(rt; quick, plain);
     Ok(())
 }
 
@@ -175,29 +182,52 @@ fn as_the_plain_store(rt: HostRuntime) -> Result<(), Fail> {
     Ok(())
 }
 
+/// Applies 30 entries with spans of three traces each, of which most come again.
+fn apply_traces(rt: &impl Abort, alloc: Global, store: &mut SpanStore) -> Result<(), Fail> {
+    for number in 1..31 {
+        let traces = [number << 32, number, number / 2];
+        let place = store.apply(entry_of(alloc, number, &traces)?);
+        assert_eq!(rt; place, Ok(number));
+    }
+    Ok(())
+}
+
+fn same_trace(rt: &impl Abort, alloc: Global, store: &SpanStore, trace: u64) -> Result<(), Fail> {
+    let id = id(trace);
+    same_answer(rt, alloc, store, Query::Trace { id, raw: true })
+}
+
+/// Asks the store for each of these traces, and for others by searches.
+fn same_traces(rt: &impl Abort, alloc: Global, store: &SpanStore) -> Result<(), Fail> {
+    for number in 1..31 {
+        same_trace(rt, alloc, store, number << 32)?;
+        same_trace(rt, alloc, store, number)?;
+        if number % 6 == 0 {
+            same_searches(rt, alloc, store, after(number))?;
+        }
+    }
+    Ok(())
+}
+
+/// Applies the entries under a limit of traces, and asks for their traces.
+fn same_many_traces(
+    rt: &impl Abort,
+    alloc: Global,
+    keys: RandomState,
+    limit: u32,
+) -> Result<(), Fail> {
+    let limits = Limits::new(30, 90, limit, 0).ok_or("limits")?;
+    let mut store = SpanStore::open(alloc, keys, limits)?;
+    apply_traces(rt, alloc, &mut store)?;
+    same_traces(rt, alloc, &store)
+}
+
 /// Many traces, of which most come again, under a limit of traces too: their ids stand in few places.
 #[test]
 fn many_traces_as_the_plain_store(rt: HostRuntime) -> Result<(), Fail> {
     let alloc = rt.alloc();
-    for limit in [0, 7] {
-        let limits = Limits::new(30, 90, limit, 0).expect(&rt, "limits");
-        let mut store = SpanStore::open(alloc, RandomState::new(&rt)?, limits)?;
-        for number in 1..31 {
-            let traces = [number << 32, number, number / 2];
-            let place = store.apply(entry_of(alloc, number, &traces)?);
-            assert_eq!(rt; place, Ok(number));
-        }
-        for number in 1..31 {
-            for trace in [number << 32, number] {
-                let id = id(trace);
-                same_answer(&rt, alloc, &store, Query::Trace { id, raw: true })?;
-            }
-            if number % 6 == 0 {
-                same_searches(&rt, alloc, &store, after(number))?;
-            }
-        }
-    }
-    Ok(())
+    same_many_traces(&rt, alloc, RandomState::new(&rt)?, 0)?;
+    same_many_traces(&rt, alloc, RandomState::new(&rt)?, 7)
 }
 
 /// A name that few numbers share.
@@ -220,22 +250,33 @@ fn named_entry(alloc: Global, number: u64) -> Result<Arc<Entry>, AllocError> {
     )
 }
 
-/// As many names as there is room for: some of them stand where the hashes of others point.
-#[test]
-fn many_names_as_the_plain_store(rt: HostRuntime) -> Result<(), Fail> {
-    let alloc = rt.alloc();
-    let limits = Limits::new(30, 30, 0, 0).expect(&rt, "limits");
-    let mut store = SpanStore::open(alloc, RandomState::new(&rt)?, limits)?;
+/// Applies 30 entries with new names.
+fn apply_names(rt: &impl Abort, alloc: Global, store: &mut SpanStore) -> Result<(), Fail> {
     for number in 1..31 {
         let place = store.apply(named_entry(alloc, number)?);
         assert_eq!(rt; place, Ok(number));
     }
-    same_answer(&rt, alloc, &store, Query::Services)?;
+    Ok(())
+}
+
+/// Asks the store for the services, and for the operations of each and of some more.
+fn same_many_names(rt: &impl Abort, alloc: Global, store: &SpanStore) -> Result<(), Fail> {
+    same_answer(rt, alloc, store, Query::Services)?;
     for number in 0..34 {
         let service = name_of(alloc, number)?;
-        same_answer(&rt, alloc, &store, Query::OperationNames { service })?;
+        same_answer(rt, alloc, store, Query::OperationNames { service })?;
     }
     Ok(())
+}
+
+/// As many names as there is room for: some of them stand where the hashes of others point.
+#[test]
+fn many_names_as_the_plain_store(rt: HostRuntime) -> Result<(), Fail> {
+    let alloc = rt.alloc();
+    let limits = Limits::new(30, 30, 0, 0).ok_or("limits")?;
+    let mut store = SpanStore::open(alloc, RandomState::new(&rt)?, limits)?;
+    apply_names(&rt, alloc, &mut store)?;
+    same_many_names(&rt, alloc, &store)
 }
 
 /// 51 entries, each with spans of four traces.
@@ -293,24 +334,54 @@ fn refused_entries_change_nothing(rt: HostRuntime) -> Result<(), Fail> {
     Ok(())
 }
 
-#[test]
-fn replays_what_is_accepted(rt: HostRuntime) -> Result<(), Fail> {
-    let alloc = rt.alloc();
-    let limits = Limits::new(3, 5, 2, 0).expect(&rt, "limits");
+/// Four entries, of which the first is handed in twice and the last has no room.
+fn handed_in(alloc: Global) -> Result<Vec<Arc<Entry>>, AllocError> {
     let mut entries = Vec::new(alloc);
     for number in [1, 1, 2, 3] {
         entries.push(entry_of(alloc, number, &[number, 7])?)?;
     }
+    Ok(entries)
+}
+
+/// Limits by which two of them are accepted.
+fn for_two() -> Result<Limits, Fail> {
+    Ok(Limits::new(3, 5, 2, 0).ok_or("limits")?)
+}
+
+/// How many of them a store accepts.
+fn accepted(alloc: Global, keys: RandomState) -> Result<u64, Fail> {
+    let entries = handed_in(alloc)?;
+    match replay(alloc, keys, for_two()?, &entries) {
+        Ok(store) => Ok(store.len()),
+        Err(_) => Err("refused".into()),
+    }
+}
+
+/// A store of them answers as the plain store.
+fn same_replayed(rt: &impl Abort, alloc: Global, keys: RandomState) -> Result<(), Fail> {
+    let entries = handed_in(alloc)?;
+    match replay(alloc, keys, for_two()?, &entries) {
+        Ok(store) => same_answers(rt, alloc, &store, 5),
+        Err(_) => Err("refused".into()),
+    }
+}
+
+/// How many names are answered of them.
+fn names_replayed(alloc: Global, keys: RandomState) -> Result<usize, Fail> {
+    let entries = handed_in(alloc)?;
+    let answer = replayed_answer(alloc, keys, for_two()?, &entries, &Query::Services);
+    match answer {
+        Ok(Answer::Names(names)) => Ok(names.len()),
+        _ => Err("no names".into()),
+    }
+}
+
+#[test]
+fn replays_what_is_accepted(rt: HostRuntime) -> Result<(), Fail> {
+    let alloc = rt.alloc();
     let keys = RandomState::new(&rt)?;
-    let Ok(store) = replay(alloc, keys, limits, &entries) else {
-        return Err(AllocError.into());
-    };
-    assert_eq!(rt; store.len(), 2);
-    same_answers(&rt, alloc, &store, 5)?;
-    let query = Query::Services;
-    let Ok(Answer::Names(names)) = replayed_answer(alloc, keys, limits, &entries, &query) else {
-        return Err(AllocError.into());
-    };
-    assert!(rt; names.len() > 0);
+    assert_eq!(rt; accepted(alloc, keys)?, 2);
+    same_replayed(&rt, alloc, keys)?;
+    assert!(rt; names_replayed(alloc, keys)? > 0);
     Ok(())
 }

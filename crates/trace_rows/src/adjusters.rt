@@ -342,6 +342,25 @@ fn deep_chain(rt: HostRuntime) -> Result<(), Fail> {
     Ok(())
 }
 
+/// A thousand of them, as the plain store answers, which follows each span up to its root.
+#[test]
+fn deep_chain_plainly(rt: HostRuntime) -> Result<(), Fail> {
+    let alloc = rt.alloc();
+    let mut rows: Vec<Reported> = Vec::new(alloc);
+    for steps in 0..999u64 {
+        let id = 1_000 - steps;
+        rows.push((["a", "h2"], [1, id, id - 1], [900, 50]))?;
+    }
+    rows.push(FAMILY[0])?;
+    let query = Query::Trace {
+        id: OWN,
+        raw: false,
+    };
+    let answer = answer_of(alloc, rows.as_slice(), 200, query)?;
+    assert_eq!(rt; moved_among(shown_in(&answer)), (1_000, 999));
+    Ok(())
+}
+
 /// How many spans there are, and how many of them start at 1025.
 fn moved_among(shown: &[Shown]) -> (usize, usize) {
     let moved = shown.iter().filter(|s| s.placed.span.start == 1025).count();

@@ -1,6 +1,6 @@
 use crate::histories::{CYCLE, Row as Reported, answer_of, store_answer_of};
 use call_links::links;
-use jaeger_model::{Placed, SpanId};
+use jaeger_model::{Placed, Span, SpanId};
 use std::alloc::{AllocError, Global};
 use std::hash::RandomState;
 use std::process::Abort;
@@ -11,12 +11,16 @@ use trace_samples::{placed, seen_traces, span};
 /// Service, id, parent and start of a span.
 type Row = (&'static str, u64, u64, i64);
 
-fn placed_at(alloc: Global, row: Row) -> Result<Placed, AllocError> {
-    let (service, id, parent, start) = row;
+fn span_at(alloc: Global, id: u64, parent: u64, start: i64) -> Result<Span, AllocError> {
     let mut span = span(alloc, 1, id)?;
     span.parent = SpanId(parent);
     span.start = start;
-    placed(alloc, service, span)
+    Ok(span)
+}
+
+fn placed_at(alloc: Global, row: Row) -> Result<Placed, AllocError> {
+    let (service, id, parent, start) = row;
+    placed(alloc, service, span_at(alloc, id, parent, start)?)
 }
 
 fn trace_of(alloc: Global, rows: &[Row]) -> Result<Vec<Placed>, AllocError> {
@@ -112,6 +116,35 @@ const LATE: [Row; 2] = [("a", 1, 0, 3000), ("b", 2, 1, 3000)];
 fn calls_are_counted_by_span(rt: HostRuntime) -> Result<(), Fail> {
     let found = links_of(rt.alloc(), &[&BUSY, &QUIET, &LATE], (3, 3))?;
     expect_links(&rt, &found, &[("a", "b", 3), ("a", "c", 1)]);
+    Ok(())
+}
+
+/// A trace in which `a` calls so many services, each once.
+fn calls_of_one(alloc: Global, services: u32) -> Result<Vec<Placed>, AllocError> {
+    let mut trace = Vec::new(alloc);
+    trace.push(placed_at(alloc, ("a", 1, 0, 1000))?)?;
+    for number in 0..services {
+        let name = number.to_string(alloc)?;
+        let row = span_at(alloc, u64::from(number) + 2, 1, 1000)?;
+        trace.push(placed(alloc, name.as_str(), row)?)?;
+    }
+    Ok(trace)
+}
+
+/// How many calls are counted, and how many of them once.
+fn counted_once(found: &[Link]) -> (usize, usize) {
+    let once = found.iter().filter(|link| link.calls == 1).count();
+    (found.len(), once)
+}
+
+#[test]
+fn a_thousand_links(rt: HostRuntime) -> Result<(), Fail> {
+    let alloc = rt.alloc();
+    let mut traces = Vec::new(alloc);
+    traces.push(calls_of_one(alloc, 1_000)?)?;
+    let seen = seen_traces(alloc, &traces)?;
+    let found = links(alloc, &seen, 2, 2)?;
+    assert_eq!(rt; counted_once(&found), (1_000, 1_000));
     Ok(())
 }
 
