@@ -8,6 +8,7 @@ use Rattle.std.proofs.Math.Seq.{take-append_seam}
 use Rattle.httparse.specs.Grammar.{LineEnd.{crlf, lf}, LineEnd, Field, RequestHead, AllPass, is_token_byte, is_uri_byte, print_end, print_field, print_section, print_blank, print_version, print_request, HasNoRequest, NeverHasRequest, MayBecomeRequest, EndsInTarget}
 use Rattle.httparse.proofs.GrammarLemmas.{print_request-append}
 use Rattle.chunked_bodies.specs.Chunks.{IsTrailer, HasNone}
+use Rattle.http_requests.specs.declared.head.TheConstants.{MOST_HEAD_BYTES}
 use Rattle.http_requests.specs.Heads.{EndsLine, AwaitsHead}
 use Rattle.http_requests.proofs.Fronts.{more_when_short}
 use Rattle.http_requests.proofs.Once.{some_head, some_with, some_behind, token_quiet, head_is_some}
@@ -77,7 +78,7 @@ none_longer Is seen part ends none new text rest is e =
     let cut = cut_before seen part text rest (ends text is) e new in
     none text cut.0 is cut.1
 
-head_longer : (seen part : List ℕ) → AwaitsHead seen → has_feed part ≡ false → length (seen ++ part) < 8192 → AwaitsHead (seen ++ part)
+head_longer : (seen part : List ℕ) → AwaitsHead seen → has_feed part ≡ false → length (seen ++ part) < MOST_HEAD_BYTES → AwaitsHead (seen ++ part)
 head_longer seen part awaits new short = record {
   none = λ h rest takes. let cut = cut_before seen part (print_request h) rest (head_ends h) takes.reads.1 new in
       awaits.none h cut.0 (record { reads = (takes.reads.0, cut.1); size = takes.size; fields = takes.fields });
@@ -93,7 +94,7 @@ unseen bytes seen = take (length bytes - seen) (drop seen bytes)
 together : (bytes : List ℕ) (seen : ℕ) → take seen bytes ++ unseen bytes seen ≡ bytes
 together bytes seen = ap (λ l. take seen bytes ++ l) (take_all (length bytes - seen) (drop seen bytes) (omega (arith, length-drop seen bytes))) ∙ take-append-drop seen bytes
 
-pub head_not_due : (bytes : List ℕ) (seen : ℕ) → AwaitsHead (take seen bytes) → has_feed (unseen bytes seen) ≡ false → length bytes < 8192 → AwaitsHead bytes
+pub head_not_due : (bytes : List ℕ) (seen : ℕ) → AwaitsHead (take seen bytes) → has_feed (unseen bytes seen) ≡ false → length bytes < MOST_HEAD_BYTES → AwaitsHead bytes
 head_not_due bytes seen awaits new short =
     let all = together bytes seen in
     subst AwaitsHead all (head_longer (take seen bytes) (unseen bytes seen) awaits new (omega (arith, short, ap length all)))
@@ -150,7 +151,7 @@ no_trailer_yet text rest is e =
     let ends = trailer_ends text is in
     absurd (omega (arith, ap length e, length-append text rest, ap length ends.1, length-append ends.0 (10 ∷ [])))
 
-pub awaits_head : (bytes front : List ℕ) → front ≡ take 8192 bytes → length bytes < 8192 → HasNoRequest front → MayBecomeRequest front → AwaitsHead bytes
+pub awaits_head : (bytes front : List ℕ) → front ≡ take MOST_HEAD_BYTES bytes → length bytes < MOST_HEAD_BYTES → HasNoRequest front → MayBecomeRequest front → AwaitsHead bytes
 awaits_head bytes front f short none may =
-    let same : front ≡ bytes = f ∙ take_all 8192 bytes (omega (arith, short)) in
+    let same : front ≡ bytes = f ∙ take_all MOST_HEAD_BYTES bytes (omega (arith, short)) in
     record { none = more_when_short bytes front f short none; short = short; may = subst Goes same (may_go_on front may) }

@@ -7,6 +7,7 @@ use Rattle.httparse.specs.Spans.{IsRequestAt, IsRequestWithin, IsRequestOf, Requ
 use Rattle.httparse.specs.declared.spans.RequestSpans.{RequestSpans}
 use Rattle.httparse.specs.declared.spans.HeaderSpan.{HeaderSpan}
 use Rattle.httparse.proofs.GrammarLemmas.{request_unique, ReadsRequest-append}
+use Rattle.http_requests.specs.declared.head.TheConstants.{MOST_HEAD_BYTES, MOST_FIELDS}
 use Rattle.http_requests.specs.Heads.{HasNoHead, NeverHasHead, IsWholeHead}
 
 -- the bytes, and more, as the first n and the rest
@@ -23,17 +24,17 @@ front_begins front more text rest e fits =
     sym (take-append-le (length text) front more fits) ∙ ap (take (length text)) e ∙ take-append_seam text rest in
     sym (take-append-drop (length text) front) ∙ ap (λ l. l ++ drop (length text) front) same
 
-pub never_when_full : (bytes front : List ℕ) → front ≡ take 8192 bytes → 8192 ≤ length bytes → HasNoRequest front → NeverHasHead bytes
+pub never_when_full : (bytes front : List ℕ) → front ≡ take MOST_HEAD_BYTES bytes → MOST_HEAD_BYTES ≤ length bytes → HasNoRequest front → NeverHasHead bytes
 never_when_full bytes front f full none more h rest takes =
-    let size : length front ≡ 8192 = ap length f ∙ length-take-le 8192 bytes full in
-    let e : front ++ (drop 8192 bytes ++ more) ≡ print_request h ++ rest = sym (split_front 8192 bytes front more f) ∙ takes.reads.1 in
-    none h (drop (length (print_request h)) front) (takes.reads.0, front_begins front (drop 8192 bytes ++ more) (print_request h) rest e (omega (arith, takes.size)))
+    let size : length front ≡ MOST_HEAD_BYTES = ap length f ∙ length-take-le MOST_HEAD_BYTES bytes full in
+    let e : front ++ (drop MOST_HEAD_BYTES bytes ++ more) ≡ print_request h ++ rest = sym (split_front MOST_HEAD_BYTES bytes front more f) ∙ takes.reads.1 in
+    none h (drop (length (print_request h)) front) (takes.reads.0, front_begins front (drop MOST_HEAD_BYTES bytes ++ more) (print_request h) rest e (omega (arith, takes.size)))
 
-pub never_in_room : (bytes front : List ℕ) (room : ℕ) → front ≡ take 8192 bytes → 64 ≤ room → RequestOverflows room front → NeverHasHead bytes
+pub never_in_room : (bytes front : List ℕ) (room : ℕ) → front ≡ take MOST_HEAD_BYTES bytes → MOST_FIELDS ≤ room → RequestOverflows room front → NeverHasHead bytes
 never_in_room bytes front room f wide over more h rest takes =
-    let reads : ReadsRequest (front ++ (drop 8192 bytes ++ more)) h rest =
-    subst (λ (l : List ℕ). ReadsRequest l h rest) (split_front 8192 bytes front more f) takes.reads in
-    let many : room < length h.fields = over (drop 8192 bytes ++ more) h rest reads in
+    let reads : ReadsRequest (front ++ (drop MOST_HEAD_BYTES bytes ++ more)) h rest =
+    subst (λ (l : List ℕ). ReadsRequest l h rest) (split_front MOST_HEAD_BYTES bytes front more f) takes.reads in
+    let many : room < length h.fields = over (drop MOST_HEAD_BYTES bytes ++ more) h rest reads in
     absurd (omega (arith, takes.fields))
 
 count_is : (buf : List ℕ) (headers : List HeaderSpan) (spans : RequestSpans) (h : RequestHead) → IsRequestAt buf headers spans h → IsRequestWithin buf headers spans
@@ -42,26 +43,26 @@ count_is buf headers spans h at within =
     sym (length-map h.fields name_and_value) ∙ ap length (sym at.fields) ∙ length-map (take spans.headers headers) (header_bytes buf)
     ∙ length-take-le spans.headers headers within.section.count_fits
 
-pub never_with_many : (bytes front : List ℕ) (headers : List HeaderSpan) (spans : RequestSpans) → front ≡ take 8192 bytes → 64 < spans.headers
+pub never_with_many : (bytes front : List ℕ) (headers : List HeaderSpan) (spans : RequestSpans) → front ≡ take MOST_HEAD_BYTES bytes → MOST_FIELDS < spans.headers
     → IsRequestOf front headers spans → IsRequestWithin front headers spans → NeverHasHead bytes
 never_with_many bytes front headers spans f many of within more h rest takes =
-    let found : ReadsRequest (bytes ++ more) of.0 (drop spans.len front ++ (drop 8192 bytes ++ more)) =
-    subst (λ (l : List ℕ). ReadsRequest l of.0 (drop spans.len front ++ (drop 8192 bytes ++ more))) (sym (split_front 8192 bytes front more f))
-    (ReadsRequest-append front of.0 (drop spans.len front) (drop 8192 bytes ++ more) of.1.reads) in
+    let found : ReadsRequest (bytes ++ more) of.0 (drop spans.len front ++ (drop MOST_HEAD_BYTES bytes ++ more)) =
+    subst (λ (l : List ℕ). ReadsRequest l of.0 (drop spans.len front ++ (drop MOST_HEAD_BYTES bytes ++ more))) (sym (split_front MOST_HEAD_BYTES bytes front more f))
+    (ReadsRequest-append front of.0 (drop spans.len front) (drop MOST_HEAD_BYTES bytes ++ more) of.1.reads) in
     let same : of.0 ≡ h = (request_unique (bytes ++ more) of.0 h _ rest found takes.reads).0 in
     let count : length h.fields ≡ spans.headers = sym (ap (λ (k : RequestHead). length k.fields) same) ∙ count_is front headers spans of.0 of.1 within in
     absurd (omega (arith, takes.fields))
 
-pub whole : (bytes front : List ℕ) (headers : List HeaderSpan) (spans : RequestSpans) → front ≡ take 8192 bytes → spans.headers ≤ 64
+pub whole : (bytes front : List ℕ) (headers : List HeaderSpan) (spans : RequestSpans) → front ≡ take MOST_HEAD_BYTES bytes → spans.headers ≤ MOST_FIELDS
     → IsRequestOf front headers spans → IsRequestWithin front headers spans → IsWholeHead bytes headers spans
 whole bytes front headers spans f few of within =
     let p = print_request of.0 in
-    let cut : bytes ≡ p ++ (drop spans.len front ++ drop 8192 bytes) =
-    sym (take-append-drop 8192 bytes) ∙ ap (λ l. l ++ drop 8192 bytes) (sym f ∙ of.1.reads.1) ∙ append_assoc p (drop spans.len front) (drop 8192 bytes) in
-    let left : drop spans.len bytes ≡ drop spans.len front ++ drop 8192 bytes =
-    ap (drop spans.len) cut ∙ ap (λ n. drop n (p ++ (drop spans.len front ++ drop 8192 bytes))) of.1.len ∙ drop-append_seam p (drop spans.len front ++ drop 8192 bytes) in
-    let size : length p ≤ 8192 = omega (arith, of.1.len, within.section.len_fits, ap length f, length-take 8192 bytes) in
-    let fields : length (of.0).fields ≤ 64 = omega (arith, count_is front headers spans of.0 of.1 within) in
+    let cut : bytes ≡ p ++ (drop spans.len front ++ drop MOST_HEAD_BYTES bytes) =
+    sym (take-append-drop MOST_HEAD_BYTES bytes) ∙ ap (λ l. l ++ drop MOST_HEAD_BYTES bytes) (sym f ∙ of.1.reads.1) ∙ append_assoc p (drop spans.len front) (drop MOST_HEAD_BYTES bytes) in
+    let left : drop spans.len bytes ≡ drop spans.len front ++ drop MOST_HEAD_BYTES bytes =
+    ap (drop spans.len) cut ∙ ap (λ n. drop n (p ++ (drop spans.len front ++ drop MOST_HEAD_BYTES bytes))) of.1.len ∙ drop-append_seam p (drop spans.len front ++ drop MOST_HEAD_BYTES bytes) in
+    let size : length p ≤ MOST_HEAD_BYTES = omega (arith, of.1.len, within.section.len_fits, ap length f, length-take MOST_HEAD_BYTES bytes) in
+    let fields : length (of.0).fields ≤ MOST_FIELDS = omega (arith, count_is front headers spans of.0 of.1 within) in
     record {
       head = of.0;
       takes = record { reads = (of.1.reads.0, cut ∙ ap (λ l. p ++ l) (sym left)); size = size; fields = fields };
@@ -71,6 +72,6 @@ whole bytes front headers spans f few of within =
       within = within;
     }
 
-pub more_when_short : (bytes front : List ℕ) → front ≡ take 8192 bytes → length bytes < 8192 → HasNoRequest front → HasNoHead bytes
+pub more_when_short : (bytes front : List ℕ) → front ≡ take MOST_HEAD_BYTES bytes → length bytes < MOST_HEAD_BYTES → HasNoRequest front → HasNoHead bytes
 more_when_short bytes front f short none h rest takes =
-    none h rest (subst (λ (l : List ℕ). ReadsRequest l h rest) (sym (f ∙ take_all 8192 bytes (omega arith))) takes.reads)
+    none h rest (subst (λ (l : List ℕ). ReadsRequest l h rest) (sym (f ∙ take_all MOST_HEAD_BYTES bytes (omega arith))) takes.reads)

@@ -7,6 +7,7 @@ use Rattle.httparse.specs.Grammar.{LineEnd, LineEnd.{crlf}, RequestHead, IsReque
 use Rattle.httparse.proofs.GrammarLemmas.{request_unique, ReadsRequest-append, print_request-append}
 use Rattle.chunked_bodies.specs.Chunks.{IsDecided, HasNone}
 use Rattle.chunked_bodies.proofs.Once.{same_cut, body_once, body_is_not_large, never_longer}
+use Rattle.http_requests.specs.declared.asked.TheConstants.{MOST_BODY_BYTES}
 use Rattle.http_requests.specs.Asked.{body_length}
 use Rattle.http_requests.specs.Heads.{TakesHead, HasNoHead}
 use Rattle.http_requests.specs.Requests.{HasBody, Spells, IsUnreadable, PassesMost, BodyBreaks, BreaksBehind, IsBroken}
@@ -35,7 +36,7 @@ one_body : (size : BodyLength) (text other body more rest left : List ℕ) → H
 one_body (Bytes n) text other body more rest left one two e =
     let same = same_cut text other rest left (ap length one.0 ∙ one.1 ∙ sym two.1 ∙ sym (ap length two.0)) e in
     (same.0, sym one.0 ∙ same.0 ∙ two.0, same.1)
-one_body Chunked text other body more rest left one two e = body_once 4194304 text other body more rest left one two e
+one_body Chunked text other body more rest left one two e = body_once MOST_BODY_BYTES text other body more rest left one two e
 one_body Unreadable text other body more rest left one two e = absurd one
 one_body TooLarge text other body more rest left one two e = absurd one
 
@@ -66,8 +67,8 @@ nothing_more xs left none = ap (λ (l : List ℕ). xs ++ l) none ∙ append-nil 
 
 body_breaks_all : (size : BodyLength) (after left : List ℕ) (b : Breach) → BodyBreaks (left ≡ []) b size after → BodyBreaks (Unit {0}) b size (after ++ left)
 body_breaks_all (Bytes n) after left Body broken = (subst (λ (l : List ℕ). length l < n) (sym (nothing_more after left broken.1)) broken.0, tt)
-body_breaks_all Chunked after left Body (inl never) = inl (never_longer (IsDecided 4194304) after left never)
-body_breaks_all Chunked after left Body (inr ended) = inr (tt, subst (HasNone (IsDecided 4194304)) (sym (nothing_more after left ended.0)) ended.1)
+body_breaks_all Chunked after left Body (inl never) = inl (never_longer (IsDecided MOST_BODY_BYTES) after left never)
+body_breaks_all Chunked after left Body (inr ended) = inr (tt, subst (HasNone (IsDecided MOST_BODY_BYTES)) (sym (nothing_more after left ended.0)) ended.1)
 body_breaks_all Unreadable after left Body broken = tt
 body_breaks_all TooLarge after left Body broken = absurd broken
 body_breaks_all (Bytes n) after left breach.TooLarge broken = absurd broken
@@ -106,7 +107,7 @@ body_no_breach Chunked text body rest Body is (inr ended) = ended.1 text rest (i
 body_no_breach Unreadable text body rest b is broken = absurd is
 body_no_breach TooLarge text body rest b is broken = absurd is
 body_no_breach (Bytes n) text body rest breach.TooLarge is broken = absurd broken
-body_no_breach Chunked text body rest breach.TooLarge is broken = body_is_not_large 4194304 text broken.text body rest broken.rest is broken.is broken.cut
+body_no_breach Chunked text body rest breach.TooLarge is broken = body_is_not_large MOST_BODY_BYTES text broken.text body rest broken.rest is broken.is broken.cut
 body_no_breach (Bytes n) text body rest Head is broken = absurd broken
 body_no_breach Chunked text body rest Head is broken = absurd broken
 

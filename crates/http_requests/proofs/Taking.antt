@@ -1,7 +1,8 @@
 -- How a body is taken, piece by piece.
-use Rattle.std.proofs.Common.{All, ◌≡◌, ℕ, ◌+◌, ◌-◌, ◌≤◌, ◌<◌, ◌==◌, ◌&&◌, Bool, true, false, List, [], ◌∷◌, ◌++◌, length, take, drop, replicate, Option, Result, Ok, Err, IfOk, IfErr, refl, sym, ap, ◌∙◌, subst, arith, inl, inr, append_assoc, append-nil, length-append}
+use Rattle.std.proofs.Common.{All, ◌≡◌, ℕ, ◌+◌, ◌-◌, ◌≤◌, ◌<◌, ◌==◌, ◌&&◌, Bool, true, false, List, [], ◌∷◌, ◌++◌, length, take, drop, replicate, Option, Result, Ok, Err, IfOk, IfErr, OnErr, refl, sym, ap, ◌∙◌, subst, arith, inl, inr, append_assoc, append-nil, length-append}
 use Rattle.std.proofs.lemmas.Grind.{flat_map-append}
 use Rattle.std.proofs.lemmas.Bool.Decides.{nat_tests}
+use Rattle.std.proofs.lemmas.Result.{on_err_weaker}
 use Rattle.std.proofs.lemmas.List.{take-append-drop, length-take-le, length-replicate, drop_all}
 use Rattle.std.proofs.lemmas.List.Elements.{All-append, All-cons, All-nil}
 use Rattle.std.specs.Io.KnownBytes.{IsAtEnd}
@@ -10,18 +11,18 @@ use Rattle.chunked_bodies.specs.Chunks.{IsSizeLine, IsSomeSizeLine, IsTrailer, I
 use Rattle.chunked_bodies.proofs.Once.{same_cut}
 use Rattle.chunked_bodies.proofs.Sizes.{zero_line, zero_line_is}
 use Rattle.chunked_bodies.proofs.Behind.{lacks_behind, behind_chunks, no_line, no_content, no_trailer}
+use Rattle.http_requests.specs.declared.asked.TheConstants.{MOST_BODY_BYTES}
 use Rattle.http_requests.specs.Requests.{IsShorter, AwaitsChunks, AwaitsBody}
-use Rattle.http_requests.specs.Waiting.{Source}
+use Rattle.http_requests.specs.Waiting.{Source, StopsWhile}
 use Rattle.http_requests.specs.Receiving.{KnowsItsEnd, Received, ReadsOn, ReadsOnWhile, IsRead, Stops, put_back}
 use Rattle.http_requests.specs.declared.received.Interrupted.{Interrupted}
 use Rattle.http_requests.specs.Sinks.{Takings, TakesNothing, TakesJoined}
-use Rattle.http_requests.specs.Bodies.{Takes, Misses, AwaitsLine, AwaitsRest, IsLineEnd, begins_line_end, may_begin_line_end, TakesOrMisses, Gathers, Gathered, TakesContent, TakesContentOr, Fails, ChunksSoFar, TakesBody, BreaksBody, ReadsChunks, WaitsForBody}
-use Rattle.http_requests.specs.declared.asked.BodyLength.TheVariants.{Bytes, Unreadable, TooLarge}
+use Rattle.http_requests.specs.Bodies.{Takes, Misses, AwaitsLine, AwaitsRest, IsLineEnd, begins_line_end, may_begin_line_end, TakesOrMisses, Gathers, Gathered, TakesContent, TakesContentOr, Fails, ChunksSoFar, TakesBody, BreaksBody, ReadsBody}
+use Rattle.http_requests.specs.declared.asked.BodyLength.TheVariants.{Bytes, Chunked, Unreadable, TooLarge}
 use Rattle.http_requests.specs.declared.asked.Breach.TheVariants as breach
-use Rattle.http_requests.specs.declared.asked.BodyLength.{BodyLength}
 use Rattle.http_requests.proofs.Ends.{cut_before}
-use Rattle.http_requests.proofs.Waits.{no_read}
-use Rattle.http_requests.proofs.Readings.{nothing_read, takes_then_stops, nothing_yet, once, then_on, front_then, front_join, front_more, front_taken, widened}
+use Rattle.http_requests.proofs.Waits.{waits_then_stops, widened_stop, awaited_then_stops}
+use Rattle.http_requests.proofs.Readings.{takes_then_stops, nothing_yet, once, then_on, front_then, front_join, front_more, front_taken, widened}
 
 -- ---- nothing of a kind
 
@@ -45,6 +46,12 @@ pub reads_more : {R : Type 0} (source : Source R) (Awaits : List ℕ → Type 0)
     → Awaits bytes → ReadsOn (source.remaining m) (source.remaining t) here new → IsRead source.gives m t here new → ReadsOnWhile source Awaits s t old new
 reads_more source Awaits s m t old here new bytes so are awaits on read =
     then_on source Awaits s m t old here new so (once source Awaits m t here new (subst Awaits are awaits) on read)
+
+-- no more could be had, where more was awaited of what is there
+pub stops_more : {R : Type 0} (source : Source R) (Awaits : List ℕ → Type 0) (s m t : R) (failed : Bool) (old here : Received) (bytes : List ℕ) → ReadsOnWhile source Awaits s m old here
+    → bytes ≡ here.held → Awaits bytes → StopsWhile source (λ h. h ≡ here.held) m t failed here.held → StopsWhile source Awaits s t failed old.held
+stops_more source Awaits s m t failed old here bytes so are awaits stops =
+    awaited_then_stops source Awaits s m t failed old.held here.held so.waits (subst Awaits are awaits) stops
 
 -- ---- bytes gathered
 
@@ -113,6 +120,13 @@ module _ {S R : Type 0} (takes : Takings S) (source : Source R) where
     pub gather_stops : length bytes < left → (failed : Bool) (why : Interrupted) → Stops (source.remaining m) (source.remaining t) failed mid why → Stops (source.remaining s) (source.remaining t) failed old why
     gather_stops short failed why stops =
         takes_then_stops (source.remaining s) (source.remaining m) (source.remaining t) failed old mid (piece short).content why (piece short).reads.on stops
+
+    pub gather_stops_in_turn : length bytes < left → (failed : Bool) → StopsWhile source (λ h. h ≡ mid.held) m t failed mid.held → StopsWhile source (IsShorter size) s t failed old.held
+    gather_stops_in_turn short failed stops =
+        let so_far = piece short in
+        let few : (h : List ℕ) → h ≡ mid.held → IsShorter size (so_far.content ++ h) =
+        λ h e. omega (arith, so_far.sum, short, length-append so_far.content h, ap length e, ap length none_left) in
+        waits_then_stops source (IsShorter size) (λ h. h ≡ mid.held) so_far.content few s m t failed old.held mid.held so_far.reads.waits stops
 
     pub gather_end : length bytes < left → IsAtEnd (source.remaining m) → Gathers takes source s m old mid before later size false
     gather_end short at_end = gather_short s m old mid before later size (left - length bytes) (piece short) none_left (omega (arith, short)) at_end
@@ -216,6 +230,14 @@ module _ {S R : Type 0} (takes : Takings S) (source : Source R) (s m t : R) (old
   content_then (Ok false) g e = content_open g e
   content_then (Err why) g e = tt
 
+  pub content_stops : (failed : Bool) → StopsWhile source (IsShorter size) s m failed old.held → StopsWhile source (AwaitsRest (IsContent size)) s m failed old.held
+  content_stops failed stops = widened_stop source (AwaitsRest (IsContent size)) (IsShorter size) s m failed old.held shorter stops
+
+  pub end_stops : (failed : Bool) (r : Result Bool Interrupted) → Gathers takes source s m old here before after size true → OnErr r (StopsWhile source (AwaitsRest IsLineEnd) m t failed here.held)
+      → OnErr r (StopsWhile source (AwaitsRest (IsContent size)) s t failed old.held)
+  end_stops failed r g stops = on_err_weaker r (λ stopped.
+      waits_then_stops source (AwaitsRest (IsContent size)) (AwaitsRest IsLineEnd) g.content (end_awaited g.content (g.whole refl)) s m t failed old.held here.held (first g).waits stopped) stops
+
 pub if_err_stops : (in0 in1 in2 : Option (List ℕ)) (failed : Bool) (old here : Received) (text : List ℕ) (r : Result Bool Interrupted) → ReadsOn in0 in1 old (put_back text here)
     → IfErr r (λ why. Stops in1 in2 failed here why) → IfErr r (λ why. Stops in0 in2 failed old why)
 if_err_stops in0 in1 in2 failed old here text (Ok b) reads stops = tt
@@ -223,7 +245,7 @@ if_err_stops in0 in1 in2 failed old here text (Err why) reads stops = takes_then
 
 -- ---- chunks
 
-pub chunks_none : {S R : Type 0} (takes : Takings S) (source : Source R) → TakesNothing S takes → (s : R) (r : Received) (before : S) → ChunksSoFar takes source s s r r before before 4194304
+pub chunks_none : {S R : Type 0} (takes : Takings S) (source : Source R) → TakesNothing S takes → (s : R) (r : Received) (before : S) → ChunksSoFar takes source s s r r before before MOST_BODY_BYTES
 chunks_none takes source nothing s r before = record { chunks = []; each = All-nil IsChunk; reads = nothing_yet source AwaitsChunks s r; put = nothing before; sum = omega arith }
 
 texts_more : (cs : List Chunk) (c : Chunk) → texts (cs ++ c ∷ []) ≡ texts cs ++ c.text
@@ -233,8 +255,8 @@ contents_more : (cs : List Chunk) (c : Chunk) → contents (cs ++ c ∷ []) ≡ 
 contents_more cs c = flat_map-append (λ (x : Chunk). x.content) cs (c ∷ []) ∙ ap (λ l. contents cs ++ l) (append-nil c.content)
 
 module _ {S R : Type 0} (takes : Takings S) (source : Source R) (s m t : R) (old here behind : Received) (before now : S) (left : ℕ) (so : ChunksSoFar takes source s m old here before now left) where
-  behind_texts : (h : List ℕ) → HasNone IsSomeSizeLine h → HasNone (IsDecided 4194304) (texts so.chunks ++ h)
-  behind_texts h none = behind_chunks so.chunks left 4194304 h so.each so.sum (no_line left h none)
+  behind_texts : (h : List ℕ) → HasNone IsSomeSizeLine h → HasNone (IsDecided MOST_BODY_BYTES) (texts so.chunks ++ h)
+  behind_texts h none = behind_chunks so.chunks left MOST_BODY_BYTES h so.each so.sum (no_line left h none)
 
   -- in front of a line that hasn't ended the last line may stand
   line_awaited : (h : List ℕ) → AwaitsLine h → AwaitsChunks (texts so.chunks ++ h)
@@ -246,16 +268,16 @@ module _ {S R : Type 0} (takes : Takings S) (source : Source R) (s m t : R) (old
         (sym (append_assoc lines cut.0 zero_line) ∙ ap (λ l. l ++ zero_line) (sym cut.1) ∙ sym (append-nil (texts so.chunks ++ zero_line)));
   }
 
-  pub no_size : Misses source AwaitsLine m t here behind IsSomeSizeLine → ReadsChunks takes source s t old behind before now (Err breach.Body)
+  pub size_stops : (failed : Bool) → StopsWhile source AwaitsLine m t failed here.held → StopsWhile source AwaitsChunks s t failed old.held
+  size_stops failed stops = waits_then_stops source AwaitsChunks AwaitsLine (texts so.chunks) line_awaited s m t failed old.held here.held so.reads.waits stops
+
+  pub no_size : Misses source AwaitsLine m t here behind IsSomeSizeLine → ReadsBody takes source s t old behind before now Chunked (Err breach.Body)
   no_size miss =
       let reads = front_then source AwaitsChunks AwaitsLine s m t old here behind (texts so.chunks) line_awaited so.reads miss.reads in
       record {
-        body = record {
-          text = texts so.chunks;
-          reads = reads.on;
-          breaks = lacks_behind (IsAtEnd (source.remaining t)) IsSomeSizeLine (IsDecided 4194304) (texts so.chunks) behind.held behind_texts miss.lacks;
-        };
-        waits = record { text = texts so.chunks; reads = reads.waits };
+        text = texts so.chunks;
+        reads = reads;
+        breaks = lacks_behind (IsAtEnd (source.remaining t)) IsSomeSizeLine (IsDecided MOST_BODY_BYTES) (texts so.chunks) behind.held behind_texts miss.lacks;
       }
 
   module _ (size : ℕ) (line : Takes source AwaitsLine m t here behind (λ text. IsSizeLine text size)) where
@@ -263,35 +285,32 @@ module _ {S R : Type 0} (takes : Takings S) (source : Source R) (s m t : R) (old
     with_line = front_join source AwaitsChunks AwaitsLine s m t old here behind (texts so.chunks) line.text line_awaited so.reads line.reads
 
     -- what can't go on behind the line can't go on
-    behind_line : (h : List ℕ) → HasNone (IsDecided left) (line.text ++ h) → HasNone (IsDecided 4194304) ((texts so.chunks ++ line.text) ++ h)
-    behind_line h none = subst (HasNone (IsDecided 4194304)) (sym (append_assoc (texts so.chunks) line.text h)) (behind_chunks so.chunks left 4194304 (line.text ++ h) so.each so.sum none)
+    behind_line : (h : List ℕ) → HasNone (IsDecided left) (line.text ++ h) → HasNone (IsDecided MOST_BODY_BYTES) ((texts so.chunks ++ line.text) ++ h)
+    behind_line h none = subst (HasNone (IsDecided MOST_BODY_BYTES)) (sym (append_assoc (texts so.chunks) line.text h)) (behind_chunks so.chunks left MOST_BODY_BYTES (line.text ++ h) so.each so.sum none)
 
-    pub passes : left < size → ReadsChunks takes source s t old behind before now (Err breach.TooLarge)
+    pub passes : left < size → ReadsBody takes source s t old behind before now Chunked (Err breach.TooLarge)
     passes large = record {
-      body = record {
+      text = texts so.chunks ++ line.text;
+      reads = with_line;
+      breaks = record {
         text = texts so.chunks ++ line.text;
-        reads = with_line.on;
-        breaks = record {
-          text = texts so.chunks ++ line.text;
-          rest = behind.held;
-          is = record {
-            chunks = so.chunks;
-            line = line.text;
-            size = size;
-            each = so.each;
-            line_is = line.is;
-            text_is = refl;
-            small = omega (arith, so.sum);
-            large = omega (arith, so.sum, large);
-          };
-          cut = refl;
+        rest = behind.held;
+        is = record {
+          chunks = so.chunks;
+          line = line.text;
+          size = size;
+          each = so.each;
+          line_is = line.is;
+          text_is = refl;
+          small = omega (arith, so.sum);
+          large = omega (arith, so.sum, large);
         };
+        cut = refl;
       };
-      waits = record { text = texts so.chunks ++ line.text; reads = with_line.waits };
     }
 
     module _ (some : 0 < size) (fits : size ≤ left) where
-      behind_content : (h : List ℕ) → HasNone (IsContent size) h → HasNone (IsDecided 4194304) ((texts so.chunks ++ line.text) ++ h)
+      behind_content : (h : List ℕ) → HasNone (IsContent size) h → HasNone (IsDecided MOST_BODY_BYTES) ((texts so.chunks ++ line.text) ++ h)
       behind_content h none = behind_line h (no_content left size line.text h some fits line.is none)
 
       abbrev chunk_of : List ℕ → Chunk
@@ -338,22 +357,23 @@ module _ {S R : Type 0} (takes : Takings S) (source : Source R) (s m t : R) (old
                 ∙ sym (append_assoc ((texts so.chunks ++ line.text) ++ h) awaits.more zero_line) ∙ ap (λ l. l ++ zero_line) whole ∙ sym (append-nil (more ++ zero_line)));
           }
 
-      module _ (u : R) (new : Received) (after : S) where
-        pub fails_content : Fails source t u behind new (IsContent size) → ReadsChunks takes source s u old new before after (Err breach.Body)
+      module _ (u : R) (new : Received) where
+        pub chunk_stops : (failed : Bool) → StopsWhile source (AwaitsRest (IsContent size)) t u failed behind.held → StopsWhile source AwaitsChunks s u failed old.held
+        chunk_stops failed stops =
+            waits_then_stops source AwaitsChunks (AwaitsRest (IsContent size)) (texts so.chunks ++ line.text) content_awaited s t u failed old.held behind.held with_line.waits stops
+
+        pub fails_content : Fails source t u behind new (IsContent size) → BreaksBody source s u old new Chunked breach.Body
         fails_content f =
             let reads = front_join source AwaitsChunks (AwaitsRest (IsContent size)) s t u old behind new (texts so.chunks ++ line.text) f.text content_awaited with_line f.reads in
             record {
-              body = record {
-                text = (texts so.chunks ++ line.text) ++ f.text;
-                reads = reads.on;
-                breaks = subst (Lacks (IsAtEnd (source.remaining u)) (IsDecided 4194304)) (sym (append_assoc (texts so.chunks ++ line.text) f.text new.held))
-                    (lacks_behind (IsAtEnd (source.remaining u)) (IsContent size) (IsDecided 4194304) (texts so.chunks ++ line.text) (f.text ++ new.held) behind_content f.lacks);
-              };
-              waits = record { text = (texts so.chunks ++ line.text) ++ f.text; reads = reads.waits };
+              text = (texts so.chunks ++ line.text) ++ f.text;
+              reads = reads;
+              breaks = subst (Lacks (IsAtEnd (source.remaining u)) (IsDecided MOST_BODY_BYTES)) (sym (append_assoc (texts so.chunks ++ line.text) f.text new.held))
+                  (lacks_behind (IsAtEnd (source.remaining u)) (IsContent size) (IsDecided MOST_BODY_BYTES) (texts so.chunks ++ line.text) (f.text ++ new.held) behind_content f.lacks);
             }
 
-        pub one_more : TakesJoined S takes → TakesContent takes source t u behind new now after size → ChunksSoFar takes source s u old new before after (left - size)
-        one_more joined e = record {
+        pub one_more : (after : S) → TakesJoined S takes → TakesContent takes source t u behind new now after size → ChunksSoFar takes source s u old new before after (left - size)
+        one_more after joined e = record {
           chunks = so.chunks ++ chunk_of e.content ∷ [];
           each = each_with e.content e.size_is;
           reads = subst (λ (l : List ℕ). ReadsOnWhile source AwaitsChunks s u old (put_back l new)) (texts_with e.content)
@@ -363,7 +383,7 @@ module _ {S R : Type 0} (takes : Takings S) (source : Source R) (s m t : R) (old
         }
 
   module _ (line : Takes source AwaitsLine m t here behind (λ text. IsSizeLine text 0)) (u : R) (new : Received) where
-    behind_last : (h : List ℕ) → HasNone IsTrailer h → HasNone (IsDecided 4194304) ((texts so.chunks ++ line.text) ++ h)
+    behind_last : (h : List ℕ) → HasNone IsTrailer h → HasNone (IsDecided MOST_BODY_BYTES) ((texts so.chunks ++ line.text) ++ h)
     behind_last h none = behind_line 0 line h (no_trailer left line.text h line.is none)
 
     -- all chunks are there
@@ -374,61 +394,53 @@ module _ {S R : Type 0} (takes : Takings S) (source : Source R) (s m t : R) (old
           (inl (record { chunks = so.chunks; last = line.text; each = so.each; last_is = line.is; text_is = refl; small = omega (arith, so.sum) })) (sym e);
     }
 
-    pub fails_trailer : Misses source (HasNone IsTrailer) t u behind new IsTrailer → ReadsChunks takes source s u old new before now (Err breach.Body)
+    pub trailer_stops : (failed : Bool) → StopsWhile source (HasNone IsTrailer) t u failed behind.held → StopsWhile source AwaitsChunks s u failed old.held
+    trailer_stops failed stops =
+        waits_then_stops source AwaitsChunks (HasNone IsTrailer) (texts so.chunks ++ line.text) trailer_awaited s t u failed old.held behind.held (with_line 0 line).waits stops
+
+    pub fails_trailer : Misses source (HasNone IsTrailer) t u behind new IsTrailer → ReadsBody takes source s u old new before now Chunked (Err breach.Body)
     fails_trailer miss =
         let reads = front_then source AwaitsChunks (HasNone IsTrailer) s t u old behind new (texts so.chunks ++ line.text) trailer_awaited (with_line 0 line) miss.reads in
         record {
-          body = record {
-            text = texts so.chunks ++ line.text;
-            reads = reads.on;
-            breaks = lacks_behind (IsAtEnd (source.remaining u)) IsTrailer (IsDecided 4194304) (texts so.chunks ++ line.text) new.held behind_last miss.lacks;
-          };
-          waits = record { text = texts so.chunks ++ line.text; reads = reads.waits };
+          text = texts so.chunks ++ line.text;
+          reads = reads;
+          breaks = lacks_behind (IsAtEnd (source.remaining u)) IsTrailer (IsDecided MOST_BODY_BYTES) (texts so.chunks ++ line.text) new.held behind_last miss.lacks;
         }
 
-    pub chunks_whole : Takes source (HasNone IsTrailer) t u behind new IsTrailer → ReadsChunks takes source s u old new before now (Ok tt)
+    pub chunks_whole : Takes source (HasNone IsTrailer) t u behind new IsTrailer → ReadsBody takes source s u old new before now Chunked (Ok tt)
     chunks_whole e =
         let reads = front_join source AwaitsChunks (HasNone IsTrailer) s t u old behind new (texts so.chunks ++ line.text) e.text trailer_awaited (with_line 0 line) e.reads in
         record {
-          body = record {
-            text = texts so.chunks ++ (line.text ++ e.text);
-            body = contents so.chunks;
-            body_is = record {
-              chunks = so.chunks;
-              last = line.text;
-              trailer = e.text;
-              each = so.each;
-              last_is = line.is;
-              trailer_is = e.is;
-              text_is = refl;
-              body_is = refl;
-              small = omega (arith, so.sum);
-            };
-            reads = subst (λ (l : List ℕ). ReadsOn (source.remaining s) (source.remaining u) old (put_back l new)) (append_assoc (texts so.chunks) line.text e.text) reads.on;
-            put = so.put;
+          text = texts so.chunks ++ (line.text ++ e.text);
+          body = contents so.chunks;
+          body_is = record {
+            chunks = so.chunks;
+            last = line.text;
+            trailer = e.text;
+            each = so.each;
+            last_is = line.is;
+            trailer_is = e.is;
+            text_is = refl;
+            body_is = refl;
+            small = omega (arith, so.sum);
           };
-          waits = record { text = (texts so.chunks ++ line.text) ++ e.text; reads = reads.waits };
+          reads = subst (λ (l : List ℕ). ReadsOnWhile source AwaitsChunks s u old (put_back l new)) (append_assoc (texts so.chunks) line.text e.text) reads;
+          put = so.put;
         }
 
 -- ---- a body by its length
 
 module _ {S R : Type 0} (takes : Takings S) (source : Source R) (s t : R) (old new : Received) (before after : S) (size : ℕ) where
-  pub body_whole : Gathers takes source s t old new before after size true → TakesBody takes (source.remaining s) (source.remaining t) old new before after (Bytes size)
-  body_whole g = record { text = g.content; body = g.content; body_is = (refl, g.whole refl); reads = g.reads.on; put = g.put }
+  pub body_whole : Gathers takes source s t old new before after size true → TakesBody takes source s t old new before after (Bytes size)
+  body_whole g = record { text = g.content; body = g.content; body_is = (refl, g.whole refl); reads = g.reads; put = g.put }
 
-  pub body_short : Gathers takes source s t old new before after size false → BreaksBody (source.remaining s) (source.remaining t) old new (Bytes size) breach.Body
+  pub body_short : Gathers takes source s t old new before after size false → BreaksBody source s t old new (Bytes size) breach.Body
   body_short g =
       let short = g.short refl in
-      record { text = g.content; reads = g.reads.on; breaks = (omega (arith, short.0, ap length short.1, length-append g.content new.held), short.2) }
+      record { text = g.content; reads = g.reads; breaks = (omega (arith, short.0, ap length short.1, length-append g.content new.held), short.2) }
 
-  pub body_waits : (all : Bool) → Gathers takes source s t old new before after size all → WaitsForBody source.gives s t old new (Bytes size)
-  body_waits all g = record { text = g.content; reads = g.reads.waits }
+pub body_unreadable : {R : Type 0} (source : Source R) (s : R) (r : Received) → BreaksBody source s s r r Unreadable breach.Body
+body_unreadable source s r = record { text = []; reads = nothing_yet source (AwaitsBody Unreadable) s r; breaks = tt }
 
-pub body_unreadable : (input : Option (List ℕ)) (r : Received) → BreaksBody input input r r Unreadable breach.Body
-body_unreadable input r = record { text = []; reads = nothing_read input r; breaks = tt }
-
-pub body_too_large : (input : Option (List ℕ)) (r : Received) → BreaksBody input input r r TooLarge breach.TooLarge
-body_too_large input r = record { text = []; reads = nothing_read input r; breaks = tt }
-
-pub nothing_awaited : {R : Type 0} (source : Source R) (s : R) (r : Received) (size : BodyLength) → WaitsForBody source.gives s s r r size
-nothing_awaited source s r size = record { text = []; reads = no_read source.gives (AwaitsBody size) s r.held }
+pub body_too_large : {R : Type 0} (source : Source R) (s : R) (r : Received) → BreaksBody source s s r r TooLarge breach.TooLarge
+body_too_large source s r = record { text = []; reads = nothing_yet source (AwaitsBody TooLarge) s r; breaks = tt }

@@ -1,5 +1,5 @@
 -- A head at the front of bytes, and the body behind it.
-use Rattle.std.proofs.Common.{◌≡◌, ℕ, ◌+◌, ◌-◌, ◌==◌, ◌||◌, ◌≤◌, ◌<◌, Bool, true, false, List, ◌++◌, [], length, take, drop, map, slice_range, Option, refl, sym, ap, ◌∙◌, subst, arith, append_assoc, append-nil, length-append}
+use Rattle.std.proofs.Common.{◌≡◌, ℕ, ◌+◌, ◌-◌, ◌==◌, ◌||◌, ◌≤◌, ◌<◌, Bool, true, false, List, ◌++◌, [], length, take, drop, map, slice_range, Option, refl, sym, ap, ◌∙◌, subst, arith, inl, inr, append_assoc, append-nil, length-append}
 use Rattle.std.specs.Io.KnownBytes.{IsAtEnd}
 use Rattle.std.proofs.lemmas.List.{drop-append-le, take-append-le, length-drop}
 use Rattle.std.proofs.Math.Seq.{take-append_seam}
@@ -7,16 +7,18 @@ use Rattle.httparse.specs.Grammar.{RequestHead, print_request}
 use Rattle.httparse.specs.Spans.{header_bytes}
 use Rattle.httparse.specs.declared.spans.RequestSpans.{RequestSpans}
 use Rattle.httparse.specs.declared.spans.HeaderSpan.{HeaderSpan}
-use Rattle.http_requests.specs.Heads.{TakesHead, IsWholeHead}
+use Rattle.http_requests.specs.Heads.{TakesHead, IsWholeHead, AwaitsHead}
 use Rattle.http_requests.specs.declared.asked.Method.{Method}
 use Rattle.http_requests.specs.Asked.{asked_by, pairs_of, method_of, has_batch_type, closes_by}
-use Rattle.http_requests.specs.Requests.{HasBody, BodyBreaks, BreaksBehind, IsBroken}
-use Rattle.http_requests.specs.Receiving.{Received, ReadsOn, put_back, FindsHead, FindsNone, TakesRequest, FindsBreach}
+use Rattle.http_requests.specs.Requests.{HasBody, BodyBreaks, BreaksBehind, IsBroken, AwaitsBody, AwaitsRequest}
+use Rattle.http_requests.specs.Waiting.{Source, ReadsWhile, StopsWhile}
+use Rattle.http_requests.specs.Receiving.{Received, ReadsOn, ReadsOnWhile, put_back, FindsHead, FindsNone, TakesRequest, FindsBreach}
 use Rattle.http_requests.specs.Sinks.{Takings}
 use Rattle.http_requests.specs.Bodies.{TakesBody, BreaksBody}
 use Rattle.http_requests.specs.declared.asked.BodyLength.{BodyLength}
 use Rattle.http_requests.specs.declared.asked.Breach.{Breach}
-use Rattle.http_requests.proofs.Readings.{takes_front, takes_join}
+use Rattle.http_requests.proofs.Waits.{waits_then_stops, stops_there}
+use Rattle.http_requests.proofs.Readings.{takes_front, front_join, widened}
 use Rattle.http_requests.specs.Framing.{Frames}
 use Rattle.http_requests.specs.declared.asked.Breach.TheVariants as breach
 use Rattle.http_requests.specs.declared.asked.Request.{Request}
@@ -72,40 +74,62 @@ finds_head in0 in1 old here behind bytes again cleared taken len r size first fr
 
 -- ---- the body behind the head
 
-module _ (in0 in1 in2 : Option (List ℕ)) (old behind new : Received) (bytes : List ℕ) (r : Request) (size : BodyLength) (found : FindsHead in0 in1 old behind bytes r size) where
+module _ {R : Type 0} (source : Source R) (s m t : R) (old behind new : Received) (bytes : List ℕ) (r : Request) (size : BodyLength)
+    (found : FindsHead (source.remaining s) (source.remaining m) old behind bytes r size) (waits : ReadsWhile source.gives AwaitsHead s m old.held (bytes ++ behind.held)) where
   head_then : (text : List ℕ) → TakesHead (bytes ++ text) (found.is).head text
   head_then text = record { reads = (found.takes.reads.0, ap (λ l. l ++ text) found.is.bytes_are); size = found.takes.size; fields = found.takes.fields }
 
-  behind_head : (text : List ℕ) → ReadsOn in1 in2 behind (put_back text new) → ReadsOn in0 in2 old (put_back (bytes ++ text) new)
-  behind_head text second = takes_join in0 in1 in2 old behind new bytes text found.reads second
+  head_read : ReadsOnWhile source AwaitsRequest s m old (put_back bytes behind)
+  head_read = widened source AwaitsRequest AwaitsHead s m old (put_back bytes behind) (λ h awaits. inl awaits) (record { on = found.reads; waits = waits })
 
-  pub takes_request : {S : Type 0} (takes : Takings S) (before after : S) (body : TakesBody takes in1 in2 behind new before after size)
-      → TakesRequest in0 in2 old new (found.is).head body.body
+  -- the body is awaited behind the head
+  body_awaited : (h : List ℕ) → AwaitsBody size h → AwaitsRequest (bytes ++ h)
+  body_awaited h awaits =
+      inr (record { head = (found.is).head; after = h; takes = head_then h; awaits = subst (λ (z : BodyLength). AwaitsBody z h) found.size_is awaits })
+
+  behind_head : (text : List ℕ) → ReadsOnWhile source (AwaitsBody size) m t behind (put_back text new) → ReadsOnWhile source AwaitsRequest s t old (put_back (bytes ++ text) new)
+  behind_head text second = front_join source AwaitsRequest (AwaitsBody size) s m t old behind new bytes text body_awaited head_read second
+
+  -- no more could be had of the body
+  pub body_stops : (failed : Bool) → StopsWhile source (AwaitsBody size) m t failed behind.held → StopsWhile source AwaitsRequest s t failed old.held
+  body_stops failed stops = waits_then_stops source AwaitsRequest (AwaitsBody size) bytes body_awaited s m t failed old.held behind.held head_read.waits stops
+
+  -- nothing was read behind the head
+  pub head_stops : (failed : Bool) → StopsWhile source AwaitsRequest s m failed old.held
+  head_stops failed = stops_there source AwaitsRequest s m failed old.held (bytes ++ behind.held) head_read.waits
+
+  pub takes_request : {S : Type 0} (takes : Takings S) (before after : S) (body : TakesBody takes source m t behind new before after size)
+      → TakesRequest source s t old new (found.is).head body.body
   takes_request takes before after body = record {
     text = bytes ++ body.text;
     reads = behind_head body.text body.reads;
-    spells = record { after = body.text; takes = head_then body.text; body_is = subst (λ (s : BodyLength). HasBody s body.text body.body) found.size_is body.body_is };
+    spells = record { after = body.text; takes = head_then body.text; body_is = subst (λ (z : BodyLength). HasBody z body.text body.body) found.size_is body.body_is };
   }
 
-  breaks_behind : (why : Breach) (b : BreaksBody in1 in2 behind new size why) → BreaksBehind (IsAtEnd in2) ((bytes ++ b.text) ++ new.held) why
+  breaks_behind : (why : Breach) (b : BreaksBody source m t behind new size why) → BreaksBehind (IsAtEnd (source.remaining t)) ((bytes ++ b.text) ++ new.held) why
   breaks_behind why b = record {
     head = (found.is).head;
     after = b.text ++ new.held;
     takes = subst (λ (l : List ℕ). TakesHead l (found.is).head (b.text ++ new.held)) (sym (append_assoc bytes b.text new.held)) (head_then (b.text ++ new.held));
-    breaks = subst (λ (s : BodyLength). BodyBreaks (IsAtEnd in2) why s (b.text ++ new.held)) found.size_is b.breaks;
+    breaks = subst (λ (z : BodyLength). BodyBreaks (IsAtEnd (source.remaining t)) why z (b.text ++ new.held)) found.size_is b.breaks;
   }
 
-  breaks : (why : Breach) (b : BreaksBody in1 in2 behind new size why) → IsBroken (IsAtEnd in2) ((bytes ++ b.text) ++ new.held) why
+  breaks : (why : Breach) (b : BreaksBody source m t behind new size why) → IsBroken (IsAtEnd (source.remaining t)) ((bytes ++ b.text) ++ new.held) why
   breaks breach.Head b = absurd b.breaks
   breaks breach.Body b = breaks_behind breach.Body b
   breaks breach.TooLarge b = breaks_behind breach.TooLarge b
 
-  pub finds_breach : (why : Breach) → BreaksBody in1 in2 behind new size why → FindsBreach in0 in2 old new why
+  pub finds_breach : (why : Breach) → BreaksBody source m t behind new size why → FindsBreach source s t old new why
   finds_breach why b = record { text = bytes ++ b.text; reads = behind_head b.text b.reads; broken = breaks why b }
 
 -- no head is no request
-pub none_is_breach : (in0 in1 : Option (List ℕ)) (old new : Received) → FindsNone in0 in1 old new → FindsBreach in0 in1 old new breach.Head
-none_is_breach in0 in1 old new none = record { text = []; reads = none.reads; broken = none.broken }
+pub none_is_breach : {R : Type 0} (source : Source R) (s t : R) (old new : Received) → FindsNone (source.remaining s) (source.remaining t) old new
+    → ReadsWhile source.gives AwaitsHead s t old.held new.held → FindsBreach source s t old new breach.Head
+none_is_breach source s t old new none waits = record {
+  text = [];
+  reads = widened source AwaitsRequest AwaitsHead s t old new (λ h awaits. inl awaits) (record { on = none.reads; waits = waits });
+  broken = none.broken;
+}
 
 -- who stopped with fewer bytes than asked for has found the end
 pub short_ends : (ended : Bool) (count n : ℕ) → (ended ≡ false → count ≤ n) → n < count → ended ≡ true

@@ -5,6 +5,7 @@ use Rattle.std.specs.Char.{is_ascii_digit}
 use Rattle.jaeger_model.specs.Texts.{same_text}
 use Rattle.httparse.specs.Grammar.{RequestHead, trim_ows}
 use Rattle.httparse.specs.Spans.{name_and_value}
+use Rattle.http_requests.specs.declared.asked.TheConstants.{MOST_BODY_BYTES}
 use Rattle.http_requests.specs.Fields.{Pairs, same_name, values_of, have_token, all_are}
 use Rattle.http_requests.specs.declared.asked.Method.{Method}
 use Rattle.http_requests.specs.declared.asked.Method.TheVariants.{Get, Post, Other}
@@ -30,9 +31,9 @@ digit c = if nat_le 48 c && nat_le c 57 then c - 48 else 0
 abbrev pub number_of : List ℕ → ℕ
 number_of digits = fold (λ n c. n * 10 + digit c) 0 digits
 
--- a body of so many bytes, of at most 4,194,304
+-- a body of so many bytes, where that is no more than a session takes
 abbrev pub body_of_size : ℕ → BodyLength
-body_of_size n = if nat_le n 4194304 then Bytes n else TooLarge
+body_of_size n = if nat_le n MOST_BODY_BYTES then Bytes n else TooLarge
 
 -- the body's length by the values of Content-Length; none is a body of no bytes
 abbrev pub length_by : List (List ℕ) → BodyLength
@@ -49,7 +50,7 @@ length_in (coding ∷ other ∷ more) lengths = Unreadable
 
 -- a body that is read is no larger
 abbrev pub IsBounded : BodyLength → Type 0
-IsBounded (Bytes n) = n ≤ 4194304
+IsBounded (Bytes n) = n ≤ MOST_BODY_BYTES
 IsBounded Chunked = Unit {0}
 IsBounded Unreadable = Unit {0}
 IsBounded TooLarge = Unit {0}

@@ -6,9 +6,10 @@ use Rattle.chunked_bodies.specs.Chunks.{IsSizeLine, IsSomeSizeLine, IsTrailer, I
 use Rattle.chunked_bodies.specs.Looks.{EndsNoLine}
 use Rattle.chunked_bodies.specs.declared.trailer.Trailer.{Trailer}
 use Rattle.chunked_bodies.specs.declared.trailer.Trailer.TheVariants as trailer
+use Rattle.http_requests.specs.declared.asked.TheConstants.{MOST_BODY_BYTES}
 use Rattle.http_requests.specs.Requests.{HasBody, BodyBreaks, IsShorter, AwaitsBody}
-use Rattle.http_requests.specs.Waiting.{Gives, Source, ReadsWhile}
-use Rattle.http_requests.specs.Receiving.{Received, ReadsOn, ReadsOnWhile, put_back}
+use Rattle.http_requests.specs.Waiting.{Source}
+use Rattle.http_requests.specs.Receiving.{Received, ReadsOnWhile, put_back}
 use Rattle.http_requests.specs.Sinks.{Takings}
 use Rattle.http_requests.specs.declared.asked.BodyLength.{BodyLength}
 use Rattle.http_requests.specs.declared.asked.BodyLength.TheVariants.{Chunked}
@@ -108,34 +109,25 @@ pub record ChunksSoFar {S R : Type 0} (takes : Takings S) (source : Source R) (s
   pub each : All IsChunk chunks
   pub reads : ReadsOnWhile source (AwaitsBody Chunked) s t old (put_back (texts chunks) new)
   pub put : takes before (contents chunks) after
-  pub sum : 4194304 ≡ length (contents chunks) + left
+  pub sum : MOST_BODY_BYTES ≡ length (contents chunks) + left
 
 -- ---- bodies
 
--- a body as the head tells was taken, and put into the sink
-pub record TakesBody {S : Type 0} (takes : Takings S) (in0 in1 : Option (List ℕ)) (old new : Received) (before after : S) (size : BodyLength) : Type 0 where
+-- a body as the head tells was taken, and put into the sink; each read for it was made while more of it was awaited
+pub record TakesBody {S R : Type 0} (takes : Takings S) (source : Source R) (s t : R) (old new : Received) (before after : S) (size : BodyLength) : Type 0 where
   pub text : List ℕ
   pub body : List ℕ
   pub body_is : HasBody size text body
-  pub reads : ReadsOn in0 in1 old (put_back text new)
+  pub reads : ReadsOnWhile source (AwaitsBody size) s t old (put_back text new)
   pub put : takes before body after
 
--- a text was taken, and with what is left it has no body as the head tells, for that reason
-pub record BreaksBody (in0 in1 : Option (List ℕ)) (old new : Received) (size : BodyLength) (why : Breach) : Type 0 where
+-- a text was taken, and with what is left it has no body as the head tells, for that reason; each read was made
+-- while more of a body was awaited
+pub record BreaksBody {R : Type 0} (source : Source R) (s t : R) (old new : Received) (size : BodyLength) (why : Breach) : Type 0 where
   pub text : List ℕ
-  pub reads : ReadsOn in0 in1 old (put_back text new)
-  pub breaks : BodyBreaks (IsAtEnd in1) why size (text ++ new.held)
+  pub reads : ReadsOnWhile source (AwaitsBody size) s t old (put_back text new)
+  pub breaks : BodyBreaks (IsAtEnd (source.remaining t)) why size (text ++ new.held)
 
-abbrev pub ReadsBody : {S : Type 0} → Takings S → Option (List ℕ) → Option (List ℕ) → Received → Received → S → S → BodyLength → Result (Unit {0}) Breach → Type 0
-ReadsBody takes in0 in1 old new before after size (Ok _) = TakesBody takes in0 in1 old new before after size
-ReadsBody takes in0 in1 old new before after size (Err why) = BreaksBody in0 in1 old new size why
-
--- each read for a body was made while more of the body was awaited
-pub record WaitsForBody {R : Type 0} (gives : Gives R) (s t : R) (old new : Received) (size : BodyLength) : Type 0 where
-  pub text : List ℕ
-  pub reads : ReadsWhile gives (AwaitsBody size) s t old.held (text ++ new.held)
-
--- what a body in chunks came to, and how it was waited for
-pub record ReadsChunks {S R : Type 0} (takes : Takings S) (source : Source R) (s t : R) (old new : Received) (before after : S) (result : Result (Unit {0}) Breach) : Type 0 where
-  pub body : ReadsBody takes (source.remaining s) (source.remaining t) old new before after Chunked result
-  pub waits : WaitsForBody source.gives s t old new Chunked
+abbrev pub ReadsBody : {S R : Type 0} → Takings S → Source R → R → R → Received → Received → S → S → BodyLength → Result (Unit {0}) Breach → Type 0
+ReadsBody takes source s t old new before after size (Ok _) = TakesBody takes source s t old new before after size
+ReadsBody takes source s t old new before after size (Err why) = BreaksBody source s t old new size why

@@ -5,14 +5,15 @@ use Rattle.httparse.specs.Grammar.{RequestHead, ReadsRequest, NeverHasRequest, p
 use Rattle.httparse.specs.declared.spans.RequestSpans.{RequestSpans}
 use Rattle.httparse.specs.declared.spans.HeaderSpan.{HeaderSpan}
 use Rattle.httparse.specs.Spans.{IsRequestAt, IsRequestWithin}
+use Rattle.http_requests.specs.declared.head.TheConstants.{MOST_HEAD_BYTES, MOST_FIELDS}
 use Rattle.http_requests.specs.declared.head.Look.{Look}
 use Rattle.http_requests.specs.declared.head.Look.TheVariants.{Whole, More, Never}
 
--- bytes are a head that a session takes, and then rest
+-- Bytes are a head that a session takes, and then rest. The limits are a session's own: RFC 9112 sets none.
 pub record TakesHead (bytes : List ℕ) (h : RequestHead) (rest : List ℕ) : Type 0 where
   pub reads : ReadsRequest bytes h rest
-  pub size : length (print_request h) ≤ 8192
-  pub fields : length h.fields ≤ 64
+  pub size : length (print_request h) ≤ MOST_HEAD_BYTES
+  pub fields : length h.fields ≤ MOST_FIELDS
 
 -- no beginning of the bytes is such a head
 abbrev pub HasNoHead : List ℕ → Type 0
@@ -30,15 +31,15 @@ EndsLine bytes = (front : List ℕ) × (bytes ≡ front ++ line_feed ∷ [])
 -- received whole why none can come: some continuation of them begins with a head by the grammar.
 pub record AwaitsHead (bytes : List ℕ) : Type 0 where
   pub none : HasNoHead bytes
-  pub short : length bytes < 8192
+  pub short : length bytes < MOST_HEAD_BYTES
   pub may : (lines rest : List ℕ) → bytes ≡ lines ++ rest → EndsLine lines → NeverHasRequest lines → ⊥
 
--- the spans are offsets into the first 8,192 bytes
+-- the spans are offsets into the bytes that a head may have
 pub record IsWholeHead (bytes : List ℕ) (headers : List HeaderSpan) (spans : RequestSpans) : Type 0 where
   pub head : RequestHead
   pub takes : TakesHead bytes head (drop spans.len bytes)
   pub front : List ℕ
-  pub front_is : front ≡ take 8192 bytes
+  pub front_is : front ≡ take MOST_HEAD_BYTES bytes
   pub at : IsRequestAt front headers spans head
   pub within : IsRequestWithin front headers spans
 

@@ -2,9 +2,10 @@
 use Rattle.std.specs.Prelude.{◌≡◌, ℕ, ◌+◌, ◌*◌, ◌≤◌, ◌⊎◌, Bool, true, if◌then◌else◌, List, [], ◌++◌, length, Option, Result, Ok, Err}
 use Rattle.std.specs.Io.KnownBytes.{Consumes, IsAtEnd}
 use Rattle.httparse.specs.Grammar.{RequestHead}
+use Rattle.http_requests.specs.declared.received.TheConstants.{PIECE}
 use Rattle.http_requests.specs.Heads.{TakesHead, AwaitsHead}
 use Rattle.http_requests.specs.Asked.{body_length}
-use Rattle.http_requests.specs.Requests.{Spells, IsHeadOf, IsBroken}
+use Rattle.http_requests.specs.Requests.{Spells, IsHeadOf, IsBroken, AwaitsRequest}
 use Rattle.http_requests.specs.Waiting.{Gives, Source, ReadsWhile}
 use Rattle.http_requests.specs.declared.asked.BodyLength.{BodyLength}
 use Rattle.http_requests.specs.declared.asked.Breach.{Breach}
@@ -29,13 +30,13 @@ KnowsItsEnd ended input = ended ≡ true → IsAtEnd input
 abbrev pub turns : Received → ℕ
 turns r = r.left + (if r.ended then 1 else 0)
 
--- Some reads were made: each but one at the end gave a byte, and at most 4,096.
+-- Some reads were made: each but one at the end gave a byte, and no more than a piece.
 pub record ReadsOn (in0 in1 : Option (List ℕ)) (old new : Received) : Type 0 where
   pub more : List ℕ
   pub read : Consumes in0 in1 more
   pub held : new.held ≡ old.held ++ more
   pub least : turns old ≤ length more + turns new
-  pub most : length more + 4096 * new.left ≤ 4096 * old.left
+  pub most : length more + PIECE * new.left ≤ PIECE * old.left
   pub end : KnowsItsEnd old.ended in0 → KnowsItsEnd new.ended in1
 
 -- No more could be had: memory ran out, the input failed, or all reads were made.
@@ -101,14 +102,14 @@ WaitsForHead gives s t old new bytes next =
 
 -- ---- requests, of which the head was taken and then the body
 
--- a request was taken from the front, with this head and this body
-pub record TakesRequest (in0 in1 : Option (List ℕ)) (old new : Received) (head : RequestHead) (body : List ℕ) : Type 0 where
+-- a request was taken from the front, with this head and this body; each read for it was made while it was awaited
+pub record TakesRequest {R : Type 0} (source : Source R) (s t : R) (old new : Received) (head : RequestHead) (body : List ℕ) : Type 0 where
   pub text : List ℕ
-  pub reads : ReadsOn in0 in1 old (put_back text new)
+  pub reads : ReadsOnWhile source AwaitsRequest s t old (put_back text new)
   pub spells : Spells text head body
 
--- what was taken and what is left begin with no request
-pub record FindsBreach (in0 in1 : Option (List ℕ)) (old new : Received) (why : Breach) : Type 0 where
+-- what was taken and what is left begin with no request; each read was made while one was awaited
+pub record FindsBreach {R : Type 0} (source : Source R) (s t : R) (old new : Received) (why : Breach) : Type 0 where
   pub text : List ℕ
-  pub reads : ReadsOn in0 in1 old (put_back text new)
-  pub broken : IsBroken (IsAtEnd in1) (text ++ new.held) why
+  pub reads : ReadsOnWhile source AwaitsRequest s t old (put_back text new)
+  pub broken : IsBroken (IsAtEnd (source.remaining t)) (text ++ new.held) why

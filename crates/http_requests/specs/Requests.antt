@@ -2,6 +2,7 @@
 use Rattle.std.specs.Prelude.{◌≡◌, ℕ, ◌<◌, ◌≤◌, ◌⊎◌, List, ◌++◌, length, slice_range}
 use Rattle.httparse.specs.Grammar.{RequestHead, IsRequestHead, print_request}
 use Rattle.chunked_bodies.specs.Chunks.{IsBody, IsTooLarge, IsDecided, IsSized, Begins, HasNone, NeverHas, Lacks}
+use Rattle.http_requests.specs.declared.asked.TheConstants.{MOST_BODY_BYTES}
 use Rattle.http_requests.specs.Heads.{TakesHead, HasNoHead, NeverHasHead, EndsLine, AwaitsHead}
 use Rattle.http_requests.specs.Asked.{asked_by, body_length}
 use Rattle.http_requests.specs.declared.asked.BodyLength.{BodyLength}
@@ -13,7 +14,7 @@ use Rattle.http_requests.specs.declared.asked.Request.{Request}
 -- the text behind a head that tells of such a body: the body itself, or its chunks
 abbrev pub HasBody : BodyLength → List ℕ → List ℕ → Type 0
 HasBody (Bytes n) text body = (text ≡ body) × (length body ≡ n)
-HasBody Chunked text body = IsBody 4194304 text body
+HasBody Chunked text body = IsBody MOST_BODY_BYTES text body
 HasBody Unreadable text body = ⊥
 HasBody TooLarge text body = ⊥
 
@@ -26,14 +27,14 @@ pub record Spells (text : List ℕ) (head : RequestHead) (body : List ℕ) : Typ
 -- the head tells of no body that is read, the input ended inside it, or what follows is no chunked one
 abbrev pub IsUnreadable : Type 0 → BodyLength → List ℕ → Type 0
 IsUnreadable AtEnd (Bytes n) after = (length after < n) × AtEnd
-IsUnreadable AtEnd Chunked after = Lacks AtEnd (IsDecided 4194304) after
+IsUnreadable AtEnd Chunked after = Lacks AtEnd (IsDecided MOST_BODY_BYTES) after
 IsUnreadable AtEnd Unreadable after = Unit {0}
 IsUnreadable AtEnd TooLarge after = ⊥
 
 -- the head says that the body is too large, or the size line of a chunk does
 abbrev pub PassesMost : BodyLength → List ℕ → Type 0
 PassesMost (Bytes n) after = ⊥
-PassesMost Chunked after = Begins (IsTooLarge 4194304) after
+PassesMost Chunked after = Begins (IsTooLarge MOST_BODY_BYTES) after
 PassesMost Unreadable after = ⊥
 PassesMost TooLarge after = Unit {0}
 
@@ -65,8 +66,8 @@ IsShorter n bytes = length bytes < n
 -- the lines received whole why none can come: some continuation of them begins with all chunks of a body, or
 -- with those up to the line that says that it is too large.
 pub record AwaitsChunks (after : List ℕ) : Type 0 where
-  pub none : HasNone (IsDecided 4194304) after
-  pub may : (lines rest : List ℕ) → after ≡ lines ++ rest → EndsLine lines → NeverHas (IsSized 4194304) lines → ⊥
+  pub none : HasNone (IsDecided MOST_BODY_BYTES) after
+  pub may : (lines rest : List ℕ) → after ≡ lines ++ rest → EndsLine lines → NeverHas (IsSized MOST_BODY_BYTES) lines → ⊥
 
 -- what is awaited behind a head that tells of such a body; where the head alone decides, nothing
 abbrev pub AwaitsBody : BodyLength → List ℕ → Type 0

@@ -1,5 +1,6 @@
 -- That an input is read only while something is awaited of it.
-use Rattle.std.specs.Prelude.{◌≡◌, ℕ, List, [], ◌∷◌, ◌++◌, Option}
+use Rattle.std.specs.Prelude.{◌≡◌, ℕ, ◌⊎◌, Bool, true, List, [], ◌∷◌, ◌++◌, Option}
+use Rattle.std.specs.Io.KnownBytes.{Keeps}
 
 -- from which state of an input one read that gives these bytes leads to which
 abbrev pub Gives : Type 0 → Type 1
@@ -25,3 +26,15 @@ GivesWhile {R = R} gives Awaits s t old new (p ∷ ps) =
 pub record ReadsWhile {R : Type 0} (gives : Gives R) (Awaits : List ℕ → Type 0) (s t : R) (old new : List ℕ) : Type 0 where
   pub pieces : List (List ℕ)
   pub each : GivesWhile gives Awaits s t old new pieces
+
+-- A read that failed was made: it gave nothing, and the input remembers it.
+abbrev pub FailsToRead : {R : Type 0} → Source R → R → R → Bool → Type 0
+FailsToRead source s t failed = (failed ≡ true) × Keeps (source.remaining s) (source.remaining t)
+
+-- The reads of a call that ended in an error, one after the other: before each of them, and before the
+-- one that failed if one did, more was awaited of the bytes received by then.
+pub record StopsWhile {R : Type 0} (source : Source R) (Awaits : List ℕ → Type 0) (s t : R) (failed : Bool) (old : List ℕ) : Type 0 where
+  pub held : List ℕ
+  pub before : R
+  pub waits : ReadsWhile source.gives Awaits s before old held
+  pub last : (t ≡ before) ⊎ (Awaits held × FailsToRead source before t failed)

@@ -10,7 +10,7 @@ use crate::fields::{Fields, Values, cut, is_named, trimmed};
 use crate::head::front_of;
 use httparse::spans::{HeaderSpan, RequestSpans, Span};
 
-/// The most bytes of a body.
+/// How many bytes a body has at most, as its data: a limit of a session's own.
 pub(crate) const MOST_BODY_BYTES: u64 = 4_194_304;
 
 /// The methods that some path takes.
@@ -30,7 +30,7 @@ pub enum BodyLength {
     /// The head says it in no way that is read: a Transfer-Encoding that isn't `chunked`, two of them, or
     /// one beside a Content-Length; two Content-Lengths, or one that isn't 1 to 19 digits.
     Unreadable,
-    /// Above 4,194,304 bytes.
+    /// Of more bytes than a body may have.
     TooLarge,
 }
 

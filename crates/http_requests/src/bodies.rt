@@ -1,8 +1,10 @@
-ghost use Rattle.std.specs.Prelude.{◌≡◌, ◌≤◌, IfOk, IfErr, OnOk, length, take};
-ghost use Rattle.chunked_bodies.specs.Chunks.{IsTrailer, HasNone};
-ghost use Rattle.http_requests.specs.Waiting.{source_of};
+ghost use Rattle.std.specs.Prelude.{◌≡◌, ◌≤◌, IfOk, IfErr, OnErr, length, take};
+ghost use Rattle.chunked_bodies.specs.Chunks.{IsTrailer, IsContent, HasNone};
+ghost use Rattle.http_requests.specs.Requests.{IsShorter, AwaitsBody};
+ghost use Rattle.http_requests.specs.Waiting.{source_of, StopsWhile};
 ghost use Rattle.http_requests.specs.Receiving.{KnowsItsEnd, Stops, SameUnlessReading};
-ghost use Rattle.http_requests.specs.Bodies.{TrailerWhenDue, TakesSize, TakesOrMisses, AwaitsRest, IsLineEnd, begins_line_end, may_begin_line_end, Gathers, TakesContentOr, ReadsBody, ReadsChunks, WaitsForBody};
+ghost use Rattle.http_requests.specs.Bodies.{TrailerWhenDue, TakesSize, TakesOrMisses, AwaitsLine, AwaitsRest, IsLineEnd, begins_line_end, may_begin_line_end, Gathers, TakesContentOr, ReadsBody};
+ghost use Rattle.http_requests.specs.declared.asked.BodyLength.TheVariants.{Chunked};
 
 use crate::asked::{BodyLength, Breach, MOST_BODY_BYTES};
 use crate::line_ends::has_line_end;
@@ -24,6 +26,8 @@ fn gather<R: Input, S: Sink>(
         input.old input.new received.old received.new sink.old sink.new size) }
     ensures err { IfErr result (λ why. Stops (R.remaining input.old) (R.remaining input.new)
         (R.has_failed input.new) received.old why) }
+    ensures stops_in_turn { OnErr result (StopsWhile (source_of R.remaining R.gives)
+        (IsShorter size) input.old input.new (R.has_failed input.new) received.old.held) }
     ensures same { SameUnlessReading (R.has_failed input.old) (R.has_failed input.new) result }
 {
     let mut left = size;
@@ -66,6 +70,8 @@ fn take_line_end<R: Input>(input: &mut R, received: &mut Received) -> Result<boo
         (AwaitsRest IsLineEnd) input.old input.new received.old received.new IsLineEnd) }
     ensures err { IfErr result (λ why. Stops (R.remaining input.old) (R.remaining input.new)
         (R.has_failed input.new) received.old why) }
+    ensures stops_in_turn { OnErr result (StopsWhile (source_of R.remaining R.gives)
+        (AwaitsRest IsLineEnd) input.old input.new (R.has_failed input.new) received.old.held) }
     ensures same { SameUnlessReading (R.has_failed input.old) (R.has_failed input.new) result }
 {
     'looks: loop {
@@ -91,6 +97,8 @@ fn take_size<R: Input>(input: &mut R, received: &mut Received) -> Result<Option<
         received.old received.new) }
     ensures err { IfErr result (λ why. Stops (R.remaining input.old) (R.remaining input.new)
         (R.has_failed input.new) received.old why) }
+    ensures stops_in_turn { OnErr result (StopsWhile (source_of R.remaining R.gives)
+        AwaitsLine input.old input.new (R.has_failed input.new) received.old.held) }
     ensures same { SameUnlessReading (R.has_failed input.old) (R.has_failed input.new) result }
 {
     'looks: loop {
@@ -130,6 +138,8 @@ fn take_trailer<R: Input>(input: &mut R, received: &mut Received) -> Result<bool
         (HasNone IsTrailer) input.old input.new received.old received.new IsTrailer) }
     ensures err { IfErr result (λ why. Stops (R.remaining input.old) (R.remaining input.new)
         (R.has_failed input.new) received.old why) }
+    ensures stops_in_turn { OnErr result (StopsWhile (source_of R.remaining R.gives)
+        (HasNone IsTrailer) input.old input.new (R.has_failed input.new) received.old.held) }
     ensures same { SameUnlessReading (R.has_failed input.old) (R.has_failed input.new) result }
 {
     let mut seen = 0;
@@ -164,6 +174,8 @@ fn take_content<R: Input, S: Sink>(
         input.old input.new received.old received.new sink.old sink.new size) }
     ensures err { IfErr result (λ why. Stops (R.remaining input.old) (R.remaining input.new)
         (R.has_failed input.new) received.old why) }
+    ensures stops_in_turn { OnErr result (StopsWhile (source_of R.remaining R.gives)
+        (AwaitsRest (IsContent size)) input.old input.new (R.has_failed input.new) received.old.held) }
     ensures same { SameUnlessReading (R.has_failed input.old) (R.has_failed input.new) result }
 {
     if gather(input, received, sink, size)? {
@@ -180,10 +192,12 @@ fn read_chunks<R: Input, S: Sink>(
     sink: &mut S,
 ) -> Result<Result<(), Breach>, Interrupted>
     requires end { KnowsItsEnd received.old.ended (R.remaining input.old) }
-    ensures body { IfOk result (ReadsChunks S.takes (source_of R.remaining R.gives)
-        input.old input.new received.old received.new sink.old sink.new) }
+    ensures body { IfOk result (ReadsBody S.takes (source_of R.remaining R.gives)
+        input.old input.new received.old received.new sink.old sink.new Chunked) }
     ensures err { IfErr result (λ why. Stops (R.remaining input.old) (R.remaining input.new)
         (R.has_failed input.new) received.old why) }
+    ensures stops_in_turn { OnErr result (StopsWhile (source_of R.remaining R.gives)
+        (AwaitsBody Chunked) input.old input.new (R.has_failed input.new) received.old.held) }
     ensures same { SameUnlessReading (R.has_failed input.old) (R.has_failed input.new) result }
 {
     let mut left = MOST_BODY_BYTES;
@@ -222,12 +236,12 @@ pub fn read_body<R: Input, S: Sink>(
     size: BodyLength,
 ) -> Result<Result<(), Breach>, Interrupted>
     requires end { KnowsItsEnd received.old.ended (R.remaining input.old) }
-    ensures body { IfOk result (ReadsBody S.takes (R.remaining input.old) (R.remaining input.new)
-        received.old received.new sink.old sink.new size) }
-    ensures waits { OnOk result (WaitsForBody R.gives input.old input.new
-        received.old received.new size) }
+    ensures body { IfOk result (ReadsBody S.takes (source_of R.remaining R.gives)
+        input.old input.new received.old received.new sink.old sink.new size) }
     ensures err { IfErr result (λ why. Stops (R.remaining input.old) (R.remaining input.new)
         (R.has_failed input.new) received.old why) }
+    ensures stops_in_turn { OnErr result (StopsWhile (source_of R.remaining R.gives)
+        (AwaitsBody size) input.old input.new (R.has_failed input.new) received.old.held) }
     ensures same { SameUnlessReading (R.has_failed input.old) (R.has_failed input.new) result }
 {
     match size {

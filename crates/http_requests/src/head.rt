@@ -5,10 +5,10 @@ use crate::line_ends::has_line_end;
 use httparse::Status;
 use httparse::spans::{HeaderSpan, RequestSpans, parse_request};
 
-/// The most bytes of a head.
-pub(crate) const MOST_BYTES: usize = 8192;
+/// How many bytes a head has at most, with its empty line. RFC 9112 sets no limit; this is a session's own.
+pub(crate) const MOST_HEAD_BYTES: usize = 8192;
 
-/// The most fields of a head.
+/// How many fields a head has at most: a limit of a session's own too.
 pub(crate) const MOST_FIELDS: usize = 64;
 
 /// What stands at the front of the bytes received so far.
@@ -24,18 +24,18 @@ pub(crate) enum Look {
 
 /// The bytes that a head may take.
 pub(crate) fn front_of(bytes: &[u8]) -> &[u8]
-    ensures { result.now ≡ take 8192 bytes.now }
+    ensures { result.now ≡ take MOST_HEAD_BYTES bytes.now }
 {
-    if bytes.len() < MOST_BYTES {
+    if bytes.len() < MOST_HEAD_BYTES {
         bytes
     } else {
-        &bytes[..MOST_BYTES]
+        &bytes[..MOST_HEAD_BYTES]
     }
 }
 
 /// Looks for a head at the front of the bytes.
 pub(crate) fn look_for_head(bytes: &[u8], headers: &mut [HeaderSpan]) -> Look
-    requires { 64 ≤ length headers.old }
+    requires { MOST_FIELDS ≤ length headers.old }
     ensures { Looks bytes.now headers.new result }
 {
     match parse_request(front_of(bytes), headers) {
@@ -47,7 +47,7 @@ pub(crate) fn look_for_head(bytes: &[u8], headers: &mut [HeaderSpan]) -> Look
             }
         }
         Ok(Status::Partial) => {
-            if bytes.len() < MOST_BYTES {
+            if bytes.len() < MOST_HEAD_BYTES {
                 Look::More
             } else {
                 Look::Never
@@ -60,12 +60,12 @@ pub(crate) fn look_for_head(bytes: &[u8], headers: &mut [HeaderSpan]) -> Look
 /// Looks for a head where one may have ended in what wasn't seen, or none can end later. In front of what was
 /// seen none stood.
 pub(crate) fn head_when_due(bytes: &[u8], seen: usize, headers: &mut [HeaderSpan]) -> Look
-    requires room { 64 ≤ length headers.old }
+    requires room { MOST_FIELDS ≤ length headers.old }
     requires seen { seen ≤ length bytes.now }
     requires before { AwaitsHead (take seen bytes.now) }
     ensures { Looks bytes.now headers.new result }
 {
-    if bytes.len() >= MOST_BYTES || has_line_end(&bytes[seen..]) {
+    if bytes.len() >= MOST_HEAD_BYTES || has_line_end(&bytes[seen..]) {
         look_for_head(bytes, headers)
     } else {
         Look::More

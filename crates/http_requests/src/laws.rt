@@ -3,10 +3,23 @@
 
 ghost use Rattle.std.specs.Prelude.{◌≡◌, ℕ, List, [], ◌++◌};
 ghost use Rattle.httparse.specs.Grammar.{RequestHead as RequestHeadValue, NeverHasRequest};
+ghost use Rattle.http_requests.specs.declared.head.TheConstants.{MOST_HEAD_BYTES, MOST_FIELDS};
+ghost use Rattle.http_requests.specs.declared.asked.TheConstants.{MOST_BODY_BYTES};
+ghost use Rattle.http_requests.specs.declared.received.TheConstants.{MOST_READS, PIECE};
 ghost use Rattle.http_requests.specs.Heads.{TakesHead, EndsLine};
 ghost use Rattle.http_requests.specs.Requests.{Spells, IsBroken, AwaitsRequest};
 ghost use Rattle.http_requests.specs.declared.asked.Breach.{Breach as BreachValue};
 ghost use Rattle.http_requests.specs.declared.asked.Breach.TheVariants.{TooLarge};
+
+/// The limits of a session: the bytes and fields of a head, the bytes of a body, the reads that it makes, and the
+/// bytes that one of them asks for.
+pub fn a_session_has_these_limits()
+    ensures head { MOST_HEAD_BYTES ≡ 8192 }
+    ensures fields { MOST_FIELDS ≡ 64 }
+    ensures body { MOST_BODY_BYTES ≡ 4194304 }
+    ensures reads { MOST_READS ≡ 1099511627776 }
+    ensures piece { PIECE ≡ 4096 }
+{}
 
 /// At the front of the bytes stands one head, with one rest.
 pub fn a_head_is_read_in_one_way()

@@ -31,5 +31,5 @@ mod sink;
 pub use asked::{BodyLength, Breach, Method, Request};
 pub use bodies::read_body;
 pub use reading::{Next, next_head};
-pub use received::{Interrupted, Received};
+pub use received::{Interrupted, MOST_READS, PIECE, Received};
 pub use sink::Sink;

@@ -1,7 +1,8 @@
-ghost use Rattle.std.specs.Prelude.{◌≡◌, ◌≤◌, ◌+◌, [], true, false, IfOk, IfErr, OnOk, length, drop};
+ghost use Rattle.std.specs.Prelude.{◌≡◌, ◌≤◌, ◌+◌, [], true, false, IfOk, IfErr, OnOk, OnErr, length, drop};
 ghost use Rattle.std.specs.Io.KnownBytes.{IsAtEnd};
+ghost use Rattle.http_requests.specs.declared.head.TheConstants.{MOST_FIELDS};
 ghost use Rattle.http_requests.specs.Heads.{AwaitsHead};
-ghost use Rattle.http_requests.specs.Waiting.{source_of};
+ghost use Rattle.http_requests.specs.Waiting.{source_of, StopsWhile};
 ghost use Rattle.http_requests.specs.Receiving.{KnowsItsEnd, ReadsOnWhile, Stops, Finds, WaitsForHead, SameUnlessReading};
 ghost use Rattle.http_requests.specs.Searching.{SearchFinds};
 
@@ -42,7 +43,7 @@ fn find_head<R: Input>(
     received: &mut Received,
     headers: &mut [HeaderSpan],
 ) -> Result<Found, Interrupted>
-    requires room { 64 ≤ length headers.old }
+    requires room { MOST_FIELDS ≤ length headers.old }
     requires end { KnowsItsEnd received.old.ended (R.remaining input.old) }
     ensures reads { OnOk result (ReadsOnWhile (source_of R.remaining R.gives) AwaitsHead
         input.old input.new received.old received.new) }
@@ -50,6 +51,8 @@ fn find_head<R: Input>(
         SearchFinds (R.remaining input.new) received.new.held headers.new found) }
     ensures err { IfErr result (λ why. Stops (R.remaining input.old) (R.remaining input.new)
         (R.has_failed input.new) received.old why) }
+    ensures stops_in_turn { OnErr result (StopsWhile (source_of R.remaining R.gives)
+        AwaitsHead input.old input.new (R.has_failed input.new) received.old.held) }
     ensures same { SameUnlessReading (R.has_failed input.old) (R.has_failed input.new) result }
 {
     let mut seen = 0;
@@ -89,6 +92,8 @@ pub fn next_head<R: Input>(
         received.old received.new head.new.items next) }
     ensures err { IfErr result (λ why. Stops (R.remaining input.old) (R.remaining input.new)
         (R.has_failed input.new) received.old why) }
+    ensures stops_in_turn { OnErr result (StopsWhile (source_of R.remaining R.gives)
+        AwaitsHead input.old input.new (R.has_failed input.new) received.old.held) }
     ensures same { SameUnlessReading (R.has_failed input.old) (R.has_failed input.new) result }
 {
     let mut headers = [EMPTY_HEADER_SPAN; FIELD_ROOM];

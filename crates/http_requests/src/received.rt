@@ -1,15 +1,16 @@
-ghost use Rattle.std.specs.Prelude.{◌≡◌, ◌≤◌, ◌+◌, [], false, IfErr, OnOk, length, drop};
+ghost use Rattle.std.specs.Prelude.{◌≡◌, ◌≤◌, ◌+◌, [], false, IfErr, OnOk, OnErr, length, drop};
+ghost use Rattle.http_requests.specs.Waiting.{source_of, StopsWhile};
 ghost use Rattle.http_requests.specs.Receiving.{ReadsOn, IsRead, Stops, SameUnlessReading};
 
 use session_devices::Input;
 use std::alloc::{AllocError, Global};
 use std::marker::Model;
 
-/// The most reads of one session.
+/// How many reads one session makes at most; one more counts as a failed one.
 pub const MOST_READS: u64 = 1_099_511_627_776;
 
-/// The bytes asked for by one read.
-const PIECE: usize = 4096;
+/// How many bytes one read asks for.
+pub const PIECE: usize = 4096;
 
 /// Why no more bytes could be had.
 #[derive(Clone, Copy, Debug, PartialEq, Eq)]
@@ -54,7 +55,7 @@ impl Model for Received {
 impl Received {
     /// Nothing yet.
     pub fn new(alloc: Global) -> Self
-        ensures { result ≡ record { held = []; left = 1099511627776; ended = false } }
+        ensures { result ≡ record { held = []; left = MOST_READS; ended = false } }
     {
         Received {
             bytes: Vec::new(alloc),
@@ -106,6 +107,9 @@ impl Received {
         ensures read { OnOk result (IsRead R.gives input.old input.new self.old self.new) }
         ensures err { IfErr result (λ why. Stops (R.remaining input.old) (R.remaining input.new)
             (R.has_failed input.new) self.old why) }
+        ensures stops_in_turn { OnErr result (StopsWhile (source_of R.remaining R.gives)
+            (λ held. held ≡ self.old.held) input.old input.new (R.has_failed input.new)
+            self.old.held) }
         ensures same { SameUnlessReading (R.has_failed input.old) (R.has_failed input.new) result }
         ensures fewer { OnOk result (self.new.left + 1 ≡ self.old.left) }
     {

@@ -1,45 +1,59 @@
 -- A request that was heard: its head, and then its body.
-use Rattle.std.proofs.Common.{◌≡◌, ℕ, Bool, List, Option, Result, Ok, Err, IfOk, IfErr, sym, ap, subst}
+use Rattle.std.proofs.Common.{◌≡◌, ℕ, Bool, List, ◌++◌, Option, Result, Ok, Err, IfOk, IfErr, sym, ap, subst, inl}
 use Rattle.http_requests.specs.Asked.{Asked, asked_by}
+use Rattle.http_requests.specs.Heads.{AwaitsHead}
+use Rattle.http_requests.specs.Requests.{AwaitsRequest}
+use Rattle.http_requests.specs.Waiting.{Source, ReadsWhile}
 use Rattle.http_requests.specs.Sinks.{Takings}
-use Rattle.http_requests.specs.Receiving.{Received, ReadsOn, Stops, SameUnlessReading, FindsHead}
+use Rattle.http_requests.specs.Receiving.{Received, ReadsOn, Stops, SameUnlessReading, FindsHead, FindsEnd}
 use Rattle.http_requests.specs.Bodies.{TakesBody, ReadsBody}
 use Rattle.http_requests.specs.declared.asked.BodyLength.{BodyLength}
 use Rattle.http_requests.specs.declared.asked.Request.{Request}
 use Rattle.http_requests.specs.declared.asked.Breach.{Breach}
 use Rattle.http_requests.specs.declared.received.Interrupted.{Interrupted}
 use Rattle.http_requests.specs.declared.received.Interrupted.TheVariants as why
+use Rattle.http_requests.proofs.Readings.{widened}
 use Rattle.http_requests.proofs.Wholes.{takes_request}
 use Rattle.http_session.specs.Verdicts.{Judges, asked_of}
 use Rattle.http_session.specs.Questions.{Decides, Asks}
-use Rattle.http_session.specs.Hearing.{told_behind, HearsBody, HearsWhole, HearsOne}
+use Rattle.http_session.specs.Hearing.{told_behind, HearsBody, HearsWhole, HearsOne, HearsEnd}
 use Rattle.http_session.specs.declared.question.Question.{Question}
 use Rattle.http_session.specs.declared.verdict.Verdict.{Verdict}
 use Rattle.http_session.proofs.Texts.{asked_is}
 
-pub hears_one : (in0 in1 in2 : Option (List ℕ)) (old behind new : Received) (bytes : List ℕ) (r : Request) (size : BodyLength) (q : Question) (v : Verdict)
-    → FindsHead in0 in1 old behind bytes r size → Asks (asked_of bytes r) q → HearsWhole in1 in2 behind new size q v → HearsOne in0 in2 old new v r.closes
-hears_one in0 in1 in2 old behind new bytes r size q v found asks whole =
-    let takes : Question → List ℕ → Question → Type 0 = λ s w t. Decides s w v in
-    let body : TakesBody takes in1 in2 behind new q q size = record { text = whole.text; body = whole.body; body_is = whole.body_is; reads = whole.reads; put = whole.decides } in
-    let same : asked_by (found.is).head ≡ asked_of bytes r = asked_is bytes r found.is in
-    record {
-      head = (found.is).head;
-      body = whole.body;
-      request = takes_request in0 in1 in2 old behind new bytes r size found takes q q body;
-      judged = subst (λ (a : Asked). Judges a whole.body v) (sym same) (asks whole.body v whole.decides);
-      closes_is = ap (λ (a : Asked). a.closes) (sym same);
-    }
+module _ {R : Type 0} (source : Source R) (s m t : R) (old behind new : Received) (bytes : List ℕ) (r : Request) (size : BodyLength)
+    (found : FindsHead (source.remaining s) (source.remaining m) old behind bytes r size) (waits : ReadsWhile source.gives AwaitsHead s m old.held (bytes ++ behind.held)) where
+  pub hears_one : (q : Question) (v : Verdict) → Asks (asked_of bytes r) q → HearsWhole source m t behind new size q v → HearsOne source s t old new v r.closes
+  hears_one q v asks whole =
+      let takes : Question → List ℕ → Question → Type 0 = λ s w t. Decides s w v in
+      let body : TakesBody takes source m t behind new q q size = record { text = whole.text; body = whole.body; body_is = whole.body_is; reads = whole.reads; put = whole.decides } in
+      let same : asked_by (found.is).head ≡ asked_of bytes r = asked_is bytes r found.is in
+      record {
+        head = (found.is).head;
+        body = whole.body;
+        request = takes_request source s m t old behind new bytes r size found waits takes q q body;
+        judged = subst (λ (a : Asked). Judges a whole.body v) (sym same) (asks whole.body v whole.decides);
+        closes_is = ap (λ (a : Asked). a.closes) (sym same);
+      }
+
+-- nothing is left of an input that has ended
+pub hears_end : {R : Type 0} (source : Source R) (s t : R) (old new : Received) → FindsEnd (source.remaining s) (source.remaining t) old new
+    → ReadsWhile source.gives AwaitsHead s t old.held new.held → HearsEnd source s t old new
+hears_end source s t old new found waits = record {
+  reads = widened source AwaitsRequest AwaitsHead s t old new (λ h awaits. inl awaits) (record { on = found.reads; waits = waits });
+  at_end = found.at_end;
+  nothing = found.nothing;
+}
 
 -- ---- the verdict behind a body
 
-pub told_heard : {S : Type 0} (takes : Takings S) (in0 in1 : Option (List ℕ)) (old new : Received) (before after : S) (size : BodyLength) (q : Question) (v : Verdict)
-    (read : Result (Result (Unit {0}) Breach) Interrupted) → ((body : List ℕ) → takes before body after → Decides q body v) → IfOk read (ReadsBody takes in0 in1 old new before after size)
-    → IfOk (told_behind read v) (HearsBody in0 in1 old new size q)
-told_heard takes in0 in1 old new before after size q v (Ok (Ok x)) decides body =
+pub told_heard : {S R : Type 0} (takes : Takings S) (source : Source R) (s t : R) (old new : Received) (before after : S) (size : BodyLength) (q : Question) (v : Verdict)
+    (read : Result (Result (Unit {0}) Breach) Interrupted) → ((body : List ℕ) → takes before body after → Decides q body v) → IfOk read (ReadsBody takes source s t old new before after size)
+    → IfOk (told_behind read v) (HearsBody source s t old new size q)
+told_heard takes source s t old new before after size q v (Ok (Ok x)) decides body =
     record { text = body.text; body = body.body; body_is = body.body_is; reads = body.reads; decides = decides body.body body.put }
-told_heard takes in0 in1 old new before after size q v (Ok (Err why)) decides breaks = breaks
-told_heard takes in0 in1 old new before after size q v (Err why) decides read = tt
+told_heard takes source s t old new before after size q v (Ok (Err why)) decides breaks = breaks
+told_heard takes source s t old new before after size q v (Err why) decides read = tt
 
 pub told_err : (v : Verdict) (P : Interrupted → Type 0) (read : Result (Result (Unit {0}) Breach) Interrupted) → IfErr read P → IfErr (told_behind read v) P
 told_err v P (Ok (Ok x)) p = tt

@@ -1,9 +1,11 @@
 -- What is heard of a request.
-use Rattle.std.specs.Prelude.{◌≡◌, ℕ, Bool, List, Option, Result, Ok, Err}
+use Rattle.std.specs.Prelude.{◌≡◌, ℕ, Bool, List, [], Result, Ok, Err}
+use Rattle.std.specs.Io.KnownBytes.{IsAtEnd}
 use Rattle.httparse.specs.Grammar.{RequestHead}
 use Rattle.http_requests.specs.Asked.{asked_by}
-use Rattle.http_requests.specs.Requests.{HasBody}
-use Rattle.http_requests.specs.Receiving.{Received, ReadsOn, put_back, TakesRequest, FindsEnd, FindsBreach}
+use Rattle.http_requests.specs.Requests.{HasBody, AwaitsBody, AwaitsRequest}
+use Rattle.http_requests.specs.Waiting.{Source}
+use Rattle.http_requests.specs.Receiving.{Received, ReadsOnWhile, put_back, TakesRequest, FindsBreach}
 use Rattle.http_requests.specs.Bodies.{BreaksBody}
 use Rattle.http_requests.specs.declared.asked.BodyLength.{BodyLength}
 use Rattle.http_requests.specs.declared.asked.Breach.{Breach}
@@ -15,17 +17,17 @@ use Rattle.http_session.specs.declared.verdict.Verdict.{Verdict}
 use Rattle.http_session.specs.declared.hearing.Heard.{Heard}
 use Rattle.http_session.specs.declared.hearing.Heard.TheVariants.{One, Clean, Broken}
 
--- a body as the head tells was taken, and this is the verdict on it
-pub record HearsWhole (in0 in1 : Option (List ℕ)) (old new : Received) (size : BodyLength) (q : Question) (v : Verdict) : Type 0 where
+-- a body as the head tells was taken, and this is the verdict on it; each read was made while more of it was awaited
+pub record HearsWhole {R : Type 0} (source : Source R) (s t : R) (old new : Received) (size : BodyLength) (q : Question) (v : Verdict) : Type 0 where
   pub text : List ℕ
   pub body : List ℕ
   pub body_is : HasBody size text body
-  pub reads : ReadsOn in0 in1 old (put_back text new)
+  pub reads : ReadsOnWhile source (AwaitsBody size) s t old (put_back text new)
   pub decides : Decides q body v
 
-abbrev pub HearsBody : Option (List ℕ) → Option (List ℕ) → Received → Received → BodyLength → Question → Result Verdict Breach → Type 0
-HearsBody in0 in1 old new size q (Ok v) = HearsWhole in0 in1 old new size q v
-HearsBody in0 in1 old new size q (Err why) = BreaksBody in0 in1 old new size why
+abbrev pub HearsBody : {R : Type 0} → Source R → R → R → Received → Received → BodyLength → Question → Result Verdict Breach → Type 0
+HearsBody source s t old new size q (Ok v) = HearsWhole source s t old new size q v
+HearsBody source s t old new size q (Err why) = BreaksBody source s t old new size why
 
 -- the verdict, where the body was read to its end
 abbrev pub told_behind : Result (Result (Unit {0}) Breach) Interrupted → Verdict → Result (Result Verdict Breach) Interrupted
@@ -34,14 +36,20 @@ told_behind (Ok (Err why)) v = Ok (Err why)
 told_behind (Err why) v = Err why
 
 -- a request was taken from the front, and this is the verdict on it, and whether it asks to close the session
-pub record HearsOne (in0 in1 : Option (List ℕ)) (old new : Received) (v : Verdict) (closes : Bool) : Type 0 where
+pub record HearsOne {R : Type 0} (source : Source R) (s t : R) (old new : Received) (v : Verdict) (closes : Bool) : Type 0 where
   pub head : RequestHead
   pub body : List ℕ
-  pub request : TakesRequest in0 in1 old new head body
+  pub request : TakesRequest source s t old new head body
   pub judged : Judges (asked_by head) body v
   pub closes_is : closes ≡ (asked_by head).closes
 
-abbrev pub Hears : Option (List ℕ) → Option (List ℕ) → Received → Received → Heard → Type 0
-Hears in0 in1 old new (One v closes) = HearsOne in0 in1 old new v closes
-Hears in0 in1 old new Clean = FindsEnd in0 in1 old new
-Hears in0 in1 old new (Broken why) = FindsBreach in0 in1 old new why
+-- nothing was left when the input ended; each read was made while a request was awaited
+pub record HearsEnd {R : Type 0} (source : Source R) (s t : R) (old new : Received) : Type 0 where
+  pub reads : ReadsOnWhile source AwaitsRequest s t old new
+  pub at_end : IsAtEnd (source.remaining t)
+  pub nothing : new.held ≡ []
+
+abbrev pub Hears : {R : Type 0} → Source R → R → R → Received → Received → Heard → Type 0
+Hears source s t old new (One v closes) = HearsOne source s t old new v closes
+Hears source s t old new Clean = HearsEnd source s t old new
+Hears source s t old new (Broken why) = FindsBreach source s t old new why

@@ -4,4 +4,6 @@ pub mod Fed
 pub mod Hearing
 pub mod Replies
 pub mod Sessions
+pub mod InTurn
+pub mod Underway
 pub mod Related

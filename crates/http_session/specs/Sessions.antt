@@ -1,5 +1,5 @@
 -- A session: what is written for what is read.
-use Rattle.std.specs.Prelude.{◌≡◌, ◌≢◌, ℕ, ◌+◌, ◌*◌, ◌≤◌, ◌⊎◌, ◌||◌, Bool, true, false, List, [], ◌∷◌, ◌++◌, length, take, All, Option, Result, Ok, Err}
+use Rattle.std.specs.Prelude.{◌≡◌, ◌≢◌, ℕ, ◌+◌, ◌≤◌, ◌⊎◌, ◌||◌, Bool, true, false, List, [], ◌∷◌, ◌++◌, length, take, All, Option, Result, Ok, Err}
 use Rattle.std.specs.List.{flat_map}
 use Rattle.std.specs.Io.KnownBytes.{Consumes, Appends, IsAtEnd}
 use Rattle.httparse.specs.Grammar.{RequestHead}
@@ -7,9 +7,9 @@ use Rattle.jaeger_model.specs.declared.batch.Batch.{Batch}
 use Rattle.trace_model.specs.declared.query.Query.{Query}
 use Rattle.trace_model.specs.declared.answer.Answer.{Answer}
 use Rattle.trace_model.specs.declared.refusal.Refusal.{Refusal}
+use Rattle.http_requests.specs.declared.received.TheConstants.{MOST_READS}
 use Rattle.http_requests.specs.Asked.{asked_by}
 use Rattle.http_requests.specs.Requests.{Spells, IsBroken}
-use Rattle.http_requests.specs.Receiving.{Received, KnowsItsEnd, turns}
 use Rattle.http_requests.specs.declared.received.Interrupted.{Interrupted}
 use Rattle.http_requests.specs.declared.received.Interrupted.TheVariants as why
 use Rattle.http_requests.specs.declared.asked.Breach.{Breach}
@@ -156,7 +156,7 @@ is_spared (due_parting b) = false
 -- each cause comes only with its device, or with the limit of reads, and with no failure of another device
 abbrev pub IsCause : Cause → Bool → Bool → List ℕ → Type 0
 IsCause Reading in_failed out_failed taken =
-    ((in_failed ≡ true) ⊎ (1099511627776 ≤ length taken)) × (out_failed ≡ false)
+    ((in_failed ≡ true) ⊎ (MOST_READS ≤ length taken)) × (out_failed ≡ false)
 IsCause Writing in_failed out_failed taken = (out_failed ≡ true) × (in_failed ≡ false)
 IsCause Memory in_failed out_failed taken = (in_failed ≡ false) × (out_failed ≡ false)
 
@@ -181,20 +181,6 @@ pub record FailsAs {S : Type 0} (submits : Submits S) (reads : Reads S) (in0 in1
   pub spared : is_spared next ≡ true → fault.cause ≢ Memory
 
 -- ---- on the way
-
--- the exchanges so far, between two requests
-pub record SoFar {S : Type 0} (submits : Submits S) (reads : Reads S) (in0 in1 out0 out1 : Option (List ℕ)) (s t : S) (received : Received) (answered : ℕ) : Type 0 where
-  pub taken : List ℕ
-  pub opens : List Exchange
-  pub read : Consumes in0 in1 taken
-  pub split : taken ≡ texts opens ++ received.held
-  pub each : All IsOpen opens
-  pub run : Run submits reads s opens t
-  pub written : Appends out0 out1 (responses opens)
-  pub count : answered ≡ length opens
-  pub least : 1099511627776 ≤ length taken + turns received
-  pub most : answered + length received.held + 4096 * received.left ≤ 4096 * 1099511627776
-  pub end : KnowsItsEnd received.ended in1
 
 -- a response was written whole, or as far as is told
 abbrev pub Says : Option (List ℕ) → Option (List ℕ) → Bool → Bool → List ℕ → Result (Unit {0}) Silence → Type 0

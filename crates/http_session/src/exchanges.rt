@@ -1,8 +1,10 @@
 ghost use Rattle.std.specs.Prelude.{◌≡◌, ◌≢◌, true, false, IfOk, IfErr, OnOk, ◌||◌, ◌++◌};
+ghost use Rattle.http_requests.specs.Waiting.{source_of};
 ghost use Rattle.query_http.specs.Paths.{endpoint_rows};
 ghost use Rattle.http_session.specs.Replies.{response_of, closes, takes_no_memory};
 ghost use Rattle.http_session.specs.declared.exchanges.Cause.TheVariants.{Writing, Memory};
 ghost use Rattle.http_session.specs.Sessions.{EndsAs, FailsAs, Step, Says, cause_by, last_of, exchange_due};
+ghost use Rattle.http_session.specs.InTurn.{ReadsInTurn, ReadsInTurnUpTo, EndsInTurn, FailsInTurn};
 ghost use Rattle.http_session.specs.Related.{Related, nothing_seen};
 
 use crate::hearing::{Heard, hear};
@@ -144,14 +146,15 @@ fn run_session<T, R: Input, W: Output, B: Backend<T>>(
     requires routes { router.now ≡ endpoint_rows }
     requires input_works { R.has_failed input.old ≡ false }
     requires output_works { W.has_failed output.old ≡ false }
-    ensures ended { IfOk result (λ e. EndsAs B.submits B.reads (R.remaining input.old)
-        (R.remaining input.new) (W.contents output.old) (W.contents output.new) backend.old
-        backend.new e.answered e.clean) }
+    ensures ended { IfOk result (λ e. EndsInTurn B.submits B.reads
+        (source_of R.remaining R.gives) input.old input.new (W.contents output.old)
+        (W.contents output.new) backend.old backend.new e.answered e.clean) }
     ensures works { OnOk result ((R.has_failed input.new ≡ false)
         × (W.has_failed output.new ≡ false)) }
-    ensures fault { IfErr result (λ f. FailsAs B.submits B.reads (R.remaining input.old)
-        (R.remaining input.new) (W.contents output.old) (W.contents output.new) backend.old
-        backend.new (R.has_failed input.new) (W.has_failed output.new) f) }
+    ensures fault { IfErr result (λ f. FailsInTurn B.submits B.reads
+        (source_of R.remaining R.gives) input.old input.new (W.contents output.old)
+        (W.contents output.new) backend.old backend.new (R.has_failed input.new)
+        (W.has_failed output.new) f) }
 {
     let mut received = Received::new(alloc);
     let mut answered = 0u64;
@@ -206,11 +209,17 @@ fn run_session<T, R: Input, W: Output, B: Backend<T>>(
 /// answer is the plain store's, at a point of one growing history: never before the point of an earlier
 /// answer, nor before a batch that was accepted.
 ///
+/// Before each read the bytes received by then were requests behind which the session stays open, and a rest of
+/// which the next request was awaited: no whole request stood in front of it, nor a reason in its lines why
+/// there can be none; nothing is read behind a request whose response closes it. That the responses to those
+/// requests were written by then is how the loop goes; no clause says it. Of a session that failed this is said
+/// too, and of the read that failed, if one did.
+///
 /// # Errors
 ///
-/// A device failed, the input was to be read more than 1,099,511,627,776 times, or memory ran out
-/// for a head, a body, a query, or a response other than 202 and 500. A batch that was accepted before
-/// stays so.
+/// A device failed, the input was to be read more often than a session may (`http_requests::MOST_READS`), or
+/// memory ran out for a head, a body, a query, or a response other than 202 and 500. A batch that was
+/// accepted before stays so.
 pub fn session<T, R: Input, W: Output, B: Backend<T>>(
     rt: &T,
     alloc: Global,
@@ -225,7 +234,8 @@ pub fn session<T, R: Input, W: Output, B: Backend<T>>(
         (R.remaining input.new) (W.contents output.old) (W.contents output.new) backend.old
         backend.new e.answered e.clean)
         × Related (B.knows backend.old) (B.limits backend.old) nothing_seen
-        (ends.opens ++ last_of ends.ending)) }
+        (ends.opens ++ last_of ends.ending)
+        × ReadsInTurn R.gives input.old input.new ends.opens ends.taken) }
 
     ensures works { OnOk result ((R.has_failed input.new ≡ false)
         × (W.has_failed output.new ≡ false)) }
@@ -234,7 +244,9 @@ pub fn session<T, R: Input, W: Output, B: Backend<T>>(
         (R.remaining input.new) (W.contents output.old) (W.contents output.new) backend.old
         backend.new (R.has_failed input.new) (W.has_failed output.new) f)
         × Related (B.knows backend.old) (B.limits backend.old) nothing_seen
-        (fails.opens ++ exchange_due fails.next)) }
+        (fails.opens ++ exchange_due fails.next)
+        × ReadsInTurnUpTo (source_of R.remaining R.gives) input.old input.new
+        (R.has_failed input.new) fails.opens fails.taken fails.next) }
 {
     let Ok(router) = endpoints(alloc) else {
         return Err(SessionFault {

@@ -1,9 +1,11 @@
 //! The requests of an input, heard one after the other: a head, what it asks, and the body as it comes.
 
-ghost use Rattle.std.specs.Prelude.{◌≡◌, ℕ, List, [], IfOk, IfErr};
+ghost use Rattle.std.specs.Prelude.{◌≡◌, ℕ, List, [], IfOk, IfErr, OnErr};
 ghost use Rattle.batch_codec.specs.BatchReading.{decoded};
 ghost use Rattle.batch_feeder.specs.Answers.{answers};
 ghost use Rattle.query_http.specs.Paths.{endpoint_rows};
+ghost use Rattle.http_requests.specs.Requests.{AwaitsBody, AwaitsRequest};
+ghost use Rattle.http_requests.specs.Waiting.{source_of, StopsWhile};
 ghost use Rattle.http_requests.specs.Receiving.{KnowsItsEnd, Stops, SameUnlessReading};
 ghost use Rattle.http_session.specs.Questions.{JudgesRead};
 ghost use Rattle.http_session.specs.Hearing.{told_behind, HearsBody, Hears};
@@ -115,10 +117,12 @@ fn hear_body<R: Input>(
     question: Question,
 ) -> Result<Result<Verdict, Breach>, Interrupted>
     requires end { KnowsItsEnd received.old.ended (R.remaining input.old) }
-    ensures heard { IfOk result (HearsBody (R.remaining input.old) (R.remaining input.new)
+    ensures heard { IfOk result (HearsBody (source_of R.remaining R.gives) input.old input.new
         received.old received.new size question) }
     ensures err { IfErr result (λ why. Stops (R.remaining input.old) (R.remaining input.new)
         (R.has_failed input.new) received.old why) }
+    ensures stops_in_turn { OnErr result (StopsWhile (source_of R.remaining R.gives)
+        (AwaitsBody size) input.old input.new (R.has_failed input.new) received.old.held) }
     ensures same { SameUnlessReading (R.has_failed input.old) (R.has_failed input.new) result }
 {
     match question {
@@ -134,7 +138,8 @@ fn hear_body<R: Input>(
     }
 }
 
-/// Hears the next request: its head, what that asks, and its body to its end. No body is held whole.
+/// Hears the next request: its head, what that asks, and its body to its end. No body is held whole. It reads
+/// only while a request is awaited of the bytes received.
 ///
 /// # Errors
 ///
@@ -147,10 +152,12 @@ pub(crate) fn hear<R: Input>(
 ) -> Result<Heard, Interrupted>
     requires routes { router.now ≡ endpoint_rows }
     requires end { KnowsItsEnd received.old.ended (R.remaining input.old) }
-    ensures heard { IfOk result (Hears (R.remaining input.old) (R.remaining input.new) received.old
-        received.new) }
+    ensures heard { IfOk result (Hears (source_of R.remaining R.gives) input.old input.new
+        received.old received.new) }
     ensures err { IfErr result (λ why. Stops (R.remaining input.old) (R.remaining input.new)
         (R.has_failed input.new) received.old why) }
+    ensures stops_in_turn { OnErr result (StopsWhile (source_of R.remaining R.gives)
+        AwaitsRequest input.old input.new (R.has_failed input.new) received.old.held) }
     ensures same { SameUnlessReading (R.has_failed input.old) (R.has_failed input.new) result }
 {
     let mut head = Vec::new(alloc);

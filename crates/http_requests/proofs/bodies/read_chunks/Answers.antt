@@ -1,8 +1,9 @@
 use Rattle.std.proofs.Common.{◌≤◌, ◌<◌, ◌∙◌, arith, refl}
 use Rattle.std.proofs.lemmas.Result.{err_from_is_err_and}
 use Rattle.http_requests.specs.Waiting.{source_of}
+use Rattle.http_requests.proofs.Waits.{any_err}
 use Rattle.http_requests.proofs.Readings.{takes_then_stops}
-use Rattle.http_requests.proofs.Taking.{chunks_none, no_size, with_line, passes, fails_content, one_more, fails_trailer, chunks_whole}
+use Rattle.http_requests.proofs.Taking.{chunks_none, no_size, with_line, passes, fails_content, one_more, fails_trailer, chunks_whole, size_stops, chunk_stops, trailer_stops}
 use Rattle.http_requests.proofs.bodies.read_chunks.Goals as goal
 
 pub chunks-init : goal.chunks-init
@@ -56,7 +57,7 @@ returns-then-not-branch-clause-body g c =
     let fails = rw c.if-not-branch.true at c.in_ok-take_content.ensures.takes in
     let some : 0 < c.in-Some.size = omega (arith, c.if-size-eq0.false) in
     let fits : c.in-Some.size ≤ c.chunks.left = omega (arith, c.if-size-left.false) in
-    fails_content g.S.Sink.takes (source_of g.R.Input.remaining g.R.Input.gives) _ _ _ _ _ _ _ _ _ c.chunks.invariant.0 c.in-Some.size line some fits _ _ _ fails
+    fails_content g.S.Sink.takes (source_of g.R.Input.remaining g.R.Input.gives) _ _ _ _ _ _ _ _ _ c.chunks.invariant.0 c.in-Some.size line some fits _ _ fails
 
 pub chunks-preserved : goal.chunks-preserved
 chunks-preserved g c =
@@ -67,3 +68,19 @@ chunks-preserved g c =
       one_more g.S.Sink.takes (source_of g.R.Input.remaining g.R.Input.gives) _ _ _ _ _ _ _ _ _ c.chunks.invariant.0 c.in-Some.size line some fits _ _ _ g.met.S.Sink.takes_joined content,
       c.in_ok-take_content.ensures.same ∙ c.in_ok-size.ensures.same ∙ c.chunks.invariant.1,
     )
+
+pub returns-in_err-size-clause-stops_in_turn : goal.returns-in_err-size-clause-stops_in_turn
+returns-in_err-size-clause-stops_in_turn g c =
+    any_err _ (size_stops g.S.Sink.takes (source_of g.R.Input.remaining g.R.Input.gives) _ _ _ _ _ c.take_size.new.received _ _ _ c.chunks.invariant.0 _ c.in_err-size.ensures.stops_in_turn)
+
+pub returns-in_err-take_trailer-clause-stops_in_turn : goal.returns-in_err-take_trailer-clause-stops_in_turn
+returns-in_err-take_trailer-clause-stops_in_turn g c =
+    let line = rw (c.in-Some.is, c.if-size-eq0.true) at c.in_ok-size.ensures.takes in
+    any_err _ (trailer_stops g.S.Sink.takes (source_of g.R.Input.remaining g.R.Input.gives) _ _ _ _ _ _ _ _ _ c.chunks.invariant.0 line _ c.take_trailer.new.received _ c.in_err-take_trailer.ensures.stops_in_turn)
+
+pub returns-in_err-take_content-clause-stops_in_turn : goal.returns-in_err-take_content-clause-stops_in_turn
+returns-in_err-take_content-clause-stops_in_turn g c =
+    let line = rw c.in-Some.is at c.in_ok-size.ensures.takes in
+    let some : 0 < c.in-Some.size = omega (arith, c.if-size-eq0.false) in
+    let fits : c.in-Some.size ≤ c.chunks.left = omega (arith, c.if-size-left.false) in
+    any_err _ (chunk_stops g.S.Sink.takes (source_of g.R.Input.remaining g.R.Input.gives) _ _ _ _ _ _ _ _ _ c.chunks.invariant.0 c.in-Some.size line some fits _ c.take_content.new.received _ c.in_err-take_content.ensures.stops_in_turn)

@@ -1,56 +1,57 @@
 use Rattle.std.proofs.Common.{◌∙◌}
+use Rattle.http_requests.specs.Waiting.{source_of}
 use Rattle.http_session.specs.declared.hearing.Heard.{Heard}
 use Rattle.http_session.proofs.Turns.{begins, reads_on, ends_clean, ends_broken, fails_reading, fails_parting}
 use Rattle.http_session.proofs.Answering.{fewer_left, answered_open, answered_last, answered_not}
 use Rattle.http_session.proofs.exchanges.run_session.Goals as goal
 
 pub requests-init : goal.requests-init
-requests-init g c = (rw c.new-received.ensures (begins _ _ _ _ _), c.requires.input_works, c.requires.output_works)
+requests-init g c = (rw c.new-received.ensures (begins g.B.Backend.submits g.B.Backend.reads (source_of g.R.Input.remaining g.R.Input.gives) _ _ _), c.requires.input_works, c.requires.output_works)
 
 pub returns-in-Err-clause-fault : goal.returns-in-Err-clause-fault
 returns-in-Err-clause-fault g c =
-    rw c.cause_of.ensures (fails_reading _ _ Heard _ _ _ _ _ _ _ _ _ _ _ _ _ c.requests.invariant.0 c.in-Err.ensures.err
-    c.in-Err.ensures.same c.requests.invariant.1 c.requests.invariant.2)
+    rw c.cause_of.ensures (fails_reading g.B.Backend.submits g.B.Backend.reads (source_of g.R.Input.remaining g.R.Input.gives) Heard _ _ _ _ _ _ _ _ _ _ _ _ _ c.requests.invariant.0 c.in-Err.ensures.err
+    c.in-Err.ensures.stops_in_turn c.in-Err.ensures.same c.requests.invariant.1 c.requests.invariant.2)
 
 pub returns-in-Ok-Clean-clause-ended : goal.returns-in-Ok-Clean-clause-ended
 returns-in-Ok-Clean-clause-ended g c =
     let found = rw c.in-Ok-Clean.field-0-is at c.in-Ok-Clean.ensures.heard in
-    let so = reads_on _ _ _ _ _ _ _ _ _ _ _ _ c.requests.invariant.0 found.reads in
-    ends_clean _ _ _ _ _ _ _ _ _ _ so (found.at_end, found.nothing)
+    let so = reads_on g.B.Backend.submits g.B.Backend.reads (source_of g.R.Input.remaining g.R.Input.gives) _ _ _ _ _ _ _ _ _ _ c.requests.invariant.0 found.reads in
+    ends_clean g.B.Backend.submits g.B.Backend.reads (source_of g.R.Input.remaining g.R.Input.gives) _ _ _ _ _ _ _ _ so (found.at_end, found.nothing)
 
 pub returns-in-Err-say-clause-fault : goal.returns-in-Err-say-clause-fault
 returns-in-Err-say-clause-fault g c =
     let found = rw c.in-Ok-Broken.field-0-is at c.in-Ok-Broken.ensures.heard in
-    let so = reads_on _ _ _ _ _ _ _ _ _ _ _ _ c.requests.invariant.0 found.reads in
-    rw c.after.ensures (fails_parting _ _ _ _ _ _ _ _ _ _ _ _ _ _ _ so found.broken (rw c.requests.invariant.2 at c.in-Err-say.ensures.says)
+    let so = reads_on g.B.Backend.submits g.B.Backend.reads (source_of g.R.Input.remaining g.R.Input.gives) _ _ _ _ _ _ _ _ _ _ c.requests.invariant.0 found.reads in
+    rw c.after.ensures (fails_parting g.B.Backend.submits g.B.Backend.reads (source_of g.R.Input.remaining g.R.Input.gives) _ _ _ _ _ _ _ _ _ _ _ _ _ so found.broken (rw c.requests.invariant.2 at c.in-Err-say.ensures.says)
     (c.in-Ok-Broken.ensures.same ∙ c.requests.invariant.1))
 
 pub returns-in-Ok-Broken-clause-ended : goal.returns-in-Ok-Broken-clause-ended
 returns-in-Ok-Broken-clause-ended g c =
     let found = rw c.in-Ok-Broken.field-0-is at c.in-Ok-Broken.ensures.heard in
-    let so = reads_on _ _ _ _ _ _ _ _ _ _ _ _ c.requests.invariant.0 found.reads in
-    ends_broken _ _ _ _ _ _ _ _ _ _ _ _ so found.broken c.in_default.ensures.says.0
+    let so = reads_on g.B.Backend.submits g.B.Backend.reads (source_of g.R.Input.remaining g.R.Input.gives) _ _ _ _ _ _ _ _ _ _ c.requests.invariant.0 found.reads in
+    ends_broken g.B.Backend.submits g.B.Backend.reads (source_of g.R.Input.remaining g.R.Input.gives) _ _ _ _ _ _ _ _ _ _ so found.broken c.in_default.ensures.says.0
 
 pub returns-in-Err-said-clause-fault : goal.returns-in-Err-said-clause-fault
 returns-in-Err-said-clause-fault g c =
     let found = rw c.in-Ok-One.field-0-is at c.in-Ok-One.ensures.heard in
-    rw c.after-in-Err-said.ensures (answered_not _ _ _ _ _ _ _ _ _ _ _ _ _ _ c.requests.invariant.0 found _ _ _ _ c.answer-reply.ensures c.closes_behind-close.ensures
+    rw c.after-in-Err-said.ensures (answered_not g.B.Backend.submits g.B.Backend.reads (source_of g.R.Input.remaining g.R.Input.gives) _ _ _ _ _ _ _ _ _ _ _ _ c.requests.invariant.0 found _ _ _ _ c.answer-reply.ensures c.closes_behind-close.ensures
     _ _ _ (rw c.requests.invariant.2 at c.in-Err-said.ensures.says) (c.in-Ok-One.ensures.same ∙ c.requests.invariant.1) c.in-Err-said.ensures.spared)
 
 pub returns-then-close-clause-ended : goal.returns-then-close-clause-ended
 returns-then-close-clause-ended g c =
     let found = rw c.in-Ok-One.field-0-is at c.in-Ok-One.ensures.heard in
-    answered_last _ _ _ _ _ _ _ _ _ _ _ _ _ _ c.requests.invariant.0 found _ _ _ _ c.answer-reply.ensures c.closes_behind-close.ensures c.in_default-said.ensures.says.0 c.if-close.true
+    answered_last g.B.Backend.submits g.B.Backend.reads (source_of g.R.Input.remaining g.R.Input.gives) _ _ _ _ _ _ _ _ _ _ _ _ c.requests.invariant.0 found _ _ _ _ c.answer-reply.ensures c.closes_behind-close.ensures c.in_default-said.ensures.says.0 c.if-close.true
 
 pub requests-smaller : goal.requests-smaller
 requests-smaller g c =
     let found = rw c.in-Ok-One.field-0-is at c.in-Ok-One.ensures.heard in
-    fewer_left _ _ _ _ _ _ found
+    fewer_left (source_of g.R.Input.remaining g.R.Input.gives) _ _ _ _ _ _ found
 
 pub requests-preserved : goal.requests-preserved
 requests-preserved g c =
     let found = rw c.in-Ok-One.field-0-is at c.in-Ok-One.ensures.heard in (
-      answered_open _ _ _ _ _ _ _ _ _ _ _ _ _ _ c.requests.invariant.0 found _ _ _ _ c.answer-reply.ensures c.closes_behind-close.ensures c.in_default-said.ensures.says.0 c.if-close.false,
+      answered_open g.B.Backend.submits g.B.Backend.reads (source_of g.R.Input.remaining g.R.Input.gives) _ _ _ _ _ _ _ _ _ _ _ _ c.requests.invariant.0 found _ _ _ _ c.answer-reply.ensures c.closes_behind-close.ensures c.in_default-said.ensures.says.0 c.if-close.false,
       c.in-Ok-One.ensures.same ∙ c.requests.invariant.1,
       c.in_default-said.ensures.says.1 ∙ c.requests.invariant.2,
     )

@@ -1,5 +1,6 @@
 use Rattle.std.proofs.Common.{ℕ, List}
 use Rattle.batch_feeder.specs.Answers.{answers}
+use Rattle.http_requests.specs.Waiting.{source_of}
 use Rattle.http_session.specs.Fed.{Follows}
 use Rattle.http_session.specs.Questions.{Decides}
 use Rattle.http_session.specs.declared.question.Question.TheVariants.{Batch}
@@ -12,4 +13,4 @@ returns-in-Batch-clause-heard g c =
     let fed = c.read_body-read-in-Batch.new.sink in
     let decides : (body : List ℕ) → Follows (answers c.new-body.result.feeder) body (answers fed.feeder) → Decides Batch body c.verdict.result =
     λ body follows. judged _ _ body c.new-body.ensures _ follows c.verdict.ensures in
-    rw (c.told-in-Batch.ensures, c.in-Batch.is) (told_heard _ _ _ _ _ _ _ _ _ _ _ decides c.read_body-read-in-Batch.ensures.body)
+    rw (c.told-in-Batch.ensures, c.in-Batch.is) (told_heard _ (source_of g.R.Input.remaining g.R.Input.gives) _ _ _ _ _ _ _ _ _ _ decides c.read_body-read-in-Batch.ensures.body)

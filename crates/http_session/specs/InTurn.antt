@@ -1,0 +1,40 @@
+-- That a session reads only while the request is awaited that it answers next.
+use Rattle.std.specs.Prelude.{◌≡◌, ℕ, Bool, List, [], ◌++◌, Option}
+use Rattle.http_requests.specs.Requests.{AwaitsRequest}
+use Rattle.http_requests.specs.Waiting.{Gives, Source, ReadsWhile, StopsWhile}
+use Rattle.http_session.specs.Sessions.{Exchange, texts, Submits, Reads, EndsAs, Due, none_yet, due, due_parting, FailsAs}
+use Rattle.http_session.specs.declared.exchanges.SessionFault.{SessionFault}
+
+-- The bytes received are these requests up to some place, and a rest of which the next one is awaited: no
+-- request stands in front of the rest, nor a reason why there can be none.
+pub record AwaitsNext (opens : List Exchange) (bytes : List ℕ) : Type 0 where
+  pub before : List Exchange
+  pub later : List Exchange
+  pub rest : List ℕ
+  pub opens_are : opens ≡ before ++ later
+  pub bytes_are : bytes ≡ texts before ++ rest
+  pub awaits : AwaitsRequest rest
+
+-- The bytes taken between two states of an input came by reads, one after the other, and before each of them the
+-- next request was awaited of the bytes received by then. Those before it are of these, behind which the
+-- session stays open: nothing was read behind another one, as one that closes it or that is still due.
+abbrev pub ReadsInTurn : {R : Type 0} → Gives R → R → R → List Exchange → List ℕ → Type 0
+ReadsInTurn gives s t opens taken = ReadsWhile gives (AwaitsNext opens) s t [] taken
+
+-- The same of a session that failed. Where a response was due, no read had failed; otherwise one may have, as the last,
+-- and the next request was awaited before it too.
+abbrev pub ReadsInTurnUpTo : {R : Type 0} → Source R → R → R → Bool → List Exchange → List ℕ → Due → Type 0
+ReadsInTurnUpTo source s t failed opens taken none_yet = StopsWhile source (AwaitsNext opens) s t failed []
+ReadsInTurnUpTo source s t failed opens taken (due x) = ReadsInTurn source.gives s t opens taken
+ReadsInTurnUpTo source s t failed opens taken (due_parting b) = ReadsInTurn source.gives s t opens taken
+
+-- ---- sessions
+
+abbrev pub EndsInTurn : {S R : Type 0} → Submits S → Reads S → Source R → R → R → Option (List ℕ) → Option (List ℕ) → S → S → ℕ → Bool → Type 0
+EndsInTurn submits reads source i0 i1 out0 out1 s t answered clean =
+    (ends : EndsAs submits reads (source.remaining i0) (source.remaining i1) out0 out1 s t answered clean) × ReadsInTurn source.gives i0 i1 ends.opens ends.taken
+
+abbrev pub FailsInTurn : {S R : Type 0} → Submits S → Reads S → Source R → R → R → Option (List ℕ) → Option (List ℕ) → S → S → Bool → Bool → SessionFault → Type 0
+FailsInTurn submits reads source i0 i1 out0 out1 s t in_failed out_failed fault =
+    (fails : FailsAs submits reads (source.remaining i0) (source.remaining i1) out0 out1 s t in_failed out_failed fault)
+    × ReadsInTurnUpTo source i0 i1 in_failed fails.opens fails.taken fails.next
