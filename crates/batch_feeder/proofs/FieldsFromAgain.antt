@@ -1,8 +1,9 @@
 -- The steps of a struct that comes in pieces.
-use Rattle.std.proofs.Common.{◌≡◌, ℕ, ℤ, List, Some, None, Result, Ok, Err, refl, ap, sym, ◌∙◌}
+use Rattle.std.proofs.Common.{◌≡◌, ℕ, ℤ, eqb, true, arith, List, [], ◌∷◌, length, Some, None, Result, Ok, Err, refl, ap, sym, ◌∙◌}
+use Rattle.std.proofs.lemmas.Bool.{eqb-true}
 use Rattle.thrift_binary.specs.declared.fault.WireError.TheVariants.{Truncated}
 use Rattle.thrift_binary.specs.Reading.{◌>>=◌, field_at}
-use Rattle.thrift_binary.specs.Fields.{Take, behind_field, fields_at}
+use Rattle.thrift_binary.specs.Fields.{Take, behind_field, fields_in, fields_at}
 use Rattle.thrift_binary.specs.Cuts.{IsCutSafe}
 use Rattle.wire_pieces.specs.declared.fault.PieceError.{PieceError}
 use Rattle.wire_pieces.specs.declared.heads.FieldHead.{FieldHead}
@@ -13,12 +14,10 @@ use Rattle.wire_pieces.proofs.FieldsAgain as wires
 use Rattle.batch_codec.specs.declared.fault.DecodeError.{DecodeError}
 use Rattle.batch_codec.specs.declared.fault.DecodeError.TheVariants.{Wire}
 use Rattle.batch_codec.specs.Decoding.{Reading, wire}
-use Rattle.batch_feeder.specs.declared.fields.Field.{Field}
-use Rattle.batch_feeder.specs.declared.fields.Field.TheVariants as field
 use Rattle.batch_feeder.specs.declared.fields.Step.{Step}
 use Rattle.batch_feeder.specs.declared.fields.Step.TheVariants.{Head, Value}
 use Rattle.batch_feeder.specs.Going.{fault_of, Faults}
-use Rattle.batch_feeder.specs.Fields.{Passes, fields_from, struct_at, struct_from}
+use Rattle.batch_feeder.specs.Fields.{IsFresh, fields_from, struct_at, struct_from}
 use Rattle.batch_feeder.proofs.GoingAgain.{faults-lift, faults-inside, comes-faults}
 
 module _ {S V : Type 0} (take : Take S DecodeError) (res : S → V → Reading S) {a : List ℕ → Result (S × List ℕ) DecodeError} {p : List ℕ} where
@@ -53,12 +52,22 @@ module _ {S V : Type 0} (take : Take S DecodeError) (res : S → V → Reading S
     pub at-head : (s : S) (h : FieldHead) (w : List ℕ) → ((u : List ℕ) → head_from h u ≡ field_at u) → Comes a (fields_at wire take s) p w → Comes a (fields_from take res s (Head h)) p w
     at-head s h w fresh inv = comes-trans inv (comes-is (fields_at wire take s) (fields_from take res s (Head h)) w (λ u. sym (wires.head-fresh wire take safe s h fresh u)))
 
-  -- what a field came to, behind other bytes
-  pub passes-after : (b : Reading S) (t : S) (next : Step V) (w v : List ℕ) (r : Result Field DecodeError) → Comes a b p w → Passes take res b t next w v r → Passes take res a t next p v r
-  passes-after b t next w v (Ok field.Open) f g = comes-waits f g
-  passes-after b t next w v (Ok field.Whole) f g = comes-trans f g
-  passes-after b t next w v (Ok field.Stop) f g = comes-trans f g
-  passes-after b t next w v (Err e) f g = comes-faults a b p w e f g
+pub none-left : (w : List ℕ) → eqb (length w) 0 ≡ true → w ≡ []
+none-left [] h = refl
+none-left (b ∷ w) h = absurd (let k : length (b ∷ w) ≡ 0 = eqb-true _ 0 h in omega arith)
+
+module _ {S V : Type 0} (take : Take S DecodeError) (res : S → V → Reading S) where
+  -- a piece that ends in front of a head of which no byte has come
+  pub fresh-waits : (s t : S) (step : Step V) (p w : List ℕ) → IsFresh take res step → w ≡ [] → Comes (fields_at wire take s) (fields_at wire take t) p w → Waits (Wire Truncated) (fields_at wire take s) (fields_from take res t step) p w
+  unfolding fields_at fields_in
+  fresh-waits s t step p w fresh spent g = record { comes = comes-trans g (comes-is (fields_at wire take t) (fields_from take res t step) w (λ u. sym (fresh t u))); want = fresh t []; spent = spent }
+
+  pub fresh-step : (s : S) (step : Step V) (w : List ℕ) → IsFresh take res step → Comes (fields_from take res s step) (fields_at wire take s) w w
+  fresh-step s step w fresh = comes-is (fields_from take res s step) (fields_at wire take s) w (fresh s)
+
+  -- of this step no byte has come
+  pub head-is-fresh : ((s : S) (c : ℕ) (i : ℤ) → IsCutSafe (Wire Truncated) (take s c i)) → (step : Step V) (h : FieldHead) → step ≡ Head h → ((w : List ℕ) → head_from h w ≡ field_at w) → IsFresh take res step
+  head-is-fresh safe step h is fresh = λ s w. rw is (wires.head-fresh wire take safe s h fresh w)
 
 module _ {S V A : Type 0} (take : Take S DecodeError) (res : S → V → Reading S) (makes : S → Result A DecodeError) where
   abbrev made : S × List ℕ → Result (A × List ℕ) DecodeError

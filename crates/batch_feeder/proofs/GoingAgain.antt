@@ -1,5 +1,5 @@
 -- What calls gave, in larger readings.
-use Rattle.std.proofs.Common.{◌≡◌, ℕ, List, ◌++◌, Option, Some, None, Result, Ok, Err, Bool, true, false, refl, sym, ◌∙◌}
+use Rattle.std.proofs.Common.{◌≡◌, ℕ, List, ◌++◌, Option, Some, None, Result, Ok, Err, Bool, true, false, refl, ap, sym, ◌∙◌}
 use Rattle.thrift_binary.specs.declared.fault.WireError.{WireError}
 use Rattle.thrift_binary.specs.declared.fault.WireError.TheVariants.{Truncated}
 use Rattle.thrift_binary.specs.Reading.{◌>>=◌, lift}
@@ -10,9 +10,7 @@ use Rattle.wire_pieces.proofs.Steps.{comes-trans, comes-waits, comes-inside, wai
 use Rattle.batch_codec.specs.declared.fault.DecodeError.{DecodeError}
 use Rattle.batch_codec.specs.declared.fault.DecodeError.TheVariants.{Wire}
 use Rattle.batch_codec.specs.Decoding.{Reading, wire}
-use Rattle.batch_feeder.specs.declared.going.Begun.{Begun}
-use Rattle.batch_feeder.specs.declared.going.Begun.TheVariants.{Whole, Part}
-use Rattle.batch_feeder.specs.Going.{Begins, fault_of, Faults, GoesTo, Places, Sets}
+use Rattle.batch_feeder.specs.Going.{fault_of, Faults, GoesTo, Places, Sets}
 
 pub one_wire : (e f : WireError) → wire e ≡ wire f → e ≡ f
 one_wire e f h = cc
@@ -56,11 +54,19 @@ module _ {X : Type 0} (a reads : List ℕ → Result X DecodeError) (same : (w :
   pub same-faults : (p : List ℕ) (e : DecodeError) → Faults a p e → Faults reads p e
   same-faults p e g = λ n. record { same = λ rest. sym (same (p ++ rest)) ∙ (g n).same rest; no_want = (g n).no_want }
 
--- a call that began a value, behind other bytes
-pub begins-after : {A P : Type 0} (a b : Reading A) (res : P → Reading A) (p w v : List ℕ) (r : Result (Begun A P) DecodeError) → Comes a b p w → Begins b res w v r → Begins a res p v r
-begins-after a b res p w v (Ok (Whole x)) f g = comes-trans f g
-begins-after a b res p w v (Ok (Part q)) f g = comes-waits f g
-begins-after a b res p w v (Err e) f g = comes-faults a b p w e f g
+-- the same in a larger reading
+module _ {A X : Type 0} (reads a : Reading A) (same : (w : List ℕ) → a w ≡ reads w) (then : A × List ℕ → Result X DecodeError) where
+  inside : (w : List ℕ) → (a w >>= then) ≡ (reads w >>= then)
+  inside w = ap (λ r. r >>= then) (same w)
+
+  pub fresh-whole : (x : A) (p q : List ℕ) → Comes a (λ w. Ok (x, w)) p q → Comes (λ w. reads w >>= then) (λ w. then (x, w)) p q
+  fresh-whole x p q g = same-comes (λ w. a w >>= then) (λ w. reads w >>= then) inside (λ w. then (x, w)) p q (comes-inside then g)
+
+  pub fresh-waits : (b : Reading A) (p q : List ℕ) → Waits (Wire Truncated) a b p q → Waits (Wire Truncated) (λ w. reads w >>= then) (λ w. b w >>= then) p q
+  fresh-waits b p q g = same-waits (λ w. a w >>= then) (λ w. reads w >>= then) inside (λ w. b w >>= then) p q (waits-inside then g)
+
+  pub fresh-faults : (p : List ℕ) (e : DecodeError) → Faults a p e → Faults (λ w. reads w >>= then) p e
+  fresh-faults p e g = same-faults (λ w. a w >>= then) (λ w. reads w >>= then) inside p e (faults-inside then a p e g)
 
 -- a call that went on, behind other bytes
 pub goes-to-after : {X : Type 0} (x : X) (a b c : Reading X) (p w v : List ℕ) (r : Result Bool DecodeError) → Comes a b p w → GoesTo x b c w v r → GoesTo x a c p v r

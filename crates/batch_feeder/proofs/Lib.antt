@@ -4,5 +4,5 @@ pub mod ListsFromAgain
 pub mod TextsAgain
 pub mod FeedingAgain
 pub mod PiecesAgain
-pub mod SlotsAgain
-pub mod SpansAgain
+pub mod HoldingAgain
+pub mod ReadsAgain

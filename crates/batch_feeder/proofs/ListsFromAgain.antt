@@ -1,5 +1,5 @@
 -- The steps of a list of structs that comes in pieces.
-use Rattle.std.proofs.Common.{◌≡◌, ℕ, suc, ◌<◌, ◌-◌, false, eqb, List, [], ◌∷◌, ◌++◌, Result, Ok, Err, refl, ap, arith, append_assoc, append-nil}
+use Rattle.std.proofs.Common.{◌≡◌, ℕ, suc, ◌<◌, ◌-◌, Bool, true, false, eqb, List, [], ◌∷◌, ◌++◌, Option, None, Result, Ok, Err, refl, ap, arith, append_assoc, append-nil}
 use Rattle.std.proofs.lemmas.Bool.{ne_eqb}
 use Rattle.thrift_binary.specs.declared.fault.WireError.TheVariants.{Truncated, BadType}
 use Rattle.thrift_binary.specs.Reading.{◌>>=◌}
@@ -14,13 +14,16 @@ use Rattle.wire_pieces.proofs.ItemsAgain.{items-refuses, list-waits}
 use Rattle.batch_codec.specs.declared.fault.DecodeError.{DecodeError}
 use Rattle.batch_codec.specs.declared.fault.DecodeError.TheVariants.{Wire}
 use Rattle.batch_codec.specs.Decoding.{Reading, wire}
-use Rattle.batch_feeder.specs.declared.items.ListStep.{ListStep}
-use Rattle.batch_feeder.specs.declared.items.ListStep.TheVariants.{Head}
-use Rattle.batch_feeder.specs.Going.{fault_of, Faults}
+use Rattle.batch_feeder.specs.Going.{fault_of, Enters, Faults, GoesTo}
 use Rattle.batch_feeder.specs.Lists.{items_behind, list_from}
 use Rattle.batch_feeder.proofs.GoingAgain.{faults-lift, faults-inside}
 
 module _ {A : Type 0} (one : Reading A) where
+  -- an item of which bytes are wanted
+  pub item-short : (items : List A) (n : ℕ) (now : Reading A) (w : List ℕ) → now w ≡ Err (Wire Truncated) → items_from one items n now w ≡ Err (Wire Truncated)
+  unfolding items_from
+  item-short items n now w h = rw h refl
+
   pub items-faults : (items : List A) (n : ℕ) (now : Reading A) (w : List ℕ) (e : DecodeError) → Faults now w e → Faults (items_from one items n now) w e
   items-faults items n now w e g = λ apart. items-refuses one (Wire Truncated) items n now w e (g apart)
 
@@ -74,12 +77,18 @@ module _ {A : Type 0} (one : Reading A) where
       let n0 : eqb n 0 ≡ false = ne_eqb n 0 some in
       record { same = λ rest. rw (n0, is, empty) (no_front (items_at one n (w ++ rest))) }
 
-module _ {A P : Type 0} (one : Reading A) (res : P → Reading A) (items : List A) (left : ℕ) (step : ListStep P) (p : ListHead) (is : step ≡ Head p) where
-  pub head-faults : (w : List ℕ) (e : PieceError) → Refused (list_head p) w e → Faults (list_from one res items left step) w (fault_of e)
-  head-faults w e g = rw is (faults-inside (λ h. behind_head wire 12 one h.0 h.1) _ w (fault_of e) (faults-lift (list_head p) w e g))
+module _ {A P : Type 0} (one : Reading A) (res : P → Reading A) (items : List A) (left : ℕ) (p : ListHead) where
+  pub head-faults : (w : List ℕ) (e : PieceError) → Refused (list_head p) w e → Faults (list_from one res items left p None) w (fault_of e)
+  head-faults w e g = faults-inside (λ h. behind_head wire 12 one h.0 h.1) _ w (fault_of e) (faults-lift (list_head p) w e g)
 
-  pub head-waits : (q : ListHead) (w v : List ℕ) → Waits Truncated (list_head p) (list_head q) w v → Waits (Wire Truncated) (list_from one res items left step) (list_from one res items left (Head q)) w v
-  head-waits q w v g = rw is (list-waits one wire 12 p q w v g)
+  pub head-waits : (q : ListHead) (w v : List ℕ) → Waits Truncated (list_head p) (list_head q) w v → Waits (Wire Truncated) (list_from one res items left p None) (list_from one res items left q None) w v
+  head-waits q w v g = list-waits one wire 12 p q w v g
 
-  pub head-behind : (w v : List ℕ) (d n : ℕ) → Comes (list_head p) (λ u. Ok ((d, n), u)) w v → Comes (list_from one res items left step) (behind_head wire 12 one (d, n)) w v
-  head-behind w v d n g = rw is (comes-inside (λ h. behind_head wire 12 one h.0 h.1) (comes-lift wire g))
+  pub head-behind : (w v : List ℕ) (d n : ℕ) → Comes (list_head p) (λ u. Ok ((d, n), u)) w v → Comes (list_from one res items left p None) (behind_head wire 12 one (d, n)) w v
+  head-behind w v d n g = comes-inside (λ h. behind_head wire 12 one h.0 h.1) (comes-lift wire g)
+
+  -- the items behind the head, of which one may be held
+  pub list-held : (a : Reading (List A)) (x : List A) (part : Option P) (w v : List ℕ) (r : Result Bool DecodeError) → Enters a (λ k. items_from one items left (res k)) x part w v r → GoesTo x a (list_from one res items left p part) w v r
+  list-held a x part w v (Ok true) g = g
+  list-held a x part w v (Ok false) (k, is, g) = rw is g
+  list-held a x part w v (Err e) g = g

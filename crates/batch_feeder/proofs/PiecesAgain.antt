@@ -1,11 +1,12 @@
 -- The pieces that a feeder was given.
-use Rattle.std.proofs.Common.{◌≡◌, ℕ, suc, ◌<◌, ◌≤◌, List, [], ◌∷◌, ◌++◌, length, drop, get_or, Result, ap, sym, ◌∙◌, drop-cons, append-nil}
+use Rattle.std.proofs.Common.{◌≡◌, ℕ, suc, eqb, false, arith, ◌<◌, ◌≤◌, List, [], ◌∷◌, ◌++◌, length, drop, get_or, Result, ap, sym, ◌∙◌, drop-cons, append-nil}
 use Rattle.std.specs.Prelude.{flat_map}
 use Rattle.std.proofs.Math.ListN.{drop_of_length-le}
 use Rattle.jaeger_model.specs.declared.batch.Batch.{Batch}
 use Rattle.batch_codec.specs.declared.fault.DecodeError.{DecodeError}
 use Rattle.batch_codec.specs.Decoding.{Fails, Gives}
 use Rattle.batch_feeder.specs.Going.{Faults}
+use Rattle.batch_feeder.specs.Feeding.{HasNoFault, Taken, Refuses}
 use Rattle.batch_feeder.proofs.FeedingAgain.{fails-unless}
 
 module _ {V : Type 0} (f : V → List ℕ) (a d : List ℕ → Result Batch DecodeError) where
@@ -20,3 +21,21 @@ module _ {V : Type 0} (f : V → List ℕ) (a d : List ℕ → Result Batch Deco
       let split : drop i vs ≡ x ∷ drop (suc i) vs = drop-cons vs i x lt ∙ ap (λ y. y ∷ drop (suc i) vs) (sym is) in
       let h : a (p ++ flat_map f (drop (suc i) vs)) ≡ d (flat_map f vs) = (let k = rw split at (inv []) in rw same (rw append-nil at (rw append-nil at k))) in
       fails-unless (d (flat_map f vs)) e (λ n. sym h ∙ (g n).same (flat_map f (drop (suc i) vs)))
+
+-- ---- a piece that is taken byte by byte
+
+pub some-bytes : (p : List ℕ) → eqb (length p) 0 ≡ false → 0 < length p
+some-bytes [] h = absurd cc
+some-bytes (b ∷ p) h = omega arith
+
+module _ (old now : List ℕ → Result Batch DecodeError) (p : List ℕ) (i : ℕ) (same : (w : List ℕ) → old (p ++ w) ≡ now (drop i p ++ w)) where
+  pub bytes-refuse : (next : List ℕ → Result Batch DecodeError) (d : ℕ) (e : DecodeError) → i < length p → Refuses now next (get_or p i d ∷ []) e → Refuses old next p e
+  bytes-refuse next d e lt g =
+      let split : drop i p ≡ get_or p i d ∷ drop (suc i) p = drop-cons p i d lt in
+      record { faults = λ n. record { same = λ w. same w ∙ ap (λ u. now (u ++ w)) split ∙ (g.faults n).same (drop (suc i) p ++ w); no_want = (g.faults n).no_want }; stays = g.stays }
+
+  pub bytes-end : length p ≤ i → HasNoFault (now []) → Taken old now p
+  bytes-end le sound =
+      let none : drop i p ≡ [] = drop_of_length-le p le in
+      let here : old p ≡ now [] = (let h = rw none at (same []) in rw append-nil at h) in
+      record { same = rw none at same; sound = rw here sound }

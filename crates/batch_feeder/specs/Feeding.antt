@@ -1,5 +1,5 @@
 -- What a feeder answers.
-use Rattle.std.specs.Prelude.{◌≡◌, ℕ, List, [], ◌++◌, Result, Ok, Err, Bool, true, false, not}
+use Rattle.std.specs.Prelude.{◌≡◌, ◌<◌, ℕ, List, [], ◌++◌, Result, Ok, Err, Bool, true, false, not}
 use Rattle.thrift_binary.specs.declared.fault.WireError.TheVariants.{Truncated, BadLength, BadType, TooDeep, BadBool, BadText}
 use Rattle.thrift_binary.specs.Reading.{◌>>=◌}
 use Rattle.jaeger_model.specs.declared.batch.Batch.{Batch}
@@ -10,6 +10,7 @@ use Rattle.batch_feeder.specs.declared.feeder.State.{State}
 use Rattle.batch_feeder.specs.declared.feeder.State.TheVariants as state
 use Rattle.batch_feeder.specs.Going.{Faults}
 use Rattle.batch_feeder.specs.Fields.{struct_from}
+use Rattle.batch_feeder.specs.Outsets.{IsPart, AreQuiet}
 use Rattle.batch_feeder.specs.Batches.{batch_goes_on}
 
 -- what it answers if these bytes are still to come, and no others
@@ -44,6 +45,17 @@ settled (state.Refused e) = not (is_want e)
 abbrev pub IsSettled : State → Type 0
 IsSettled s = settled s ≡ true
 
+-- it stands between two fields, a part of one of which is too short
+abbrev pub Rests : State → Type 0
+Rests s = (w : List ℕ) → IsPart w → answers_of s w ≡ Err (Wire Truncated)
+
+-- Bytes that a state has still to read, and how many more are wanted before they can show a fault: none where they
+-- are read as they come.
+pub record Holds (s : State) (w : List ℕ) (n : ℕ) : Type 0 where
+  pub none : n ≡ 0 → w ≡ []
+  pub rests : 0 < n → Rests s
+  pub quiet : AreQuiet w n
+
 -- whole, or too short
 abbrev pub HasNoFault : Result Batch DecodeError → Type 0
 HasNoFault (Ok b) = Unit {0}
@@ -64,6 +76,11 @@ pub record Refuses (old new : List ℕ → Result Batch DecodeError) (piece : Li
 abbrev pub Feeds : (List ℕ → Result Batch DecodeError) → (List ℕ → Result Batch DecodeError) → List ℕ → Result (Unit {0}) DecodeError → Type 0
 Feeds old new piece (Ok x) = Taken old new piece
 Feeds old new piece (Err e) = Refuses old new piece e
+
+-- the same of a call that reads bytes that were taken before
+abbrev pub Keeps : (List ℕ → Result Batch DecodeError) → (List ℕ → Result Batch DecodeError) → Result (Unit {0}) DecodeError → Type 0
+Keeps old new (Ok x) = (rest : List ℕ) → old rest ≡ new rest
+Keeps old new (Err e) = Refuses old new [] e
 
 -- nothing follows the batch
 abbrev pub Ends : List ℕ → Result (Unit {0}) DecodeError → Type 0

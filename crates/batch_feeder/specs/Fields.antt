@@ -1,7 +1,7 @@
 -- A struct of which some bytes have come.
-use Rattle.std.specs.Prelude.{ℕ, List, Option, Some, Result, Ok, Err}
+use Rattle.std.specs.Prelude.{◌≡◌, ◌<◌, ℕ, List, length, Option, Some, Result, Ok, Err, Bool, true, false}
 use Rattle.thrift_binary.specs.declared.fault.WireError.TheVariants.{Truncated}
-use Rattle.thrift_binary.specs.Reading.{◌>>=◌}
+use Rattle.thrift_binary.specs.Reading.{◌>>=◌, field_at, is_code}
 use Rattle.thrift_binary.specs.Fields.{Take, fields_at}
 use Rattle.wire_pieces.specs.Pieces.{Comes, Waits}
 use Rattle.wire_pieces.specs.Heads.{fields_head, fields_value}
@@ -10,13 +10,17 @@ use Rattle.batch_codec.specs.declared.fault.DecodeError.TheVariants.{Wire}
 use Rattle.batch_codec.specs.Decoding.{Reading, wire}
 use Rattle.batch_feeder.specs.declared.fields.Step.{Step}
 use Rattle.batch_feeder.specs.declared.fields.Step.TheVariants.{Head, Value}
-use Rattle.batch_feeder.specs.declared.fields.Field.{Field}
-use Rattle.batch_feeder.specs.declared.fields.Field.TheVariants as field
+use Rattle.batch_feeder.specs.declared.fields.Place.{Place}
+use Rattle.batch_feeder.specs.declared.fields.Place.TheVariants as place
 use Rattle.batch_feeder.specs.Going.{Faults}
 
 abbrev pub fields_from : {S V : Type 0} → Take S DecodeError → (S → V → Reading S) → S → Step V → Reading S
 fields_from take resumes s (Head h) w = fields_head wire take s h w
 fields_from take resumes s (Value v) w = fields_value wire take (resumes s v) w
+
+-- a head of which no byte has come
+abbrev pub IsFresh : {S V : Type 0} → Take S DecodeError → (S → V → Reading S) → Step V → Type 0
+IsFresh {S = S} take resumes step = (s : S) (w : List ℕ) → fields_from take resumes s step w ≡ fields_at wire take s w
 
 -- what the fields make at the stop byte
 abbrev pub struct_at : {S A : Type 0} → Take S DecodeError → S → (S → Result A DecodeError) → Reading A
@@ -29,9 +33,16 @@ struct_from take resumes makes s step w = fields_from take resumes s step w >>= 
 abbrev pub made_of : {S A : Type 0} → (S → Result A DecodeError) → S → Result (Option A) DecodeError
 made_of makes s = makes s >>= λ m. Ok (Some m)
 
--- what a field came to that was held, or that began
-abbrev pub Passes : {S V : Type 0} → Take S DecodeError → (S → V → Reading S) → Reading S → S → Step V → List ℕ → List ℕ → Result Field DecodeError → Type 0
-Passes take resumes old t next piece left (Ok field.Open) = Waits (Wire Truncated) old (fields_from take resumes t next) piece left
-Passes take resumes old t next piece left (Ok field.Whole) = Comes old (fields_at wire take t) piece left
-Passes take resumes old t next piece left (Ok field.Stop) = Comes old (λ w. Ok (t, w)) piece left
-Passes take resumes old t next piece left (Err e) = Faults old piece e
+-- What reading whole fields came to. Inside a head the bytes left are too few for it; in front of a value its head was taken.
+abbrev pub Reads : {S : Type 0} → Take S DecodeError → S → S → List ℕ → List ℕ → Result Place DecodeError → Type 0
+Reads take s t piece left (Ok place.Stop) = Comes (fields_at wire take s) (λ w. Ok (t, w)) piece left
+Reads take s t piece left (Ok place.Head) = Comes (fields_at wire take s) (fields_at wire take t) piece left × (field_at left ≡ Err Truncated)
+Reads take s t piece left (Ok (place.Value c i)) = Comes (fields_at wire take s) (fields_value wire take (take t c i)) piece left
+    × (is_code c ≡ true) × (length left < length piece)
+Reads take s t piece left (Err e) = Faults (fields_at wire take s) piece e
+
+-- A value of a field that began: whole, or the part of it that has come, which is held, or a fault.
+abbrev pub Opens : {S V : Type 0} → Reading S → (V → Reading S) → S → Option (Step V) → List ℕ → List ℕ → Result Bool DecodeError → Type 0
+Opens reads resumes t next piece left (Ok true) = Comes reads (λ w. Ok (t, w)) piece left
+Opens {V = V} reads resumes t next piece left (Ok false) = (v : V) × (next ≡ Some (Value v)) × Waits (Wire Truncated) reads (resumes v) piece left
+Opens reads resumes t next piece left (Err e) = Faults reads piece e

@@ -6,9 +6,7 @@ use Rattle.wire_pieces.specs.declared.fault.PieceError.TheVariants as piece
 use Rattle.wire_pieces.specs.Pieces.{Comes, Waits, Refuses, Reaches}
 use Rattle.batch_codec.specs.declared.fault.DecodeError.{DecodeError}
 use Rattle.batch_codec.specs.declared.fault.DecodeError.TheVariants.{Wire, Memory}
-use Rattle.batch_codec.specs.Decoding.{Reading}
-use Rattle.batch_feeder.specs.declared.going.Begun.{Begun}
-use Rattle.batch_feeder.specs.declared.going.Begun.TheVariants.{Whole, Part}
+use Rattle.batch_codec.specs.Decoding.{Reading, Fails}
 
 -- the fault of a part is that of the whole
 abbrev pub fault_of : PieceError → DecodeError
@@ -42,26 +40,25 @@ Sets {A = A} old new before after piece left (Ok true) = (x : A) × (after ≡ S
 Sets old new before after piece left (Ok false) = Waits (Wire Truncated) old new piece left × (after ≡ before)
 Sets old new before after piece left (Err e) = Faults old piece e
 
--- a value that began, or the part of it that has come, or a fault
-abbrev pub Begins : {A P : Type 0} → Reading A → (P → Reading A) → List ℕ → List ℕ → Result (Begun A P) DecodeError → Type 0
-Begins reads resumes piece left (Ok (Whole x)) = Comes reads (λ w. Ok (x, w)) piece left
-Begins reads resumes piece left (Ok (Part p)) = Waits (Wire Truncated) reads (resumes p) piece left
-Begins reads resumes piece left (Err e) = Faults reads piece e
+-- a value that began: whole, or the part of it that has come, or a fault
+abbrev pub Begins : {A P : Type 0} → Reading A → (P → Reading A) → Option P → List ℕ → List ℕ → Result (Option A) DecodeError → Type 0
+Begins reads resumes part piece left (Ok (Some x)) = Comes reads (λ w. Ok (x, w)) piece left
+Begins {P = P} reads resumes part piece left (Ok None) = (p : P) × (part ≡ Some p) × Waits (Wire Truncated) reads (resumes p) piece left
+Begins reads resumes part piece left (Err e) = Faults reads piece e
 
--- the same of a call that puts a whole value into its place
-abbrev pub PlacesFirst : {A P : Type 0} → Reading A → (P → Reading A) → A → A → List ℕ → List ℕ → Result (Option P) DecodeError → Type 0
-PlacesFirst reads resumes before after piece left (Ok None) = Comes reads (λ w. Ok (after, w)) piece left
-PlacesFirst reads resumes before after piece left (Ok (Some p)) = Waits (Wire Truncated) reads (resumes p) piece left × (after ≡ before)
-PlacesFirst reads resumes before after piece left (Err e) = Faults reads piece e
+-- the same of a call that changes what was gathered, and tells whether it is whole
+abbrev pub Enters : {X V : Type 0} → Reading X → (V → Reading X) → X → Option V → List ℕ → List ℕ → Result Bool DecodeError → Type 0
+Enters reads resumes x part piece left (Ok true) = Comes reads (λ w. Ok (x, w)) piece left
+Enters {V = V} reads resumes x part piece left (Ok false) = (v : V) × (part ≡ Some v) × Waits (Wire Truncated) reads (resumes v) piece left
+Enters reads resumes x part piece left (Err e) = Faults reads piece e
 
--- the same where the place may be empty
-abbrev pub SetsFirst : {A P : Type 0} → Reading A → (P → Reading A) → Option A → Option A → List ℕ → List ℕ → Result (Option P) DecodeError → Type 0
-SetsFirst {A = A} reads resumes before after piece left (Ok None) = (x : A) × (after ≡ Some x) × Comes reads (λ w. Ok (x, w)) piece left
-SetsFirst reads resumes before after piece left (Ok (Some p)) = Waits (Wire Truncated) reads (resumes p) piece left × (after ≡ before)
-SetsFirst reads resumes before after piece left (Err e) = Faults reads piece e
+-- A call that reads what is whole in the bytes, or leaves it; what was gathered changes only by a value that is whole.
+abbrev pub Tries : {X : Type 0} → Reading X → X → X → List ℕ → List ℕ → Result Bool DecodeError → Type 0
+Tries reads old new piece left (Ok true) = reads piece ≡ Ok (new, left)
+Tries reads old new piece left (Ok false) = new ≡ old
+Tries reads old new piece left (Err e) = Fails e (reads piece) × (new ≡ old)
 
--- the same of a call that changes what was gathered: a part waits where it isn't whole
-abbrev pub Enters : {X V : Type 0} → X → Reading X → (V → Reading X) → List ℕ → List ℕ → Result (Option V) DecodeError → Type 0
-Enters x reads resumes piece left (Ok None) = Comes reads (λ w. Ok (x, w)) piece left
-Enters x reads resumes piece left (Ok (Some v)) = Waits (Wire Truncated) reads (resumes v) piece left
-Enters x reads resumes piece left (Err e) = Faults reads piece e
+-- the fault is that the bytes are too few
+abbrev pub IsWant : DecodeError → Bool → Type 0
+IsWant e true = e ≡ Wire Truncated
+IsWant e false = e ≡ Wire Truncated → ⊥

@@ -1,7 +1,10 @@
 pub mod Going
 pub mod Values
 pub mod Fields
+pub mod Outsets
 pub mod Lists
+pub mod ShortValues
+pub mod ShortFields
 pub mod NotShort
 pub mod Tags
 pub mod Logs

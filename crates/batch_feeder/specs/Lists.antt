@@ -1,14 +1,13 @@
 -- A list of structs of which some bytes have come.
-use Rattle.std.specs.Prelude.{ℕ, List}
+use Rattle.std.specs.Prelude.{ℕ, List, Option, Some, None}
 use Rattle.thrift_binary.specs.Lists.{items_at}
 use Rattle.wire_pieces.specs.Lists.{list_head_from, items_from, with_front}
 use Rattle.batch_codec.specs.Decoding.{Reading, wire}
-use Rattle.batch_feeder.specs.declared.items.ListStep.{ListStep}
-use Rattle.batch_feeder.specs.declared.items.ListStep.TheVariants.{Head, Item}
+use Rattle.wire_pieces.specs.declared.heads.ListHead.{ListHead}
 
-abbrev pub list_from : {A P : Type 0} → Reading A → (P → Reading A) → List A → ℕ → ListStep P → Reading (List A)
-list_from one resumes items left (Head p) w = list_head_from wire 12 one p w
-list_from one resumes items left (Item p) w = items_from one items left (resumes p) w
+abbrev pub list_from : {A P : Type 0} → Reading A → (P → Reading A) → List A → ℕ → ListHead → Option P → Reading (List A)
+list_from one resumes items left head None w = list_head_from wire 12 one head w
+list_from one resumes items left head (Some p) w = items_from one items left (resumes p) w
 
 -- n items behind those that have come
 abbrev pub items_behind : {A : Type 0} → Reading A → List A → ℕ → Reading (List A)

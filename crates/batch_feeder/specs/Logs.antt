@@ -14,5 +14,5 @@ use Rattle.batch_feeder.specs.Tags.{tag_goes_on}
 
 abbrev pub log_goes_on : LogSlots → LogHeld → Reading LogSlots
 log_goes_on s (held.At p) w = i64_part p w >>= λ x. Ok (record s { at = Some x.0 }, x.1)
-log_goes_on s (held.Fields p) w = list_from (struct_at take_tag no_tag tag_from) (λ q. struct_from take_tag tag_goes_on tag_from q.slots q.step) p.items.items p.left p.step w >>= λ x. Ok (record s { fields = Some x.0 }, x.1)
+log_goes_on s (held.Fields p) w = list_from (struct_at take_tag no_tag tag_from) (λ q. struct_from take_tag tag_goes_on tag_from q.slots q.step) p.items.items p.left p.head p.one w >>= λ x. Ok (record s { fields = Some x.0 }, x.1)
 log_goes_on s (held.Skip p) w = skip_part s p w

@@ -1,11 +1,8 @@
 -- A span of which some bytes have come.
-use Rattle.std.specs.Prelude.{pos, Some, Ok, ◌&&◌, ◌==◌, if◌then◌else◌}
-use Rattle.std.specs.Ordering.{int_eq}
-use Rattle.thrift_binary.specs.Fields.{Take}
-use Rattle.batch_codec.specs.declared.fault.DecodeError.{DecodeError}
+use Rattle.std.specs.Prelude.{Some, Ok}
 use Rattle.thrift_binary.specs.Reading.{◌>>=◌}
 use Rattle.batch_codec.specs.declared.span.SpanSlots.{SpanSlots}
-use Rattle.batch_codec.specs.Decoding.{Reading, skipped, i32_at, text_at}
+use Rattle.batch_codec.specs.Decoding.{Reading}
 use Rattle.batch_codec.specs.Gathered.{no_tag, no_log, no_reference}
 use Rattle.batch_codec.specs.TagReading.{take_tag, tag_from}
 use Rattle.batch_codec.specs.LogReading.{take_log, log_from}
@@ -25,17 +22,10 @@ span_goes_on s (held.TraceHigh p) w = id_part p w >>= λ x. Ok (record s { trace
 span_goes_on s (held.Id p) w = id_part p w >>= λ x. Ok (record s { id = Some x.0 }, x.1)
 span_goes_on s (held.Parent p) w = id_part p w >>= λ x. Ok (record s { parent = Some x.0 }, x.1)
 span_goes_on s (held.Operation p) w = text_part p w >>= λ x. Ok (record s { operation = Some x.0 }, x.1)
-span_goes_on s (held.References p) w = list_from (struct_at take_reference no_reference reference_from) (λ q. struct_from take_reference reference_goes_on reference_from q.slots q.step) p.items.items p.left p.step w >>= λ x. Ok (record s { references = x.0 }, x.1)
+span_goes_on s (held.References p) w = list_from (struct_at take_reference no_reference reference_from) (λ q. struct_from take_reference reference_goes_on reference_from q.slots q.step) p.items.items p.left p.head p.one w >>= λ x. Ok (record s { references = x.0 }, x.1)
 span_goes_on s (held.Flags p) w = i32_part p w >>= λ x. Ok (record s { flags = Some x.0 }, x.1)
 span_goes_on s (held.Start p) w = i64_part p w >>= λ x. Ok (record s { start = Some x.0 }, x.1)
 span_goes_on s (held.Duration p) w = i64_part p w >>= λ x. Ok (record s { duration = Some x.0 }, x.1)
-span_goes_on s (held.Tags p) w = list_from (struct_at take_tag no_tag tag_from) (λ q. struct_from take_tag tag_goes_on tag_from q.slots q.step) p.items.items p.left p.step w >>= λ x. Ok (record s { tags = x.0 }, x.1)
-span_goes_on s (held.Logs p) w = list_from (struct_at take_log no_log log_from) (λ q. struct_from take_log log_goes_on log_from q.slots q.step) p.items.items p.left p.step w >>= λ x. Ok (record s { logs = x.0 }, x.1)
+span_goes_on s (held.Tags p) w = list_from (struct_at take_tag no_tag tag_from) (λ q. struct_from take_tag tag_goes_on tag_from q.slots q.step) p.items.items p.left p.head p.one w >>= λ x. Ok (record s { tags = x.0 }, x.1)
+span_goes_on s (held.Logs p) w = list_from (struct_at take_log no_log log_from) (λ q. struct_from take_log log_goes_on log_from q.slots q.step) p.items.items p.left p.head p.one w >>= λ x. Ok (record s { logs = x.0 }, x.1)
 span_goes_on s (held.Skip p) w = skip_part s p w
-
--- what a field makes of what was gathered whose type is neither of the two that have many ids
-unfoldable pub take_other : Take SpanSlots DecodeError
-take_other s c i w =
-    if (c == 11) && int_eq i (pos 5) then (text_at w >>= λ x. Ok (record s { operation = Some x.0 }, x.1))
-    else if (c == 8) && int_eq i (pos 7) then (i32_at w >>= λ x. Ok (record s { flags = Some x.0 }, x.1))
-    else skipped s c w

@@ -1,7 +1,11 @@
-use crate::fields::{Slots, required};
-use crate::going::{begin_set, held, place, set};
+ghost use Rattle.std.specs.Prelude.{◌≡◌, ◌≤◌, pos, length, OnOk};
+ghost use Rattle.batch_feeder.specs.Fields.{Opens};
+
+use crate::fields::{Fields, Slots, Step, enter_slowly, hold_next, required};
+use crate::going::{place, set};
 use crate::items::ListPart;
 use crate::process::ProcessParts;
+use crate::reads::read_i64;
 use crate::skipped::SkipPart;
 use crate::span::SpanParts;
 use crate::structs::Struct;
@@ -10,6 +14,7 @@ use batch_codec::{DecodeError, Part};
 use jaeger_model::{Batch, Process, Seq, Span};
 use std::alloc::Global;
 use std::marker::Model;
+use thrift_binary::Cursor;
 use thrift_binary::types::{I64, LIST, STRUCT};
 use wire_pieces::Piece;
 
@@ -38,12 +43,78 @@ pub(crate) enum BatchHeld {
     Skip(SkipPart),
 }
 
+impl BatchParts {
+    ghost use Rattle.batch_codec.specs.BatchReading.{take_batch};
+    ghost use Rattle.batch_feeder.specs.Batches.{batch_goes_on};
+
+    /// Begins the process over a piece. It stands apart, so that other fields have no place for such a part on their stack.
+    #[tactic(auto, unfolding(batch_codec::specs::BatchReading::take_batch, batch_codec::specs::ProcessReading::process_at))]
+    #[inline(never)]
+    fn enter_process(
+        &mut self,
+        next: &mut Option<Step<BatchHeld>>,
+        alloc: Global,
+        piece: &mut Piece<'_>,
+    ) -> Result<bool, DecodeError>
+        ensures goes { Opens (take_batch self.old 12 (pos 1)) (batch_goes_on self.new) self.new
+            next.new piece.old piece.new result }
+        ensures no_longer { OnOk result (length piece.new ≤ length piece.old) }
+    {
+        let mut part = Struct::new(alloc);
+        match set(&mut part, &mut self.process, alloc, piece) {
+            Err(error) => {
+                drop(part);
+                Err(error)
+            }
+            Ok(true) => {
+                drop(part);
+                Ok(true)
+            }
+            Ok(false) => {
+                hold_next(next, Step::Value(BatchHeld::Process(part)));
+                Ok(false)
+            }
+        }
+    }
+
+    /// Begins the spans over a piece. It stands apart, so that other fields have no place for such a part on their stack.
+    #[tactic(auto, unfolding(batch_codec::specs::BatchReading::take_batch, batch_codec::specs::SpanReading::span_at))]
+    #[inline(never)]
+    fn enter_spans(
+        &mut self,
+        next: &mut Option<Step<BatchHeld>>,
+        alloc: Global,
+        piece: &mut Piece<'_>,
+    ) -> Result<bool, DecodeError>
+        ensures goes { Opens (take_batch self.old 15 (pos 2)) (batch_goes_on self.new) self.new
+            next.new piece.old piece.new result }
+        ensures no_longer { OnOk result (length piece.new ≤ length piece.old) }
+    {
+        let mut part = ListPart::new(alloc);
+        match part.set(&mut self.spans, alloc, piece) {
+            Err(error) => {
+                drop(part);
+                Err(error)
+            }
+            Ok(true) => {
+                drop(part);
+                Ok(true)
+            }
+            Ok(false) => {
+                hold_next(next, Step::Value(BatchHeld::Spans(part)));
+                Ok(false)
+            }
+        }
+    }
+}
+
 impl Slots for BatchParts {
     ghost use Rattle.batch_codec.specs.Gathered.{no_batch};
     ghost use Rattle.batch_codec.specs.BatchReading.{take_batch, batch_from};
     ghost use Rattle.batch_codec.proofs.CutBatches.{take_batch_safe};
     ghost use Rattle.batch_feeder.specs.Batches.{batch_goes_on};
     ghost use Rattle.batch_feeder.specs.NotShort.{batch_not_short};
+    ghost use Rattle.batch_feeder.specs.ShortFields.{take_batch_short};
 
     type Held = BatchHeld;
 
@@ -65,22 +136,29 @@ impl Slots for BatchParts {
         }
     }
 
-    #[tactic(auto, unfolding(batch_codec::specs::BatchReading::take_batch, batch_codec::specs::ProcessReading::process_at, batch_codec::specs::SpanReading::span_at))]
-    fn enter(
+    #[tactic(auto, unfolding(batch_codec::specs::BatchReading::take_batch))]
+    #[inline(always)]
+    fn put(
         &mut self,
         code: u8,
         id: i16,
-        alloc: Global,
-        piece: &mut Piece<'_>,
-    ) -> Result<Option<BatchHeld>, DecodeError> {
+        _alloc: Global,
+        cursor: &mut Cursor<'_>,
+    ) -> Result<bool, DecodeError> {
         match (code, id) {
-            (STRUCT, 1) => held!(
-                begin_set(&mut self.process, alloc, piece),
-                BatchHeld::Process
-            ),
-            (LIST, 2) => held!(begin_set(&mut self.spans, alloc, piece), BatchHeld::Spans),
-            (I64, 3) => held!(begin_set(&mut self.seq_no, alloc, piece), BatchHeld::SeqNo),
-            _ => held!(SkipPart::begin(alloc, code, piece), BatchHeld::Skip),
+            (I64, 3) => self.seq_no = Some(read_i64(cursor)?),
+            _ => return Ok(false),
+        }
+        Ok(true)
+    }
+
+    #[tactic(auto, unfolding(batch_codec::specs::BatchReading::take_batch, batch_codec::specs::ProcessReading::process_at, batch_codec::specs::SpanReading::span_at))]
+    fn begin(&self, code: u8, id: i16, alloc: Global) -> BatchHeld {
+        match (code, id) {
+            (STRUCT, 1) => BatchHeld::Process(Struct::new(alloc)),
+            (LIST, 2) => BatchHeld::Spans(ListPart::new(alloc)),
+            (I64, 3) => BatchHeld::SeqNo(I64Part::new()),
+            _ => BatchHeld::Skip(SkipPart::new(alloc, code)),
         }
     }
 
@@ -92,13 +170,22 @@ impl Slots for BatchParts {
     ) -> Result<bool, DecodeError> {
         match held {
             BatchHeld::Process(part) => set(part, &mut self.process, alloc, piece),
-            BatchHeld::Spans(part) => set(part, &mut self.spans, alloc, piece),
+            BatchHeld::Spans(part) => part.set(&mut self.spans, alloc, piece),
             BatchHeld::SeqNo(part) => set(part, &mut self.seq_no, alloc, piece),
             BatchHeld::Skip(part) => place(part, &mut (), alloc, piece),
         }
     }
 
+    fn rests(held: &BatchHeld) -> bool {
+        match held {
+            BatchHeld::Process(part) => part.is_between(),
+            BatchHeld::Spans(part) => part.rests(),
+            _ => false,
+        }
+    }
+
     #[tactic(auto, unfolding(batch_codec::specs::BatchReading::batch_from))]
+    #[inline(always)]
     fn whole(self) -> Result<Batch, DecodeError> {
         let process = required(self.process, Part::Batch, 1)?;
         let spans = required(self.spans, Part::Batch, 2)?;
@@ -112,4 +199,23 @@ impl Slots for BatchParts {
     ghost safe = { take_batch_safe };
 
     ghost not_short = { batch_not_short };
+
+    ghost short = { take_batch_short };
+}
+
+impl Fields for BatchParts {
+    fn enter(
+        &mut self,
+        next: &mut Option<Step<BatchHeld>>,
+        code: u8,
+        id: i16,
+        alloc: Global,
+        piece: &mut Piece<'_>,
+    ) -> Result<bool, DecodeError> {
+        match (code, id) {
+            (STRUCT, 1) => self.enter_process(next, alloc, piece),
+            (LIST, 2) => self.enter_spans(next, alloc, piece),
+            _ => enter_slowly(self, next, code, id, alloc, piece),
+        }
+    }
 }

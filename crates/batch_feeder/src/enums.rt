@@ -1,8 +1,9 @@
+ghost use Rattle.std.specs.Prelude.{◌≡◌, ℕ, List};
 ghost use Rattle.batch_codec.specs.TagReading.{type_at};
 ghost use Rattle.batch_codec.specs.ReferenceReading.{kind_at};
 ghost use Rattle.batch_feeder.specs.Values.{type_part, kind_part};
 
-use crate::going::{Begun, Fresh, Partial, begin_part};
+use crate::going::Partial;
 use batch_codec::{DecodeError, TagType};
 use jaeger_model::RefKind;
 use std::alloc::Global;
@@ -38,12 +39,13 @@ impl Partial for TypePart {
     }
 }
 
-impl Fresh for TypePart {
-    ghost reads = { type_at };
-
+impl TypePart {
+    /// Before the first byte.
     #[tactic(auto, unfolding(batch_codec::specs::TagReading::type_at, batch_codec::specs::Decoding::i32_at))]
-    fn begin(alloc: Global, piece: &mut Piece<'_>) -> Result<Begun<TagType, Self>, DecodeError> {
-        begin_part(TypePart { part: I32::new() }, alloc, piece)
+    pub(crate) fn new() -> Self
+        ensures fresh { (w : List ℕ) → type_part result w ≡ type_at w }
+    {
+        TypePart { part: I32::new() }
     }
 }
 
@@ -74,11 +76,12 @@ impl Partial for KindPart {
     }
 }
 
-impl Fresh for KindPart {
-    ghost reads = { kind_at };
-
+impl KindPart {
+    /// Before the first byte.
     #[tactic(auto, unfolding(batch_codec::specs::ReferenceReading::kind_at, batch_codec::specs::Decoding::i32_at))]
-    fn begin(alloc: Global, piece: &mut Piece<'_>) -> Result<Begun<RefKind, Self>, DecodeError> {
-        begin_part(KindPart { part: I32::new() }, alloc, piece)
+    pub(crate) fn new() -> Self
+        ensures fresh { (w : List ℕ) → kind_part result w ≡ kind_at w }
+    {
+        KindPart { part: I32::new() }
     }
 }

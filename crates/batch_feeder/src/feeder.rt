@@ -1,8 +1,11 @@
-ghost use Rattle.std.specs.Prelude.{◌≡◌, List, ℕ, [], flat_map};
+ghost use Rattle.std.specs.Prelude.{◌≡◌, ◌<◌, ◌≤◌, List, ℕ, [], ◌∷◌, Err, flat_map};
+ghost use Rattle.thrift_binary.specs.declared.fault.WireError.TheVariants.{Truncated};
+ghost use Rattle.batch_codec.specs.declared.fault.DecodeError.TheVariants.{Wire};
 ghost use Rattle.batch_codec.specs.BatchReading.{decoded};
 ghost use Rattle.batch_codec.specs.Decoding.{Gives};
 ghost use Rattle.batch_feeder.specs.declared.feeder.State.TheVariants.{Whole, Refused};
-ghost use Rattle.batch_feeder.specs.Feeding.{IsSettled, Ends, Advances, Feeds};
+ghost use Rattle.batch_feeder.specs.Outsets.{AreQuiet, least};
+ghost use Rattle.batch_feeder.specs.Feeding.{IsSettled, Rests, Holds, Ends, Advances, Feeds, Keeps, answers_of};
 
 use crate::batch::BatchParts;
 use crate::going::Partial;
@@ -10,8 +13,11 @@ use crate::structs::Struct;
 use batch_codec::DecodeError;
 use jaeger_model::Batch;
 use std::alloc::Global;
-use thrift_binary::WireError;
-use wire_pieces::Piece;
+use thrift_binary::{WireError, types};
+use wire_pieces::{Piece, size_of};
+
+/// A piece of so many bytes at most is taken byte by byte.
+const SHORT: usize = 8;
 
 /// Where a batch has come to.
 #[derive(Drop)]
@@ -68,11 +74,118 @@ fn advance(state: &mut State, alloc: Global, piece: &[u8]) -> Result<(), DecodeE
     }
 }
 
+/// Goes on over a piece, and keeps a refusal: how many bytes are wanted from there on, none where each is looked at.
+#[inline(never)]
+fn go_over(
+    state: &mut State,
+    wanted: &mut usize,
+    alloc: Global,
+    piece: &[u8],
+) -> Result<(), DecodeError>
+    requires { IsSettled state.old }
+    ensures feeds { Feeds (answers_of state.old) (answers_of state.new) piece.now result }
+    ensures settled { IsSettled state.new }
+    ensures holds { Holds state.new [] wanted.new }
+{
+    match advance(state, alloc, piece) {
+        Err(error) => {
+            refuse(state, error);
+            *wanted = 0;
+            Err(error)
+        }
+        Ok(()) => {
+            *wanted = rests(state);
+            Ok(())
+        }
+    }
+}
+
+/// A byte is wanted where it stands between two fields of the innermost struct that has begun.
+fn rests(state: &State) -> usize
+    ensures wants { 0 < result → Rests state.now }
+    ensures one { result ≤ 1 }
+{
+    match state {
+        State::Reading(reading) => {
+            if reading.is_between() {
+                return 1;
+            }
+            0
+        }
+        State::Whole(_) => 0,
+        State::Refused(_) => 0,
+    }
+}
+
+/// The bytes that each value of a type has at least.
+fn least(code: u8) -> usize
+    ensures table { result ≡ least code }
+{
+    match code {
+        types::BOOL | types::BYTE | types::STRUCT => 1,
+        types::I16 => 2,
+        types::I32 | types::STRING => 4,
+        types::SET | types::LIST => 5,
+        types::MAP => 6,
+        types::I64 | types::DOUBLE => 8,
+        _ => 0,
+    }
+}
+
+/// How many bytes are wanted behind these, the first of a field, before it can show a fault.
+fn wanted(bytes: &[u8]) -> usize
+    ensures quiet { AreQuiet bytes.now result }
+{
+    match bytes {
+        [] => 1,
+        [code] => wanted_of_type(*code),
+        [types::STRING, _, _, size @ ..] => wanted_of_string(size),
+        _ => 0,
+    }
+}
+
+/// The same behind the type of a field.
+fn wanted_of_type(code: u8) -> usize
+    ensures quiet { AreQuiet (code ∷ []) result }
+{
+    if code == 0 {
+        return 0;
+    }
+    2 + least(code)
+}
+
+/// The same behind the head of a field that is a string, and its size.
+fn wanted_of_string(size: &[u8]) -> usize
+    ensures quiet { (a b : ℕ) → AreQuiet (11 ∷ a ∷ b ∷ size.now) result }
+{
+    match size_of(size) {
+        Some(length) => length as usize,
+        None => 0,
+    }
+}
+
+/// How many bytes are wanted behind these, where one was the last that was wanted; none where none was.
+#[inline]
+fn still_wanted(before: usize, bytes: &[u8]) -> usize
+    ensures quiet { AreQuiet bytes.now result }
+    ensures begun { 0 < result → 0 < before }
+{
+    if before == 0 {
+        return 0;
+    }
+    wanted(bytes)
+}
+
 /// A batch whose bytes come in pieces.
+///
+/// The bytes of a short piece wait until the field that they are of is whole or may show a fault, which is then read at once.
 #[derive(Drop)]
 pub struct Feeder {
     state: State,
+    waiting: Vec<u8>,
+    wanted: usize,
     ghost settled: { IsSettled state },
+    ghost holds: { Holds state waiting.items wanted },
 }
 
 impl Feeder {
@@ -84,6 +197,8 @@ impl Feeder {
     {
         Feeder {
             state: State::Reading(Struct::new(alloc)),
+            waiting: Vec::new(alloc),
+            wanted: 0,
         }
     }
 
@@ -96,10 +211,117 @@ impl Feeder {
     pub fn feed(&mut self, alloc: Global, piece: &[u8]) -> Result<(), DecodeError>
         ensures feeds { Feeds (answers self.old) (answers self.new) piece.now result }
     {
-        let result = advance(&mut self.state, alloc, piece);
-        if let Err(error) = result {
-            refuse(&mut self.state, error);
+        if let [byte] = piece {
+            return self.feed_byte(alloc, *byte);
         }
+        self.feed_bytes(alloc, piece)
+    }
+
+    /// Takes a piece that isn't one byte: a short one byte by byte, since it is likely to end inside a field.
+    #[inline(never)]
+    fn feed_bytes(&mut self, alloc: Global, piece: &[u8]) -> Result<(), DecodeError>
+        ensures feeds { Feeds (answers self.old) (answers self.new) piece.now result }
+    {
+        if piece.is_empty() || piece.len() > SHORT {
+            return self.feed_long(alloc, piece);
+        }
+        for byte in piece {
+            self.feed_byte(alloc, *byte)?;
+        }
+        Ok(())
+    }
+
+    /// Takes a byte.
+    #[inline(always)]
+    fn feed_byte(&mut self, alloc: Global, byte: u8) -> Result<(), DecodeError>
+        ensures feeds { Feeds (answers self.old) (answers self.new) (byte ∷ []) result }
+    {
+        if self.wanted > 1 {
+            return self.wait(byte);
+        }
+        self.feed_last(alloc, byte)
+    }
+
+    /// Keeps a byte that shows no fault.
+    #[inline(always)]
+    fn wait(&mut self, byte: u8) -> Result<(), DecodeError>
+        requires { 1 < self.old.wanted }
+        ensures feeds { Feeds (answers self.old) (answers self.new) (byte ∷ []) result }
+    {
+        match self.waiting.push(byte) {
+            Err(_) => self.give_up(DecodeError::Memory),
+            Ok(()) => {
+                self.wanted -= 1;
+                Ok(())
+            }
+        }
+    }
+
+    /// Takes the last byte that is wanted.
+    #[inline(never)]
+    fn feed_last(&mut self, alloc: Global, byte: u8) -> Result<(), DecodeError>
+        requires { self.old.wanted ≤ 1 }
+        ensures feeds { Feeds (answers self.old) (answers self.new) (byte ∷ []) result }
+    {
+        match self.waiting.push(byte) {
+            Err(_) => self.give_up(DecodeError::Memory),
+            Ok(()) => {
+                let more = still_wanted(self.wanted, self.waiting.as_slice());
+                if more > 0 {
+                    self.wanted = more;
+                    return Ok(());
+                }
+                let result = go_over(
+                    &mut self.state,
+                    &mut self.wanted,
+                    alloc,
+                    self.waiting.as_slice(),
+                );
+                self.waiting.clear();
+                result
+            }
+        }
+    }
+
+    /// Refuses whatever comes.
+    #[inline(never)]
+    fn give_up(&mut self, error: DecodeError) -> Result<(), DecodeError>
+        requires { error ≡ Wire Truncated → ⊥ }
+        ensures refuses { result ≡ Err error }
+        ensures stays { (w : List ℕ) → answers self.new w ≡ Err error }
+    {
+        refuse(&mut self.state, error);
+        self.waiting.clear();
+        self.wanted = 0;
+        Err(error)
+    }
+
+    /// Takes a piece that is read where it stands, behind what waits.
+    #[inline(never)]
+    fn feed_long(&mut self, alloc: Global, piece: &[u8]) -> Result<(), DecodeError>
+        ensures feeds { Feeds (answers self.old) (answers self.new) piece.now result }
+    {
+        match self.read_waiting(alloc) {
+            Err(error) => Err(error),
+            Ok(()) => go_over(&mut self.state, &mut self.wanted, alloc, piece),
+        }
+    }
+
+    /// Reads what waits.
+    fn read_waiting(&mut self, alloc: Global) -> Result<(), DecodeError>
+        ensures keeps { Keeps (answers self.old) (answers self.new) result }
+        ensures empty { self.new.waiting.items ≡ [] }
+    {
+        if self.waiting.is_empty() {
+            return Ok(());
+        }
+        let result = go_over(
+            &mut self.state,
+            &mut self.wanted,
+            alloc,
+            self.waiting.as_slice(),
+        );
+        self.waiting.clear();
         result
     }
 

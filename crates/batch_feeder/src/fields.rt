@@ -1,18 +1,20 @@
 ghost use Rattle.std.specs.Prelude.{◌≡◌, ◌≤◌, ℕ, ℤ, List, Result, Err, true, length, OnOk};
 ghost use Rattle.thrift_binary.specs.declared.fault.WireError.TheVariants.{Truncated};
-ghost use Rattle.thrift_binary.specs.Reading.{is_code};
+ghost use Rattle.thrift_binary.specs.Reading.{field_at, is_code};
 ghost use Rattle.thrift_binary.specs.Fields.{fields_at};
 ghost use Rattle.thrift_binary.specs.Cuts.{IsCutSafe};
 ghost use Rattle.wire_pieces.specs.Heads.{fields_value};
 ghost use Rattle.batch_codec.specs.declared.fault.DecodeError.{DecodeError};
 ghost use Rattle.batch_codec.specs.declared.fault.DecodeError.TheVariants.{Wire};
 ghost use Rattle.batch_codec.specs.Decoding.{required, wire};
-ghost use Rattle.batch_feeder.specs.Going.{Enters, GoesTo};
-ghost use Rattle.batch_feeder.specs.Fields.{Passes, fields_from};
+ghost use Rattle.batch_feeder.specs.Going.{Enters, GoesTo, IsWant, Tries};
+ghost use Rattle.batch_feeder.specs.Fields.{IsFresh, Opens, Reads, fields_from};
+ghost use Rattle.batch_feeder.specs.Outsets.{IsPart, outset};
 
 use crate::going::fault_of;
 use batch_codec::{DecodeError, Part};
 use std::alloc::Global;
+use thrift_binary::{Cursor, WireError};
 use wire_pieces::{FieldHead, Piece};
 
 /// What was gathered of a struct so far.
@@ -38,26 +40,38 @@ pub(crate) trait Slots: Drop + Sized {
     fn start(alloc: Global) -> Self
         ensures { result ≡ none };
 
-    /// Begins the value of a field over a piece: the part of it that has come, where it isn't whole.
-    fn enter(
+    /// Reads the value of a field that is whole: whether it did. A list and a value that is read past are left.
+    fn put(
         &mut self,
         code: u8,
         id: i16,
         alloc: Global,
-        piece: &mut Piece<'_>,
-    ) -> Result<Option<Self::Held>, DecodeError>
-        requires { is_code code ≡ true }
-        ensures goes { Enters self.new (takes self.old code id) (resumes self.new) piece.old piece.new result }
-        ensures no_longer { OnOk result (length piece.new ≤ length piece.old) };
+        cursor: &mut Cursor<'_>,
+    ) -> Result<bool, DecodeError>
+        ensures tries { Tries (takes self.old code id) self.old self.new
+            cursor.old cursor.new result }
+        ensures no_longer { OnOk result (length cursor.new ≤ length cursor.old) };
 
+    /// Before the first byte of the value of a field.
+    fn begin(&self, code: u8, id: i16, alloc: Global) -> Self::Held
+        requires { is_code code ≡ true }
+        ensures fresh { (w : List ℕ) → resumes self.now result w ≡ takes self.now code id w };
+
+    /// Goes on over a piece inside the value of a field: whether it is whole.
     fn more(
         &mut self,
         held: &mut Self::Held,
         alloc: Global,
         piece: &mut Piece<'_>,
     ) -> Result<bool, DecodeError>
-        ensures goes { GoesTo self.new (resumes self.old held.old) (resumes self.new held.new) piece.old piece.new result }
+        ensures goes { GoesTo self.new (resumes self.old held.old) (resumes self.new held.new)
+            piece.old piece.new result }
         ensures no_longer { OnOk result (length piece.new ≤ length piece.old) };
+
+    /// Whether the value stands between two fields of the innermost struct that has begun in it.
+    fn rests(held: &Self::Held) -> bool
+        ensures wants { result ≡ true → (s : Self) (w : List ℕ) → IsPart w →
+            resumes s held.now w ≡ Err (Wire Truncated) };
 
     fn whole(self) -> Result<Self::Made, DecodeError>
         ensures { result ≡ makes self };
@@ -67,6 +81,26 @@ pub(crate) trait Slots: Drop + Sized {
 
     /// What is missing is no want of bytes.
     ghost not_short: { (s : Self) → makes s ≡ Err (Wire Truncated) → ⊥ };
+
+    /// A value that every value of its type is longer than is no field's.
+    ghost short: { (s : Self) (c : ℕ) (i : ℤ) (w : List ℕ) → outset c w ≡ Err Truncated → takes s c i w ≡ Err (Wire Truncated) };
+}
+
+/// What was gathered of a struct so far, whose fields are begun over a piece.
+pub(crate) trait Fields: Slots {
+    /// Begins the value of a field over a piece, and holds the part of it that has come where it isn't whole.
+    fn enter(
+        &mut self,
+        next: &mut Option<Step<Self::Held>>,
+        code: u8,
+        id: i16,
+        alloc: Global,
+        piece: &mut Piece<'_>,
+    ) -> Result<bool, DecodeError>
+        requires { is_code code ≡ true }
+        ensures goes { Opens (Self.takes self.old code id) (Self.resumes self.new) self.new next.new
+            piece.old piece.new result }
+        ensures no_longer { OnOk result (length piece.new ≤ length piece.old) };
 }
 
 /// Where the fields of a struct have come to.
@@ -76,120 +110,248 @@ pub(crate) enum Step<V> {
     Value(V),
 }
 
-/// What a field came to: it is held, or whole, or it was the stop byte.
+/// Where whole fields end: at the stop byte, at the value of a field, or inside a head.
 #[derive(Clone, Copy)]
-pub(crate) enum Field {
-    Open,
-    Whole,
+pub(crate) enum Place {
     Stop,
+    Value(u8, i16),
+    Head,
 }
 
-/// Goes on over whole fields, from the first byte of a head up to the stop byte: where the piece ends before it, what is
-/// held of a field.
-pub(crate) fn enter_fields<S: Slots>(
+/// The fault is that the bytes are too few.
+#[inline(always)]
+fn is_want(error: DecodeError) -> bool
+    ensures { IsWant error result }
+{
+    match error {
+        DecodeError::Wire(fault) => match fault {
+            WireError::Truncated => true,
+            WireError::BadLength => false,
+            WireError::BadType => false,
+            WireError::BadBool => false,
+            WireError::BadText => false,
+            WireError::TooDeep => false,
+        },
+        DecodeError::Missing(_, _) => false,
+        DecodeError::BadEnum => false,
+        DecodeError::Trailing => false,
+        DecodeError::Memory => false,
+    }
+}
+
+/// Reads whole fields where they stand, from the first byte of a head on.
+#[inline(always)]
+fn read_fields<S: Slots>(
     slots: &mut S,
     alloc: Global,
     piece: &mut Piece<'_>,
-) -> Result<Option<Step<S::Held>>, DecodeError>
-    ensures goes { Enters slots.new (fields_at wire S.takes slots.old) (fields_from S.takes S.resumes slots.new)
-        piece.old piece.new result }
+) -> Result<Place, DecodeError>
+    ensures reads { Reads S.takes slots.old slots.new piece.old piece.new result }
     ensures no_longer { OnOk result (length piece.new ≤ length piece.old) }
 {
+    let mut cursor = Cursor::new(piece.rest());
     loop {
-        let mut part = FieldHead::new();
-        let head = match part.more(piece) {
-            Err(error) => return Err(fault_of(error)),
-            Ok(None) => return Ok(Some(Step::Head(part))),
-            Ok(Some(head)) => head,
+        let head = cursor.rest();
+        let field = match cursor.field() {
+            Err(error) => {
+                if !is_want(DecodeError::Wire(error)) {
+                    return Err(DecodeError::Wire(error));
+                }
+                *piece = Piece::new(head);
+                return Ok(Place::Head);
+            }
+            Ok(field) => field,
         };
-        let Some((code, id)) = head else {
-            return Ok(None);
+        let value = cursor.rest();
+        let Some((code, id)) = field else {
+            *piece = Piece::new(value);
+            return Ok(Place::Stop);
         };
-        match slots.enter(code, id, alloc, piece) {
-            Err(error) => return Err(error),
-            Ok(None) => {}
-            Ok(Some(held)) => return Ok(Some(Step::Value(held))),
+        match slots.put(code, id, alloc, &mut cursor) {
+            Ok(true) => {}
+            Ok(false) => {
+                *piece = Piece::new(value);
+                return Ok(Place::Value(code, id));
+            }
+            Err(error) => {
+                if !is_want(error) {
+                    return Err(error);
+                }
+                *piece = Piece::new(value);
+                return Ok(Place::Value(code, id));
+            }
         }
     }
 }
 
-/// Begins the value of a field, and holds the part of it that has come where it isn't whole. It stands apart, so that a
-/// call that goes on inside a value has no place for such a part on its stack.
+/// Begins the value of a field over a piece, in the way that goes on over it.
 #[inline(never)]
-fn hold_field<S: Slots>(
+pub(crate) fn enter_slowly<S: Slots>(
+    slots: &mut S,
+    next: &mut Option<Step<S::Held>>,
+    code: u8,
+    id: i16,
+    alloc: Global,
+    piece: &mut Piece<'_>,
+) -> Result<bool, DecodeError>
+    requires { is_code code ≡ true }
+    ensures goes { Opens (S.takes slots.old code id) (S.resumes slots.new) slots.new next.new
+        piece.old piece.new result }
+    ensures no_longer { OnOk result (length piece.new ≤ length piece.old) }
+{
+    let mut value = slots.begin(code, id, alloc);
+    match slots.more(&mut value, alloc, piece) {
+        Err(error) => Err(error),
+        Ok(true) => Ok(true),
+        Ok(false) => {
+            *next = Some(Step::Value(value));
+            Ok(false)
+        }
+    }
+}
+
+/// Holds the first bytes of a head, which the piece is too short for.
+#[inline(never)]
+fn enter_head<S: Slots>(
+    _slots: &S,
+    next: &mut Option<Step<S::Held>>,
+    piece: &mut Piece<'_>,
+) -> Result<bool, DecodeError>
+    requires { field_at piece.old ≡ Err Truncated }
+    ensures goes { Enters (fields_at wire S.takes _slots.now)
+        (fields_from S.takes S.resumes _slots.now) _slots.now next.new piece.old piece.new result }
+    ensures no_longer { OnOk result (length piece.new ≤ length piece.old) }
+{
+    let mut head = FieldHead::new();
+    match head.more(piece) {
+        Err(error) => Err(fault_of(error)),
+        Ok(_) => {
+            *next = Some(Step::Head(head));
+            Ok(false)
+        }
+    }
+}
+
+/// Goes on over fields from the first byte of a head on, up to the stop byte: what is held where the piece ends before.
+#[inline(always)]
+pub(crate) fn enter_fields<S: Fields>(
+    slots: &mut S,
+    next: &mut Option<Step<S::Held>>,
+    alloc: Global,
+    piece: &mut Piece<'_>,
+) -> Result<bool, DecodeError>
+    ensures goes { Enters (fields_at wire S.takes slots.old)
+        (fields_from S.takes S.resumes slots.new) slots.new next.new piece.old piece.new result }
+    ensures no_longer { OnOk result (length piece.new ≤ length piece.old) }
+{
+    loop {
+        match read_fields(slots, alloc, piece) {
+            Err(error) => return Err(error),
+            Ok(Place::Stop) => return Ok(true),
+            Ok(Place::Head) => return enter_head(slots, next, piece),
+            Ok(Place::Value(code, id)) => match slots.enter(next, code, id, alloc, piece) {
+                Err(error) => return Err(error),
+                Ok(false) => return Ok(false),
+                Ok(true) => {}
+            },
+        }
+    }
+}
+
+/// Holds a value of which some bytes have come, as the next step.
+#[inline(always)]
+pub(crate) fn hold_next<V: Drop>(next: &mut Option<V>, step: V)
+    ensures { next.new ≡ Some step }
+{
+    *next = Some(step);
+}
+
+/// The next step, where there is one.
+fn go_to<V: Drop>(step: &mut Step<V>, next: Option<Step<V>>)
+    ensures { (s : Step V) → next ≡ Some s → step.new ≡ s }
+{
+    if let Some(next) = next {
+        *step = next;
+    }
+}
+
+/// Goes on over fields, up to the stop byte, and holds what has come of the last one. It stands apart, so that a call
+/// that goes on inside a value has no place for such a part on its stack.
+#[inline(never)]
+fn hold_fields<S: Fields>(
+    slots: &mut S,
+    step: &mut Step<S::Held>,
+    alloc: Global,
+    piece: &mut Piece<'_>,
+) -> Result<bool, DecodeError>
+    ensures goes { GoesTo slots.new (fields_at wire S.takes slots.old)
+        (fields_from S.takes S.resumes slots.new step.new)
+        piece.old piece.new result }
+    ensures no_longer { OnOk result (length piece.new ≤ length piece.old) }
+{
+    let mut next = None;
+    let result = enter_fields(slots, &mut next, alloc, piece);
+    go_to(step, next);
+    result
+}
+
+/// Begins the value of a field, and goes on over fields. It stands apart as `hold_fields` does.
+#[inline(never)]
+fn hold_field<S: Fields>(
     slots: &mut S,
     step: &mut Step<S::Held>,
     code: u8,
     id: i16,
     alloc: Global,
     piece: &mut Piece<'_>,
-) -> Result<Field, DecodeError>
-    requires { is_code code ≡ true }
-    ensures goes { Passes S.takes S.resumes (fields_value wire S.takes (S.takes slots.old code id)) slots.new step.new
-        piece.old piece.new result }
-    ensures no_longer { OnOk result (length piece.new ≤ length piece.old) }
-{
-    match slots.enter(code, id, alloc, piece) {
-        Err(error) => Err(error),
-        Ok(None) => Ok(Field::Whole),
-        Ok(Some(held)) => {
-            *step = Step::Value(held);
-            Ok(Field::Open)
-        }
-    }
-}
-
-/// Goes on over whole fields, and holds what has come of the last one. It stands apart as `hold_field` does.
-#[inline(never)]
-fn hold_fields<S: Slots>(
-    slots: &mut S,
-    step: &mut Step<S::Held>,
-    alloc: Global,
-    piece: &mut Piece<'_>,
 ) -> Result<bool, DecodeError>
-    ensures goes { GoesTo slots.new (fields_at wire S.takes slots.old) (fields_from S.takes S.resumes slots.new step.new)
+    requires { is_code code ≡ true }
+    ensures goes { GoesTo slots.new (fields_value wire S.takes (S.takes slots.old code id))
+        (fields_from S.takes S.resumes slots.new step.new)
         piece.old piece.new result }
     ensures no_longer { OnOk result (length piece.new ≤ length piece.old) }
 {
-    match enter_fields(slots, alloc, piece) {
+    let mut next = None;
+    match slots.enter(&mut next, code, id, alloc, piece) {
         Err(error) => Err(error),
-        Ok(None) => Ok(true),
-        Ok(Some(next)) => {
-            *step = next;
+        Ok(true) => hold_fields(slots, step, alloc, piece),
+        Ok(false) => {
+            go_to(step, next);
             Ok(false)
         }
     }
 }
 
-/// Goes on over what is held of a field: whether that field is whole, or the stop byte has come.
-fn more_field<S: Slots>(
+/// Goes on over fields from a head of which no byte has come, which it leaves where the piece ends in front of a head.
+#[inline(never)]
+fn read_on<S: Fields>(
     slots: &mut S,
     step: &mut Step<S::Held>,
     alloc: Global,
     piece: &mut Piece<'_>,
-) -> Result<Field, DecodeError>
-    ensures goes { Passes S.takes S.resumes (fields_from S.takes S.resumes slots.old step.old) slots.new step.new
+) -> Result<bool, DecodeError>
+    requires { IsFresh S.takes S.resumes step.old }
+    ensures goes { GoesTo slots.new (fields_at wire S.takes slots.old)
+        (fields_from S.takes S.resumes slots.new step.new)
         piece.old piece.new result }
     ensures no_longer { OnOk result (length piece.new ≤ length piece.old) }
 {
-    match step {
-        Step::Head(head) => match head.more(piece) {
-            Err(error) => Err(fault_of(error)),
-            Ok(None) => Ok(Field::Open),
-            Ok(Some(None)) => Ok(Field::Stop),
-            Ok(Some(Some((code, id)))) => hold_field(slots, step, code, id, alloc, piece),
-        },
-        Step::Value(held) => {
-            if !slots.more(held, alloc, piece)? {
-                return Ok(Field::Open);
+    match read_fields(slots, alloc, piece) {
+        Err(error) => Err(error),
+        Ok(Place::Stop) => Ok(true),
+        Ok(Place::Head) => {
+            if piece.is_empty() {
+                return Ok(false);
             }
-            Ok(Field::Whole)
+            hold_fields(slots, step, alloc, piece)
         }
+        Ok(Place::Value(code, id)) => hold_field(slots, step, code, id, alloc, piece),
     }
 }
 
 /// Goes on over fields, up to the stop byte.
-pub(crate) fn more_fields<S: Slots>(
+#[inline(always)]
+pub(crate) fn more_fields<S: Fields>(
     slots: &mut S,
     step: &mut Step<S::Held>,
     alloc: Global,
@@ -199,10 +361,23 @@ pub(crate) fn more_fields<S: Slots>(
         (fields_from S.takes S.resumes slots.new step.new) piece.old piece.new result }
     ensures no_longer { OnOk result (length piece.new ≤ length piece.old) }
 {
-    match more_field(slots, step, alloc, piece)? {
-        Field::Open => Ok(false),
-        Field::Stop => Ok(true),
-        Field::Whole => hold_fields(slots, step, alloc, piece),
+    match step {
+        Step::Head(head) => {
+            if head.is_first() {
+                return read_on(slots, step, alloc, piece);
+            }
+            match head.more(piece) {
+                Err(error) => Err(fault_of(error)),
+                Ok(None) => Ok(false),
+                Ok(Some(None)) => Ok(true),
+                Ok(Some(Some((code, id)))) => hold_field(slots, step, code, id, alloc, piece),
+            }
+        }
+        Step::Value(held) => match slots.more(held, alloc, piece) {
+            Err(error) => Err(error),
+            Ok(false) => Ok(false),
+            Ok(true) => hold_fields(slots, step, alloc, piece),
+        },
     }
 }
 

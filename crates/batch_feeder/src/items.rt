@@ -1,11 +1,14 @@
-ghost use Rattle.std.specs.Prelude.{◌≤◌, length, OnOk};
+ghost use Rattle.std.specs.Prelude.{◌≡◌, ◌≤◌, ℕ, List, Err, true, length, OnOk};
+ghost use Rattle.thrift_binary.specs.declared.fault.WireError.TheVariants.{Truncated};
 ghost use Rattle.thrift_binary.specs.Lists.{list_of};
 ghost use Rattle.wire_pieces.specs.Lists.{behind_head, items_from};
+ghost use Rattle.batch_codec.specs.declared.fault.DecodeError.TheVariants.{Wire};
 ghost use Rattle.batch_codec.specs.Decoding.{wire};
-ghost use Rattle.batch_feeder.specs.Going.{Begins, Enters, Goes, GoesTo};
+ghost use Rattle.batch_feeder.specs.Going.{Enters, GoesTo, Places, Sets};
 ghost use Rattle.batch_feeder.specs.Lists.{items_behind, list_from};
+ghost use Rattle.batch_feeder.specs.Outsets.{IsPart};
 
-use crate::going::{Begun, Fresh, Partial, fault_of};
+use crate::going::{Item, fault_of};
 use batch_codec::DecodeError;
 use jaeger_model::Seq;
 use std::alloc::Global;
@@ -13,198 +16,169 @@ use std::mem;
 use thrift_binary::{WireError, types};
 use wire_pieces::{ListHead, Piece};
 
-/// A value of a list of which some bytes have come, and how many others follow.
-#[derive(Drop)]
-pub(crate) struct Open<P> {
-    left: u32,
-    one: P,
-}
-
-/// Goes on over so many values of a list, from the first byte of one: where the piece ends before the last, what is
-/// held of one.
-fn enter_items<P: Fresh>(
+/// Goes on over so many values of a list, from the first byte of one, and holds the part of the last one that has come.
+fn begin_items<P: Item>(
     items: &mut Vec<P::Value>,
-    size: u32,
+    left: &mut u32,
+    one: &mut Option<P>,
     alloc: Global,
     piece: &mut Piece<'_>,
-) -> Result<Option<Open<P>>, DecodeError>
-    ensures goes { Enters items.new.items (items_behind P.reads items.old.items size)
-        (λ o. items_from P.reads items.new.items o.left (P.Partial.resumes o.one)) piece.old piece.new result }
+) -> Result<bool, DecodeError>
+    ensures goes { Enters (items_behind P.reads items.old.items left.old)
+        (λ p. items_from P.reads items.new.items left.new (P.Partial.resumes p))
+        items.new.items one.new piece.old piece.new result }
     ensures no_longer { OnOk result (length piece.new ≤ length piece.old) }
 {
-    let mut left = size;
-    while left > 0 {
-        left -= 1;
-        match P::begin(alloc, piece) {
+    while *left > 0 {
+        *left -= 1;
+        match P::begin(one, alloc, piece) {
             Err(error) => return Err(error),
-            Ok(Begun::Part(one)) => return Ok(Some(Open { left, one })),
-            Ok(Begun::Whole(item)) => items.push(item)?,
+            Ok(None) => return Ok(false),
+            Ok(Some(item)) => items.push(item)?,
         }
     }
-    Ok(None)
-}
-
-/// Goes on over so many values, and holds what has come of the last one. It stands apart, so that a call that goes on
-/// inside a value has no place for such a part on its stack.
-#[inline(never)]
-fn hold_items<P: Fresh>(
-    items: &mut Vec<P::Value>,
-    left: &mut u32,
-    one: &mut P,
-    alloc: Global,
-    piece: &mut Piece<'_>,
-) -> Result<bool, DecodeError>
-    ensures goes { GoesTo items.new.items (items_behind P.reads items.old.items left.old)
-        (items_from P.reads items.new.items left.new (P.Partial.resumes one.new)) piece.old piece.new result }
-    ensures no_longer { OnOk result (length piece.new ≤ length piece.old) }
-{
-    match enter_items(items, *left, alloc, piece) {
-        Err(error) => Err(error),
-        Ok(None) => Ok(true),
-        Ok(Some(open)) => {
-            *left = open.left;
-            *one = open.one;
-            Ok(false)
-        }
-    }
-}
-
-/// Goes on over the values of a list: one of which some bytes have come, and `left` others.
-fn more_items<P: Fresh>(
-    items: &mut Vec<P::Value>,
-    left: &mut u32,
-    one: &mut P,
-    alloc: Global,
-    piece: &mut Piece<'_>,
-) -> Result<bool, DecodeError>
-    ensures goes { GoesTo items.new.items (items_from P.reads items.old.items left.old (P.Partial.resumes one.old))
-        (items_from P.reads items.new.items left.new (P.Partial.resumes one.new)) piece.old piece.new result }
-    ensures no_longer { OnOk result (length piece.new ≤ length piece.old) }
-{
-    match one.more(alloc, piece) {
-        Err(error) => return Err(error),
-        Ok(None) => return Ok(false),
-        Ok(Some(item)) => items.push(item)?,
-    }
-    hold_items(items, left, one, alloc, piece)
-}
-
-#[derive(Drop)]
-pub(crate) enum ListStep<P> {
-    Head(ListHead),
-    Item(P),
+    Ok(true)
 }
 
 /// A list of structs. It grows by the structs that have come, whatever its size says.
 #[derive(Drop)]
-pub(crate) struct ListPart<P: Fresh> {
+pub(crate) struct ListPart<P: Item> {
     items: Vec<P::Value>,
     left: u32,
-    step: ListStep<P>,
+    head: ListHead,
+    one: Option<P>,
 }
 
-impl<P: Fresh> ListPart<P> {
+impl<P: Item> ListPart<P> {
+    /// Before the first byte.
+    #[inline(always)]
+    pub(crate) fn new(alloc: Global) -> Self
+        ensures fresh { (w : List ℕ) → list_from P.reads P.Partial.resumes
+            result.items.items result.left result.head result.one w
+            ≡ list_of wire 12 P.reads w }
+    {
+        let head = ListHead::new();
+        ListPart {
+            items: Vec::new(alloc),
+            left: 0,
+            head,
+            one: None,
+        }
+    }
+
+    /// Whether it stands between two fields of the innermost struct that has begun in it.
+    pub(crate) fn rests(&self) -> bool
+        ensures wants { result ≡ true → (w : List ℕ) → IsPart w →
+            list_from P.reads P.Partial.resumes self.now.items.items self.now.left self.now.head
+            self.now.one w ≡ Err (Wire Truncated) }
+    {
+        match &self.one {
+            None => false,
+            Some(one) => one.rests(),
+        }
+    }
+
     /// Goes on behind the head of a list.
+    #[inline]
     fn enter(
+        &mut self,
         code: u8,
         size: u32,
         alloc: Global,
         piece: &mut Piece<'_>,
-    ) -> Result<Begun<Seq<P::Value>, Self>, DecodeError>
-        ensures goes { Begins (behind_head wire 12 P.reads (code, size))
-            (λ p. list_from P.reads P.Partial.resumes p.items.items p.left p.step) piece.old piece.new result }
+    ) -> Result<bool, DecodeError>
+        ensures goes { GoesTo self.new.items.items (behind_head wire 12 P.reads (code, size))
+            (list_from P.reads P.Partial.resumes self.new.items.items self.new.left self.new.head
+            self.new.one) piece.old piece.new result }
         ensures no_longer { OnOk result (length piece.new ≤ length piece.old) }
     {
+        self.items = Vec::new(alloc);
         if size == 0 {
-            let list = Seq::new(alloc);
-            return Ok(Begun::Whole(list));
+            return Ok(true);
         }
         if code != types::STRUCT {
             return Err(DecodeError::Wire(WireError::BadType));
         }
-        let mut items = Vec::new(alloc);
-        match enter_items(&mut items, size, alloc, piece) {
-            Err(error) => Err(error),
-            Ok(None) => Ok(Begun::Whole(Seq::from_vec(items))),
-            Ok(Some(open)) => Ok(Begun::Part(ListPart {
-                items,
-                left: open.left,
-                step: ListStep::Item(open.one),
-            })),
-        }
+        self.left = size;
+        begin_items(&mut self.items, &mut self.left, &mut self.one, alloc, piece)
     }
-}
 
-impl<P: Fresh> ListPart<P> {
-    /// Goes on behind the head of a list, and holds the part of it that has come. It stands apart as `hold_items` does.
-    #[inline(never)]
-    fn hold(
-        &mut self,
-        code: u8,
-        size: u32,
-        alloc: Global,
-        piece: &mut Piece<'_>,
-    ) -> Result<Option<Seq<P::Value>>, DecodeError>
-        ensures goes { Goes (behind_head wire 12 P.reads (code, size))
-            (list_from P.reads P.Partial.resumes self.new.items.items self.new.left self.new.step) piece.old piece.new result }
+    /// Goes on over a piece.
+    #[inline(always)]
+    fn go_on(&mut self, alloc: Global, piece: &mut Piece<'_>) -> Result<bool, DecodeError>
+        ensures goes { GoesTo self.new.items.items
+            (list_from P.reads P.Partial.resumes self.old.items.items self.old.left self.old.head
+            self.old.one)
+            (list_from P.reads P.Partial.resumes self.new.items.items self.new.left self.new.head
+            self.new.one) piece.old piece.new result }
         ensures no_longer { OnOk result (length piece.new ≤ length piece.old) }
     {
-        match ListPart::enter(code, size, alloc, piece) {
-            Err(error) => Err(error),
-            Ok(Begun::Whole(list)) => Ok(Some(list)),
-            Ok(Begun::Part(part)) => {
-                *self = part;
-                Ok(None)
-            }
-        }
-    }
-}
-
-impl<P: Fresh> Partial for ListPart<P> {
-    type Value = Seq<P::Value>;
-
-    ghost resumes = { λ p. list_from P.reads P.Partial.resumes p.items.items p.left p.step };
-
-    fn more(
-        &mut self,
-        alloc: Global,
-        piece: &mut Piece<'_>,
-    ) -> Result<Option<Seq<P::Value>>, DecodeError> {
-        match &mut self.step {
-            ListStep::Head(head) => {
-                let (code, size) = match head.more(piece) {
-                    Err(error) => return Err(fault_of(error)),
-                    Ok(None) => return Ok(None),
-                    Ok(Some(head)) => head,
-                };
-                self.hold(code, size, alloc, piece)
-            }
-            ListStep::Item(one) => {
-                if !more_items(&mut self.items, &mut self.left, one, alloc, piece)? {
-                    return Ok(None);
+        match &mut self.one {
+            None => match self.head.more(piece) {
+                Err(error) => Err(fault_of(error)),
+                Ok(None) => Ok(false),
+                Ok(Some((code, size))) => self.enter(code, size, alloc, piece),
+            },
+            Some(one) => {
+                match one.more(alloc, piece) {
+                    Err(error) => return Err(error),
+                    Ok(None) => return Ok(false),
+                    Ok(Some(item)) => self.items.push(item)?,
                 }
-                Ok(Some(Seq::from_vec(mem::replace(&mut self.items, Vec::new(alloc)))))
+                begin_items(&mut self.items, &mut self.left, &mut self.one, alloc, piece)
             }
         }
     }
-}
 
-impl<P: Fresh> Fresh for ListPart<P> {
-    ghost reads = { list_of wire 12 P.reads };
-
-    fn begin(
+    /// Goes on over a piece, and puts the list into its place.
+    #[inline(always)]
+    pub(crate) fn place(
+        &mut self,
+        slot: &mut Seq<P::Value>,
         alloc: Global,
         piece: &mut Piece<'_>,
-    ) -> Result<Begun<Seq<P::Value>, Self>, DecodeError> {
-        let mut head = ListHead::new();
-        match head.more(piece) {
-            Err(error) => Err(fault_of(error)),
-            Ok(None) => Ok(Begun::Part(ListPart {
-                items: Vec::new(alloc),
-                left: 0,
-                step: ListStep::Head(head),
-            })),
-            Ok(Some((code, size))) => ListPart::enter(code, size, alloc, piece),
+    ) -> Result<bool, DecodeError>
+        ensures goes { Places (list_from P.reads P.Partial.resumes
+            self.old.items.items self.old.left self.old.head self.old.one)
+            (list_from P.reads P.Partial.resumes
+            self.new.items.items self.new.left self.new.head self.new.one)
+            slot.old slot.new piece.old piece.new result }
+        ensures no_longer { OnOk result (length piece.new ≤ length piece.old) }
+    {
+        let result = self.go_on(alloc, piece);
+        if let Ok(true) = result {
+            *slot = self.take_items(alloc);
         }
+        result
+    }
+
+    /// The same where the place may be empty.
+    #[inline(always)]
+    pub(crate) fn set(
+        &mut self,
+        slot: &mut Option<Seq<P::Value>>,
+        alloc: Global,
+        piece: &mut Piece<'_>,
+    ) -> Result<bool, DecodeError>
+        ensures goes { Sets (list_from P.reads P.Partial.resumes
+            self.old.items.items self.old.left self.old.head self.old.one)
+            (list_from P.reads P.Partial.resumes
+            self.new.items.items self.new.left self.new.head self.new.one)
+            slot.old slot.new piece.old piece.new result }
+        ensures no_longer { OnOk result (length piece.new ≤ length piece.old) }
+    {
+        let result = self.go_on(alloc, piece);
+        if let Ok(true) = result {
+            *slot = Some(self.take_items(alloc));
+        }
+        result
+    }
+
+    /// The items. It stands apart, so that a call that goes on inside of one has no place for a list on its stack.
+    #[inline(never)]
+    fn take_items(&mut self, alloc: Global) -> Seq<P::Value>
+        ensures { result ≡ self.old.items.items }
+    {
+        Seq::from_vec(mem::replace(&mut self.items, Vec::new(alloc)))
     }
 }

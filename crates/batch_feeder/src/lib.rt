@@ -3,7 +3,8 @@
 //! A [`Feeder`] is fed piece by piece, and is proved to answer what `batch_codec` decodes of the joined bytes, however
 //! they are cut: [`Feeder::feed`] tells a fault in the piece that holds its last byte, and no other way of cutting
 //! tells another; [`Feeder::finish`] gives the batch. What it keeps grows only by bytes that have come, never by a
-//! size that they claim, and each byte is looked at once. [`decode_pieces`] joins the calls.
+//! size that they claim. Bytes of short pieces wait until the field that they are of is whole or may show a fault, and
+//! are then read at once; others are read where they stand. [`decode_pieces`] joins the calls.
 //!
 //! - `going`: values of which some bytes have come, as readings of the bytes still to come (`specs/Going.antt`).
 //! - `values`, `texts`, `enums`, `skipped`: single values.
@@ -20,6 +21,7 @@ mod going;
 mod items;
 mod log;
 mod process;
+mod reads;
 mod reference;
 mod skipped;
 mod span;

@@ -1,6 +1,10 @@
-use crate::fields::{Slots, required};
-use crate::going::{begin_place, begin_set, held, place, set};
+ghost use Rattle.std.specs.Prelude.{◌≡◌, ◌≤◌, pos, length, OnOk};
+ghost use Rattle.batch_feeder.specs.Fields.{Opens};
+
+use crate::fields::{Fields, Slots, Step, enter_slowly, hold_next, required};
+use crate::going::{place, set};
 use crate::items::ListPart;
+use crate::reads::read_text;
 use crate::skipped::SkipPart;
 use crate::structs::Struct;
 use crate::tag::TagParts;
@@ -9,6 +13,7 @@ use batch_codec::{DecodeError, Part};
 use jaeger_model::{Process, Seq, Tag, Text};
 use std::alloc::Global;
 use std::marker::Model;
+use thrift_binary::Cursor;
 use thrift_binary::types::{LIST, STRING};
 use wire_pieces::Piece;
 
@@ -35,12 +40,48 @@ pub(crate) enum ProcessHeld {
     Skip(SkipPart),
 }
 
+impl ProcessParts {
+    ghost use Rattle.batch_codec.specs.ProcessReading.{take_process};
+    ghost use Rattle.batch_feeder.specs.Processes.{process_goes_on};
+
+    /// Begins the tags over a piece. It stands apart, so that other fields have no place for such a part on their stack.
+    #[tactic(auto, unfolding(batch_codec::specs::ProcessReading::take_process, batch_codec::specs::TagReading::tag_at))]
+    #[inline(never)]
+    fn enter_tags(
+        &mut self,
+        next: &mut Option<Step<ProcessHeld>>,
+        alloc: Global,
+        piece: &mut Piece<'_>,
+    ) -> Result<bool, DecodeError>
+        ensures goes { Opens (take_process self.old 15 (pos 2)) (process_goes_on self.new) self.new
+            next.new piece.old piece.new result }
+        ensures no_longer { OnOk result (length piece.new ≤ length piece.old) }
+    {
+        let mut part = ListPart::new(alloc);
+        match part.place(&mut self.tags, alloc, piece) {
+            Err(error) => {
+                drop(part);
+                Err(error)
+            }
+            Ok(true) => {
+                drop(part);
+                Ok(true)
+            }
+            Ok(false) => {
+                hold_next(next, Step::Value(ProcessHeld::Tags(part)));
+                Ok(false)
+            }
+        }
+    }
+}
+
 impl Slots for ProcessParts {
     ghost use Rattle.batch_codec.specs.Gathered.{no_process};
     ghost use Rattle.batch_codec.specs.ProcessReading.{take_process, process_from};
     ghost use Rattle.batch_codec.proofs.CutBatches.{take_process_safe};
     ghost use Rattle.batch_feeder.specs.Processes.{process_goes_on};
     ghost use Rattle.batch_feeder.specs.NotShort.{process_not_short};
+    ghost use Rattle.batch_feeder.specs.ShortFields.{take_process_short};
 
     type Held = ProcessHeld;
 
@@ -61,21 +102,28 @@ impl Slots for ProcessParts {
         }
     }
 
-    #[tactic(auto, unfolding(batch_codec::specs::ProcessReading::take_process, batch_codec::specs::TagReading::tag_at))]
-    fn enter(
+    #[tactic(auto, unfolding(batch_codec::specs::ProcessReading::take_process))]
+    #[inline(always)]
+    fn put(
         &mut self,
         code: u8,
         id: i16,
         alloc: Global,
-        piece: &mut Piece<'_>,
-    ) -> Result<Option<ProcessHeld>, DecodeError> {
+        cursor: &mut Cursor<'_>,
+    ) -> Result<bool, DecodeError> {
         match (code, id) {
-            (STRING, 1) => held!(
-                begin_set(&mut self.service, alloc, piece),
-                ProcessHeld::Service
-            ),
-            (LIST, 2) => held!(begin_place(&mut self.tags, alloc, piece), ProcessHeld::Tags),
-            _ => held!(SkipPart::begin(alloc, code, piece), ProcessHeld::Skip),
+            (STRING, 1) => self.service = Some(read_text(alloc, cursor)?),
+            _ => return Ok(false),
+        }
+        Ok(true)
+    }
+
+    #[tactic(auto, unfolding(batch_codec::specs::ProcessReading::take_process, batch_codec::specs::TagReading::tag_at))]
+    fn begin(&self, code: u8, id: i16, alloc: Global) -> ProcessHeld {
+        match (code, id) {
+            (STRING, 1) => ProcessHeld::Service(TextPart::new()),
+            (LIST, 2) => ProcessHeld::Tags(ListPart::new(alloc)),
+            _ => ProcessHeld::Skip(SkipPart::new(alloc, code)),
         }
     }
 
@@ -87,12 +135,20 @@ impl Slots for ProcessParts {
     ) -> Result<bool, DecodeError> {
         match held {
             ProcessHeld::Service(part) => set(part, &mut self.service, alloc, piece),
-            ProcessHeld::Tags(part) => place(part, &mut self.tags, alloc, piece),
+            ProcessHeld::Tags(part) => part.place(&mut self.tags, alloc, piece),
             ProcessHeld::Skip(part) => place(part, &mut (), alloc, piece),
         }
     }
 
+    fn rests(held: &ProcessHeld) -> bool {
+        match held {
+            ProcessHeld::Tags(part) => part.rests(),
+            _ => false,
+        }
+    }
+
     #[tactic(auto, unfolding(batch_codec::specs::ProcessReading::process_from))]
+    #[inline(always)]
     fn whole(self) -> Result<Process, DecodeError> {
         let service = required(self.service, Part::Process, 1)?;
         Ok(Process {
@@ -104,4 +160,22 @@ impl Slots for ProcessParts {
     ghost safe = { take_process_safe };
 
     ghost not_short = { process_not_short };
+
+    ghost short = { take_process_short };
+}
+
+impl Fields for ProcessParts {
+    fn enter(
+        &mut self,
+        next: &mut Option<Step<ProcessHeld>>,
+        code: u8,
+        id: i16,
+        alloc: Global,
+        piece: &mut Piece<'_>,
+    ) -> Result<bool, DecodeError> {
+        match (code, id) {
+            (LIST, 2) => self.enter_tags(next, alloc, piece),
+            _ => enter_slowly(self, next, code, id, alloc, piece),
+        }
+    }
 }

@@ -1,12 +1,14 @@
 use crate::enums::KindPart;
-use crate::fields::{Slots, required};
-use crate::going::{begin_set, held, place, set};
+use crate::fields::{Fields, Slots, Step, enter_slowly, required};
+use crate::going::{place, set};
+use crate::reads::{read_id, read_kind};
 use crate::skipped::SkipPart;
 use crate::values::IdPart;
 use batch_codec::{DecodeError, Part};
 use jaeger_model::{RefKind, SpanId, SpanRef, TraceId};
 use std::alloc::Global;
 use std::marker::Model;
+use thrift_binary::Cursor;
 use thrift_binary::types::{I32, I64};
 use wire_pieces::Piece;
 
@@ -24,7 +26,12 @@ impl Model for ReferenceParts {
 
     ghost Value = { ReferenceSlots };
 
-    ghost view = { λ s. record { kind = s.kind; trace_low = s.trace_low; trace_high = s.trace_high; id = s.id } };
+    ghost view = { λ s. record {
+      kind = s.kind;
+      trace_low = s.trace_low;
+      trace_high = s.trace_high;
+      id = s.id;
+    } };
 }
 
 /// The value of a field of a reference, of which some bytes have come.
@@ -43,6 +50,7 @@ impl Slots for ReferenceParts {
     ghost use Rattle.batch_codec.proofs.CutBatches.{take_reference_safe};
     ghost use Rattle.batch_feeder.specs.References.{reference_goes_on};
     ghost use Rattle.batch_feeder.specs.NotShort.{reference_not_short};
+    ghost use Rattle.batch_feeder.specs.ShortFields.{take_reference_short};
 
     type Held = ReferenceHeld;
 
@@ -66,25 +74,32 @@ impl Slots for ReferenceParts {
     }
 
     #[tactic(auto, unfolding(batch_codec::specs::ReferenceReading::take_reference))]
-    fn enter(
+    #[inline(always)]
+    fn put(
         &mut self,
         code: u8,
         id: i16,
-        alloc: Global,
-        piece: &mut Piece<'_>,
-    ) -> Result<Option<ReferenceHeld>, DecodeError> {
+        _alloc: Global,
+        cursor: &mut Cursor<'_>,
+    ) -> Result<bool, DecodeError> {
         match (code, id) {
-            (I32, 1) => held!(begin_set(&mut self.kind, alloc, piece), ReferenceHeld::Kind),
-            (I64, 2) => held!(
-                begin_set(&mut self.trace_low, alloc, piece),
-                ReferenceHeld::TraceLow
-            ),
-            (I64, 3) => held!(
-                begin_set(&mut self.trace_high, alloc, piece),
-                ReferenceHeld::TraceHigh
-            ),
-            (I64, 4) => held!(begin_set(&mut self.id, alloc, piece), ReferenceHeld::Id),
-            _ => held!(SkipPart::begin(alloc, code, piece), ReferenceHeld::Skip),
+            (I32, 1) => self.kind = Some(read_kind(cursor)?),
+            (I64, 2) => self.trace_low = Some(read_id(cursor)?),
+            (I64, 3) => self.trace_high = Some(read_id(cursor)?),
+            (I64, 4) => self.id = Some(read_id(cursor)?),
+            _ => return Ok(false),
+        }
+        Ok(true)
+    }
+
+    #[tactic(auto, unfolding(batch_codec::specs::ReferenceReading::take_reference))]
+    fn begin(&self, code: u8, id: i16, alloc: Global) -> ReferenceHeld {
+        match (code, id) {
+            (I32, 1) => ReferenceHeld::Kind(KindPart::new()),
+            (I64, 2) => ReferenceHeld::TraceLow(IdPart::new()),
+            (I64, 3) => ReferenceHeld::TraceHigh(IdPart::new()),
+            (I64, 4) => ReferenceHeld::Id(IdPart::new()),
+            _ => ReferenceHeld::Skip(SkipPart::new(alloc, code)),
         }
     }
 
@@ -103,7 +118,12 @@ impl Slots for ReferenceParts {
         }
     }
 
+    fn rests(_held: &ReferenceHeld) -> bool {
+        false
+    }
+
     #[tactic(auto, unfolding(batch_codec::specs::ReferenceReading::reference_from))]
+    #[inline(always)]
     fn whole(self) -> Result<SpanRef, DecodeError> {
         let kind = required(self.kind, Part::SpanRef, 1)?;
         let low = required(self.trace_low, Part::SpanRef, 2)?;
@@ -119,4 +139,19 @@ impl Slots for ReferenceParts {
     ghost safe = { take_reference_safe };
 
     ghost not_short = { reference_not_short };
+
+    ghost short = { take_reference_short };
+}
+
+impl Fields for ReferenceParts {
+    fn enter(
+        &mut self,
+        next: &mut Option<Step<ReferenceHeld>>,
+        code: u8,
+        id: i16,
+        alloc: Global,
+        piece: &mut Piece<'_>,
+    ) -> Result<bool, DecodeError> {
+        enter_slowly(self, next, code, id, alloc, piece)
+    }
 }

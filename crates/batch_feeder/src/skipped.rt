@@ -2,7 +2,6 @@ ghost use Rattle.std.specs.Prelude.{◌≡◌, ◌≤◌, ℕ, List, true, lengt
 ghost use Rattle.thrift_binary.specs.Reading.{lift, is_code};
 ghost use Rattle.thrift_binary.specs.Skipping.{skip_at};
 ghost use Rattle.batch_codec.specs.Decoding.{wire};
-ghost use Rattle.batch_feeder.specs.Going.{Enters};
 ghost use Rattle.batch_feeder.specs.Values.{skip_from};
 
 use crate::going::{Partial, fault_of};
@@ -24,24 +23,6 @@ impl SkipPart {
     {
         SkipPart {
             part: Skipping::new(alloc, code),
-        }
-    }
-
-    /// Begins a value of the type over a piece: the part of it that has come, where it isn't whole.
-    pub(crate) fn begin(
-        alloc: Global,
-        code: u8,
-        piece: &mut Piece<'_>,
-    ) -> Result<Option<Self>, DecodeError>
-        requires { is_code code ≡ true }
-        ensures goes { Enters tt (λ w. lift wire (skip_at code w)) skip_from piece.old piece.new result }
-        ensures no_longer { OnOk result (length piece.new ≤ length piece.old) }
-    {
-        let mut part = SkipPart::new(alloc, code);
-        match part.more(alloc, piece) {
-            Err(error) => Err(error),
-            Ok(Some(())) => Ok(None),
-            Ok(None) => Ok(Some(part)),
         }
     }
 }

@@ -1,12 +1,11 @@
-ghost use Rattle.std.specs.Prelude.{◌≡◌, ◌≤◌, true, length, OnOk};
-ghost use Rattle.thrift_binary.specs.Reading.{is_code};
-ghost use Rattle.batch_codec.specs.declared.span.SpanSlots.{SpanSlots};
-ghost use Rattle.batch_feeder.specs.Going.{Enters};
+ghost use Rattle.std.specs.Prelude.{◌≡◌, ◌≤◌, pos, length, OnOk};
+ghost use Rattle.batch_feeder.specs.Fields.{Opens};
 
-use crate::fields::{Slots, required};
-use crate::going::{begin_place, begin_set, held, place, set};
+use crate::fields::{Fields, Slots, Step, enter_slowly, hold_next, required};
+use crate::going::{place, set};
 use crate::items::ListPart;
 use crate::log::LogParts;
+use crate::reads::{read_i32, read_i64, read_id, read_text};
 use crate::reference::ReferenceParts;
 use crate::skipped::SkipPart;
 use crate::structs::Struct;
@@ -17,6 +16,7 @@ use batch_codec::{DecodeError, Part};
 use jaeger_model::{Log, Seq, Span, SpanId, SpanRef, Tag, Text, TraceId};
 use std::alloc::Global;
 use std::marker::Model;
+use thrift_binary::Cursor;
 use thrift_binary::types::{I32, I64, LIST, STRING};
 use wire_pieces::Piece;
 
@@ -37,6 +37,8 @@ pub(crate) struct SpanParts {
 }
 
 impl Model for SpanParts {
+    ghost use Rattle.batch_codec.specs.declared.span.SpanSlots.{SpanSlots};
+
     ghost Value = { SpanSlots };
 
     ghost view = { λ s. record {
@@ -73,81 +75,95 @@ pub(crate) enum SpanHeld {
 
 impl SpanParts {
     ghost use Rattle.batch_codec.specs.SpanReading.{take_span};
-    ghost use Rattle.batch_feeder.specs.Spans.{span_goes_on, take_other};
+    ghost use Rattle.batch_feeder.specs.Spans.{span_goes_on};
 
-    /// Begins a number of 64 bits.
-    #[tactic(auto, unfolding(batch_codec::specs::SpanReading::take_span))]
-    fn enter_long(
+    /// Begins the references over a piece. It stands apart, so that other fields have no place for such a part on their stack.
+    #[tactic(auto, unfolding(batch_codec::specs::SpanReading::take_span, batch_codec::specs::ReferenceReading::reference_at))]
+    #[inline(never)]
+    fn enter_references(
         &mut self,
-        id: i16,
+        next: &mut Option<Step<SpanHeld>>,
         alloc: Global,
         piece: &mut Piece<'_>,
-    ) -> Result<Option<SpanHeld>, DecodeError>
-        ensures goes { Enters self.new (take_span self.old 10 id) (span_goes_on self.new) piece.old piece.new result }
+    ) -> Result<bool, DecodeError>
+        ensures goes { Opens (take_span self.old 15 (pos 6)) (span_goes_on self.new) self.new
+            next.new piece.old piece.new result }
         ensures no_longer { OnOk result (length piece.new ≤ length piece.old) }
     {
-        match id {
-            1 => held!(
-                begin_set(&mut self.trace_low, alloc, piece),
-                SpanHeld::TraceLow
-            ),
-            2 => held!(
-                begin_set(&mut self.trace_high, alloc, piece),
-                SpanHeld::TraceHigh
-            ),
-            3 => held!(begin_set(&mut self.id, alloc, piece), SpanHeld::Id),
-            4 => held!(begin_set(&mut self.parent, alloc, piece), SpanHeld::Parent),
-            8 => held!(begin_set(&mut self.start, alloc, piece), SpanHeld::Start),
-            9 => held!(
-                begin_set(&mut self.duration, alloc, piece),
-                SpanHeld::Duration
-            ),
-            _ => held!(SkipPart::begin(alloc, I64, piece), SpanHeld::Skip),
+        let mut part = ListPart::new(alloc);
+        match part.place(&mut self.references, alloc, piece) {
+            Err(error) => {
+                drop(part);
+                Err(error)
+            }
+            Ok(true) => {
+                drop(part);
+                Ok(true)
+            }
+            Ok(false) => {
+                hold_next(next, Step::Value(SpanHeld::References(part)));
+                Ok(false)
+            }
         }
     }
 
-    /// Begins a list.
-    #[tactic(auto, unfolding(batch_codec::specs::SpanReading::take_span, batch_codec::specs::TagReading::tag_at, batch_codec::specs::LogReading::log_at, batch_codec::specs::ReferenceReading::reference_at))]
-    fn enter_list(
+    /// Begins the tags over a piece. It stands apart, so that other fields have no place for such a part on their stack.
+    #[tactic(auto, unfolding(batch_codec::specs::SpanReading::take_span, batch_codec::specs::TagReading::tag_at))]
+    #[inline(never)]
+    fn enter_tags(
         &mut self,
-        id: i16,
+        next: &mut Option<Step<SpanHeld>>,
         alloc: Global,
         piece: &mut Piece<'_>,
-    ) -> Result<Option<SpanHeld>, DecodeError>
-        ensures goes { Enters self.new (take_span self.old 15 id) (span_goes_on self.new) piece.old piece.new result }
+    ) -> Result<bool, DecodeError>
+        ensures goes { Opens (take_span self.old 15 (pos 10)) (span_goes_on self.new) self.new
+            next.new piece.old piece.new result }
         ensures no_longer { OnOk result (length piece.new ≤ length piece.old) }
     {
-        match id {
-            6 => held!(
-                begin_place(&mut self.references, alloc, piece),
-                SpanHeld::References
-            ),
-            10 => held!(begin_place(&mut self.tags, alloc, piece), SpanHeld::Tags),
-            11 => held!(begin_place(&mut self.logs, alloc, piece), SpanHeld::Logs),
-            _ => held!(SkipPart::begin(alloc, LIST, piece), SpanHeld::Skip),
+        let mut part = ListPart::new(alloc);
+        match part.place(&mut self.tags, alloc, piece) {
+            Err(error) => {
+                drop(part);
+                Err(error)
+            }
+            Ok(true) => {
+                drop(part);
+                Ok(true)
+            }
+            Ok(false) => {
+                hold_next(next, Step::Value(SpanHeld::Tags(part)));
+                Ok(false)
+            }
         }
     }
 
-    /// Begins a value of another type.
-    #[tactic(auto, unfolding(crate::specs::Spans::take_other))]
-    fn enter_other(
+    /// Begins the logs over a piece. It stands apart, so that other fields have no place for such a part on their stack.
+    #[tactic(auto, unfolding(batch_codec::specs::SpanReading::take_span, batch_codec::specs::LogReading::log_at))]
+    #[inline(never)]
+    fn enter_logs(
         &mut self,
-        code: u8,
-        id: i16,
+        next: &mut Option<Step<SpanHeld>>,
         alloc: Global,
         piece: &mut Piece<'_>,
-    ) -> Result<Option<SpanHeld>, DecodeError>
-        requires { is_code code ≡ true }
-        ensures goes { Enters self.new (take_other self.old code id) (span_goes_on self.new) piece.old piece.new result }
+    ) -> Result<bool, DecodeError>
+        ensures goes { Opens (take_span self.old 15 (pos 11)) (span_goes_on self.new) self.new
+            next.new piece.old piece.new result }
         ensures no_longer { OnOk result (length piece.new ≤ length piece.old) }
     {
-        match (code, id) {
-            (STRING, 5) => held!(
-                begin_set(&mut self.operation, alloc, piece),
-                SpanHeld::Operation
-            ),
-            (I32, 7) => held!(begin_set(&mut self.flags, alloc, piece), SpanHeld::Flags),
-            _ => held!(SkipPart::begin(alloc, code, piece), SpanHeld::Skip),
+        let mut part = ListPart::new(alloc);
+        match part.place(&mut self.logs, alloc, piece) {
+            Err(error) => {
+                drop(part);
+                Err(error)
+            }
+            Ok(true) => {
+                drop(part);
+                Ok(true)
+            }
+            Ok(false) => {
+                hold_next(next, Step::Value(SpanHeld::Logs(part)));
+                Ok(false)
+            }
         }
     }
 }
@@ -158,6 +174,7 @@ impl Slots for SpanParts {
     ghost use Rattle.batch_codec.proofs.CutBatches.{take_span_safe};
     ghost use Rattle.batch_feeder.specs.Spans.{span_goes_on};
     ghost use Rattle.batch_feeder.specs.NotShort.{span_not_short};
+    ghost use Rattle.batch_feeder.specs.ShortFields.{take_span_short};
 
     type Held = SpanHeld;
 
@@ -187,17 +204,44 @@ impl Slots for SpanParts {
         }
     }
 
-    fn enter(
+    #[tactic(auto, unfolding(batch_codec::specs::SpanReading::take_span))]
+    #[inline(always)]
+    fn put(
         &mut self,
         code: u8,
         id: i16,
         alloc: Global,
-        piece: &mut Piece<'_>,
-    ) -> Result<Option<SpanHeld>, DecodeError> {
-        match code {
-            I64 => self.enter_long(id, alloc, piece),
-            LIST => self.enter_list(id, alloc, piece),
-            _ => self.enter_other(code, id, alloc, piece),
+        cursor: &mut Cursor<'_>,
+    ) -> Result<bool, DecodeError> {
+        match (code, id) {
+            (I64, 1) => self.trace_low = Some(read_id(cursor)?),
+            (I64, 2) => self.trace_high = Some(read_id(cursor)?),
+            (I64, 3) => self.id = Some(read_id(cursor)?),
+            (I64, 4) => self.parent = Some(read_id(cursor)?),
+            (STRING, 5) => self.operation = Some(read_text(alloc, cursor)?),
+            (I32, 7) => self.flags = Some(read_i32(cursor)?),
+            (I64, 8) => self.start = Some(read_i64(cursor)?),
+            (I64, 9) => self.duration = Some(read_i64(cursor)?),
+            _ => return Ok(false),
+        }
+        Ok(true)
+    }
+
+    #[tactic(auto, unfolding(batch_codec::specs::SpanReading::take_span, batch_codec::specs::TagReading::tag_at, batch_codec::specs::LogReading::log_at, batch_codec::specs::ReferenceReading::reference_at))]
+    fn begin(&self, code: u8, id: i16, alloc: Global) -> SpanHeld {
+        match (code, id) {
+            (I64, 1) => SpanHeld::TraceLow(IdPart::new()),
+            (I64, 2) => SpanHeld::TraceHigh(IdPart::new()),
+            (I64, 3) => SpanHeld::Id(IdPart::new()),
+            (I64, 4) => SpanHeld::Parent(IdPart::new()),
+            (STRING, 5) => SpanHeld::Operation(TextPart::new()),
+            (LIST, 6) => SpanHeld::References(ListPart::new(alloc)),
+            (I32, 7) => SpanHeld::Flags(I32Part::new()),
+            (I64, 8) => SpanHeld::Start(I64Part::new()),
+            (I64, 9) => SpanHeld::Duration(I64Part::new()),
+            (LIST, 10) => SpanHeld::Tags(ListPart::new(alloc)),
+            (LIST, 11) => SpanHeld::Logs(ListPart::new(alloc)),
+            _ => SpanHeld::Skip(SkipPart::new(alloc, code)),
         }
     }
 
@@ -213,17 +257,27 @@ impl Slots for SpanParts {
             SpanHeld::Id(part) => set(part, &mut self.id, alloc, piece),
             SpanHeld::Parent(part) => set(part, &mut self.parent, alloc, piece),
             SpanHeld::Operation(part) => set(part, &mut self.operation, alloc, piece),
-            SpanHeld::References(part) => place(part, &mut self.references, alloc, piece),
+            SpanHeld::References(part) => part.place(&mut self.references, alloc, piece),
             SpanHeld::Flags(part) => set(part, &mut self.flags, alloc, piece),
             SpanHeld::Start(part) => set(part, &mut self.start, alloc, piece),
             SpanHeld::Duration(part) => set(part, &mut self.duration, alloc, piece),
-            SpanHeld::Tags(part) => place(part, &mut self.tags, alloc, piece),
-            SpanHeld::Logs(part) => place(part, &mut self.logs, alloc, piece),
+            SpanHeld::Tags(part) => part.place(&mut self.tags, alloc, piece),
+            SpanHeld::Logs(part) => part.place(&mut self.logs, alloc, piece),
             SpanHeld::Skip(part) => place(part, &mut (), alloc, piece),
         }
     }
 
+    fn rests(held: &SpanHeld) -> bool {
+        match held {
+            SpanHeld::References(part) => part.rests(),
+            SpanHeld::Tags(part) => part.rests(),
+            SpanHeld::Logs(part) => part.rests(),
+            _ => false,
+        }
+    }
+
     #[tactic(auto, unfolding(batch_codec::specs::SpanReading::span_from))]
+    #[inline(always)]
     fn whole(self) -> Result<Span, DecodeError> {
         let low = required(self.trace_low, Part::Span, 1)?;
         let high = required(self.trace_high, Part::Span, 2)?;
@@ -250,4 +304,24 @@ impl Slots for SpanParts {
     ghost safe = { take_span_safe };
 
     ghost not_short = { span_not_short };
+
+    ghost short = { take_span_short };
+}
+
+impl Fields for SpanParts {
+    fn enter(
+        &mut self,
+        next: &mut Option<Step<SpanHeld>>,
+        code: u8,
+        id: i16,
+        alloc: Global,
+        piece: &mut Piece<'_>,
+    ) -> Result<bool, DecodeError> {
+        match (code, id) {
+            (LIST, 6) => self.enter_references(next, alloc, piece),
+            (LIST, 10) => self.enter_tags(next, alloc, piece),
+            (LIST, 11) => self.enter_logs(next, alloc, piece),
+            _ => enter_slowly(self, next, code, id, alloc, piece),
+        }
+    }
 }

@@ -1,8 +1,12 @@
-ghost use Rattle.std.specs.Prelude.{◌≡◌, ℕ, List};
+ghost use Rattle.std.specs.Prelude.{◌≡◌, ℕ, List, Some, Err, true};
+ghost use Rattle.thrift_binary.specs.declared.fault.WireError.TheVariants.{Truncated};
+ghost use Rattle.batch_codec.specs.declared.fault.DecodeError.TheVariants.{Wire};
+ghost use Rattle.batch_feeder.specs.declared.fields.Step.{Step};
 ghost use Rattle.batch_feeder.specs.Fields.{made_of, struct_at, struct_from};
+ghost use Rattle.batch_feeder.specs.Outsets.{IsPart};
 
-use crate::fields::{Slots, Step, enter_fields, more_fields};
-use crate::going::{Begun, Fresh, Partial};
+use crate::fields::{Fields, Slots, Step, enter_fields, more_fields};
+use crate::going::{Item, Partial};
 use batch_codec::DecodeError;
 use std::alloc::Global;
 use std::mem;
@@ -15,7 +19,7 @@ pub(crate) struct Struct<S: Slots> {
     step: Step<S::Held>,
 }
 
-impl<S: Slots> Partial for Struct<S> {
+impl<S: Fields> Partial for Struct<S> {
     type Value = S::Made;
 
     ghost resumes = { λ p. struct_from S.takes S.resumes S.makes p.slots p.step };
@@ -25,50 +29,91 @@ impl<S: Slots> Partial for Struct<S> {
         alloc: Global,
         piece: &mut Piece<'_>,
     ) -> Result<Option<S::Made>, DecodeError> {
-        if !more_fields(&mut self.slots, &mut self.step, alloc, piece)? {
-            return Ok(None);
+        match more_fields(&mut self.slots, &mut self.step, alloc, piece) {
+            Err(error) => Err(error),
+            Ok(false) => Ok(None),
+            Ok(true) => self.finish(alloc),
         }
-        self.finish(alloc)
     }
 }
 
-impl<S: Slots> Fresh for Struct<S> {
+impl<S: Fields> Item for Struct<S> {
     ghost reads = { struct_at S.takes S.none S.makes };
 
-    fn begin(alloc: Global, piece: &mut Piece<'_>) -> Result<Begun<S::Made, Self>, DecodeError> {
+    fn rests(&self) -> bool {
+        self.is_between()
+    }
+
+    fn begin(
+        part: &mut Option<Self>,
+        alloc: Global,
+        piece: &mut Piece<'_>,
+    ) -> Result<Option<S::Made>, DecodeError> {
         let mut slots = S::start(alloc);
-        match enter_fields(&mut slots, alloc, piece) {
+        let mut next = None;
+        match enter_fields(&mut slots, &mut next, alloc, piece) {
             Err(error) => Err(error),
-            Ok(None) => match slots.whole() {
-                Err(error) => Err(error),
-                Ok(made) => Ok(Begun::Whole(made)),
-            },
-            Ok(Some(step)) => Ok(Begun::Part(Struct { slots, step })),
+            Ok(true) => made(slots),
+            Ok(false) => {
+                hold(part, slots, next);
+                Ok(None)
+            }
         }
+    }
+}
+
+/// What was gathered, and the step that it came to. It stands apart, so that a struct that is whole costs no such part.
+#[inline(never)]
+fn hold<S: Slots>(part: &mut Option<Struct<S>>, slots: S, next: Option<Step<S::Held>>)
+    ensures { (s : Step S.Held) → next ≡ Some s →
+        part.new ≡ Some (record { slots = slots; step = s }) }
+{
+    if let Some(step) = next {
+        *part = Some(Struct { slots, step });
+    }
+}
+
+/// The struct of fields that are whole.
+#[inline(always)]
+fn made<S: Slots>(slots: S) -> Result<Option<S::Made>, DecodeError>
+    ensures { result ≡ made_of S.makes slots }
+{
+    match slots.whole() {
+        Err(error) => Err(error),
+        Ok(made) => Ok(Some(made)),
     }
 }
 
 impl<S: Slots> Struct<S> {
+    /// Whether it stands between two fields of the innermost struct that has begun.
+    pub(crate) fn is_between(&self) -> bool
+        ensures wants { result ≡ true → (w : List ℕ) → IsPart w →
+            struct_from S.takes S.resumes S.makes self.now.slots self.now.step w ≡
+            Err (Wire Truncated) }
+    {
+        match &self.step {
+            Step::Head(head) => head.is_first(),
+            Step::Value(held) => S::rests(held),
+        }
+    }
+
+    /// Before the first byte.
+    pub(crate) fn new(alloc: Global) -> Self
+        ensures { (w : List ℕ) → struct_from S.takes S.resumes S.makes result.slots result.step w ≡
+            struct_at S.takes S.none S.makes w }
+    {
+        Struct {
+            slots: S::start(alloc),
+            step: Step::Head(FieldHead::new()),
+        }
+    }
+
     /// The struct of its fields, which are whole. It stands apart, so that a call that goes on inside a field has no place
     /// for a struct on its stack.
     #[inline(never)]
     fn finish(&mut self, alloc: Global) -> Result<Option<S::Made>, DecodeError>
         ensures { result ≡ made_of S.makes self.old.slots }
     {
-        let slots = mem::replace(&mut self.slots, S::start(alloc));
-        match slots.whole() {
-            Err(error) => Err(error),
-            Ok(made) => Ok(Some(made)),
-        }
-    }
-
-    /// Before the first byte.
-    pub(crate) fn new(alloc: Global) -> Self
-        ensures { (w : List ℕ) → struct_from S.takes S.resumes S.makes result.slots result.step w ≡ struct_at S.takes S.none S.makes w }
-    {
-        Struct {
-            slots: S::start(alloc),
-            step: Step::Head(FieldHead::new()),
-        }
+        made(mem::replace(&mut self.slots, S::start(alloc)))
     }
 }

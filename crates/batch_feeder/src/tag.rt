@@ -1,8 +1,9 @@
 ghost use Rattle.std.specs.Prelude.{◌≡◌};
 
 use crate::enums::TypePart;
-use crate::fields::{Slots, required};
-use crate::going::{begin_place, begin_set, held, place, set};
+use crate::fields::{Fields, Slots, Step, enter_slowly, required};
+use crate::going::{place, set};
+use crate::reads::{read_binary, read_bool, read_double, read_i64, read_text, read_type};
 use crate::skipped::SkipPart;
 use crate::texts::{BinaryPart, TextPart};
 use crate::values::{BoolPart, DoublePart, I64Part};
@@ -10,6 +11,7 @@ use batch_codec::{DecodeError, Part, TagType};
 use jaeger_model::{Seq, Tag, Text, Value};
 use std::alloc::Global;
 use std::marker::Model;
+use thrift_binary::Cursor;
 use thrift_binary::types::{BOOL, DOUBLE, I32, I64, STRING};
 use wire_pieces::Piece;
 
@@ -30,7 +32,15 @@ impl Model for TagParts {
 
     ghost Value = { TagSlots };
 
-    ghost view = { λ s. record { key = s.key; kind = s.kind; text = s.text; double = s.double; boolean = s.boolean; long = s.long; binary = s.binary } };
+    ghost view = { λ s. record {
+      key = s.key;
+      kind = s.kind;
+      text = s.text;
+      double = s.double;
+      boolean = s.boolean;
+      long = s.long;
+      binary = s.binary;
+    } };
 }
 
 /// The value of a field of a tag, of which some bytes have come.
@@ -52,6 +62,7 @@ impl Slots for TagParts {
     ghost use Rattle.batch_codec.proofs.CutBatches.{take_tag_safe};
     ghost use Rattle.batch_feeder.specs.Tags.{tag_goes_on};
     ghost use Rattle.batch_feeder.specs.NotShort.{tag_not_short};
+    ghost use Rattle.batch_feeder.specs.ShortFields.{take_tag_short};
 
     type Held = TagHeld;
 
@@ -78,25 +89,38 @@ impl Slots for TagParts {
     }
 
     #[tactic(auto, unfolding(batch_codec::specs::TagReading::take_tag))]
-    fn enter(
+    #[inline(always)]
+    fn put(
         &mut self,
         code: u8,
         id: i16,
         alloc: Global,
-        piece: &mut Piece<'_>,
-    ) -> Result<Option<TagHeld>, DecodeError> {
+        cursor: &mut Cursor<'_>,
+    ) -> Result<bool, DecodeError> {
         match (code, id) {
-            (STRING, 1) => held!(begin_set(&mut self.key, alloc, piece), TagHeld::Key),
-            (I32, 2) => held!(begin_set(&mut self.kind, alloc, piece), TagHeld::Kind),
-            (STRING, 3) => held!(begin_place(&mut self.text, alloc, piece), TagHeld::Text),
-            (DOUBLE, 4) => held!(begin_place(&mut self.double, alloc, piece), TagHeld::Double),
-            (BOOL, 5) => held!(
-                begin_place(&mut self.boolean, alloc, piece),
-                TagHeld::Boolean
-            ),
-            (I64, 6) => held!(begin_place(&mut self.long, alloc, piece), TagHeld::Long),
-            (STRING, 7) => held!(begin_place(&mut self.binary, alloc, piece), TagHeld::Binary),
-            _ => held!(SkipPart::begin(alloc, code, piece), TagHeld::Skip),
+            (STRING, 1) => self.key = Some(read_text(alloc, cursor)?),
+            (I32, 2) => self.kind = Some(read_type(cursor)?),
+            (STRING, 3) => self.text = read_text(alloc, cursor)?,
+            (DOUBLE, 4) => self.double = read_double(cursor)?,
+            (BOOL, 5) => self.boolean = read_bool(cursor)?,
+            (I64, 6) => self.long = read_i64(cursor)?,
+            (STRING, 7) => self.binary = read_binary(alloc, cursor)?,
+            _ => return Ok(false),
+        }
+        Ok(true)
+    }
+
+    #[tactic(auto, unfolding(batch_codec::specs::TagReading::take_tag))]
+    fn begin(&self, code: u8, id: i16, alloc: Global) -> TagHeld {
+        match (code, id) {
+            (STRING, 1) => TagHeld::Key(TextPart::new()),
+            (I32, 2) => TagHeld::Kind(TypePart::new()),
+            (STRING, 3) => TagHeld::Text(TextPart::new()),
+            (DOUBLE, 4) => TagHeld::Double(DoublePart::new()),
+            (BOOL, 5) => TagHeld::Boolean(BoolPart::new()),
+            (I64, 6) => TagHeld::Long(I64Part::new()),
+            (STRING, 7) => TagHeld::Binary(BinaryPart::new()),
+            _ => TagHeld::Skip(SkipPart::new(alloc, code)),
         }
     }
 
@@ -118,7 +142,12 @@ impl Slots for TagParts {
         }
     }
 
+    fn rests(_held: &TagHeld) -> bool {
+        false
+    }
+
     #[tactic(auto, unfolding(batch_codec::specs::TagReading::tag_from))]
+    #[inline(always)]
     fn whole(self) -> Result<Tag, DecodeError> {
         let key = required(self.key, Part::Tag, 1)?;
         let kind = required(self.kind, Part::Tag, 2)?;
@@ -135,4 +164,19 @@ impl Slots for TagParts {
     ghost safe = { take_tag_safe };
 
     ghost not_short = { tag_not_short };
+
+    ghost short = { take_tag_short };
+}
+
+impl Fields for TagParts {
+    fn enter(
+        &mut self,
+        next: &mut Option<Step<TagHeld>>,
+        code: u8,
+        id: i16,
+        alloc: Global,
+        piece: &mut Piece<'_>,
+    ) -> Result<bool, DecodeError> {
+        enter_slowly(self, next, code, id, alloc, piece)
+    }
 }

@@ -1,7 +1,8 @@
+ghost use Rattle.std.specs.Prelude.{◌≡◌, ℕ, List};
 ghost use Rattle.batch_codec.specs.Decoding.{text_at, binary_at};
 ghost use Rattle.batch_feeder.specs.Values.{text_part, binary_part};
 
-use crate::going::{Begun, Fresh, Partial, begin_part, fault_of};
+use crate::going::{Partial, fault_of};
 use batch_codec::DecodeError;
 use jaeger_model::{Seq, Text};
 use std::alloc::Global;
@@ -31,18 +32,15 @@ impl Partial for TextPart {
     }
 }
 
-impl Fresh for TextPart {
-    ghost reads = { text_at };
-
+impl TextPart {
+    /// Before the first byte.
     #[tactic(auto, unfolding(batch_codec::specs::Decoding::text_at))]
-    fn begin(alloc: Global, piece: &mut Piece<'_>) -> Result<Begun<Text, Self>, DecodeError> {
-        begin_part(
-            TextPart {
-                part: StringPart::new(),
-            },
-            alloc,
-            piece,
-        )
+    pub(crate) fn new() -> Self
+        ensures fresh { (w : List ℕ) → text_part result w ≡ text_at w }
+    {
+        TextPart {
+            part: StringPart::new(),
+        }
     }
 }
 
@@ -70,17 +68,14 @@ impl Partial for BinaryPart {
     }
 }
 
-impl Fresh for BinaryPart {
-    ghost reads = { binary_at };
-
+impl BinaryPart {
+    /// Before the first byte.
     #[tactic(auto, unfolding(batch_codec::specs::Decoding::binary_at))]
-    fn begin(alloc: Global, piece: &mut Piece<'_>) -> Result<Begun<Seq<u8>, Self>, DecodeError> {
-        begin_part(
-            BinaryPart {
-                part: StringPart::new(),
-            },
-            alloc,
-            piece,
-        )
+    pub(crate) fn new() -> Self
+        ensures fresh { (w : List ℕ) → binary_part result w ≡ binary_at w }
+    {
+        BinaryPart {
+            part: StringPart::new(),
+        }
     }
 }

@@ -1,7 +1,8 @@
+ghost use Rattle.std.specs.Prelude.{◌≡◌, ℕ, List};
 ghost use Rattle.batch_codec.specs.Decoding.{bool_at, double_at, i32_at, i64_at, id_at};
 ghost use Rattle.batch_feeder.specs.Values.{bool_from, double_part, i32_part, i64_part, id_part};
 
-use crate::going::{Begun, Fresh, Partial, begin_part, fault_of};
+use crate::going::{Partial, fault_of};
 use batch_codec::DecodeError;
 use std::alloc::Global;
 use wire_pieces::{Bool, Double, I32, I64, Piece};
@@ -25,12 +26,13 @@ impl Partial for BoolPart {
     }
 }
 
-impl Fresh for BoolPart {
-    ghost reads = { bool_at };
-
+impl BoolPart {
+    /// Before the first byte.
     #[tactic(auto, unfolding(batch_codec::specs::Decoding::bool_at))]
-    fn begin(alloc: Global, piece: &mut Piece<'_>) -> Result<Begun<bool, Self>, DecodeError> {
-        begin_part(BoolPart { part: Bool::new() }, alloc, piece)
+    pub(crate) fn new() -> Self
+        ensures fresh { (w : List ℕ) → bool_from result w ≡ bool_at w }
+    {
+        BoolPart { part: Bool::new() }
     }
 }
 
@@ -54,18 +56,15 @@ impl Partial for DoublePart {
     }
 }
 
-impl Fresh for DoublePart {
-    ghost reads = { double_at };
-
+impl DoublePart {
+    /// Before the first byte.
     #[tactic(auto, unfolding(batch_codec::specs::Decoding::double_at))]
-    fn begin(alloc: Global, piece: &mut Piece<'_>) -> Result<Begun<[u8; 8], Self>, DecodeError> {
-        begin_part(
-            DoublePart {
-                part: Double::new(),
-            },
-            alloc,
-            piece,
-        )
+    pub(crate) fn new() -> Self
+        ensures fresh { (w : List ℕ) → double_part result w ≡ double_at w }
+    {
+        DoublePart {
+            part: Double::new(),
+        }
     }
 }
 
@@ -85,12 +84,13 @@ impl Partial for I32Part {
     }
 }
 
-impl Fresh for I32Part {
-    ghost reads = { i32_at };
-
+impl I32Part {
+    /// Before the first byte.
     #[tactic(auto, unfolding(batch_codec::specs::Decoding::i32_at))]
-    fn begin(alloc: Global, piece: &mut Piece<'_>) -> Result<Begun<i32, Self>, DecodeError> {
-        begin_part(I32Part { part: I32::new() }, alloc, piece)
+    pub(crate) fn new() -> Self
+        ensures fresh { (w : List ℕ) → i32_part result w ≡ i32_at w }
+    {
+        I32Part { part: I32::new() }
     }
 }
 
@@ -110,12 +110,13 @@ impl Partial for I64Part {
     }
 }
 
-impl Fresh for I64Part {
-    ghost reads = { i64_at };
-
+impl I64Part {
+    /// Before the first byte.
     #[tactic(auto, unfolding(batch_codec::specs::Decoding::i64_at))]
-    fn begin(alloc: Global, piece: &mut Piece<'_>) -> Result<Begun<i64, Self>, DecodeError> {
-        begin_part(I64Part { part: I64::new() }, alloc, piece)
+    pub(crate) fn new() -> Self
+        ensures fresh { (w : List ℕ) → i64_part result w ≡ i64_at w }
+    {
+        I64Part { part: I64::new() }
     }
 }
 
@@ -138,11 +139,12 @@ impl Partial for IdPart {
     }
 }
 
-impl Fresh for IdPart {
-    ghost reads = { id_at };
-
+impl IdPart {
+    /// Before the first byte.
     #[tactic(auto, unfolding(batch_codec::specs::Decoding::id_at, batch_codec::specs::Decoding::i64_at))]
-    fn begin(alloc: Global, piece: &mut Piece<'_>) -> Result<Begun<u64, Self>, DecodeError> {
-        begin_part(IdPart { part: I64::new() }, alloc, piece)
+    pub(crate) fn new() -> Self
+        ensures fresh { (w : List ℕ) → id_part result w ≡ id_at w }
+    {
+        IdPart { part: I64::new() }
     }
 }

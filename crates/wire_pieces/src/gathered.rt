@@ -71,7 +71,8 @@ impl Gathered {
         ensures parts { MatchOption result ((self.new ≡ self.old ++ piece.old) × (piece.new ≡ []))
             (λ g. (g ++ piece.new ≡ self.old ++ piece.old) × (self.new ≡ [])) }
         ensures size { MatchOption result (length self.new < n) (λ g. length g ≡ n) }
-        ensures taken { MatchOption result (length piece.new ≤ length piece.old) (λ _. length piece.new < length piece.old) }
+        ensures taken { MatchOption result (length piece.new ≤ length piece.old)
+            (λ _. length piece.new < length piece.old) }
     {
         if self.len() == 0 {
             if let Some(front) = piece.front(n) {
@@ -88,7 +89,8 @@ impl Gathered {
         ensures parts { MatchOption result ((self.new ≡ self.old ++ piece.old) × (piece.new ≡ []))
             (λ g. (g ++ piece.new ≡ self.old ++ piece.old) × (self.new ≡ [])) }
         ensures size { MatchOption result (length self.new < n) (λ g. length g ≡ n) }
-        ensures taken { MatchOption result (length piece.new ≤ length piece.old) (λ _. length piece.new < length piece.old) }
+        ensures taken { MatchOption result (length piece.new ≤ length piece.old)
+            (λ _. length piece.new < length piece.old) }
     {
         while let Some(byte) = piece.next() {
             self.push(byte);

@@ -1,4 +1,4 @@
-ghost use Rattle.std.specs.Prelude.{◌≡◌, List, ℕ};
+ghost use Rattle.std.specs.Prelude.{◌≡◌, true, List, ℕ};
 ghost use Rattle.thrift_binary.specs.Reading.{is_code, field_at, list_at};
 ghost use Rattle.wire_pieces.specs.Pieces.{Goes, OkTakes};
 ghost use Rattle.wire_pieces.specs.Heads.{IsTyped, id_from, head_from, typed_size_from, list_head};
@@ -34,7 +34,8 @@ pub(crate) struct TypedId {
 impl TypedId {
     #[inline]
     fn more(&mut self, piece: &mut Piece<'_>) -> Result<Option<Option<(u8, i16)>>, PieceError>
-        ensures reads { Goes (λ x. x) (id_from self.old) (id_from self.new) piece.old piece.new result }
+        ensures reads { Goes (λ x. x) (id_from self.old) (id_from self.new)
+            piece.old piece.new result }
         ensures taken { OkTakes piece.old piece.new result }
         ensures typed { IsTyped result }
     {
@@ -71,11 +72,20 @@ impl FieldHead {
         }
     }
 
+    /// Whether no byte of it has come.
+    #[inline]
+    pub fn is_first(&self) -> bool
+        ensures first { result ≡ true → (w : List ℕ) → head_from self.now w ≡ field_at w }
+    {
+        matches!(self.step, HeadStep::First)
+    }
+
     /// Goes on over a piece.
     #[tactic(auto, unfolding(thrift_binary::specs::Reading::field_at))]
     #[inline]
     pub fn more(&mut self, piece: &mut Piece<'_>) -> Result<Option<Option<(u8, i16)>>, PieceError>
-        ensures reads { Goes (λ x. x) (head_from self.old) (head_from self.new) piece.old piece.new result }
+        ensures reads { Goes (λ x. x) (head_from self.old) (head_from self.new)
+            piece.old piece.new result }
         ensures taken { OkTakes piece.old piece.new result }
         ensures typed { IsTyped result }
     {
@@ -110,7 +120,8 @@ pub(crate) struct TypedSize {
 impl TypedSize {
     #[inline]
     fn more(&mut self, piece: &mut Piece<'_>) -> Result<Option<(u8, u32)>, PieceError>
-        ensures reads { Goes (λ x. x) (typed_size_from self.old) (typed_size_from self.new) piece.old piece.new result }
+        ensures reads { Goes (λ x. x) (typed_size_from self.old) (typed_size_from self.new)
+            piece.old piece.new result }
         ensures taken { OkTakes piece.old piece.new result }
     {
         let Some(size) = self.size.more(piece)? else {
@@ -150,7 +161,8 @@ impl ListHead {
     #[tactic(auto, unfolding(thrift_binary::specs::Reading::list_at))]
     #[inline]
     pub fn more(&mut self, piece: &mut Piece<'_>) -> Result<Option<(u8, u32)>, PieceError>
-        ensures reads { Goes (λ x. x) (list_head self.old) (list_head self.new) piece.old piece.new result }
+        ensures reads { Goes (λ x. x) (list_head self.old) (list_head self.new)
+            piece.old piece.new result }
         ensures taken { OkTakes piece.old piece.new result }
     {
         match &mut self.step {

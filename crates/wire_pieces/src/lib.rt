@@ -28,7 +28,7 @@ mod strings;
 pub use fault::PieceError;
 pub use heads::{FieldHead, ListHead, is_code};
 pub use maps::MapHead;
-pub use numbers::{Bool, Double, I16, I32, I64, Size};
+pub use numbers::{Bool, Double, I16, I32, I64, Size, size_of};
 pub use piece::Piece;
 pub use skip::Skipping;
 pub use strings::StringPart;

@@ -19,7 +19,8 @@ pub(crate) struct PairSize {
 
 impl PairSize {
     fn more(&mut self, piece: &mut Piece<'_>) -> Result<Option<(u8, u8, u32)>, PieceError>
-        ensures reads { Goes (λ x. ((x.0, x.1), x.2)) (pair_size_from self.old) (pair_size_from self.new)
+        ensures reads { Goes (λ x. ((x.0, x.1), x.2)) (pair_size_from self.old)
+            (pair_size_from self.new)
             piece.old piece.new result }
         ensures taken { OkTakes piece.old piece.new result }
     {

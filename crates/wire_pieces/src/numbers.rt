@@ -1,4 +1,4 @@
-ghost use Rattle.std.specs.Prelude.{◌≡◌, ◌<◌, List, ℕ, [], ◌++◌, length};
+ghost use Rattle.std.specs.Prelude.{◌≡◌, ◌<◌, List, ℕ, [], ◌++◌, length, Some, Ok};
 ghost use Rattle.std.specs.Int.{w16, w32, w64};
 ghost use Rattle.thrift_binary.specs.Reading.{bool_at, bytes_at, signed_at, size_at};
 ghost use Rattle.thrift_binary.specs.declared.fault.WireError.TheVariants.{Truncated};
@@ -33,7 +33,8 @@ impl I16 {
     /// Goes on over a piece.
     #[inline]
     pub fn more(&mut self, piece: &mut Piece<'_>) -> Option<i16>
-        ensures reads { Reaches Truncated (λ x. x) (i16_from self.old) (i16_from self.new) piece.old piece.new result }
+        ensures reads { Reaches Truncated (λ x. x) (i16_from self.old) (i16_from self.new)
+            piece.old piece.new result }
         ensures taken { Takes piece.old piece.new result }
     {
         let whole = self.got.fill(2, piece)?;
@@ -65,7 +66,8 @@ impl I32 {
     /// Goes on over a piece.
     #[inline]
     pub fn more(&mut self, piece: &mut Piece<'_>) -> Option<i32>
-        ensures reads { Reaches Truncated (λ x. x) (i32_from self.old) (i32_from self.new) piece.old piece.new result }
+        ensures reads { Reaches Truncated (λ x. x) (i32_from self.old) (i32_from self.new)
+            piece.old piece.new result }
         ensures taken { Takes piece.old piece.new result }
     {
         let whole = self.got.fill(4, piece)?;
@@ -97,7 +99,8 @@ impl I64 {
     /// Goes on over a piece.
     #[inline]
     pub fn more(&mut self, piece: &mut Piece<'_>) -> Option<i64>
-        ensures reads { Reaches Truncated (λ x. x) (i64_from self.old) (i64_from self.new) piece.old piece.new result }
+        ensures reads { Reaches Truncated (λ x. x) (i64_from self.old) (i64_from self.new)
+            piece.old piece.new result }
         ensures taken { Takes piece.old piece.new result }
     {
         let whole = self.got.fill(8, piece)?;
@@ -129,7 +132,8 @@ impl Double {
     /// Goes on over a piece.
     #[inline]
     pub fn more(&mut self, piece: &mut Piece<'_>) -> Option<[u8; 8]>
-        ensures reads { Reaches Truncated (λ x. x) (double_from self.old) (double_from self.new) piece.old piece.new result }
+        ensures reads { Reaches Truncated (λ x. x) (double_from self.old) (double_from self.new)
+            piece.old piece.new result }
         ensures taken { Takes piece.old piece.new result }
     {
         let whole = self.got.fill(8, piece)?;
@@ -189,7 +193,8 @@ impl Size {
     /// Goes on over a piece.
     #[inline]
     pub fn more(&mut self, piece: &mut Piece<'_>) -> Result<Option<u32>, PieceError>
-        ensures reads { Goes (λ x. x) (size_from self.old) (size_from self.new) piece.old piece.new result }
+        ensures reads { Goes (λ x. x) (size_from self.old) (size_from self.new)
+            piece.old piece.new result }
         ensures taken { OkTakes piece.old piece.new result }
     {
         let Some(whole) = self.got.fill(4, piece) else {
@@ -201,4 +206,20 @@ impl Size {
         }
         Ok(Some(number))
     }
+}
+
+/// The size that four bytes spell: nothing where they aren't four, or where no length is so large.
+#[inline]
+pub fn size_of(bytes: &[u8]) -> Option<u32>
+    ensures reads { (n : ℕ) → result ≡ Some n → (w : List ℕ) →
+        size_at (bytes.now ++ w) ≡ Ok (n, w) }
+{
+    if bytes.len() != 4 {
+        return None;
+    }
+    let number = BigEndian::read_u32(bytes);
+    if number > 0x7fff_ffff {
+        return None;
+    }
+    Some(number)
 }

@@ -22,7 +22,8 @@ impl Past {
 
     /// Goes on over a piece.
     pub(crate) fn more(&mut self, piece: &mut Piece<'_>) -> Option<()>
-        ensures reads { Reaches Truncated (λ x. x) (past self.old.left) (past self.new.left) piece.old piece.new result }
+        ensures reads { Reaches Truncated (λ x. x) (past self.old.left) (past self.new.left)
+            piece.old piece.new result }
         ensures taken { Takes piece.old piece.new result }
     {
         let front = piece.up_to(self.left);

@@ -16,10 +16,19 @@ impl<'a> Model for Piece<'a> {
 
 impl<'a> Piece<'a> {
     /// All of the bytes.
+    #[inline]
     pub fn new(bytes: &'a [u8]) -> Self
         ensures bytes { result ≡ bytes.now }
     {
         Piece { bytes }
+    }
+
+    /// The bytes that are left.
+    #[inline]
+    pub fn rest(&self) -> &'a [u8]
+        ensures bytes { result.now ≡ self.now }
+    {
+        self.bytes
     }
 
     /// Nothing is left.
@@ -32,7 +41,8 @@ impl<'a> Piece<'a> {
     /// The next byte.
     #[inline]
     pub(crate) fn next(&mut self) -> Option<u8>
-        ensures { MatchOption result ((self.old ≡ []) × (self.new ≡ [])) (λ b. self.old ≡ b ∷ self.new) }
+        ensures { MatchOption result ((self.old ≡ []) × (self.new ≡ []))
+            (λ b. self.old ≡ b ∷ self.new) }
     {
         match self.bytes {
             [] => None,
@@ -46,7 +56,8 @@ impl<'a> Piece<'a> {
     /// The first n bytes, where there are as many.
     #[inline]
     pub(crate) fn front(&mut self, n: usize) -> Option<&'a [u8]>
-        ensures parts { MatchOption result (self.new ≡ self.old) (λ t. self.old ≡ t.now ++ self.new) }
+        ensures parts { MatchOption result (self.new ≡ self.old)
+            (λ t. self.old ≡ t.now ++ self.new) }
         ensures size { MatchOption result (length self.old < n) (λ t. length t.now ≡ n) }
     {
         if self.bytes.len() < n {

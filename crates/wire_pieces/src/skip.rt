@@ -50,7 +50,8 @@ impl TurnsLeft {
 
     /// The type of the next value.
     fn take(&mut self) -> Option<u8>
-        ensures { MatchOption result ((self.old.left ≡ 0) × (self.new ≡ self.old)) (λ c. (self.old.left ≡ self.new.left + 1) × (c ≡ self.old.this)
+        ensures { MatchOption result ((self.old.left ≡ 0) × (self.new ≡ self.old))
+            (λ c. (self.old.left ≡ self.new.left + 1) × (c ≡ self.old.this)
             × (self.new.this ≡ self.old.next) × (self.new.next ≡ self.old.this)) }
     {
         if self.left == 0 {
@@ -129,7 +130,8 @@ fn past_of(size: u32) -> Now
 /// A value that is no container.
 #[tactic(auto, unfolding(thrift_binary::specs::Skipping::text))]
 fn leaf(code: u8) -> Result<Now, PieceError>
-    ensures reads { MatchResult result (λ now. (levels : ℕ) (w : List ℕ) → now_at levels now w ≡ leaf code w)
+    ensures reads { MatchResult result (λ now. (levels : ℕ) (w : List ℕ) →
+        now_at levels now w ≡ leaf code w)
         (λ e. (e ≡ Wire BadType) × ((w : List ℕ) → leaf code w ≡ Err BadType)) }
     ensures rank { IfOk result (λ now. (f : Frame) → rank now f ≡ 1) }
 {
@@ -164,7 +166,8 @@ impl Skipping {
     fn push(&mut self, inner: Frame) -> Result<(), PieceError>
         ensures now { self.new.now ≡ self.old.now }
         ensures top { self.new.top ≡ inner }
-        ensures below { MatchResult result (λ _. self.new.below.items ≡ self.old.below.items ++ self.old.top ∷ [])
+        ensures below { MatchResult result
+            (λ _. self.new.below.items ≡ self.old.below.items ++ self.old.top ∷ [])
             (λ e. e ≡ Memory) }
     {
         let outer = mem::replace(&mut self.top, inner);
@@ -177,7 +180,8 @@ impl Skipping {
         requires now { self.old.now ≡ Nothing }
         requires done { (levels : ℕ) (w : List ℕ) → frame_at levels self.old.top w ≡ Ok (tt, w) }
         requires rank { rank self.old.now self.old.top ≡ 3 }
-        ensures progress { (piece : List ℕ) → Progresses (skipping self.old) (skipping self.new) piece piece (Ok result) }
+        ensures progress { (piece : List ℕ) → Progresses (skipping self.old) (skipping self.new)
+            piece piece (Ok result) }
         ensures lighter { IsOn result → height self.new < height self.old }
     {
         match self.below.pop() {
@@ -193,7 +197,8 @@ impl Skipping {
     fn enter(&mut self, code: u8) -> Result<(), PieceError>
         requires now { self.old.now ≡ Nothing }
         requires container { is_container code ≡ true }
-        ensures steps { Steps (begun code self.old.top self.old.below.items) (skipping self.new) [] [] result }
+        ensures steps { Steps (begun code self.old.top self.old.below.items) (skipping self.new)
+            [] [] result }
         ensures height { OnOk result (height self.new ≤ 2 * length self.old.below.items + 2) }
     {
         if self.below.len() >= LEVELS {
@@ -210,7 +215,8 @@ impl Skipping {
     /// Before the first byte of a value inside of the innermost container.
     fn begin(&mut self, code: u8) -> Result<(), PieceError>
         requires now { self.old.now ≡ Nothing }
-        ensures steps { Steps (begun code self.old.top self.old.below.items) (skipping self.new) [] [] result }
+        ensures steps { Steps (begun code self.old.top self.old.below.items) (skipping self.new)
+            [] [] result }
         ensures height { OnOk result (height self.new ≤ 2 * length self.old.below.items + 2) }
     {
         if is_container(code) {
@@ -223,7 +229,8 @@ impl Skipping {
     /// Goes on between two values of the innermost container.
     fn outside(&mut self, piece: &mut Piece<'_>) -> Result<Progress, PieceError>
         requires now { self.old.now ≡ Nothing }
-        ensures progress { Progresses (skipping self.old) (skipping self.new) piece.old piece.new result }
+        ensures progress { Progresses (skipping self.old) (skipping self.new)
+            piece.old piece.new result }
         ensures lighter { Lightens (weight self.old piece.old) (weight self.new piece.new) result }
         ensures no_longer { OnOk result (length piece.new ≤ length piece.old) }
     {
@@ -252,7 +259,8 @@ impl Skipping {
 
     /// Goes on inside of a value.
     fn step(&mut self, piece: &mut Piece<'_>) -> Result<Progress, PieceError>
-        ensures progress { Progresses (skipping self.old) (skipping self.new) piece.old piece.new result }
+        ensures progress { Progresses (skipping self.old) (skipping self.new)
+            piece.old piece.new result }
         ensures lighter { Lightens (weight self.old piece.old) (weight self.new piece.new) result }
         ensures no_longer { OnOk result (length piece.new ≤ length piece.old) }
     {
@@ -290,7 +298,8 @@ impl Skipping {
 
     /// Goes on over a piece.
     pub fn more(&mut self, piece: &mut Piece<'_>) -> Result<Option<()>, PieceError>
-        ensures reads { Goes (λ x. x) (skipping self.old) (skipping self.new) piece.old piece.new result }
+        ensures reads { Goes (λ x. x) (skipping self.old) (skipping self.new)
+            piece.old piece.new result }
         ensures no_longer { OnOk result (length piece.new ≤ length piece.old) }
     {
         loop {

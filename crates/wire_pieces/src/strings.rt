@@ -74,7 +74,8 @@ impl StringPart {
         alloc: Global,
         piece: &mut Piece<'_>,
     ) -> Result<Option<Vec<u8>>, PieceError>
-        ensures reads { Goes (λ x. x.items) (string_from self.old) (string_from self.new) piece.old piece.new result }
+        ensures reads { Goes (λ x. x.items) (string_from self.old) (string_from self.new)
+            piece.old piece.new result }
         ensures no_longer { OnOk result (length piece.new ≤ length piece.old) }
     {
         match &mut self.step {
