@@ -1,0 +1,145 @@
+#!/usr/bin/env python3
+"""What twice the input costs, for shapes of input that a sender may pick.
+
+One run of `jaeger_one pipe` a shape and size: bodies of that shape are handed in over HTTP until so many spans
+are held, then questions are asked whose answers grow with them. The shapes:
+
+  traces       ordinary: 10 spans of one trace a body, which call one another across two services
+  services     a new service with each body of one span
+  operations   a new operation with each span
+  one trace    all spans in one trace, each called by the first
+  processes    all spans in one trace, each of a process of its own
+  chain        all spans in one trace, each called by the one before, across two services
+  one span id  all spans in one trace under one span id
+  colliding    one-span traces whose ids have one hash under a table without a key
+
+    bench/shapes.py [--bin PATH] [--size 10000] [--rounds 3] [--shapes chain,..]
+
+What is counted is the processor time of the program (/proc/PID/schedstat), the least of the rounds, at the size and
+at twice it; `ratio` is their quotient.
+"""
+import argparse
+import os
+import struct
+
+from decode import ROOT, field, text
+from ids import colliding
+from session import Session, get, post
+
+LINKS = "/api/dependencies?endTs=9000000000000&lookback=9000000000000"
+
+
+def span(trace, number, parent, operation="op"):
+    high, low = trace
+    out = field(10, 1) + struct.pack(">Q", low) + field(10, 2) + struct.pack(">Q", high)
+    out += field(10, 3) + struct.pack(">Q", number) + field(10, 4) + struct.pack(">Q", parent)
+    out += field(11, 5) + text(operation) + field(8, 7) + struct.pack(">i", 1)
+    out += field(10, 8) + struct.pack(">q", 1_000_000 + number) + field(10, 9) + struct.pack(">q", 50)
+    return out + b"\0"
+
+
+def process(service, host=None):
+    out = field(12, 1) + field(11, 1) + text(service)
+    if host is not None:
+        tag = field(11, 1) + text("host") + field(8, 2) + struct.pack(">i", 0) + field(11, 3) + text(host) + b"\0"
+        out += field(15, 2) + b"\x0c" + struct.pack(">i", 1) + tag
+    return out + b"\0"
+
+
+def body(of, spans):
+    return post(of + field(15, 2) + b"\x0c" + struct.pack(">i", len(spans)) + b"".join(spans) + b"\0")
+
+
+def side(n):
+    return "a" if n % 2 else "b"
+
+
+def tens(size, make):
+    return [body(process("a"), [make(n) for n in range(first, first + 10)]) for first in range(1, size + 1, 10)]
+
+
+ONE = 0, 1
+
+
+def bodies(shape, size):
+    if shape == "traces":
+        return [
+            body(process(side(n // 10)), [span((0, n // 20 + 1), n + i, n + i - 1 if i else 0) for i in range(10)])
+            for n in range(0, size, 10)
+        ]
+    if shape == "services":
+        return [body(process("service-%d" % n), [span((0, n), 1, 0)]) for n in range(1, size + 1)]
+    if shape == "operations":
+        return tens(size, lambda n: span((0, n // 10 + 1), n, 0, "operation-%d" % n))
+    if shape == "one trace":
+        return tens(size, lambda n: span(ONE, n, 0 if n == 1 else 1))
+    if shape == "processes":
+        return [body(process("a", "host-%d" % n), [span(ONE, n, 0 if n == 1 else 1)]) for n in range(1, size + 1)]
+    if shape == "chain":
+        return [body(process(side(n)), [span(ONE, n, n - 1)]) for n in range(1, size + 1)]
+    if shape == "one span id":
+        return tens(size, lambda n: span(ONE, 7, 0))
+    return tens(size, lambda n: span(colliding(n), 1, 0))
+
+
+def questions(shape):
+    service = "service-1" if shape == "services" else "a"
+    trace = colliding(1) if shape == "colliding" else (0, 1)
+    rows = [("services", "/api/services"), ("operations", "/api/operations?service=" + service)]
+    rows.append(("20 traces", "/api/traces?service=%s&limit=20" % service))
+    rows.append(("no such tag", "/api/traces?service=%s&tags=%%7B%%22none%%22%%3A%%22x%%22%%7D" % service))
+    rows.append(("a trace", "/api/traces/%x%016x" % trace if trace[0] else "/api/traces/%x" % trace[1]))
+    rows.append(("the trace, raw", rows[-1][1] + "?raw=true"))
+    rows.append(("dependencies", LINKS))
+    return rows
+
+
+class Timed(Session):
+    def spent(self):
+        """Seconds of processor time so far."""
+        with open("/proc/%d/schedstat" % self.run.pid) as told:
+            return int(told.read().split()[0]) / 1e9
+
+    def cost(self, requests):
+        before = self.spent()
+        _, length = self.ask(requests)
+        return self.spent() - before, length
+
+
+def measure(binary, shape, size):
+    """Seconds by what was done, and the bytes of its answer."""
+    session = Timed([binary, "pipe", "--batches", "1000000", "--spans", "1000000"])
+    session.ask([get("/api/services")])
+    found = {"posts": session.cost(bodies(shape, size))}
+    for name, target in questions(shape):
+        session.ask([get(target)])
+        found[name] = session.cost([get(target)])
+    session.run.stdin.close()
+    session.run.wait()
+    return found
+
+
+def least(rounds):
+    return {name: (min(one[name][0] for one in rounds), rounds[0][name][1]) for name in rounds[0]}
+
+
+def main():
+    asked = argparse.ArgumentParser(description=__doc__, formatter_class=argparse.RawDescriptionHelpFormatter)
+    asked.add_argument("--bin", default=os.path.join(ROOT, "crates", "jaeger_one", "out", "jaeger_one"))
+    asked.add_argument("--size", type=int, default=10_000)
+    asked.add_argument("--rounds", type=int, default=3)
+    shapes = "traces,services,operations,one trace,processes,chain,one span id,colliding"
+    asked.add_argument("--shapes", default=shapes)
+    words = asked.parse_args()
+    print("%-12s %-16s %12s %12s %7s %12s" % ("shape", "what", words.size, words.size * 2, "ratio", "bytes"))
+    for shape in words.shapes.split(","):
+        once = least([measure(words.bin, shape, words.size) for _ in range(words.rounds)])
+        twice = least([measure(words.bin, shape, words.size * 2) for _ in range(words.rounds)])
+        for name, (cost, _) in once.items():
+            more, length = twice[name]
+            row = shape, name, cost * 1e3, more * 1e3, more / cost, length
+            print("%-12s %-16s %9.3f ms %9.3f ms %7.2f %12d" % row, flush=True)
+
+
+if __name__ == "__main__":
+    main()
