@@ -31,7 +31,7 @@ pub fn bad_bytes_have_no_body()
     ensures { (most : ℕ) (bytes : List ℕ) → Reads most bytes bad → HasNone (IsDecided most) bytes }
 {}
 
-/// A body has all its chunks and the line behind them at its front, or those up to the line that says that it
+/// A body has all its chunks and the line behind them at its beginning, or those up to the line that says that it
 /// is too large.
 pub fn a_body_begins_with_its_chunks()
     ensures { (most : ℕ) (text : List ℕ) → IsDecided most text → Begins (IsSized most) text }

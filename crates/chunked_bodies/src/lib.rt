@@ -1,11 +1,11 @@
-//! A chunked body (RFC 9112, section 7.1): its size lines and its trailer at the front of bytes.
+//! A chunked body (RFC 9112, section 7.1): its size lines and its trailer at the beginning of bytes.
 //!
 //! What a chunked body is stands in `specs/Chunks.antt`, as a relation of a text and the data in it. At the
-//! front of bytes it has one answer, which what follows doesn't change ([`laws`]).
+//! beginning of bytes it has one answer, which what follows doesn't change ([`laws`]).
 //!
-//! * `line`: the line that tells a chunk's size.
+//! * `line`: the line with a chunk's size.
 //! * `trailer`: the fields behind the last chunk, up to an empty line.
-//! * `front`: the first bytes of bytes.
+//! * `front`: the beginning of bytes.
 //! * `laws`: facts about the definition.
 #![tactic(auto)]
 

@@ -6,10 +6,10 @@ use httparse::{Status, parse_chunk_size};
 /// How many bytes a size line has at most, with its CR LF. RFC 9112 sets no limit; this is a session's own.
 pub const MOST_LINE_BYTES: usize = 256;
 
-/// What stands at the front of the bytes received so far.
+/// What stands at the beginning of the bytes received so far.
 #[derive(Clone, Copy, Debug, PartialEq, Eq)]
 pub enum SizeLine {
-    /// A size line of so many bytes, and the size that it tells.
+    /// A size line of so many bytes, and the size in it.
     Whole(usize, u64),
     /// None yet.
     More,
@@ -17,7 +17,7 @@ pub enum SizeLine {
     Never,
 }
 
-/// Looks for a size line at the front of the bytes, in its limit of bytes. An extension of the line is ignored
+/// Looks for a size line at the beginning of the bytes, in its limit of bytes. An extension of the line is ignored
 /// (RFC 9112, section 7.1.1).
 pub fn look_for_size(bytes: &[u8]) -> SizeLine
     ensures { LooksAtLine bytes.now result }

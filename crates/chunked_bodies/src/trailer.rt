@@ -10,7 +10,7 @@ pub const MOST_TRAILER_BYTES: usize = 8192;
 /// How many fields a trailer has at most: a limit of a session's own.
 const MOST_FIELDS: usize = 64;
 
-/// What stands at the front of the bytes received so far.
+/// What stands at the beginning of the bytes received so far.
 #[derive(Clone, Copy, Debug, PartialEq, Eq)]
 pub enum Trailer {
     /// A trailer of so many bytes.
@@ -21,7 +21,7 @@ pub enum Trailer {
     Never,
 }
 
-/// Looks for a trailer at the front of the bytes, in its limits of bytes and fields (RFC 9112, section 7.1.2).
+/// Looks for a trailer at the beginning of the bytes, in its limits of bytes and fields (RFC 9112, section 7.1.2).
 /// Its fields are ignored.
 pub fn look_for_trailer(bytes: &[u8]) -> Trailer
     ensures { LooksAtTrailer bytes.now result }

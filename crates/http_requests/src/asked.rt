@@ -45,7 +45,7 @@ pub enum Breach {
     TooLarge,
 }
 
-/// A request, as its head tells. It goes with the bytes of the head.
+/// A request, as its head says. It goes with the bytes of the head.
 #[derive(Clone, Copy, Debug)]
 pub struct Request {
     pub method: Method,
@@ -187,7 +187,7 @@ fn closes(version: u8, fields: &Fields<'_>) -> bool
     version == 0 || fields.have_token("connection", "close")
 }
 
-/// What a session asks of the head that stands at the front of the bytes, and how long the body is.
+/// What a session asks of the head that stands at the beginning of the bytes, and how long the body is.
 pub(crate) fn frame(
     bytes: &[u8],
     headers: &[HeaderSpan],

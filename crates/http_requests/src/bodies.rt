@@ -221,7 +221,7 @@ fn read_chunks<R: Input, S: Sink>(
     }
 }
 
-/// Takes the body that the head tells of, and puts it into the sink as it comes; it is never held whole.
+/// Takes the body that the head announces, and puts it into the sink as it comes; it is never held whole.
 /// Where there is none for a stated reason, what was put before is a part of what came. It reads nothing where
 /// the bytes received decide: the body is whole, or the head or a size line says that it is too large or can't
 /// be read.

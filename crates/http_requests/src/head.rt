@@ -11,7 +11,7 @@ pub(crate) const MOST_HEAD_BYTES: usize = 8192;
 /// How many fields a head has at most: a limit of a session's own too.
 pub(crate) const MOST_FIELDS: usize = 64;
 
-/// What stands at the front of the bytes received so far.
+/// What stands at the beginning of the bytes received so far.
 #[derive(Clone, Copy, Debug)]
 pub(crate) enum Look {
     /// A head.
@@ -33,7 +33,7 @@ pub(crate) fn front_of(bytes: &[u8]) -> &[u8]
     }
 }
 
-/// Looks for a head at the front of the bytes.
+/// Looks for a head at the beginning of the bytes.
 pub(crate) fn look_for_head(bytes: &[u8], headers: &mut [HeaderSpan]) -> Look
     requires { MOST_FIELDS ≤ length headers.old }
     ensures { Looks bytes.now headers.new result }

@@ -1,4 +1,4 @@
-//! Facts about the definitions: what stands at the front of the bytes of an input, however they were
+//! Facts about the definitions: what stands at the beginning of the bytes of an input, however they were
 //! read. Each function does nothing, and its contract is the fact.
 
 ghost use Rattle.std.specs.Prelude.{◌≡◌, ℕ, List, [], ◌++◌};
@@ -21,20 +21,20 @@ pub fn a_session_has_these_limits()
     ensures piece { PIECE ≡ 4096 }
 {}
 
-/// At the front of the bytes stands one head, with one rest.
+/// At the beginning of the bytes stands one head, with one rest.
 pub fn a_head_is_read_in_one_way()
     ensures { (bytes : List ℕ) (h k : RequestHeadValue) (rest more : List ℕ) →
         TakesHead bytes h rest → TakesHead bytes k more → (h ≡ k) × (rest ≡ more) }
 {}
 
-/// A head at the front stays there when more bytes come.
+/// A head at the beginning stays there when more bytes come.
 pub fn a_head_stays_when_more_comes()
     ensures { (bytes : List ℕ) (h : RequestHeadValue) (rest more : List ℕ) →
         TakesHead bytes h rest → TakesHead (bytes ++ more) h (rest ++ more) }
 {}
 
-/// At the front of the bytes one request is spelled: its text, its head and its body are told by the
-/// bytes, and so is what follows.
+/// At the beginning of the bytes one request is spelled: its text, its head and its body are determined
+/// by the bytes, and so is what follows.
 pub fn a_request_is_spelled_in_one_way()
     ensures { (text other : List ℕ) (h k : RequestHeadValue) (body more rest left : List ℕ) →
         Spells text h body → Spells other k more → text ++ rest ≡ other ++ left →
@@ -67,7 +67,7 @@ pub fn no_bytes_are_no_breach()
     ensures { (b : BreachValue) → IsBroken (Unit {0}) [] b → ⊥ }
 {}
 
-/// Where a request is awaited, none stands at the front of the bytes.
+/// Where a request is awaited, none stands at the beginning of the bytes.
 pub fn an_awaited_request_is_not_there()
     ensures { (bytes text rest : List ℕ) (h : RequestHeadValue) (body : List ℕ) →
         AwaitsRequest bytes → Spells text h body → bytes ≡ text ++ rest → ⊥ }

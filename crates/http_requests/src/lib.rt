@@ -1,13 +1,13 @@
 //! The requests of an HTTP/1.x session, read one after the other (RFC 9112).
 //!
 //! A request is a head by `httparse`'s grammar, of at most 8,192 bytes and 64 fields, and a body: as long as
-//! the head tells, or in chunks. What stood at the front of the bytes received is proved to be a request,
+//! the head says, or in chunks. What stood at the beginning of the bytes received is proved to be a request,
 //! or to be none for a stated reason: no continuation can begin with one, or the input ended inside. A
 //! request is taken in two steps: its head, whose bytes are handed on ([`next_head`]), and its body, which is
 //! put into a [`Sink`] as it comes ([`read_body`]). No body is held whole. The input is read only while the
-//! bytes received don't decide: no request stands in front of them, and no reason why there can be none.
+//! bytes received don't decide: no request stands at their beginning, and no reason why there can be none.
 //!
-//! * `head`: looking for a head at the front of bytes.
+//! * `head`: looking for a head at the beginning of bytes.
 //! * `fields`: the fields of a head, by name.
 //! * `asked`: what a session asks of a head: method, target, how long the body is, whether it closes.
 //! * `bodies`: taking a body, by its length or in chunks.
@@ -15,7 +15,7 @@
 //! * `line_ends`: whether a line ends in bytes.
 //! * `reading`: the head of the next request of an input.
 //! * `sink`: what a body is put into.
-//! * `laws`: facts about what stands at the front of bytes.
+//! * `laws`: facts about what stands at the beginning of bytes.
 #![tactic(auto)]
 
 mod asked;

@@ -15,10 +15,10 @@ use session_devices::Input;
 /// Room for one field more than a head may have.
 const FIELD_ROOM: usize = 65;
 
-/// What stood at the front of the bytes received, after reading as far as it takes.
+/// What stood at the beginning of the bytes received, after reading as far as it takes.
 #[derive(Clone, Copy, Debug)]
 pub enum Next {
-    /// The head of a request, and how long the body is that it tells of.
+    /// The head of a request, and how long the body is by it.
     One(Request, BodyLength),
     /// Nothing, and the input has ended.
     Clean,
@@ -36,7 +36,7 @@ enum Found {
     Never,
 }
 
-/// Reads until a head stands at the front, or none can.
+/// Reads until a head stands at the beginning, or none can.
 #[tactic(auto, using(crate::proofs::Readings::reads_then_stops))]
 fn find_head<R: Input>(
     input: &mut R,
@@ -71,10 +71,10 @@ fn find_head<R: Input>(
     }
 }
 
-/// Reads until the head of a request stood at the front of the bytes received, or there is none: the input
+/// Reads until the head of a request stood at the beginning of the bytes received, or there is none: the input
 /// has ended, or no continuation begins with one. The head is taken from the bytes, and its bytes are put in
 /// the place of what `head` held; the body is what follows, for [`read_body`](crate::read_body). It reads
-/// nothing of an input that has ended, nor where the bytes received decide: a head stands at their front, or
+/// nothing of an input that has ended, nor where the bytes received decide: a head stands at their beginning, or
 /// no continuation of the lines received whole begins with one.
 ///
 /// # Errors

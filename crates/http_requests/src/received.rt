@@ -79,7 +79,7 @@ impl Received {
         self.ended
     }
 
-    /// Takes bytes from the front.
+    /// Takes bytes from the beginning.
     pub fn take(&mut self, count: usize)
         requires { count ≤ length self.old.held }
         ensures { self.new ≡ record self.old { held = drop count self.old.held } }
@@ -87,7 +87,7 @@ impl Received {
         self.at += count;
     }
 
-    /// Moves what is left to the front. It came with the last read, so that no byte is moved twice.
+    /// Moves what is left to the beginning. It came with the last read, so that no byte is moved twice.
     fn compact(&mut self)
         ensures { self.new ≡ self.old }
     {

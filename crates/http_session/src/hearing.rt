@@ -47,7 +47,7 @@ impl Sink for PassedOver {
     ghost takes_joined = { passes_joined };
 }
 
-/// A body that is to spell a batch. A fault that is found early is kept, and told at the end.
+/// A body that is to spell a batch. A fault that is found early is kept, and reported at the end.
 #[derive(Drop)]
 struct BatchBody {
     feeder: Feeder,
@@ -108,7 +108,7 @@ fn told(
     }
 }
 
-/// Reads the body of a request to its end, and tells the verdict on it. A batch is decoded as it comes.
+/// Reads the body of a request to its end, and returns the verdict on it. A batch is decoded as it comes.
 fn hear_body<R: Input>(
     alloc: Global,
     input: &mut R,

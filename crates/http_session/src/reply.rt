@@ -169,8 +169,8 @@ impl Reply {
         }
     }
 
-    /// The bytes of its response, where they take no memory: a batch is accepted, memory is wanting, or
-    /// there is an internal error.
+    /// The bytes of its response, where they take no memory: a batch was accepted, memory ran out, or
+    /// there was an internal error.
     #[tactic(auto, unfolding(crate::specs::Replies::response_of))]
     pub fn fixed(&self, close: bool) -> Option<&'static [u8]>
         ensures told { IfSome result (λ bytes. bytes.now ≡ response_of self.now close) }

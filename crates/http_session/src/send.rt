@@ -7,7 +7,7 @@ use session_devices::Output;
 ///
 /// # Errors
 ///
-/// The writer failed; how many of the bytes it took before.
+/// The output failed; how many of the bytes it took before.
 pub(crate) fn send<W: Output>(output: &mut W, bytes: &[u8]) -> Result<(), usize>
     ensures ok { OnOk result (Appends (W.contents output.old) (W.contents output.new) bytes.now) }
     ensures same { OnOk result (W.has_failed output.new ≡ W.has_failed output.old) }

@@ -174,8 +174,8 @@ impl<N: StoreName> Clerk<N> {
 
     /// Serves until the desk is closed and the queue is empty, and leaves the books.
     ///
-    /// Where there is nothing to do it sleeps until a job is handed in. Where memory is short it tries
-    /// again.
+    /// Where there is nothing to do it sleeps until a job is handed in. Where memory runs out it
+    /// tries again.
     pub fn run<R: Wait>(self, rt: &R, keeper: Keeper<N>) -> Books<N>
         ensures judged { Ran N.limits self.taken self.accounts keeper
             result.inbox.taken result.accounts.items result.keeper }

@@ -223,7 +223,7 @@ fn all_day<N: StoreName + Send + Sync, R: Threads + Wait + Sync>(
     );
 }
 
-/// Takes a seat in, once more where memory is short.
+/// Takes a seat in, once more where memory ran out.
 fn take_in<N: StoreName, R: Wait>(rt: &R, books: &mut Books<N>, seat: &mut Seat<N>)
     requires desk { books.old.inbox.desk ≡ seat.old.desk }
     requires books { Balances books.old.inbox.taken books.old.accounts.items
@@ -351,7 +351,7 @@ fn left_over<N: StoreName, R: Wait>(
 }
 
 /// Two seats hand in five jobs, of which the clerk serves one; the desk is closed, and the clerk leaves: four
-/// are left. Where memory was short it may be fewer jobs.
+/// are left. Where memory ran out it may be fewer jobs.
 fn leaves<N: StoreName, R: Wait>(
     rt: &R,
     alloc: Global,
@@ -476,7 +476,7 @@ fn nothing_lost(rt: HostRuntime) -> Result<(), Fail> {
     Ok(())
 }
 
-/// However short memory is while the seats are taken in (`rt try --test --fail-alloc 1..`).
+/// Wherever memory runs out while the seats are taken in (`rt try --test --fail-alloc 1..`).
 #[test]
 fn waiting_jobs_handed_back(rt: HostRuntime) -> Result<(), Fail> {
     assert!(rt; plays(&rt, rt.alloc(), Ending::Leaves)?);

@@ -76,7 +76,7 @@ fn optional_text(alloc: Global, pairs: &[Pair], name: &str) -> Result<Text, Allo
     copied(alloc, find_parameter(pairs, name).unwrap_or(""))
 }
 
-/// What a search asks. The first parameter that can't be read is told in the order of the fields.
+/// What a search asks. The first parameter that can't be read is reported, in the order of the fields.
 #[tactic(auto, unfolding(crate::specs::Queries::find_at))]
 fn read_find(alloc: Global, pairs: &[Pair]) -> Result<Find, QueryFault>
     ensures { Asks (λ f. f) result (find_at pairs.now) }

@@ -11,7 +11,7 @@ pub enum Outcome {
     Refused(Refusal),
     /// No job waits.
     Idle,
-    /// So many entries are shown.
+    /// So many entries are published.
     Published { front: u64 },
     /// This reader is inside since before the last publish.
     Held { reader: u32 },

@@ -8,9 +8,9 @@ pub enum Step {
     Put { seat: u32, batch: Batch },
     /// The clerk takes the job that waits longest.
     Take,
-    /// What was accepted is shown to those who enter from here on.
+    /// What was accepted is published: those who enter from here on see it.
     Publish,
-    /// A reader enters what is shown.
+    /// A reader enters what is published.
     Enter { reader: u32 },
     /// A reader inside asks.
     Read { reader: u32, query: Query },

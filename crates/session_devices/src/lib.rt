@@ -1,4 +1,4 @@
-//! Readers and writers of a session, whose bytes contracts can name, and which remember whether they failed.
+//! Inputs and outputs of a session, whose bytes contracts can name, and which remember whether they failed.
 //!
 //! A session over an [`Input`] and an [`Output`] can be spoken of by the bytes that were read and
 //! written, and a failure is no end: the device itself says which it was.
@@ -21,7 +21,7 @@ pub use watched::Watched;
 #[derive(Clone, Copy, Debug, PartialEq, Eq)]
 pub struct Failed;
 
-/// A reader that remembers whether it has failed.
+/// An input that remembers whether it has failed.
 pub trait Input {
     /// The bytes that reads will give from here on, where they are known.
     ghost remaining: { Self → Option (List ℕ) };
@@ -50,9 +50,9 @@ pub trait Input {
         ensures { result ≡ has_failed self.now };
 }
 
-/// A writer that remembers whether it has failed.
+/// An output that remembers whether it has failed.
 pub trait Output {
-    /// The bytes that the writer holds, where they are known.
+    /// The bytes that the output holds, where they are known.
     ghost contents: { Self → Option (List ℕ) };
 
     ghost has_failed: { Self → Bool };

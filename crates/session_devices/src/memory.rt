@@ -3,7 +3,7 @@ ghost use Rattle.std.specs.Prelude.{◌≡◌, ◌++◌, Some, false, []};
 use crate::{Failed, Input, Output};
 use std::alloc::Global;
 
-/// A reader over memory, which gives at most so many bytes a call and can be made to fail.
+/// An input over memory, which gives at most so many bytes a call and can be made to fail.
 #[derive(Drop)]
 pub struct MemoryInput<'a> {
     bytes: &'a [u8],
@@ -54,7 +54,7 @@ impl<'a> Input for MemoryInput<'a> {
     }
 }
 
-/// A writer over memory, which takes at most so many bytes a call and has room for so many.
+/// An output over memory, which takes at most so many bytes a call and has room for so many.
 #[derive(Drop)]
 pub struct MemoryOutput {
     bytes: Vec<u8>,

@@ -180,7 +180,7 @@ fn joined(alloc: Global, pieces: &[&[u8]]) -> Result<Vec<u8>, Fail> {
     Ok(bytes)
 }
 
-/// What a session over an empty store writes, whose reader gives so many bytes a call.
+/// What a session over an empty store writes, whose input gives so many bytes a call.
 fn written<R: Abort + RandomSource>(
     rt: &R,
     alloc: Global,

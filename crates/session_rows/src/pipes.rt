@@ -38,8 +38,8 @@ fn empty_store<R: Abort + RandomSource>(rt: &R, alloc: Global) -> Result<Direct,
 }
 
 /// A session over a store that was empty: how it ended, what was written, and how many entries the store
-/// has. The reader gives so many bytes a call and fails at that call; the writer has that room and takes so
-/// many bytes a call.
+/// has. The input gives so many bytes a call and fails at that call; the output takes so many bytes a call, and
+/// fails behind as many as its room.
 pub(crate) fn played<R: Abort + RandomSource>(
     rt: &R,
     alloc: Global,

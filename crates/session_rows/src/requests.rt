@@ -186,7 +186,7 @@ fn what_a_head_asks(rt: HostRuntime) -> Result<(), Fail> {
     Ok(())
 }
 
-/// Whether a look at these bytes finds a request, or none for this reason, where the reader gives them one at a
+/// Whether a look at these bytes finds a request, or none for this reason, where the input gives them one at a
 /// time and fails when it is asked for more.
 fn is_decided(alloc: Global, bytes: &[u8], breach: Option<Breach>) -> bool {
     let front = look_in(alloc, MemoryInput::new(bytes, 1, bytes.len() as u64 + 1));

@@ -52,7 +52,7 @@ fn part<R: Clock>(rt: &R, stream: &TcpStream) -> io::Result<()> {
     Ok(())
 }
 
-/// Serves a connection. A fault of it ends it, and nothing else: the store's seat stays, and knows what was
+/// Serves a connection. An error of it ends it, and nothing else: the store's seat stays, and knows what was
 /// handed in.
 pub(crate) fn attend<N: StoreName, G: Gate, R: Wait + Clock>(
     rt: &R,

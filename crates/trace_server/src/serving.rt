@@ -168,7 +168,7 @@ fn can_start<R: Threads>(rt: &R) -> bool {
     }
 }
 
-/// Serves a store of its own, under a name, which is spent.
+/// Serves a store that it opens under a name, which is spent.
 fn serve_named<
     N: StoreName + Send + Sync,
     G: Gate + Sync,
