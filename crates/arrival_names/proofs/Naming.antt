@@ -91,5 +91,5 @@ listed_before h index first some indexed so_far is =
 pub listed_step : (ls : List Listed) (n : ℕ) → n < length ls → sorted_set listed_cmp (take (n + 1) ls) ≡ insert_once listed_cmp (sorted_set listed_cmp (take n ls)) (get_or ls n (service_alone []))
 listed_step ls n below = ap (sorted_set listed_cmp) (take_more ls n (service_alone []) below) ∙ fold_push (insert_once listed_cmp) [] (take n ls) (get_or ls n (service_alone []))
 
-pub services_told : (s : List ℕ) (ps : List Placed) → has_service s (listed_in ps) ≡ reports_service s ps
-services_told s ps = any_set listed_exact (λ (l : Listed). same_text s l.service) (map listed ps) ∙ any_map (λ (l : Listed). same_text s l.service) listed ps
+pub services_reported : (s : List ℕ) (ps : List Placed) → has_service s (listed_in ps) ≡ reports_service s ps
+services_reported s ps = any_set listed_exact (λ (l : Listed). same_text s l.service) (map listed ps) ∙ any_map (λ (l : Listed). same_text s l.service) listed ps

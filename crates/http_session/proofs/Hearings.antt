@@ -16,7 +16,7 @@ use Rattle.http_requests.proofs.Readings.{widened}
 use Rattle.http_requests.proofs.Wholes.{takes_request}
 use Rattle.http_session.specs.Verdicts.{Judges, asked_of}
 use Rattle.http_session.specs.Questions.{Decides, Asks}
-use Rattle.http_session.specs.Hearing.{told_behind, HearsBody, HearsWhole, HearsOne, HearsEnd}
+use Rattle.http_session.specs.Hearing.{reported_behind, HearsBody, HearsWhole, HearsOne, HearsEnd}
 use Rattle.http_session.specs.declared.question.Question.{Question}
 use Rattle.http_session.specs.declared.verdict.Verdict.{Verdict}
 use Rattle.http_session.proofs.Texts.{asked_is}
@@ -47,24 +47,24 @@ hears_end source s t old new found waits = record {
 
 -- ---- the verdict behind a body
 
-pub told_heard : {S R : Type 0} (takes : Takings S) (source : Source R) (s t : R) (old new : Received) (before after : S) (size : BodyLength) (q : Question) (v : Verdict)
+pub reported_heard : {S R : Type 0} (takes : Takings S) (source : Source R) (s t : R) (old new : Received) (before after : S) (size : BodyLength) (q : Question) (v : Verdict)
     (read : Result (Result (Unit {0}) Breach) Interrupted) → ((body : List ℕ) → takes before body after → Decides q body v) → IfOk read (ReadsBody takes source s t old new before after size)
-    → IfOk (told_behind read v) (HearsBody source s t old new size q)
-told_heard takes source s t old new before after size q v (Ok (Ok x)) decides body =
+    → IfOk (reported_behind read v) (HearsBody source s t old new size q)
+reported_heard takes source s t old new before after size q v (Ok (Ok x)) decides body =
     record { text = body.text; body = body.body; body_is = body.body_is; reads = body.reads; decides = decides body.body body.put }
-told_heard takes source s t old new before after size q v (Ok (Err why)) decides breaks = breaks
-told_heard takes source s t old new before after size q v (Err why) decides read = tt
+reported_heard takes source s t old new before after size q v (Ok (Err why)) decides breaks = breaks
+reported_heard takes source s t old new before after size q v (Err why) decides read = tt
 
-pub told_err : (v : Verdict) (P : Interrupted → Type 0) (read : Result (Result (Unit {0}) Breach) Interrupted) → IfErr read P → IfErr (told_behind read v) P
-told_err v P (Ok (Ok x)) p = tt
-told_err v P (Ok (Err why)) p = tt
-told_err v P (Err why) p = p
+pub reported_err : (v : Verdict) (P : Interrupted → Type 0) (read : Result (Result (Unit {0}) Breach) Interrupted) → IfErr read P → IfErr (reported_behind read v) P
+reported_err v P (Ok (Ok x)) p = tt
+reported_err v P (Ok (Err why)) p = tt
+reported_err v P (Err why) p = p
 
-pub told_same : (v : Verdict) (failed0 failed1 : Bool) (read : Result (Result (Unit {0}) Breach) Interrupted) → SameUnlessReading failed0 failed1 read → SameUnlessReading failed0 failed1 (told_behind read v)
-told_same v failed0 failed1 (Ok (Ok x)) same = same
-told_same v failed0 failed1 (Ok (Err breach)) same = same
-told_same v failed0 failed1 (Err why.Memory) same = same
-told_same v failed0 failed1 (Err why.Reading) same = same
+pub reported_same : (v : Verdict) (failed0 failed1 : Bool) (read : Result (Result (Unit {0}) Breach) Interrupted) → SameUnlessReading failed0 failed1 read → SameUnlessReading failed0 failed1 (reported_behind read v)
+reported_same v failed0 failed1 (Ok (Ok x)) same = same
+reported_same v failed0 failed1 (Ok (Err breach)) same = same
+reported_same v failed0 failed1 (Err why.Memory) same = same
+reported_same v failed0 failed1 (Err why.Reading) same = same
 
 -- memory ran out, after so much was read
 pub stops_for_memory : (in0 in1 : Option (List ℕ)) (failed : Bool) (old new : Received) → ReadsOn in0 in1 old new → Stops in0 in1 failed old why.Memory

@@ -73,8 +73,8 @@ module _ {S : Type 0} (limits : S → Limits) (knows : S → History → Type 0)
         behind = behind knew s seen.point h holds.old holds.last at.behind;
         has = All-weaker (Placed s) (λ (pair : Batch × ℕ). HasAt h pair.1 pair.0) (λ pair p. still_has p.0 h pair.1 pair.0 p.1 (at.behind p.0 p.2)) seen.accepted holds.placed;
       } in
-      let told : a ≡ answer under h q = at.answer_is ∙ ap (λ (l : Limits). answer l h q) now.same in
-      (next, (h, point, told, refl), record { same = now.same; old = now.old; last = at.known; placed = now.placed })
+      let determined : a ≡ answer under h q = at.answer_is ∙ ap (λ (l : Limits). answer l h q) now.same in
+      (next, (h, point, determined, refl), record { same = now.same; old = now.old; last = at.known; placed = now.placed })
 
   goes : (under : Limits) (knew : History → Type 0) (s t : S) (seen : Seen) (verdict : Verdict) (reply : Reply) → Holds under knew s seen → Step submits reads s verdict reply t
       → (next : Seen) × Gets knew under seen verdict reply next × Holds under knew t next

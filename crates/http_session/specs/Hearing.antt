@@ -30,10 +30,10 @@ HearsBody source s t old new size q (Ok v) = HearsWhole source s t old new size 
 HearsBody source s t old new size q (Err why) = BreaksBody source s t old new size why
 
 -- the verdict, where the body was read to its end
-abbrev pub told_behind : Result (Result (Unit {0}) Breach) Interrupted → Verdict → Result (Result Verdict Breach) Interrupted
-told_behind (Ok (Ok x)) v = Ok (Ok v)
-told_behind (Ok (Err why)) v = Ok (Err why)
-told_behind (Err why) v = Err why
+abbrev pub reported_behind : Result (Result (Unit {0}) Breach) Interrupted → Verdict → Result (Result Verdict Breach) Interrupted
+reported_behind (Ok (Ok x)) v = Ok (Ok v)
+reported_behind (Ok (Err why)) v = Ok (Err why)
+reported_behind (Err why) v = Err why
 
 -- a request was taken from the front, and this is the verdict on it, and whether it asks to close the session
 pub record HearsOne {R : Type 0} (source : Source R) (s t : R) (old new : Received) (v : Verdict) (closes : Bool) : Type 0 where

@@ -8,7 +8,7 @@ ghost use Rattle.http_requests.specs.Requests.{AwaitsBody, AwaitsRequest};
 ghost use Rattle.http_requests.specs.Waiting.{source_of, StopsWhile};
 ghost use Rattle.http_requests.specs.Receiving.{KnowsItsEnd, Stops, SameUnlessReading};
 ghost use Rattle.http_session.specs.Questions.{JudgesRead};
-ghost use Rattle.http_session.specs.Hearing.{told_behind, HearsBody, Hears};
+ghost use Rattle.http_session.specs.Hearing.{reported_behind, HearsBody, Hears};
 
 use crate::question::{Question, question_of};
 use crate::verdict::{Remark, Verdict};
@@ -95,11 +95,11 @@ impl Sink for BatchBody {
 }
 
 /// The verdict, where the body was read to its end.
-fn told(
+fn reported(
     read: Result<Result<(), Breach>, Interrupted>,
     verdict: Verdict,
 ) -> Result<Result<Verdict, Breach>, Interrupted>
-    ensures { result ≡ told_behind read verdict }
+    ensures { result ≡ reported_behind read verdict }
 {
     match read {
         Ok(Ok(())) => Ok(Ok(verdict)),
@@ -128,12 +128,12 @@ fn hear_body<R: Input>(
     match question {
         Question::Settled(verdict) => {
             let read = read_body(input, received, &mut PassedOver, size);
-            told(read, verdict)
+            reported(read, verdict)
         }
         Question::Batch => {
             let mut body = BatchBody::new(alloc);
             let read = read_body(input, received, &mut body, size);
-            told(read, body.verdict())
+            reported(read, body.verdict())
         }
     }
 }

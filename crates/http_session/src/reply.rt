@@ -97,7 +97,7 @@ fn breach_message(breach: Breach) -> &'static str
 /// The response of a refusal, where it takes no memory.
 #[tactic(auto, unfolding(crate::specs::Replies::response_of))]
 fn fixed_refusal(refusal: Refusal, close: bool) -> Option<&'static [u8]>
-    ensures told { IfSome result (λ bytes. bytes.now ≡ response_of (reply.Refused refusal) close) }
+    ensures response { IfSome result (λ bytes. bytes.now ≡ response_of (reply.Refused refusal) close) }
     ensures which { is_some result ≡ takes_no_memory (reply.Refused refusal) }
 {
     match refusal {
@@ -110,7 +110,7 @@ fn fixed_refusal(refusal: Refusal, close: bool) -> Option<&'static [u8]>
 /// The response of a remark, where it takes no memory.
 #[tactic(auto, unfolding(crate::specs::Replies::response_of))]
 fn fixed_remark(remark: Remark, close: bool) -> Option<&'static [u8]>
-    ensures told { IfSome result (λ bytes. bytes.now ≡ response_of (reply.Said remark) close) }
+    ensures response { IfSome result (λ bytes. bytes.now ≡ response_of (reply.Said remark) close) }
     ensures which { is_some result ≡ takes_no_memory (reply.Said remark) }
 {
     match remark {
@@ -173,7 +173,7 @@ impl Reply {
     /// there was an internal error.
     #[tactic(auto, unfolding(crate::specs::Replies::response_of))]
     pub fn fixed(&self, close: bool) -> Option<&'static [u8]>
-        ensures told { IfSome result (λ bytes. bytes.now ≡ response_of self.now close) }
+        ensures response { IfSome result (λ bytes. bytes.now ≡ response_of self.now close) }
         ensures which { is_some result ≡ takes_no_memory self.now }
     {
         match self {

@@ -103,7 +103,7 @@ fn came_back<N: StoreName>(
 }
 
 /// The place that a ticket returns, or the refusal.
-fn told<N: StoreName, R: Wait>(
+fn returned<N: StoreName, R: Wait>(
     rt: &R,
     answer: Option<Result<Ticket<N>, (Refusal, Batch)>>,
 ) -> Result<u64, Refusal> {
@@ -122,14 +122,14 @@ fn told<N: StoreName, R: Wait>(
 }
 
 /// Hands in four batches, one after the other, each after the answer to the one before.
-fn four_told<N: StoreName, R: Wait>(rt: &R, alloc: Global, seat: &mut Seat<N>) -> bool {
+fn four_answered<N: StoreName, R: Wait>(rt: &R, alloc: Global, seat: &mut Seat<N>) -> bool {
     let full = Refusal::JournalFull {
         batches: 3,
         spans: 3,
     };
     for (id, wanted) in [(1, Ok(1)), (2, Ok(2)), (3, Ok(3)), (4, Err(full))] {
         let answer = hands_in(rt, alloc, seat, id);
-        if told(rt, answer) != wanted {
+        if returned(rt, answer) != wanted {
             return false;
         }
     }
@@ -174,9 +174,9 @@ fn seat_and_clerk<N: StoreName + Send + Sync, R: Threads + Wait + Sync>(
         keeper.close(rt);
         return false;
     };
-    let (told, last) = join(
+    let (answered, last) = join(
         rt,
-        || -> bool { four_told(rt, alloc, &mut seat) },
+        || -> bool { four_answered(rt, alloc, &mut seat) },
         || -> Turn { four_served(rt, &mut clerk, &mut keeper) },
     );
     desk.close(rt);
@@ -199,7 +199,7 @@ fn seat_and_clerk<N: StoreName + Send + Sync, R: Threads + Wait + Sync>(
         }
     }
     keeper.close(rt);
-    told && last == (Turn::Served { seat: 3, number: 4 })
+    answered && last == (Turn::Served { seat: 3, number: 4 })
         && accounts.len() == 4
         && (acknowledged, refused, left.len()) == (3, 1, 0)
         && (front, settled) == (3, 2)
@@ -235,7 +235,7 @@ fn full_then_closed<N: StoreName, R: Wait>(rt: &R, alloc: Global, house: House<N
     let late = clerk.turn(rt, &mut keeper) == Ok(Turn::Served { seat: 3, number: 2 });
     let ended = clerk.turn(rt, &mut keeper) == Ok(Turn::Ended);
     keeper.close(rt);
-    let places = told(rt, first) == Ok(1) && told(rt, second) == Ok(2);
+    let places = returned(rt, first) == Ok(1) && returned(rt, second) == Ok(2);
     same && others && turned && idle && closed && late && ended && places && seat.handed() == 2
 }
 
@@ -262,7 +262,7 @@ fn clerk_gone<N: StoreName, R: Wait>(rt: &R, alloc: Global, house: House<N>, clo
     } else {
         Refusal::NoReply
     };
-    told(rt, waiting) == Err(wanted)
+    returned(rt, waiting) == Err(wanted)
 }
 
 /// 1 where the queue took the batch, 100 where the seat was refused because the queue was full.

@@ -45,7 +45,7 @@ impl<N: StoreName> Live<N> {
     pub fn learn(&mut self, receipt: &Receipt<N>)
         ensures seat { self.new.seat ≡ self.old.seat }
         ensures old { IsPrefix self.old.known self.new.known }
-        ensures told { IsPrefix receipt.now.entries self.new.known }
+        ensures learnt { IsPrefix receipt.now.entries self.new.known }
     {
         self.pass.learn(receipt);
     }

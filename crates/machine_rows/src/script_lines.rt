@@ -21,7 +21,7 @@ fn read(alloc: Global, line: &[u8]) -> Result<Result<Step, StepFault>, Fail> {
 }
 
 /// The same in one line.
-fn told(alloc: Global, line: &[u8]) -> Result<String, Fail> {
+fn reported(alloc: Global, line: &[u8]) -> Result<String, Fail> {
     match read(alloc, line)? {
         Ok(step) => Ok(step_text(alloc, &step)?),
         Err(fault) => Ok(format!(in alloc; "{fault}")?),
@@ -56,7 +56,7 @@ fn query_text(alloc: Global, reader: u32, query: &Query) -> Result<String, Alloc
 
 fn rows(rt: &impl Abort, alloc: Global, rows: &[(&[u8], &str)]) -> Result<(), Fail> {
     for (line, want) in rows {
-        let got = told(alloc, line)?;
+        let got = reported(alloc, line)?;
         assert!(rt; got.as_str() == *want, "{want} and not {got}");
     }
     Ok(())
@@ -134,7 +134,7 @@ fn bad_steps(rt: HostRuntime) -> Result<(), Fail> {
         b"leave 0 ",
     ];
     for line in &lines {
-        let got = told(rt.alloc(), line)?;
+        let got = reported(rt.alloc(), line)?;
         assert!(rt; got.as_str() == "bad step", "{got}");
     }
     Ok(())
@@ -191,7 +191,7 @@ fn batches(rt: HostRuntime) -> Result<(), Fail> {
 }
 
 /// A call that found no memory is made once more.
-fn is_told(rt: &impl Abort, alloc: Global, outcome: Outcome, want: &str) -> Result<(), Fail> {
+fn is_reported(rt: &impl Abort, alloc: Global, outcome: Outcome, want: &str) -> Result<(), Fail> {
     let got = match outcome_text(alloc, &outcome) {
         Err(AllocError) => outcome_text(alloc, &outcome)?,
         Ok(text) => text,
@@ -203,26 +203,26 @@ fn is_told(rt: &impl Abort, alloc: Global, outcome: Outcome, want: &str) -> Resu
 #[test]
 fn outcomes(rt: HostRuntime) -> Result<(), Fail> {
     let alloc = rt.alloc();
-    is_told(&rt, alloc, Outcome::Put { number: 1 }, "put 1")?;
+    is_reported(&rt, alloc, Outcome::Put { number: 1 }, "put 1")?;
     let taken = Outcome::Taken {
         seat: 63,
         number: 18_446_744_073_709_551_615,
     };
-    is_told(&rt, alloc, taken, "taken 63 18446744073709551615")?;
+    is_reported(&rt, alloc, taken, "taken 63 18446744073709551615")?;
     let full = Refusal::JournalFull {
         batches: 1,
         spans: 2,
     };
-    is_told(&rt, alloc, Outcome::Refused(full), "refused 20 JournalFull")?;
-    is_told(&rt, alloc, Outcome::Idle, "idle")?;
-    is_told(&rt, alloc, Outcome::Published { front: 3 }, "published 3")?;
-    is_told(&rt, alloc, Outcome::Held { reader: 4 }, "held 4")?;
-    is_told(&rt, alloc, Outcome::Entered { front: 0 }, "entered 0")?;
-    is_told(&rt, alloc, Outcome::Learnt { front: 5 }, "learnt 5")?;
-    is_told(&rt, alloc, Outcome::Left, "left")?;
-    is_told(&rt, alloc, Outcome::Inside, "inside")?;
-    is_told(&rt, alloc, Outcome::Outside, "outside")?;
-    is_told(&rt, alloc, Outcome::Unknown, "unknown")
+    is_reported(&rt, alloc, Outcome::Refused(full), "refused 20 JournalFull")?;
+    is_reported(&rt, alloc, Outcome::Idle, "idle")?;
+    is_reported(&rt, alloc, Outcome::Published { front: 3 }, "published 3")?;
+    is_reported(&rt, alloc, Outcome::Held { reader: 4 }, "held 4")?;
+    is_reported(&rt, alloc, Outcome::Entered { front: 0 }, "entered 0")?;
+    is_reported(&rt, alloc, Outcome::Learnt { front: 5 }, "learnt 5")?;
+    is_reported(&rt, alloc, Outcome::Left, "left")?;
+    is_reported(&rt, alloc, Outcome::Inside, "inside")?;
+    is_reported(&rt, alloc, Outcome::Outside, "outside")?;
+    is_reported(&rt, alloc, Outcome::Unknown, "unknown")
 }
 
 #[test]
@@ -232,7 +232,7 @@ fn answers(rt: HostRuntime) -> Result<(), Fail> {
         front: 0,
         answer: Answer::Names(Seq::new(alloc)),
     };
-    is_told(
+    is_reported(
         &rt,
         alloc,
         none,
@@ -244,7 +244,7 @@ fn answers(rt: HostRuntime) -> Result<(), Fail> {
         front: 12,
         answer: Answer::Names(Seq::from_vec(names)),
     };
-    is_told(
+    is_reported(
         &rt,
         alloc,
         one,
@@ -254,7 +254,7 @@ fn answers(rt: HostRuntime) -> Result<(), Fail> {
         front: 1,
         answer: Answer::Trace(None),
     };
-    is_told(
+    is_reported(
         &rt,
         alloc,
         missing,

@@ -194,14 +194,14 @@ fn two_are_held<N: StoreName, R: Wait + Abort + RandomSource>(
         Ok(_) | Err(Refusal::Deferred) => 1,
         Err(_) => 0,
     };
-    let told = match keeper.admit(rt, second) {
+    let returned = match keeper.admit(rt, second) {
         Ok(receipt) => Ok((receipt.front(), receipt.place())),
         Err(why) => Err(why),
     };
     let last = keeper.receipt();
     keeper.close(rt);
-    match told {
-        Ok(told) => assert!(rt; told == (taken + 1, Some(taken + 1))),
+    match returned {
+        Ok(returned) => assert!(rt; returned == (taken + 1, Some(taken + 1))),
         Err(why) => assert!(rt; why == Refusal::NoMemory || why == Refusal::Deferred),
     }
     assert!(rt; last.place().is_none() && last.entry().is_none());

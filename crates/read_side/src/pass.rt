@@ -54,7 +54,7 @@ impl<N: StoreName> Pass<N> {
     /// Takes in the list of a receipt, which it knows from then on.
     pub fn learn(&mut self, receipt: &Receipt<N>)
         ensures old { IsPrefix self.old self.new }
-        ensures told { IsPrefix receipt.now.entries self.new }
+        ensures learnt { IsPrefix receipt.now.entries self.new }
         ensures no_more { (self.new ≡ self.old) ⊎ (self.new ≡ receipt.now.entries) }
     {
         self.visitor.learn(receipt);
@@ -104,7 +104,7 @@ impl<N: StoreName> Pass<N> {
             length receipt.now.entries < length self.old }
 
         ensures old { IsPrefix self.old self.new }
-        ensures told { IsPrefix receipt.now.entries self.new }
+        ensures learnt { IsPrefix receipt.now.entries self.new }
         ensures gone { result ≡ Err Gone →
             (self.new ≡ self.old) ⊎ (self.new ≡ receipt.now.entries) }
     {

@@ -27,7 +27,7 @@ pub(crate) struct Visitor<N: StoreName> {
     /// How many entries it has entered.
     entered: u64,
     /// How many entries the longest receipt vouched for that it has learnt.
-    told: u64,
+    learnt: u64,
     of: PhantomData<N>,
 }
 
@@ -38,10 +38,10 @@ impl<N: StoreName> Model for Visitor<N> {
 
     ghost Value = { List Entry };
 
-    ghost view = { λ p. take (max p.entered p.told) p.seen.log };
+    ghost view = { λ p. take (max p.entered p.learnt) p.seen.log };
 
     ghost invariant = { λ p. (p.seen.book ≡ N.book) × (p.entered ≤ length p.seen.log)
-        × (p.told ≤ length p.seen.log) × IfSome p.entrance (λ r.
+        × (p.learnt ≤ length p.seen.log) × IfSome p.entrance (λ r.
         p.entered ≤ length (view_at r.place)) };
 }
 
@@ -55,7 +55,7 @@ impl<N: StoreName> Visitor<N> {
             entrance,
             seen,
             entered: 0,
-            told: 0,
+            learnt: 0,
             of: PhantomData,
         }
     }
@@ -64,17 +64,17 @@ impl<N: StoreName> Visitor<N> {
     pub(crate) fn front(&self) -> u64
         ensures { result ≡ length self.now }
     {
-        self.entered.max(self.told)
+        self.entered.max(self.learnt)
     }
 
     /// Takes in the list of a receipt.
     pub(crate) fn learn(&mut self, receipt: &Receipt<N>)
         ensures old { IsPrefix self.old self.new }
-        ensures told { IsPrefix receipt.now.entries self.new }
+        ensures learnt { IsPrefix receipt.now.entries self.new }
         ensures no_more { (self.new ≡ self.old) ⊎ (self.new ≡ receipt.now.entries) }
     {
         self.seen.learn(receipt.seen());
-        self.told = self.told.max(receipt.front());
+        self.learnt = self.learnt.max(receipt.front());
     }
 
     /// Enters the published copy, whose list begins with all that it knows. None where the keeper is gone.
@@ -94,7 +94,7 @@ impl<N: StoreName> Visitor<N> {
             Ok(inside) => {
                 let side = inside.get();
                 let front = side.len();
-                if front < self.told {
+                if front < self.learnt {
                     self.entrance = Some(inside.leave());
                     return None;
                 }

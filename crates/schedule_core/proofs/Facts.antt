@@ -35,7 +35,7 @@ played_is limits steps os p = record {
   played = p.played;
   rest = p.rest;
   whole = p.whole;
-  outcomes_are = p.told;
+  outcomes_are = p.returned;
   run = every_run limits p.played;
 }
 

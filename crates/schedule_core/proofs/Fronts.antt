@@ -31,48 +31,48 @@ seen_elsewhere readers r i new other = ap (λ o. option_map_or (λ (a : Reader).
 -- ---- one step
 
 -- between these readers what one has seen grows, and a front that is reported to it is of that
-record Tells (r : ℕ) (before after : List Reader) (fronts : List ℕ) : Type 0 where
+record Reports (r : ℕ) (before after : List Reader) (fronts : List ℕ) : Type 0 where
   grows : seen_front before r ≤ seen_front after r
-  told : (fronts ≡ []) ⊎ (fronts ≡ seen_front after r ∷ [])
+  reported : (fronts ≡ []) ⊎ (fronts ≡ seen_front after r ∷ [])
 
-tells_none : (r : ℕ) (readers : List Reader) (fronts : List ℕ) → fronts ≡ [] → Tells r readers readers fronts
-tells_none r readers fronts none = record { grows = omega arith; told = inl none }
+reports_none : (r : ℕ) (readers : List Reader) (fronts : List ℕ) → fronts ≡ [] → Reports r readers readers fronts
+reports_none r readers fronts none = record { grows = omega arith; reported = inl none }
 
 -- nothing is reported, whosever step it is
-untold : (b : Bool) (fronts : List ℕ) → fronts ≡ [] → (if b then fronts else []) ≡ []
-untold true fronts none = none
-untold false fronts none = refl
+unreported : (b : Bool) (fronts : List ℕ) → fronts ≡ [] → (if b then fronts else []) ≡ []
+unreported true fronts none = none
+unreported false fronts none = refl
 
-tells_other : (r i : ℕ) (readers : List Reader) (new : Reader) → (i ≡ r → ⊥) → Tells r readers (slice_set readers i new) []
-tells_other r i readers new other = record { grows = omega (arith, seen_elsewhere readers r i new other); told = inl refl }
+reports_other : (r i : ℕ) (readers : List Reader) (new : Reader) → (i ≡ r → ⊥) → Reports r readers (slice_set readers i new) []
+reports_other r i readers new other = record { grows = omega (arith, seen_elsewhere readers r i new other); reported = inl refl }
 
-tells_own : (r : ℕ) (readers : List Reader) (old new : Reader) (fronts : List ℕ) → slice_get readers r ≡ Some old
+reports_own : (r : ℕ) (readers : List Reader) (old new : Reader) (fronts : List ℕ) → slice_get readers r ≡ Some old
     → length old.seen ≤ length new.seen
-    → (fronts ≡ []) ⊎ (fronts ≡ length new.seen ∷ []) → Tells r readers (slice_set readers r new) fronts
-tells_own r readers old new fronts e le told =
+    → (fronts ≡ []) ⊎ (fronts ≡ length new.seen ∷ []) → Reports r readers (slice_set readers r new) fronts
+reports_own r readers old new fronts e le reported =
     let at_end = seen_at (slice_set readers r new) r new (get_same readers r old new e) in
     let at_first = seen_at readers r old e in
-    record { grows = omega arith; told = subst (λ n. (fronts ≡ []) ⊎ (fronts ≡ n ∷ [])) (sym at_end) told }
+    record { grows = omega arith; reported = subst (λ n. (fronts ≡ []) ⊎ (fronts ≡ n ∷ [])) (sym at_end) reported }
 
 -- a step of reader i, by which it has seen as much or more
-tells_set : (r i : ℕ) (readers : List Reader) (old new : Reader) (fronts : List ℕ) → slice_get readers i ≡ Some old
+reports_set : (r i : ℕ) (readers : List Reader) (old new : Reader) (fronts : List ℕ) → slice_get readers i ≡ Some old
     → length old.seen ≤ length new.seen
-    → (fronts ≡ []) ⊎ (fronts ≡ length new.seen ∷ []) → Tells r readers (slice_set readers i new) (if i == r then fronts else [])
-tells_set r i readers old new fronts e le told =
-    let own = tells_own i readers old new fronts e le told in
-    elim (i == r) as (λ b. (i == r) ≡ b → Tells r readers (slice_set readers i new) (if b then fronts else [])) [
-      | true ↦ λ same. subst (λ k. Tells k readers (slice_set readers i new) fronts) (eqb-true i r same) own
-      | false ↦ λ other. tells_other r i readers new (eqb-false i r other)
+    → (fronts ≡ []) ⊎ (fronts ≡ length new.seen ∷ []) → Reports r readers (slice_set readers i new) (if i == r then fronts else [])
+reports_set r i readers old new fronts e le reported =
+    let own = reports_own i readers old new fronts e le reported in
+    elim (i == r) as (λ b. (i == r) ≡ b → Reports r readers (slice_set readers i new) (if b then fronts else [])) [
+      | true ↦ λ same. subst (λ k. Reports k readers (slice_set readers i new) fronts) (eqb-true i r same) own
+      | false ↦ λ other. reports_other r i readers new (eqb-false i r other)
     ] refl
 
-tells_answer : (r i : ℕ) (readers : List Reader) (old : Reader) (v : Visit) → slice_get readers i ≡ Some old → v.list ≡ old.seen
-    → Tells r readers readers (if i == r then length v.list ∷ [] else [])
-tells_answer r i readers old v e same = elim (i == r) as (λ b. (i == r) ≡ b → Tells r readers readers (if b then length v.list ∷ [] else [])) [
+reports_answer : (r i : ℕ) (readers : List Reader) (old : Reader) (v : Visit) → slice_get readers i ≡ Some old → v.list ≡ old.seen
+    → Reports r readers readers (if i == r then length v.list ∷ [] else [])
+reports_answer r i readers old v e same = elim (i == r) as (λ b. (i == r) ≡ b → Reports r readers readers (if b then length v.list ∷ [] else [])) [
   | true ↦ λ own. record {
     grows = omega arith;
-    told = inr (ap (λ n. n ∷ []) (ap length same ∙ sym (seen_at readers i old e) ∙ ap (seen_front readers) (eqb-true i r own)));
+    reported = inr (ap (λ n. n ∷ []) (ap length same ∙ sym (seen_at readers i old e) ∙ ap (seen_front readers) (eqb-true i r own)));
   }
-  | false ↦ λ other. tells_none r readers [] refl
+  | false ↦ λ other. reports_none r readers [] refl
 ] refl
 
 longer_least : (a b : List Entry) → length a ≤ length (longer a b)
@@ -81,21 +81,21 @@ longer_least a b = elim (nat_le (length a) (length b)) as (λ t. nat_le (length 
   | false ↦ λ e. omega arith
 ] refl
 
-step_tells : (limits : Limits) (r : ℕ) (m : Machine) → Fits limits m → (s : Step)
-    → Tells r m.readers (step m s).machine.readers (front_for r s (step m s).outcome)
-step_tells limits r m fits = on_step m (λ s t. Tells r m.readers t.machine.readers (front_for r s t.outcome)) (record {
-  silent = λ s o quiet. tells_none r m.readers _ (untold (is_of r s) (front_in o) quiet.front);
-  put = λ seat batch last e. tells_none r m.readers [] refl;
-  taken = λ job rest e room. tells_none r m.readers [] refl;
-  dropped = λ job rest e. tells_none r m.readers [] refl;
-  shown = tells_none r m.readers [] refl;
+step_reports : (limits : Limits) (r : ℕ) (m : Machine) → Fits limits m → (s : Step)
+    → Reports r m.readers (step m s).machine.readers (front_for r s (step m s).outcome)
+step_reports limits r m fits = on_step m (λ s t. Reports r m.readers t.machine.readers (front_for r s t.outcome)) (record {
+  silent = λ s o quiet. reports_none r m.readers _ (unreported (is_of r s) (front_in o) quiet.front);
+  put = λ seat batch last e. reports_none r m.readers [] refl;
+  taken = λ job rest e room. reports_none r m.readers [] refl;
+  dropped = λ job rest e. reports_none r m.readers [] refl;
+  shown = reports_none r m.readers [] refl;
   entered = λ i reader e.
       let stands = reader_stands m.history m.readers i reader fits.readers e in
-      tells_set r i m.readers reader _ _ e (prefix_length reader.seen m.history stands.seen) (inr refl);
+      reports_set r i m.readers reader _ _ e (prefix_length reader.seen m.history stands.seen) (inr refl);
   answered = λ i query reader v e is.
-      let stands = reader_stands m.history m.readers i reader fits.readers e in tells_answer r i m.readers reader v e (stands.visit v is);
-  learnt = λ i k reader front e. tells_set r i m.readers reader _ _ e (longer_least reader.seen (take front m.history)) (inr refl);
-  left = λ i reader e. tells_set r i m.readers reader _ [] e (omega arith) (inl refl);
+      let stands = reader_stands m.history m.readers i reader fits.readers e in reports_answer r i m.readers reader v e (stands.visit v is);
+  learnt = λ i k reader front e. reports_set r i m.readers reader _ _ e (longer_least reader.seen (take front m.history)) (inr refl);
+  left = λ i reader e. reports_set r i m.readers reader _ [] e (omega arith) (inl refl);
 })
 
 -- ---- runs
@@ -108,20 +108,20 @@ record NeverBelow (n : ℕ) (ks : List ℕ) : Type 0 where
 lower : (n m : ℕ) (ks : List ℕ) → n ≤ m → NeverBelow m ks → NeverBelow n ks
 lower n m ks le never = record { least = All-weaker (λ k. m ≤ k) (λ k. n ≤ k) (λ k l. omega arith) ks never.least; rest = never.rest }
 
-tells_then : (n m : ℕ) (fronts ks : List ℕ) → n ≤ m → (fronts ≡ []) ⊎ (fronts ≡ m ∷ []) → NeverBelow m ks → NeverBelow n (fronts ++ ks)
-tells_then n m fronts ks le (inl none) never = subst (λ l. NeverBelow n (l ++ ks)) (sym none) (lower n m ks le never)
-tells_then n m fronts ks le (inr one) never = subst (λ l. NeverBelow n (l ++ ks)) (sym one)
+reports_then : (n m : ℕ) (fronts ks : List ℕ) → n ≤ m → (fronts ≡ []) ⊎ (fronts ≡ m ∷ []) → NeverBelow m ks → NeverBelow n (fronts ++ ks)
+reports_then n m fronts ks le (inl none) never = subst (λ l. NeverBelow n (l ++ ks)) (sym none) (lower n m ks le never)
+reports_then n m fronts ks le (inr one) never = subst (λ l. NeverBelow n (l ++ ks)) (sym one)
     (record { least = All-cons (λ k. n ≤ k) m ks le (lower n m ks le never).least; rest = (never.least, never.rest) })
 
-run_tells : (limits : Limits) (r : ℕ) (m : Machine) (ss : List Step) → Fits limits m
+run_reports : (limits : Limits) (r : ℕ) (m : Machine) (ss : List Step) → Fits limits m
     → NeverBelow (seen_front m.readers r) (along (front_for r) ss (outcomes m ss))
-run_tells limits r m [] fits = record { least = All-nil _; rest = tt }
-run_tells limits r m (s ∷ ss) fits =
-    let now = step_tells limits r m fits s in
+run_reports limits r m [] fits = record { least = All-nil _; rest = tt }
+run_reports limits r m (s ∷ ss) fits =
+    let now = step_reports limits r m fits s in
     let n = (step m s).machine in
-    tells_then (seen_front m.readers r) (seen_front n.readers r) (front_for r s (step m s).outcome) (along (front_for r) ss (outcomes n ss))
-    now.grows now.told (run_tells limits r n ss (step_fits limits m fits s))
+    reports_then (seen_front m.readers r) (seen_front n.readers r) (front_for r s (step m s).outcome) (along (front_for r) ss (outcomes n ss))
+    now.grows now.reported (run_reports limits r n ss (step_fits limits m fits s))
 
 pub fronts_never_fall : (limits : Limits) (steps : List Step) (reader : ℕ)
     → NeverFalls (along (front_for reader) steps (outcomes (new_machine limits) steps))
-fronts_never_fall limits steps reader = (run_tells limits reader (new_machine limits) steps (new_fits limits)).rest
+fronts_never_fall limits steps reader = (run_reports limits reader (new_machine limits) steps (new_fits limits)).rest

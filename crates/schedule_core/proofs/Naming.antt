@@ -9,7 +9,7 @@ use Rattle.trace_model.specs.declared.entry.Entry.{Entry}
 use Rattle.trace_model.specs.declared.limits.Limits.{Limits}
 use Rattle.schedule_core.specs.declared.step.Step.{Step}
 use Rattle.schedule_core.specs.Machine.{Machine, new_machine, accepted, step, outcomes, at_last}
-use Rattle.schedule_core.specs.Runs.{along, job_of, name_of, numbers_of, told_by}
+use Rattle.schedule_core.specs.Runs.{along, job_of, name_of, numbers_of, reported_by}
 use Rattle.schedule_core.proofs.StepCases.{on_step}
 
 -- ---- names
@@ -20,7 +20,7 @@ names_append (j ∷ a) b = ap (λ l. name_of j ∷ l) (names_append a b)
 
 -- what is accepted is named by what was accepted before and by what is reported
 Names : Machine → Machine → List (ℕ × ℕ) → Type 0
-Names m n told = map name_of (accepted n) ≡ map name_of (accepted m) ++ told
+Names m n reported = map name_of (accepted n) ≡ map name_of (accepted m) ++ reported
 
 names_same : (m n : Machine) → accepted n ≡ accepted m → Names m n []
 unfolding Names
@@ -30,8 +30,8 @@ names_more : (m n : Machine) (job : Entry) → accepted n ≡ accepted m ++ job 
 unfolding Names
 names_more m n job e = ap (map name_of) e ∙ names_append (accepted m) (job ∷ [])
 
-step_names : (m : Machine) (s : Step) → Names m (step m s).machine (told_by s (step m s).outcome)
-step_names m = on_step m (λ s t. Names m t.machine (told_by s t.outcome)) (record {
+step_names : (m : Machine) (s : Step) → Names m (step m s).machine (reported_by s (step m s).outcome)
+step_names m = on_step m (λ s t. Names m t.machine (reported_by s t.outcome)) (record {
   silent = λ s o quiet. subst (Names m m) (sym quiet.name) (names_same m m refl);
   put = λ seat batch last e. names_same m _ refl;
   taken = λ job rest e room. names_more m _ job (sym (append_assoc m.history m.pending (job ∷ [])));
@@ -43,16 +43,16 @@ step_names m = on_step m (λ s t. Names m t.machine (told_by s t.outcome)) (reco
   left = λ r reader e. names_same m _ refl;
 })
 
-run_names : (m : Machine) (ss : List Step) → map name_of (accepted (at_last m ss)) ≡ map name_of (accepted m) ++ along told_by ss (outcomes m ss)
+run_names : (m : Machine) (ss : List Step) → map name_of (accepted (at_last m ss)) ≡ map name_of (accepted m) ++ along reported_by ss (outcomes m ss)
 unfolding Names
 run_names m [] = sym (append-nil (map name_of (accepted m)))
 run_names m (s ∷ ss) =
     let n = (step m s).machine in
-    let more = along told_by ss (outcomes n ss) in
-    run_names n ss ∙ ap (λ l. l ++ more) (step_names m s) ∙ append_assoc (map name_of (accepted m)) (told_by s (step m s).outcome) more
+    let more = along reported_by ss (outcomes n ss) in
+    run_names n ss ∙ ap (λ l. l ++ more) (step_names m s) ∙ append_assoc (map name_of (accepted m)) (reported_by s (step m s).outcome) more
 
 pub accepted_named : (limits : Limits) (steps : List Step)
-    → map name_of (accepted (at_last (new_machine limits) steps)) ≡ along told_by steps (outcomes (new_machine limits) steps)
+    → map name_of (accepted (at_last (new_machine limits) steps)) ≡ along reported_by steps (outcomes (new_machine limits) steps)
 accepted_named limits steps = run_names (new_machine limits) steps
 
 -- ---- numbers

@@ -25,8 +25,8 @@ replicate_push [] s a = refl
 replicate_push (x ∷ xs) s a = ap (λ ys. a ∷ ys) (replicate_push xs s a)
 
 pub ran_nothing : (m : Machine) (now : Option Machine) → (now ≡ Some m) ⊎ (now ≡ None) → Ran m [] [] now
-ran_nothing m now (inl is) = record { plays = record { played = []; rest = []; whole = refl; told = refl }; stands = inl (is, refl) }
-ran_nothing m now (inr none) = record { plays = record { played = []; rest = []; whole = refl; told = refl }; stands = inr none }
+ran_nothing m now (inl is) = record { plays = record { played = []; rest = []; whole = refl; returned = refl }; stands = inl (is, refl) }
+ran_nothing m now (inr none) = record { plays = record { played = []; rest = []; whole = refl; returned = refl }; stands = inr none }
 
 -- one more step is refused, as those before it or as the first one
 refused_too : (m : Machine) (steps : List Step) (os : List Outcome) (s : Step) (o : Outcome) (next : Option Machine)
@@ -36,7 +36,7 @@ refused_too m steps os s o next p is none = record {
     played = p.played;
     rest = p.rest ++ s ∷ [];
     whole = ap (λ ss. ss ++ s ∷ []) p.whole ∙ append_assoc p.played p.rest (s ∷ []);
-    told = ap (λ x. os ++ x ∷ []) is ∙ ap (λ x. x ++ Refused NoMemory ∷ []) p.told
+    returned = ap (λ x. os ++ x ∷ []) is ∙ ap (λ x. x ++ Refused NoMemory ∷ []) p.returned
         ∙ append_assoc (outcomes m p.played) (replicate (length p.rest) (Refused NoMemory)) (Refused NoMemory ∷ [])
         ∙ ap (λ x. outcomes m p.played ++ x) (sym (replicate_push p.rest s (Refused NoMemory)));
   };
@@ -49,14 +49,14 @@ made_too : (m : Machine) (steps : List Step) (os : List Outcome) (s : Step) (o :
     → Ran m (steps ++ s ∷ []) (os ++ o ∷ []) next
 made_too m steps os s o next p last is goes =
     let all : steps ≡ p.played = p.whole ∙ ap (λ x. p.played ++ x) last ∙ append-nil p.played in
-    let told : os ≡ outcomes m p.played =
-    p.told ∙ ap (λ (x : List Step). outcomes m p.played ++ replicate (length x) (Refused NoMemory)) last ∙ append-nil (outcomes m p.played) in
+    let returned : os ≡ outcomes m p.played =
+    p.returned ∙ ap (λ (x : List Step). outcomes m p.played ++ replicate (length x) (Refused NoMemory)) last ∙ append-nil (outcomes m p.played) in
     record {
       plays = record {
         played = p.played ++ s ∷ [];
         rest = [];
         whole = ap (λ ss. ss ++ s ∷ []) all ∙ sym (append-nil (p.played ++ s ∷ []));
-        told = ap (λ x. x ++ o ∷ []) told ∙ ap (λ x. outcomes m p.played ++ x ∷ []) is ∙ sym (outcomes_push m p.played s)
+        returned = ap (λ x. x ++ o ∷ []) returned ∙ ap (λ x. outcomes m p.played ++ x ∷ []) is ∙ sym (outcomes_push m p.played s)
             ∙ sym (append-nil (outcomes m (p.played ++ s ∷ [])));
       };
       stands = inl (goes ∙ ap Some (sym (last_push m p.played s)), refl);

@@ -13,13 +13,13 @@ use Rattle.schedule_core.specs.declared.step.Step.TheVariants as ask
 use Rattle.schedule_core.specs.declared.outcome.Outcome.{Outcome}
 use Rattle.schedule_core.specs.declared.outcome.Outcome.TheVariants.{Idle, Published, Held, Left, Inside, Outside, Unknown}
 use Rattle.schedule_core.specs.Machine.{Machine, Reader, Visit, Stepped, stays, accepted, handed_in, puts, judged, takes, holds, published, publishes_by, with_reader, enters, reads, longer, learns_list, learns, leaves, front_of, step}
-use Rattle.schedule_core.specs.Runs.{job_of, verdict_of, told_by, front_in, IsOf}
+use Rattle.schedule_core.specs.Runs.{job_of, verdict_of, reported_by, front_in, IsOf}
 
 -- the step changed nothing, and its outcome reports nothing
 pub record Silent (s : Step) (o : Outcome) : Type 0 where
   pub job : job_of s o ≡ []
   pub verdict : verdict_of s o ≡ []
-  pub name : told_by s o ≡ []
+  pub name : reported_by s o ≡ []
   pub front : front_in o ≡ []
   pub answer : (limits : Limits) (h : List Entry) → IsOf limits h s o
 
@@ -40,7 +40,7 @@ pub record StepCases (m : Machine) (P : Step → Stepped → Type 0) : Type 0 wh
       → P (ask.Leave r) (record { outcome = Left; machine = with_reader m r (record reader { inside = None }) })
 
 module _ (m : Machine) (P : Step → Stepped → Type 0) (c : StepCases m P) where
-  quiet : (s : Step) (o : Outcome) → job_of s o ≡ [] → verdict_of s o ≡ [] → told_by s o ≡ [] → front_in o ≡ []
+  quiet : (s : Step) (o : Outcome) → job_of s o ≡ [] → verdict_of s o ≡ [] → reported_by s o ≡ [] → front_in o ≡ []
       → ((limits : Limits) (h : List Entry) → IsOf limits h s o)
       → P s (stays m o)
   quiet s o job verdict name front answer =

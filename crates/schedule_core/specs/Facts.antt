@@ -12,21 +12,22 @@ use Rattle.schedule_core.specs.declared.step.Step.TheVariants.{Read}
 use Rattle.schedule_core.specs.declared.outcome.Outcome.{Outcome}
 use Rattle.schedule_core.specs.declared.outcome.Outcome.TheVariants.{Refused}
 use Rattle.schedule_core.specs.Machine.{Machine, Reader, Visit, new_machine, accepted, step, outcomes, at_last}
-use Rattle.schedule_core.specs.Runs.{along, AllAlong, IsOf, NeverFalls, front_for, is_of, job_of, kept, name_of, numbers_of, told_by, verdict_of}
+use Rattle.schedule_core.specs.Runs.{along, AllAlong, IsOf, NeverFalls, front_for, is_of, job_of, kept, name_of, numbers_of, reported_by, verdict_of}
 
 -- where the steps lead a machine in which nothing has happened
 abbrev pub led : Limits → List Step → Machine
 led limits steps = at_last (new_machine limits) steps
 
-abbrev pub told : Limits → List Step → List Outcome
-told limits steps = outcomes (new_machine limits) steps
+-- the outcomes that the steps determine
+abbrev pub determined : Limits → List Step → List Outcome
+determined limits steps = outcomes (new_machine limits) steps
 
 -- the jobs that were handed in, and the verdicts on those that were taken
 abbrev pub jobs : Limits → List Step → List Entry
-jobs limits steps = along job_of steps (told limits steps)
+jobs limits steps = along job_of steps (determined limits steps)
 
 abbrev pub verdicts : Limits → List Step → List Bool
-verdicts limits steps = along verdict_of steps (told limits steps)
+verdicts limits steps = along verdict_of steps (determined limits steps)
 
 -- the history only grows at its end
 abbrev pub Grows : Limits → List Step → Type 0
@@ -46,13 +47,13 @@ CountsFromOne seat js = numbers_of seat js ≡ range_with_len 1 (length (numbers
 pub record IsRun (limits : Limits) (steps : List Step) : Type 0 where
   -- what readers see
   pub grows : Grows limits steps
-  pub answers : AllAlong (IsOf limits (led limits steps).history) steps (told limits steps)
-  pub fronts : (reader : ℕ) → NeverFalls (along (front_for reader) steps (told limits steps))
+  pub answers : AllAlong (IsOf limits (led limits steps).history) steps (determined limits steps)
+  pub fronts : (reader : ℕ) → NeverFalls (along (front_for reader) steps (determined limits steps))
   pub steady : IsSteady limits steps
   -- what became of the jobs
   pub accepts : accepted (led limits steps) ≡ kept (jobs limits steps) (verdicts limits steps)
   pub waits : (led limits steps).waiting ≡ drop (length (verdicts limits steps)) (jobs limits steps)
-  pub named : map name_of (accepted (led limits steps)) ≡ along told_by steps (told limits steps)
+  pub named : map name_of (accepted (led limits steps)) ≡ along reported_by steps (determined limits steps)
   pub counted : (seat : ℕ) → CountsFromOne seat (jobs limits steps)
   pub legal : IsLegal limits (accepted (led limits steps))
 
@@ -62,5 +63,5 @@ pub record IsPlayed (limits : Limits) (steps : List Step) (os : List Outcome) : 
   pub played : List Step
   pub rest : List Step
   pub whole : steps ≡ played ++ rest
-  pub outcomes_are : os ≡ told limits played ++ replicate (length rest) (Refused NoMemory)
+  pub outcomes_are : os ≡ determined limits played ++ replicate (length rest) (Refused NoMemory)
   pub run : IsRun limits played

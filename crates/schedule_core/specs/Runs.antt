@@ -47,9 +47,9 @@ abbrev pub name_of : Entry → ℕ × ℕ
 name_of e = (e.seat, e.number)
 
 -- those by which a job is reported that was taken and accepted
-abbrev pub told_by : Step → Outcome → List (ℕ × ℕ)
-told_by s (Taken seat number) = (seat, number) ∷ []
-told_by s o = []
+abbrev pub reported_by : Step → Outcome → List (ℕ × ℕ)
+reported_by s (Taken seat number) = (seat, number) ∷ []
+reported_by s o = []
 
 -- the numbers of a seat's jobs
 abbrev pub numbers_of : ℕ → List Entry → List ℕ

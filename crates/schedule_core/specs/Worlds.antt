@@ -16,7 +16,7 @@ pub record PlaysAs (m : Machine) (steps : List Step) (os : List Outcome) : Type 
   pub played : List Step
   pub rest : List Step
   pub whole : steps ≡ played ++ rest
-  pub told : os ≡ outcomes m played ++ replicate (length rest) (Refused NoMemory)
+  pub returned : os ≡ outcomes m played ++ replicate (length rest) (Refused NoMemory)
 
 -- the outcomes are those of a machine that stands there, or that has found no memory
 abbrev pub PlaysFrom : Option Machine → List Step → List Outcome → Type 0

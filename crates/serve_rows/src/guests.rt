@@ -208,8 +208,8 @@ fn sends_on<R: Net<Stream = TcpStream, Listener = TcpListener>>(
     for _ in 0..200 {
         stream.write_all(&piece)?;
     }
-    let told = hears(alloc, &mut stream, b"HTTP/1.1 413 ")?;
+    let reported = hears(alloc, &mut stream, b"HTTP/1.1 413 ")?;
     let mut rest = Vec::new(alloc);
     stream.read_to_end(&mut rest)?;
-    Ok(told && !rest.is_empty())
+    Ok(reported && !rest.is_empty())
 }

@@ -83,7 +83,7 @@ fn hidden_spots_stay_away(rt: HostRuntime) -> Result<(), Fail> {
 }
 
 #[test]
-fn spots_are_told_again(rt: HostRuntime) -> Result<(), Fail> {
+fn spots_are_returned_again(rt: HostRuntime) -> Result<(), Fail> {
     let mut assembly = Assembly::with_room(rt.alloc(), RandomState::new(&rt)?, 3)?;
     for (trace, place) in [(5, 1), (6, 2), (5, 3)] {
         add(&rt, &mut assembly, id(trace), place);

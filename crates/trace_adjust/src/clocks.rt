@@ -76,7 +76,7 @@ fn settle(
     requires { place < length clocks.old.items }
     ensures after { OnOk result (clocks.new.items ≡
         settle max_skew clocks.old.items place placed.now parent) }
-    ensures told { IfOk result (λ set. set ≡
+    ensures set { IfOk result (λ set. set ≡
         sets max_skew clocks.old.items place placed.now parent) }
 {
     if clocks[place].is_some() {

@@ -222,15 +222,15 @@ const TEXTS: [&str; 5] = [
 ];
 
 /// A span with the value under `k`.
-fn telling(alloc: Global, kind: u8) -> Result<Placed, AllocError> {
+fn with_value(alloc: Global, kind: u8) -> Result<Placed, AllocError> {
     let mut placed = begun_once(alloc, 1, 1000, 50)?;
     placed.span.tags = tags(alloc, value(alloc, kind)?)?;
     Ok(placed)
 }
 
 /// Whether such a span is found by this key and text.
-fn is_told(alloc: Global, kind: u8, key: &str, text: &str) -> Result<bool, AllocError> {
-    let placed = telling(alloc, kind)?;
+fn is_found_by(alloc: Global, kind: u8, key: &str, text: &str) -> Result<bool, AllocError> {
+    let placed = with_value(alloc, kind)?;
     let query = by_tag(alloc, key, text)?;
     Ok(is_match(seen(&placed), &query))
 }
@@ -240,9 +240,9 @@ fn tags_by_key_and_text(rt: HostRuntime) -> Result<(), Fail> {
     let alloc = rt.alloc();
     for kind in 0..5u8 {
         for (place, text) in TEXTS.iter().enumerate() {
-            assert_eq!(rt; is_told(alloc, kind, "k", text)?, place == kind as usize);
+            assert_eq!(rt; is_found_by(alloc, kind, "k", text)?, place == kind as usize);
         }
-        assert!(rt; !is_told(alloc, kind, "x", "v")?);
+        assert!(rt; !is_found_by(alloc, kind, "x", "v")?);
     }
     Ok(())
 }

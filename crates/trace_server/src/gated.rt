@@ -63,7 +63,7 @@ impl<'a, N: StoreName, G, R> Gated<'a, N, G, R> {
     pub(crate) fn learn(&mut self, receipt: &Receipt<N>)
         ensures seat { self.new.seat ≡ self.old.seat }
         ensures old { IsPrefix self.old.known self.new.known }
-        ensures told { IsPrefix receipt.now.entries self.new.known }
+        ensures learnt { IsPrefix receipt.now.entries self.new.known }
     {
         self.live.learn(receipt);
     }

@@ -12,7 +12,7 @@
 //! * `connection`: one connection, from its first byte to its last.
 //! * `worker`: a worker, who serves one connection after the other. `crew`: work among threads.
 //! * `house`: a store with its desk and its clerk.
-//! * `ending`: how every seat is taken in at the end. `telling`: what it says of itself.
+//! * `ending`: how every seat is taken in at the end. `reporting`: what it says of itself.
 //! * `serving`: [`serve_with`].
 #![tactic(auto)]
 
@@ -23,8 +23,8 @@ mod gate;
 mod gated;
 mod house;
 mod options;
+mod reporting;
 mod serving;
-mod telling;
 mod worker;
 
 pub use gate::{Gate, NoGate};

@@ -11,7 +11,7 @@ use crate::ending::{close_books, close_store};
 use crate::gate::Gate;
 use crate::house::House;
 use crate::options::Options;
-use crate::telling::{report, report_unclosed, say_listening, together};
+use crate::reporting::{report, report_unclosed, say_listening, together};
 use crate::worker::{Shift, Stage};
 use intake::{Books, Clerk, Ledger};
 use live_store::Live;

@@ -24,7 +24,7 @@ returns-clause-closed c = λ e.
     let within : c.args.place < length all = omega (arith, many, c.requires.within) in
     let here = placed_at c.args.trace.now c.args.place s c.requires.within (ap (get_or c.args.trace.now c.args.place) c.index-trace-place.is) in
     let parent = parent_read all c.args.parents.now c.args.place p within c.requires.parents in
-    step_closed c.args.max_skew all c.args.clocks.now.items c.settle.new.clocks.items c.args.place p _ within here parent c.in_ok-is_set.ensures.after (sym c.in_ok-is_set.ensures.told ∙ e)
+    step_closed c.args.max_skew all c.args.clocks.now.items c.settle.new.clocks.items c.args.place p _ within here parent c.in_ok-is_set.ensures.after (sym c.in_ok-is_set.ensures.set ∙ e)
 
 pub returns-clause-fewer : goal.returns-clause-fewer
 returns-clause-fewer c =
@@ -35,4 +35,4 @@ returns-clause-fewer c =
     let within : c.args.place < length all = omega (arith, many, c.requires.within) in
     let here = placed_at c.args.trace.now c.args.place s c.requires.within (ap (get_or c.args.trace.now c.args.place) c.index-trace-place.is) in
     let parent = parent_read all c.args.parents.now c.args.place p within c.requires.parents in
-    step_fewer c.args.max_skew all c.args.clocks.now.items c.settle.new.clocks.items c.args.place p _ within here parent c.in_ok-is_set.ensures.after c.in_ok-is_set.is_set c.in_ok-is_set.ensures.told c.requires.right.0
+    step_fewer c.args.max_skew all c.args.clocks.now.items c.settle.new.clocks.items c.args.place p _ within here parent c.in_ok-is_set.ensures.after c.in_ok-is_set.is_set c.in_ok-is_set.ensures.set c.requires.right.0

@@ -1,6 +1,6 @@
 use Rattle.trace_server.specs.Serving.{served_line, books_line}
 use Rattle.trace_server.proofs.Endings.{said_both, said_some}
-use Rattle.trace_server.proofs.telling.say_end.Goals as goal
+use Rattle.trace_server.proofs.reporting.say_end.Goals as goal
 
 pub returns-in-Ok : goal.returns-in-Ok
 returns-in-Ok g c =
