@@ -5,14 +5,14 @@ use Rattle.httparse.specs.Ascii.{crlf_bytes}
 use Rattle.chunked_bodies.specs.Chunks.{IsSizeLine, IsSomeSizeLine, Chunk, IsChunk, texts, contents, IsTrailer, IsBody, IsTooLarge, HasNone, Lacks, IsDecided, IsContent}
 use Rattle.chunked_bodies.proofs.Once.{size_line_once, chunk_cut, chunk_once, chunk_is_not_last, first_chunk, body_cut, large_cut}
 
--- what is lacking behind a text is lacking at its front
+-- what is lacking behind a text is lacking at its beginning
 pub lacks_behind : (AtEnd : Type 0) (Is Has : List ℕ → Type 0) (text here : List ℕ) → ((h : List ℕ) → HasNone Is h → HasNone Has (text ++ h)) → Lacks AtEnd Is here → Lacks AtEnd Has (text ++ here)
 lacks_behind AtEnd Is Has text here behind (inl never) = inl (λ more. subst (HasNone Has) (sym (append_assoc text here more)) (behind (here ++ more) (never more)))
 lacks_behind AtEnd Is Has text here behind (inr ended) = inr (ended.0, behind here ended.1)
 
 -- ---- the first line
 
--- a line that tells a size, and what follows
+-- a line that says a size, and what follows
 record Starts (text : List ℕ) : Type 0 where
   line : List ℕ
   size : ℕ

@@ -1,4 +1,4 @@
-pub mod Fronts
+pub mod Beginnings
 pub mod Once
 pub mod Behind
 pub mod Sizes

@@ -1,4 +1,4 @@
--- A chunked body at the front of bytes stands there in one way.
+-- A chunked body at the beginning of bytes stands there in one way.
 use Rattle.std.proofs.Common.{◌≡◌, ◌≢◌, ℕ, ◌+◌, ◌≤◌, ◌<◌, List, [], ◌∷◌, ◌++◌, length, take, drop, All, refl, sym, ap, ◌∙◌, subst, arith, inl, inr, append_assoc, length-append}
 use Rattle.std.proofs.lemmas.List.{take_at, drop_at, append_cancel_left}
 use Rattle.std.proofs.lemmas.List.Elements.{All-head, All-tail}
@@ -82,7 +82,7 @@ body_once most text other body more r q b c e =
 pub large_cut : (most : ℕ) (text r : List ℕ) (t : IsTooLarge most text) → text ++ r ≡ texts t.chunks ++ (t.line ++ r)
 large_cut most text r t = ap (λ l. l ++ r) t.text_is ∙ append_assoc (texts t.chunks) t.line r
 
--- a body has what its lines tell
+-- a body has what its lines say
 sizes_within : (cs ds : List Chunk) (line last r q : List ℕ) (size : ℕ) → All IsChunk cs → All IsChunk ds → IsSizeLine line size → IsSizeLine last 0
     → texts cs ++ (line ++ r) ≡ texts ds ++ (last ++ q) → length (contents cs) + size ≤ length (contents ds)
 sizes_within [] [] line last r q size one other l m e = let lines = size_line_once line last r q size 0 l m e in omega (arith, lines.1)

@@ -1,4 +1,4 @@
--- Size lines: where none has ended no line has, and what they tell at the front of a body.
+-- Size lines: where none has ended no line has, and what they say at the beginning of a body.
 use Rattle.std.proofs.Common.{◌≡◌, ℕ, ◌==◌, ◌||◌, ◌<◌, Bool, true, false, List, [], ◌∷◌, ◌++◌, length, take, Option, None, Some, IsTrue, refl, sym, ap, ◌∙◌, subst, arith, inl, inr, append_assoc, append-nil, length-append}
 use Rattle.std.specs.List.{list_any}
 use Rattle.std.specs.Char.{is_ascii_hexdigit}
@@ -29,16 +29,16 @@ quiet_extension None is = refl
 quiet_extension (Some text) is = quiet is_extension_byte text refl is
 
 -- before its line feed a size line has none
-front_of : ChunkLine → List ℕ
-front_of l = ((l.digits ++ l.pad) ++ print_extension l.extension) ++ 13 ∷ []
+beginning_of : ChunkLine → List ℕ
+beginning_of l = ((l.digits ++ l.pad) ++ print_extension l.extension) ++ 13 ∷ []
 
-front_is : (l : ChunkLine) → print_chunk_line l ≡ front_of l ++ 10 ∷ []
-unfolding print_chunk_line front_of
-front_is l = sym (append_assoc ((l.digits ++ l.pad) ++ print_extension l.extension) (13 ∷ []) (10 ∷ []))
+beginning_is : (l : ChunkLine) → print_chunk_line l ≡ beginning_of l ++ 10 ∷ []
+unfolding print_chunk_line beginning_of
+beginning_is l = sym (append_assoc ((l.digits ++ l.pad) ++ print_extension l.extension) (13 ∷ []) (10 ∷ []))
 
-front_quiet : (l : ChunkLine) → IsChunkLine l → has_feed (front_of l) ≡ false
-unfolding front_of
-front_quiet l is =
+beginning_quiet : (l : ChunkLine) → IsChunkLine l → has_feed (beginning_of l) ≡ false
+unfolding beginning_of
+beginning_quiet l is =
     quiet_both ((l.digits ++ l.pad) ++ print_extension l.extension) (13 ∷ [])
     (quiet_both (l.digits ++ l.pad) (print_extension l.extension)
     (quiet_both l.digits l.pad (quiet is_ascii_hexdigit l.digits refl is.digits.2) (quiet is_ows l.pad refl is.pad))
@@ -46,18 +46,18 @@ front_quiet l is =
     refl
 
 -- nothing follows the only line feed
-nothing_behind : (front a c : List ℕ) → has_feed front ≡ false → front ++ 10 ∷ [] ≡ a ++ 10 ∷ c → c ≡ []
+nothing_behind : (beginning a c : List ℕ) → has_feed beginning ≡ false → beginning ++ 10 ∷ [] ≡ a ++ 10 ∷ c → c ≡ []
 nothing_behind [] [] c none e = cc e
 nothing_behind [] (y ∷ a) c none e = absurd (omega (arith, ap length e, length-append a (10 ∷ c)))
-nothing_behind (x ∷ front) [] c none e = absurd (first x e none)
+nothing_behind (x ∷ beginning) [] c none e = absurd (first x e none)
   where
-    first : (x : ℕ) {xs ys : List ℕ} → x ∷ xs ≡ 10 ∷ ys → (x == 10 || has_feed front) ≡ false → ⊥
+    first : (x : ℕ) {xs ys : List ℕ} → x ∷ xs ≡ 10 ∷ ys → (x == 10 || has_feed beginning) ≡ false → ⊥
     first x e none =
         let is : x ≡ 10 = cc e in
-        absurd (cc (ap (λ b. b == 10 || has_feed front) (sym is) ∙ none))
-nothing_behind (x ∷ front) (y ∷ a) c none e =
-    let later : front ++ 10 ∷ [] ≡ a ++ 10 ∷ c = cc e in
-    nothing_behind front a c (rest (x == 10) (has_feed front) none) later
+        absurd (cc (ap (λ b. b == 10 || has_feed beginning) (sym is) ∙ none))
+nothing_behind (x ∷ beginning) (y ∷ a) c none e =
+    let later : beginning ++ 10 ∷ [] ≡ a ++ 10 ∷ c = cc e in
+    nothing_behind beginning a c (rest (x == 10) (has_feed beginning) none) later
   where
     rest : (a b : Bool) → (a || b) ≡ false → b ≡ false
     rest true b e = absurd (cc e)
@@ -79,8 +79,8 @@ feed_at (x ∷ bytes) e = at (x == 10) refl (λ off. feed_at bytes (ap (λ b. b 
 whole_line : (bytes : List ℕ) (l : ChunkLine) (more : List ℕ) → IsChunkLine l → bytes ++ more ≡ print_chunk_line l → has_feed bytes ≡ true → bytes ≡ print_chunk_line l
 whole_line bytes l more is e feed =
     let at = feed_at bytes feed in
-    let none = nothing_behind (front_of l) at.0 (at.1 ++ more) (front_quiet l is)
-    (sym (front_is l) ∙ sym e ∙ ap (λ x. x ++ more) at.2 ∙ append_assoc at.0 (10 ∷ at.1) more) in
+    let none = nothing_behind (beginning_of l) at.0 (at.1 ++ more) (beginning_quiet l is)
+    (sym (beginning_is l) ∙ sym e ∙ ap (λ x. x ++ more) at.2 ∙ append_assoc at.0 (10 ∷ at.1) more) in
     let nothing : more ≡ [] = empty at.1 more none in
     sym (append-nil bytes) ∙ ap (λ x. bytes ++ x) (sym nothing) ∙ e
   where
@@ -94,8 +94,8 @@ unended bytes (more, l, reads) none short true e =
     let is : bytes ≡ print_chunk_line l = whole_line bytes l more reads.0 (reads.1 ∙ append-nil (print_chunk_line l)) (sym e) in
     absurd (none bytes [] (chunk_size l, record { line = l; is = reads.0; text_is = is; short = omega (arith, short); size_is = refl }) (sym (append-nil bytes)))
 
-pub line_unended : (bytes front : List ℕ) → front ≡ take MOST_LINE_BYTES bytes → length bytes < MOST_LINE_BYTES → MayBecomeChunkLine front → HasNone IsSomeSizeLine bytes → has_feed bytes ≡ false
-line_unended bytes front f short may none =
+pub line_unended : (bytes beginning : List ℕ) → beginning ≡ take MOST_LINE_BYTES bytes → length bytes < MOST_LINE_BYTES → MayBecomeChunkLine beginning → HasNone IsSomeSizeLine bytes → has_feed bytes ≡ false
+line_unended bytes beginning f short may none =
     unended bytes (subst MayBecomeChunkLine (f ∙ take_all MOST_LINE_BYTES bytes (omega (arith, short))) may) none short (has_feed bytes) refl
 
 -- ---- the last line

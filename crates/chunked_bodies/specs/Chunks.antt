@@ -6,7 +6,7 @@ use Rattle.httparse.specs.Grammar.{ChunkLine, IsChunkLine, print_chunk_line, chu
 use Rattle.chunked_bodies.specs.declared.line.TheConstants.{MOST_LINE_BYTES}
 use Rattle.chunked_bodies.specs.declared.trailer.TheConstants.{MOST_TRAILER_BYTES, MOST_FIELDS}
 
--- A line that tells a size, in hexadecimal digits and perhaps with an extension, with its CR LF. The limit is a
+-- A line that says a size, in hexadecimal digits and perhaps with an extension, with its CR LF. The limit is a
 -- session's own: RFC 9112, section 7.1, has none.
 pub record IsSizeLine (text : List ℕ) (size : ℕ) : Type 0 where
   pub line : ChunkLine
@@ -78,7 +78,7 @@ pub record IsUpToTrailer (most : ℕ) (text : List ℕ) : Type 0 where
 abbrev pub IsSized : ℕ → List ℕ → Type 0
 IsSized most text = IsUpToTrailer most text ⊎ IsTooLarge most text
 
--- ---- what stands at the front of bytes
+-- ---- what stands at the beginning of bytes
 
 -- no beginning of the bytes is such a text
 abbrev pub HasNone : (List ℕ → Type 0) → List ℕ → Type 0
@@ -92,7 +92,7 @@ NeverHas Is bytes = (more : List ℕ) → HasNone Is (bytes ++ more)
 abbrev pub Lacks : Type 0 → (List ℕ → Type 0) → List ℕ → Type 0
 Lacks AtEnd Is bytes = NeverHas Is bytes ⊎ (AtEnd × HasNone Is bytes)
 
--- a line that tells some size
+-- a line that says some size
 abbrev pub IsSomeSizeLine : List ℕ → Type 0
 IsSomeSizeLine text = (size : ℕ) × IsSizeLine text size
 
@@ -124,7 +124,7 @@ pub record Stands (Is : List ℕ → Type 0) (bytes : List ℕ) (used : ℕ) : T
   pub cut : bytes ≡ text ++ rest
   pub used_is : used ≡ length text
 
--- with some bytes behind, such a text stands at the front
+-- with some bytes behind, such a text stands at the beginning
 pub record MayHave (Is : List ℕ → Type 0) (bytes : List ℕ) : Type 0 where
   pub more : List ℕ
   pub text : List ℕ

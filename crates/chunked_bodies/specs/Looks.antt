@@ -1,4 +1,4 @@
--- What a look at the front of bytes finds.
+-- What a look at the beginning of bytes finds.
 use Rattle.std.specs.Prelude.{◌≡◌, ℕ, ◌==◌, ◌<◌, ◌≤◌, false, List, length, take}
 use Rattle.std.specs.List.{list_any}
 use Rattle.httparse.specs.Ascii.{line_feed}

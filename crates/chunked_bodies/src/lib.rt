@@ -5,11 +5,11 @@
 //!
 //! * `line`: the line with a chunk's size.
 //! * `trailer`: the fields behind the last chunk, up to an empty line.
-//! * `front`: the beginning of bytes.
+//! * `beginning`: the beginning of bytes.
 //! * `laws`: facts about the definition.
 #![tactic(auto)]
 
-mod front;
+mod beginning;
 pub mod laws;
 mod line;
 mod trailer;

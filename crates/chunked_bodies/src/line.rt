@@ -1,6 +1,6 @@
 ghost use Rattle.chunked_bodies.specs.Looks.{LooksAtLine};
 
-use crate::front::front_of;
+use crate::beginning::beginning_of;
 use httparse::{Status, parse_chunk_size};
 
 /// How many bytes a size line has at most, with its CR LF. RFC 9112 sets no limit; this is a session's own.
@@ -22,7 +22,7 @@ pub enum SizeLine {
 pub fn look_for_size(bytes: &[u8]) -> SizeLine
     ensures { LooksAtLine bytes.now result }
 {
-    match parse_chunk_size(front_of(bytes, MOST_LINE_BYTES)) {
+    match parse_chunk_size(beginning_of(bytes, MOST_LINE_BYTES)) {
         Ok(Status::Complete((length, size))) => SizeLine::Whole(length, size),
         Ok(Status::Partial) => {
             if bytes.len() < MOST_LINE_BYTES {

@@ -1,6 +1,6 @@
 ghost use Rattle.chunked_bodies.specs.Looks.{LooksAtTrailer};
 
-use crate::front::front_of;
+use crate::beginning::beginning_of;
 use httparse::Status;
 use httparse::spans::{EMPTY_HEADER_SPAN, parse_headers};
 
@@ -27,7 +27,7 @@ pub fn look_for_trailer(bytes: &[u8]) -> Trailer
     ensures { LooksAtTrailer bytes.now result }
 {
     let mut headers = [EMPTY_HEADER_SPAN; MOST_FIELDS];
-    match parse_headers(front_of(bytes, MOST_TRAILER_BYTES), &mut headers) {
+    match parse_headers(beginning_of(bytes, MOST_TRAILER_BYTES), &mut headers) {
         Ok(Status::Complete((length, _))) => Trailer::Whole(length),
         Ok(Status::Partial) => {
             if bytes.len() < MOST_TRAILER_BYTES {

@@ -21,7 +21,7 @@ body_is_not_large Chunked after large awaits = awaits.none large.text large.rest
 body_is_not_large Unreadable after large awaits = absurd large
 body_is_not_large TooLarge after large awaits = absurd awaits
 
--- the head of which the body is awaited is the one at the front
+-- the head of which the body is awaited is the one at the beginning
 awaits_behind : (bytes after : List ℕ) (h : RequestHead) (behind : AwaitsBehind bytes) → TakesHead bytes h after → AwaitsBody (body_length h) after
 awaits_behind bytes after h behind takes =
     let same = head_once bytes behind.head h behind.after after behind.takes takes in

@@ -1,4 +1,4 @@
--- What stands at the front of the bytes stands there in one way.
+-- What stands at the beginning of the bytes stands there in one way.
 use Rattle.std.proofs.Common.{false, ◌≡◌, ℕ, ◌<◌, List, [], ◌++◌, length, codes, IsTrue, refl, sym, ap, ◌∙◌, subst, arith, inl, inr, append_assoc, append-nil, length-append}
 use Rattle.std.proofs.lemmas.List.Elements.{All-nil, All-from_recursion}
 use Rattle.std.proofs.lemmas.Str.{IsUtf8-from_ascii}
@@ -31,7 +31,7 @@ head_is_some bytes h rest takes =
 
 -- ---- requests
 
--- what a head tells of is one body, with one rest
+-- what a head says follows is one body, with one rest
 one_body : (size : BodyLength) (text other body more rest left : List ℕ) → HasBody size text body → HasBody size other more → text ++ rest ≡ other ++ left → (text ≡ other) × (body ≡ more) × (rest ≡ left)
 one_body (Bytes n) text other body more rest left one two e =
     let same = same_cut text other rest left (ap length one.0 ∙ one.1 ∙ sym two.1 ∙ sym (ap length two.0)) e in

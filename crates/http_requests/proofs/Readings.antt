@@ -86,7 +86,7 @@ takes_then_stops in0 in1 in2 failed a b text why first stop =
       least = λ e. elim (stop.least e) [ inl f ↦ inl f | inr l ↦ inr (omega (arith, first.least, long)) ];
     }
 
--- and one more from the front of what is there
+-- and one more from the beginning of what is there
 pub takes_more : (in0 in1 : Option (List ℕ)) (a b : Received) (text more rest : List ℕ) → ReadsOn in0 in1 a (put_back text b) → b.held ≡ more ++ rest → ReadsOn in0 in1 a (put_back (text ++ more) (record b { held = rest }))
 takes_more in0 in1 a b text more rest reads cut = record {
   more = reads.more;
@@ -107,7 +107,7 @@ module _ {R : Type 0} (source : Source R) where
       → ReadsOnWhile source Awaits s t a b
   once Awaits s t a b awaits on read = record { on = on; waits = one_read source.gives Awaits s t a.held b.held read.0 awaits read.1 read.2 }
 
-  -- seen from the front of what was taken before
+  -- seen from the beginning of what was taken before
   pub front_then : (Awaits More : List ℕ → Type 0) (s m t : R) (a b c : Received) (text : List ℕ) → ((h : List ℕ) → More h → Awaits (text ++ h))
       → ReadsOnWhile source Awaits s m a (put_back text b) → ReadsOnWhile source More m t b c → ReadsOnWhile source Awaits s t a (put_back text c)
   front_then Awaits More s m t a b c text more first second = record {
@@ -131,7 +131,7 @@ module _ {R : Type 0} (source : Source R) where
         waits = subst (λ (l : List ℕ). ReadsWhile source.gives Awaits s t a.held l) (sym (append_assoc text more c.held)) all.waits;
       }
 
-  -- one more text from the front of what is there
+  -- one more text from the beginning of what is there
   pub front_more : (Awaits : List ℕ → Type 0) (s t : R) (a b : Received) (text more rest : List ℕ) → ReadsOnWhile source Awaits s t a (put_back text b) → b.held ≡ more ++ rest
       → ReadsOnWhile source Awaits s t a (put_back (text ++ more) (record b { held = rest }))
   front_more Awaits s t a b text more rest reads cut = record {

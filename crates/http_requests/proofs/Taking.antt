@@ -33,7 +33,7 @@ module _ {R : Type 0} (source : Source R) (Awaits : List ℕ → Type 0) (s t : 
   pub misses_at_end : (ended : Bool) → KnowsItsEnd old.ended (source.remaining s) → ended ≡ here.ended → ended ≡ true → HasNone Is bytes → Misses source Awaits s t old here Is
   misses_at_end ended knows is over none = record { reads = reads; lacks = inr (reads.on.end knows (sym is ∙ over), subst (HasNone Is) are none) }
 
-  -- a text at the front is taken
+  -- a text at the beginning is taken
   pub takes_it : (mid : Received) (len : ℕ) → Is (take len bytes) → len ≤ length bytes → mid ≡ record here { held = drop len here.held } → Takes source Awaits s t old mid Is
   takes_it mid len is fits mid_is = rw mid_is (record {
     text = take len bytes;

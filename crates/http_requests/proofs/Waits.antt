@@ -31,7 +31,7 @@ module _ {R : Type 0} (gives : Gives R) where
     subst (λ (l : List ℕ). GivesWhile gives More each.1 t l (front ++ b) ps) (sym (append_assoc front a p)) (each_behind Awaits More front more ps each.1 t (a ++ p) b each.3),
   )
 
-  -- what is awaited behind a text, seen from the front of the text
+  -- what is awaited behind a text, seen from the beginning of the text
   pub reads_behind : (Awaits More : List ℕ → Type 0) (front : List ℕ) → ((h : List ℕ) → Awaits h → More (front ++ h)) → (s t : R) (a b : List ℕ)
       → ReadsWhile gives Awaits s t a b → ReadsWhile gives More s t (front ++ a) (front ++ b)
   reads_behind Awaits More front more s t a b reads = record { pieces = reads.pieces; each = each_behind Awaits More front more reads.pieces s t a b reads.each }
@@ -52,7 +52,7 @@ module _ {R : Type 0} (source : Source R) where
   pub stops_failed : (Awaits : List ℕ → Type 0) (s t : R) (failed : Bool) (old : List ℕ) → Awaits old → FailsToRead source s t failed → StopsWhile source Awaits s t failed old
   stops_failed Awaits s t failed old awaits fails = record { held = old; before = s; waits = no_read source.gives Awaits s old; last = inr (awaits, fails) }
 
-  -- what was awaited behind a text, seen from the front of the text
+  -- what was awaited behind a text, seen from the beginning of the text
   pub waits_then_stops : (Awaits More : List ℕ → Type 0) (front : List ℕ) → ((h : List ℕ) → More h → Awaits (front ++ h)) → (s m t : R) (failed : Bool) (old held : List ℕ)
       → ReadsWhile source.gives Awaits s m old (front ++ held) → StopsWhile source More m t failed held → StopsWhile source Awaits s t failed old
   waits_then_stops Awaits More front more s m t failed old held reads stops = record {

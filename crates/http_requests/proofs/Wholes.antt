@@ -1,4 +1,4 @@
--- A head at the front of bytes, and the body behind it.
+-- A head at the beginning of bytes, and the body behind it.
 use Rattle.std.proofs.Common.{◌≡◌, ℕ, ◌+◌, ◌-◌, ◌==◌, ◌||◌, ◌≤◌, ◌<◌, Bool, true, false, List, ◌++◌, [], length, take, drop, map, slice_range, Option, refl, sym, ap, ◌∙◌, subst, arith, inl, inr, append_assoc, append-nil, length-append}
 use Rattle.std.specs.Io.KnownBytes.{IsAtEnd}
 use Rattle.std.proofs.lemmas.List.{drop-append-le, take-append-le, length-drop}
@@ -45,7 +45,7 @@ pub same_asked : (h : RequestHead) (m : Method) (t : List ℕ) (b c : Bool) → 
     → c ≡ (h.minor == 0 || closes_by (pairs_of h)) → asked_by h ≡ record { method = m; target = t; has_batch_type = b; closes = c }
 same_asked h m t b c em et eb ec = rw (em, sym et, eb, ec) refl
 
--- the head at the front, which is taken
+-- the head at the beginning, which is taken
 pub head_cut : (bytes : List ℕ) (len : ℕ) (h : RequestHead) → TakesHead bytes h (drop len bytes) → len ≤ length bytes → take len bytes ≡ print_request h
 head_cut bytes len h takes fits =
     let whole : length bytes ≡ length (print_request h) + length (drop len bytes) = ap length takes.reads.1 ∙ length-append (print_request h) (drop len bytes) in

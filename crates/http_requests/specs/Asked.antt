@@ -15,7 +15,7 @@ use Rattle.http_requests.specs.declared.asked.BodyLength.TheVariants.{Bytes, Chu
 abbrev pub pairs_of : RequestHead → Pairs
 pairs_of h = map name_and_value h.fields
 
--- methods are told in their own case
+-- methods are recognized in their own case
 abbrev pub method_of : List ℕ → Method
 method_of text = if same_text text (codes "GET") then Get else if same_text text (codes "POST") then Post else Other
 

@@ -15,20 +15,20 @@ use Rattle.http_requests.specs.declared.asked.BodyLength.{BodyLength}
 use Rattle.http_requests.specs.declared.asked.BodyLength.TheVariants.{Chunked}
 use Rattle.http_requests.specs.declared.asked.Breach.{Breach}
 
--- ---- a text of one kind at the front
+-- ---- a text of one kind at the beginning
 
--- a text of this kind was taken from the front
+-- a text of this kind was taken from the beginning
 pub record Takes {R : Type 0} (source : Source R) (Awaits : List ℕ → Type 0) (s t : R) (old new : Received) (Is : List ℕ → Type 0) : Type 0 where
   pub text : List ℕ
   pub is : Is text
   pub reads : ReadsOnWhile source Awaits s t old (put_back text new)
 
--- no text of this kind can be taken from the front
+-- no text of this kind can be taken from the beginning
 pub record Misses {R : Type 0} (source : Source R) (Awaits : List ℕ → Type 0) (s t : R) (old new : Received) (Is : List ℕ → Type 0) : Type 0 where
   pub reads : ReadsOnWhile source Awaits s t old new
   pub lacks : Lacks (IsAtEnd (source.remaining t)) Is new.held
 
--- no size line stands at the front, and none has ended
+-- no size line stands at the beginning, and none has ended
 abbrev pub AwaitsLine : List ℕ → Type 0
 AwaitsLine bytes = HasNone IsSomeSizeLine bytes × EndsNoLine bytes
 
@@ -63,7 +63,7 @@ may_begin_line_end [] = true
 may_begin_line_end (a ∷ []) = a == 13
 may_begin_line_end (a ∷ b ∷ rest) = false
 
--- no text of this kind stands at the front, and with these bytes behind all of it is one
+-- no text of this kind stands at the beginning, and with these bytes behind all of it is one
 pub record AwaitsRest (Is : List ℕ → Type 0) (bytes : List ℕ) : Type 0 where
   pub none : HasNone Is bytes
   pub more : List ℕ
@@ -113,7 +113,7 @@ pub record ChunksSoFar {S R : Type 0} (takes : Takings S) (source : Source R) (s
 
 -- ---- bodies
 
--- a body as the head tells was taken, and put into the sink; each read for it was made while more of it was awaited
+-- a body as the head says was taken, and put into the sink; each read for it was made while more of it was awaited
 pub record TakesBody {S R : Type 0} (takes : Takings S) (source : Source R) (s t : R) (old new : Received) (before after : S) (size : BodyLength) : Type 0 where
   pub text : List ℕ
   pub body : List ℕ
@@ -121,7 +121,7 @@ pub record TakesBody {S R : Type 0} (takes : Takings S) (source : Source R) (s t
   pub reads : ReadsOnWhile source (AwaitsBody size) s t old (put_back text new)
   pub put : takes before body after
 
--- a text was taken, and with what is left it has no body as the head tells, for that reason; each read was made
+-- a text was taken, and with what is left it has no body as the head says, for that reason; each read was made
 -- while more of a body was awaited
 pub record BreaksBody {R : Type 0} (source : Source R) (s t : R) (old new : Received) (size : BodyLength) (why : Breach) : Type 0 where
   pub text : List ℕ

@@ -27,7 +27,7 @@ NeverHasHead bytes = (more : List ℕ) → HasNoHead (bytes ++ more)
 abbrev pub EndsLine : List ℕ → Type 0
 EndsLine bytes = (front : List ℕ) × (bytes ≡ front ++ line_feed ∷ [])
 
--- No head stands at the front, there are fewer bytes than one may have, and there is no reason in the lines
+-- No head stands at the beginning, there are fewer bytes than one may have, and there is no reason in the lines
 -- received whole why none can come: some continuation of them begins with a head by the grammar.
 pub record AwaitsHead (bytes : List ℕ) : Type 0 where
   pub none : HasNoHead bytes

@@ -64,8 +64,8 @@ pub record ReadsOnWhile {R : Type 0} (source : Source R) (Awaits : List ℕ → 
   pub on : ReadsOn (source.remaining s) (source.remaining t) old new
   pub waits : ReadsWhile source.gives Awaits s t old.held new.held
 
--- The head of a request was taken from the front: its bytes, what was told of it, and how long the body is
--- that it tells of. The body is what follows.
+-- The head of a request was taken from the beginning: its bytes, what was reported of it, and how long the body is
+-- that it says follows. The body is what follows.
 pub record FindsHead (in0 in1 : Option (List ℕ)) (old new : Received) (bytes : List ℕ) (r : Request) (size : BodyLength) : Type 0 where
   pub is : IsHeadOf bytes r
   pub takes : TakesHead bytes is.head []
@@ -102,7 +102,7 @@ WaitsForHead gives s t old new bytes next =
 
 -- ---- requests, of which the head was taken and then the body
 
--- a request was taken from the front, with this head and this body; each read for it was made while it was awaited
+-- a request was taken from the beginning, with this head and this body; each read for it was made while it was awaited
 pub record TakesRequest {R : Type 0} (source : Source R) (s t : R) (old new : Received) (head : RequestHead) (body : List ℕ) : Type 0 where
   pub text : List ℕ
   pub reads : ReadsOnWhile source AwaitsRequest s t old (put_back text new)

@@ -11,20 +11,20 @@ use Rattle.http_requests.specs.declared.asked.Breach.{Breach}
 use Rattle.http_requests.specs.declared.asked.Breach.TheVariants as breach
 use Rattle.http_requests.specs.declared.asked.Request.{Request}
 
--- the text behind a head that tells of such a body: the body itself, or its chunks
+-- the text behind a head that says such a body follows: the body itself, or its chunks
 abbrev pub HasBody : BodyLength → List ℕ → List ℕ → Type 0
 HasBody (Bytes n) text body = (text ≡ body) × (length body ≡ n)
 HasBody Chunked text body = IsBody MOST_BODY_BYTES text body
 HasBody Unreadable text body = ⊥
 HasBody TooLarge text body = ⊥
 
--- the text is a head that a session takes, and a body as the head tells
+-- the text is a head that a session takes, and a body as the head says
 pub record Spells (text : List ℕ) (head : RequestHead) (body : List ℕ) : Type 0 where
   pub after : List ℕ
   pub takes : TakesHead text head after
   pub body_is : HasBody (body_length head) after body
 
--- the head tells of no body that is read, the input ended inside it, or what follows is no chunked one
+-- the head says that no body is read, the input ended inside it, or what follows is no chunked one
 abbrev pub IsUnreadable : Type 0 → BodyLength → List ℕ → Type 0
 IsUnreadable AtEnd (Bytes n) after = (length after < n) × AtEnd
 IsUnreadable AtEnd Chunked after = Lacks AtEnd (IsDecided MOST_BODY_BYTES) after
@@ -50,7 +50,7 @@ pub record BreaksBehind (AtEnd : Type 0) (rest : List ℕ) (why : Breach) : Type
   pub takes : TakesHead rest head after
   pub breaks : BodyBreaks AtEnd why (body_length head) after
 
--- There is no request at the front of the bytes: no continuation has a head, or one whose body can be
+-- There is no request at the beginning of the bytes: no continuation has a head, or one whose body can be
 -- read, or the input ended inside.
 abbrev pub IsBroken : Type 0 → List ℕ → Breach → Type 0
 IsBroken AtEnd rest breach.Head = NeverHasHead rest ⊎ (AtEnd × (0 < length rest) × HasNoHead rest)
@@ -62,34 +62,34 @@ IsBroken AtEnd rest breach.TooLarge = BreaksBehind AtEnd rest breach.TooLarge
 abbrev pub IsShorter : ℕ → List ℕ → Type 0
 IsShorter n bytes = length bytes < n
 
--- No body in chunks stands at the front, and no size line says that it is too large; and there is no reason in
+-- No body in chunks stands at the beginning, and no size line says that it is too large; and there is no reason in
 -- the lines received whole why none can come: some continuation of them begins with all chunks of a body, or
 -- with those up to the line that says that it is too large.
 pub record AwaitsChunks (after : List ℕ) : Type 0 where
   pub none : HasNone (IsDecided MOST_BODY_BYTES) after
   pub may : (lines rest : List ℕ) → after ≡ lines ++ rest → EndsLine lines → NeverHas (IsSized MOST_BODY_BYTES) lines → ⊥
 
--- what is awaited behind a head that tells of such a body; where the head alone decides, nothing
+-- what is awaited behind a head that says such a body follows; where the head alone decides, nothing
 abbrev pub AwaitsBody : BodyLength → List ℕ → Type 0
 AwaitsBody (Bytes n) after = IsShorter n after
 AwaitsBody Chunked after = AwaitsChunks after
 AwaitsBody Unreadable after = ⊥
 AwaitsBody TooLarge after = ⊥
 
--- a head stands at the front, and the body behind it is awaited
+-- a head stands at the beginning, and the body behind it is awaited
 pub record AwaitsBehind (bytes : List ℕ) : Type 0 where
   pub head : RequestHead
   pub after : List ℕ
   pub takes : TakesHead bytes head after
   pub awaits : AwaitsBody (body_length head) after
 
--- the bytes received don't decide yet what request stands at their front, or why there is none
+-- the bytes received don't decide yet what request stands at their beginning, or why there is none
 abbrev pub AwaitsRequest : List ℕ → Type 0
 AwaitsRequest bytes = AwaitsHead bytes ⊎ AwaitsBehind bytes
 
--- ---- what is told of a head
+-- ---- what is reported of a head
 
--- what was told of a head; the target is a part of its text
+-- what was reported of a head; the target is a part of its text
 pub record Describes (head : RequestHead) (r : Request) : Type 0 where
   pub asked : asked_by head ≡ record { method = r.method; target = slice_range (print_request head) r.target.start r.target.end; has_batch_type = r.has_batch_type; closes = r.closes }
   pub ordered : r.target.start ≤ r.target.end

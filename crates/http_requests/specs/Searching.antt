@@ -6,7 +6,7 @@ use Rattle.http_requests.specs.Heads.{HasNoHead, NeverHasHead, IsWholeHead}
 use Rattle.http_requests.specs.declared.reading.Found.{Found}
 use Rattle.http_requests.specs.declared.reading.Found.TheVariants.{Head, End, Never}
 
--- a head at the front, none before the end of the input, or none whatever follows
+-- a head at the beginning, none before the end of the input, or none whatever follows
 abbrev pub SearchFinds : Option (List ℕ) → List ℕ → List HeaderSpan → Found → Type 0
 SearchFinds input held headers (Head spans) = IsWholeHead held headers spans
 SearchFinds input held headers End = IsAtEnd input × HasNoHead held

@@ -17,7 +17,7 @@ use Rattle.http_session.specs.declared.verdict.Verdict.{Verdict}
 use Rattle.http_session.specs.declared.hearing.Heard.{Heard}
 use Rattle.http_session.specs.declared.hearing.Heard.TheVariants.{One, Clean, Broken}
 
--- a body as the head tells was taken, and this is the verdict on it; each read was made while more of it was awaited
+-- a body as the head says was taken, and this is the verdict on it; each read was made while more of it was awaited
 pub record HearsWhole {R : Type 0} (source : Source R) (s t : R) (old new : Received) (size : BodyLength) (q : Question) (v : Verdict) : Type 0 where
   pub text : List ℕ
   pub body : List ℕ
@@ -35,7 +35,7 @@ reported_behind (Ok (Ok x)) v = Ok (Ok v)
 reported_behind (Ok (Err why)) v = Ok (Err why)
 reported_behind (Err why) v = Err why
 
--- a request was taken from the front, and this is the verdict on it, and whether it asks to close the session
+-- a request was taken from the beginning, and this is the verdict on it, and whether it asks to close the session
 pub record HearsOne {R : Type 0} (source : Source R) (s t : R) (old new : Received) (v : Verdict) (closes : Bool) : Type 0 where
   pub head : RequestHead
   pub body : List ℕ

@@ -6,7 +6,7 @@ use Rattle.http_session.specs.Sessions.{Exchange, texts, Submits, Reads, EndsAs,
 use Rattle.http_session.specs.declared.exchanges.SessionFault.{SessionFault}
 
 -- The bytes received are these requests up to some place, and a rest of which the next one is awaited: no
--- request stands in front of the rest, nor a reason why there can be none.
+-- request stands at the beginning of the rest, nor a reason why there can be none.
 pub record AwaitsNext (opens : List Exchange) (bytes : List ℕ) : Type 0 where
   pub before : List Exchange
   pub later : List Exchange

@@ -160,7 +160,7 @@ IsCause Reading in_failed out_failed taken =
 IsCause Writing in_failed out_failed taken = (out_failed ≡ true) × (in_failed ≡ false)
 IsCause Memory in_failed out_failed taken = (in_failed ≡ false) × (out_failed ≡ false)
 
--- A session that failed: the responses before are written whole, the next one as far as is told. The
+-- A session that failed: the responses before are written whole, the next one as far as is reported. The
 -- store has gone on by the exchange that is due, so an accepted batch stays accepted. Running out of memory holds
 -- back no response that takes none.
 pub record FailsAs {S : Type 0} (submits : Submits S) (reads : Reads S) (in0 in1 out0 out1 : Option (List ℕ)) (s t : S) (in_failed out_failed : Bool) (fault : SessionFault) : Type 0 where
@@ -182,7 +182,7 @@ pub record FailsAs {S : Type 0} (submits : Submits S) (reads : Reads S) (in0 in1
 
 -- ---- on the way
 
--- a response was written whole, or as far as is told
+-- a response was written whole, or as far as is reported
 abbrev pub Says : Option (List ℕ) → Option (List ℕ) → Bool → Bool → List ℕ → Result (Unit {0}) Silence → Type 0
 Says out0 out1 failed0 failed1 bytes (Ok _) = Appends out0 out1 bytes × (failed1 ≡ failed0)
 Says out0 out1 failed0 failed1 bytes (Err e) =

@@ -210,7 +210,7 @@ fn run_session<T, R: Input, W: Output, B: Backend<T>>(
 /// answer, nor before a batch that was accepted.
 ///
 /// Before each read the bytes received by then were requests behind which the session stays open, and a rest of
-/// which the next request was awaited: no whole request stood in front of it, nor a reason in its lines why
+/// which the next request was awaited: no whole request stood at its beginning, nor a reason in its lines why
 /// there can be none; nothing is read behind a request whose response closes it. That the responses to those
 /// requests were written by then is how the loop goes; no clause says it. Of a session that failed this is said
 /// too, and of the read that failed, if one did.

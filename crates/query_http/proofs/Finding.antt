@@ -100,7 +100,7 @@ names_apart = record { part = refl; rest = refl; byte = refl }
 trace_apart : Apart 47 traces_end
 trace_apart = record { part = refl; rest = refl; byte = refl }
 
--- a path behind the common front, with its endpoint
+-- a path behind the common beginning, with its endpoint
 abbrev Is : Found → List ℕ → Type 0
 Is r rest = (part : List ℕ) × IsPath r.value part (codes "/api/" ++ rest)
 

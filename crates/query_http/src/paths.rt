@@ -44,7 +44,7 @@ pub fn endpoints(alloc: Global) -> Result<Router<Endpoint>, InsertError>
     Ok(router)
 }
 
-/// What follows the text at the front of a path.
+/// What follows the text at the beginning of a path.
 fn after<'p>(path: &'p str, front: &str) -> &'p str
     requires { (rest : List ℕ) × (path.now ≡ front.now ++ rest) }
     ensures { path.now ≡ front.now ++ result.now }
