@@ -3,7 +3,7 @@ use Rattle.std.specs.Prelude.{◌≡◌, ℕ, Bool, List, [], ◌++◌, Option}
 use Rattle.http_requests.specs.Requests.{AwaitsRequest}
 use Rattle.http_requests.specs.Waiting.{Gives, Source, ReadsWhile, StopsWhile}
 use Rattle.http_session.specs.Sessions.{Exchange, texts, Submits, Reads, EndsAs, Due, none_yet, due, due_parting, FailsAs}
-use Rattle.http_session.specs.declared.exchanges.SessionFault.{SessionFault}
+use Rattle.http_session.specs.declared.exchanges.SessionError.{SessionError}
 
 -- The bytes received are these requests up to some place, and a rest of which the next one is awaited: no
 -- request stands at the beginning of the rest, nor a reason why there can be none.
@@ -34,7 +34,7 @@ abbrev pub EndsInTurn : {S R : Type 0} → Submits S → Reads S → Source R �
 EndsInTurn submits reads source i0 i1 out0 out1 s t answered clean =
     (ends : EndsAs submits reads (source.remaining i0) (source.remaining i1) out0 out1 s t answered clean) × ReadsInTurn source.gives i0 i1 ends.opens ends.taken
 
-abbrev pub FailsInTurn : {S R : Type 0} → Submits S → Reads S → Source R → R → R → Option (List ℕ) → Option (List ℕ) → S → S → Bool → Bool → SessionFault → Type 0
-FailsInTurn submits reads source i0 i1 out0 out1 s t in_failed out_failed fault =
-    (fails : FailsAs submits reads (source.remaining i0) (source.remaining i1) out0 out1 s t in_failed out_failed fault)
+abbrev pub FailsInTurn : {S R : Type 0} → Submits S → Reads S → Source R → R → R → Option (List ℕ) → Option (List ℕ) → S → S → Bool → Bool → SessionError → Type 0
+FailsInTurn submits reads source i0 i1 out0 out1 s t in_failed out_failed error =
+    (fails : FailsAs submits reads (source.remaining i0) (source.remaining i1) out0 out1 s t in_failed out_failed error)
     × ReadsInTurnUpTo source i0 i1 in_failed fails.opens fails.taken fails.next

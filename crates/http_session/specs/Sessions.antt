@@ -21,7 +21,7 @@ use Rattle.http_session.specs.declared.reply.Reply.{Reply}
 use Rattle.http_session.specs.declared.reply.Reply.TheVariants.{Accepted, Answered, Refused, Said, Broken}
 use Rattle.http_session.specs.declared.exchanges.Cause.{Cause}
 use Rattle.http_session.specs.declared.exchanges.Cause.TheVariants.{Reading, Writing, Memory}
-use Rattle.http_session.specs.declared.exchanges.SessionFault.{SessionFault}
+use Rattle.http_session.specs.declared.exchanges.SessionError.{SessionError}
 use Rattle.http_session.specs.declared.exchanges.Silence.{Silence}
 
 -- a request, what it asks, what is answered, and whether the session closes behind that
@@ -124,7 +124,7 @@ pub record EndsAs {S : Type 0} (submits : Submits S) (reads : Reads S) (in0 in1 
   pub count : answered ≡ length (opens ++ last_of ending) + partings ending
   pub clean_is : clean ≡ is_clean ending
 
--- ---- faults
+-- ---- errors
 
 -- what was to be written when a session failed: nothing, a response, or the parting one
 pub data Due : Type 0 where
@@ -163,7 +163,7 @@ IsCause Memory in_failed out_failed taken = (in_failed ≡ false) × (out_failed
 -- A session that failed: the responses before are written whole, the next one as far as is reported. The
 -- store has gone on by the exchange that is due, so an accepted batch stays accepted. Running out of memory holds
 -- back no response that takes none.
-pub record FailsAs {S : Type 0} (submits : Submits S) (reads : Reads S) (in0 in1 out0 out1 : Option (List ℕ)) (s t : S) (in_failed out_failed : Bool) (fault : SessionFault) : Type 0 where
+pub record FailsAs {S : Type 0} (submits : Submits S) (reads : Reads S) (in0 in1 out0 out1 : Option (List ℕ)) (s t : S) (in_failed out_failed : Bool) (error : SessionError) : Type 0 where
   pub taken : List ℕ
   pub opens : List Exchange
   pub next : Due
@@ -173,12 +173,12 @@ pub record FailsAs {S : Type 0} (submits : Submits S) (reads : Reads S) (in0 in1
   pub each : All IsOpen opens
   pub next_is : IsDue (IsAtEnd in1) rest next
   pub run : Run submits reads s (opens ++ exchange_due next) t
-  pub within : fault.written ≤ length (bytes_due next)
-  pub written : Appends out0 out1 (responses opens ++ take fault.written (bytes_due next))
-  pub count : fault.answered ≡ length opens
-  pub cause : IsCause fault.cause in_failed out_failed taken
-  pub unwritten : fault.cause ≢ Writing → fault.written ≡ 0
-  pub spared : is_spared next ≡ true → fault.cause ≢ Memory
+  pub within : error.written ≤ length (bytes_due next)
+  pub written : Appends out0 out1 (responses opens ++ take error.written (bytes_due next))
+  pub count : error.answered ≡ length opens
+  pub cause : IsCause error.cause in_failed out_failed taken
+  pub unwritten : error.cause ≢ Writing → error.written ≡ 0
+  pub spared : is_spared next ≡ true → error.cause ≢ Memory
 
 -- ---- on the way
 

@@ -40,7 +40,7 @@ pub enum Cause {
 
 /// A session that could not go on.
 #[derive(Clone, Copy, Debug, PartialEq, Eq)]
-pub struct SessionFault {
+pub struct SessionError {
     /// How many responses were written whole.
     pub answered: u64,
     /// How many bytes of the next one were written.
@@ -56,11 +56,11 @@ pub(crate) struct Silence {
 }
 
 impl Silence {
-    fn after(self, answered: u64) -> SessionFault
+    fn after(self, answered: u64) -> SessionError
         ensures { result ≡
             record { answered = answered; written = self.written; cause = self.cause } }
     {
-        SessionFault {
+        SessionError {
             answered,
             written: self.written as u64,
             cause: self.cause,
@@ -142,7 +142,7 @@ fn run_session<T, R: Input, W: Output, B: Backend<T>>(
     input: &mut R,
     output: &mut W,
     backend: &mut B,
-) -> Result<Ended, SessionFault>
+) -> Result<Ended, SessionError>
     requires routes { router.now ≡ endpoint_rows }
     requires input_works { R.has_failed input.old ≡ false }
     requires output_works { W.has_failed output.old ≡ false }
@@ -151,7 +151,7 @@ fn run_session<T, R: Input, W: Output, B: Backend<T>>(
         (W.contents output.new) backend.old backend.new e.answered e.clean) }
     ensures works { OnOk result ((R.has_failed input.new ≡ false)
         × (W.has_failed output.new ≡ false)) }
-    ensures fault { IfErr result (λ f. FailsInTurn B.submits B.reads
+    ensures error { IfErr result (λ f. FailsInTurn B.submits B.reads
         (source_of R.remaining R.gives) input.old input.new (W.contents output.old)
         (W.contents output.new) backend.old backend.new (R.has_failed input.new)
         (W.has_failed output.new) f) }
@@ -161,7 +161,7 @@ fn run_session<T, R: Input, W: Output, B: Backend<T>>(
     'requests: loop {
         let (verdict, asked) = match hear(alloc, router, input, &mut received) {
             Err(why) => {
-                return Err(SessionFault {
+                return Err(SessionError {
                     answered,
                     written: 0,
                     cause: cause_of(why),
@@ -226,7 +226,7 @@ pub fn session<T, R: Input, W: Output, B: Backend<T>>(
     input: &mut R,
     output: &mut W,
     backend: &mut B,
-) -> Result<Ended, SessionFault>
+) -> Result<Ended, SessionError>
     requires input_works { R.has_failed input.old ≡ false }
     requires output_works { W.has_failed output.old ≡ false }
 
@@ -240,7 +240,7 @@ pub fn session<T, R: Input, W: Output, B: Backend<T>>(
     ensures works { OnOk result ((R.has_failed input.new ≡ false)
         × (W.has_failed output.new ≡ false)) }
 
-    ensures fault { IfErr result (λ f. (fails : FailsAs B.submits B.reads (R.remaining input.old)
+    ensures error { IfErr result (λ f. (fails : FailsAs B.submits B.reads (R.remaining input.old)
         (R.remaining input.new) (W.contents output.old) (W.contents output.new) backend.old
         backend.new (R.has_failed input.new) (W.has_failed output.new) f)
         × Related (B.knows backend.old) (B.limits backend.old) nothing_seen
@@ -249,7 +249,7 @@ pub fn session<T, R: Input, W: Output, B: Backend<T>>(
         (R.has_failed input.new) fails.opens fails.taken fails.next) }
 {
     let Ok(router) = endpoints(alloc) else {
-        return Err(SessionFault {
+        return Err(SessionError {
             answered: 0,
             written: 0,
             cause: Cause::Memory,
@@ -257,6 +257,6 @@ pub fn session<T, R: Input, W: Output, B: Backend<T>>(
     };
     match run_session(rt, alloc, &router, input, output, backend) {
         Ok(ended) => Ok(ended),
-        Err(fault) => Err(fault),
+        Err(error) => Err(error),
     }
 }

@@ -21,6 +21,6 @@ mod reply;
 mod send;
 mod verdict;
 
-pub use exchanges::{Cause, Ended, SessionFault, session};
+pub use exchanges::{Cause, Ended, SessionError, session};
 pub use reply::Reply;
 pub use verdict::{Remark, Verdict};

@@ -3,7 +3,7 @@ use Rattle.std.proofs.Common.{◌≡◌, ℕ, Bool, List, ◌++◌, take, Option
 use Rattle.trace_model.specs.Held.{Held}
 use Rattle.direct_store.specs.Exactly.{DirectSubmits, DirectReads}
 use Rattle.http_session.specs.Sessions.{EndsAs, FailsAs, last_of, responses, exchange_due, bytes_due}
-use Rattle.http_session.specs.declared.exchanges.SessionFault.{SessionFault}
+use Rattle.http_session.specs.declared.exchanges.SessionError.{SessionError}
 use Rattle.pipe_session.specs.OneFunction.{NeverWants, Finished, Failed}
 use Rattle.pipe_session.proofs.Beginnings.{spoken}
 
@@ -34,12 +34,12 @@ finished bytes before left (Some after) s t n c ends memory = (
   },
 )
 
-pub failed : (bytes before : List ℕ) (left out : Option (List ℕ)) (s t : Held) (i o : Bool) (fault : SessionFault)
-    (fails : FailsAs DirectSubmits DirectReads (Some bytes) left (Some before) out s t i o fault)
+pub failed : (bytes before : List ℕ) (left out : Option (List ℕ)) (s t : Held) (i o : Bool) (error : SessionError)
+    (fails : FailsAs DirectSubmits DirectReads (Some bytes) left (Some before) out s t i o error)
     → NeverWants (fails.opens ++ exchange_due fails.next) → (written : List ℕ) × (out ≡ Some (before ++ written)) × Failed bytes s written
-failed bytes before left None s t i o fault fails memory = absurd fails.written
-failed bytes before left (Some after) s t i o fault fails memory = (
-  responses fails.opens ++ take fault.written (bytes_due fails.next),
+failed bytes before left None s t i o error fails memory = absurd fails.written
+failed bytes before left (Some after) s t i o error fails memory = (
+  responses fails.opens ++ take error.written (bytes_due fails.next),
   ap Some fails.written,
   record {
     before = before;
@@ -47,7 +47,7 @@ failed bytes before left (Some after) s t i o fault fails memory = (
     held = t;
     in_failed = i;
     out_failed = o;
-    fault = fault;
+    error = error;
     fails = record {
       taken = fails.taken;
       opens = fails.opens;

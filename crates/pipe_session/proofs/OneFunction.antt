@@ -5,7 +5,7 @@ use mathlib.Core.List.{IsPrefix}
 use Rattle.trace_model.specs.Held.{Held}
 use Rattle.direct_store.specs.Exactly.{DirectSubmits, DirectReads}
 use Rattle.http_session.specs.Sessions.{Exchange, texts, Run, EndsAs, FailsAs, last_of, responses, partings, is_clean, exchange_due, bytes_due}
-use Rattle.http_session.specs.declared.exchanges.SessionFault.{SessionFault}
+use Rattle.http_session.specs.declared.exchanges.SessionError.{SessionError}
 use Rattle.pipe_session.specs.OneFunction.{NeverWants, Finished, Failed}
 use Rattle.pipe_session.proofs.Exactly.{exact}
 use Rattle.pipe_session.proofs.Courses.{Stand, ends_at, Goes, goes, one_course}
@@ -49,7 +49,7 @@ one_function bytes s w v t u n m c d one other =
 
 -- ---- the course of a session that failed
 
-pub stopped : (bytes before out : List ℕ) (left : Option (List ℕ)) (s t : Held) (i o : Bool) (e : SessionFault) (fails : FailsAs DirectSubmits DirectReads (Some bytes) left (Some before) (Some out) s t i o e)
+pub stopped : (bytes before out : List ℕ) (left : Option (List ℕ)) (s t : Held) (i o : Bool) (e : SessionError) (fails : FailsAs DirectSubmits DirectReads (Some bytes) left (Some before) (Some out) s t i o e)
     → NeverWants (fails.opens ++ exchange_due fails.next) → Stops bytes s fails.opens fails.next
 stopped bytes before out None s t i o e fails memory = absurd fails.read
 stopped bytes before out (Some left) s t i o e fails memory =
@@ -58,10 +58,10 @@ stopped bytes before out (Some left) s t i o e fails memory =
 
 pub a_beginning : (bytes : List ℕ) (s : Held) (w v : List ℕ) (t : Held) (n : ℕ) (c : Bool) → Failed bytes s w → Finished bytes s v t n c → IsPrefix w v
 a_beginning bytes s w v t n c failed finished =
-    let wrote : w ≡ responses failed.fails.opens ++ take failed.fault.written (bytes_due failed.fails.next) =
-    append_cancel_left failed.before w (responses failed.fails.opens ++ take failed.fault.written (bytes_due failed.fails.next)) failed.fails.written in
+    let wrote : w ≡ responses failed.fails.opens ++ take failed.error.written (bytes_due failed.fails.next) =
+    append_cancel_left failed.before w (responses failed.fails.opens ++ take failed.error.written (bytes_due failed.fails.next)) failed.fails.written in
     let begins = meant_begins bytes s failed.fails.opens failed.fails.next finished.ends.opens finished.ends.ending t
-    (stopped bytes failed.before (failed.before ++ w) failed.left s failed.held failed.in_failed failed.out_failed failed.fault failed.fails failed.memory)
+    (stopped bytes failed.before (failed.before ++ w) failed.left s failed.held failed.in_failed failed.out_failed failed.error failed.fails failed.memory)
     (course bytes finished.before (finished.before ++ v) finished.left s t n c finished.ends finished.memory) in
-    let part = part_begins (responses failed.fails.opens) (bytes_due failed.fails.next) (spoken finished.ends.opens finished.ends.ending) failed.fault.written begins in
+    let part = part_begins (responses failed.fails.opens) (bytes_due failed.fails.next) (spoken finished.ends.opens finished.ends.ending) failed.error.written begins in
     (part.0, ap (λ (l : List ℕ). l ++ part.0) wrote ∙ part.1 ∙ sym (said bytes s v t n c finished))

@@ -8,7 +8,7 @@ use Rattle.trace_model.specs.Held.{Held}
 use Rattle.direct_store.specs.Exactly.{DirectSubmits, DirectReads}
 use Rattle.http_session.specs.Sessions.{Exchange, IsOpen, texts, Submits, Reads, Run, EndsAs, FailsAs, Ending, Ending.{clean, closing, broken}, last_of, parting, response_to, responses, Due, Due.{none_yet, due, due_parting}, exchange_due, bytes_due}
 use Rattle.http_session.specs.declared.exchanges.Cause.TheVariants.{Memory}
-use Rattle.http_session.specs.declared.exchanges.SessionFault.{SessionFault}
+use Rattle.http_session.specs.declared.exchanges.SessionError.{SessionError}
 use Rattle.pipe_session.specs.OneFunction.{NeverWants, Failed, WroteFirst}
 use Rattle.std.specs.Prelude.{take}
 
@@ -60,7 +60,7 @@ stopped_there bytes before taken rest left s t ys zs read split opens run memory
       held = parts.0;
       in_failed = false;
       out_failed = false;
-      fault = record { answered = length ys; written = 0; cause = Memory };
+      error = record { answered = length ys; written = 0; cause = Memory };
       fails = record {
         taken = taken;
         opens = ys;
@@ -98,13 +98,13 @@ ended_before bytes before left (Some o) s t n c ends ys zs z e memory =
           (subst (λ (l : List Exchange). Run DirectSubmits DirectReads s l t) e ends.run) memory;
     }
 
-pub failed_before : (bytes before : List ℕ) (left out : Option (List ℕ)) (s t : Held) (i o : Bool) (fault : SessionFault) (fails : FailsAs DirectSubmits DirectReads (Some bytes) left (Some before) out s t i o fault)
+pub failed_before : (bytes before : List ℕ) (left out : Option (List ℕ)) (s t : Held) (i o : Bool) (error : SessionError) (fails : FailsAs DirectSubmits DirectReads (Some bytes) left (Some before) out s t i o error)
     (ys zs : List Exchange) (z : Exchange) → fails.opens ++ exchange_due fails.next ≡ ys ++ z ∷ zs → NeverWants ys → WroteFirst bytes before out s (responses ys)
-failed_before bytes before left None s t i o fault fails ys zs z e memory = absurd fails.written
-failed_before bytes before left (Some p) s t i o fault fails ys zs z e memory =
+failed_before bytes before left None s t i o error fails ys zs z e memory = absurd fails.written
+failed_before bytes before left (Some p) s t i o error fails ys zs z e memory =
     let mid = front fails.opens (exchange_due fails.next) ys zs z (due_few fails.next) e in
     let all_open : All IsOpen ys = all_front IsOpen ys mid.0 (subst (All IsOpen) mid.1 fails.each) in
-    let last : List ℕ = take fault.written (bytes_due fails.next) in
+    let last : List ℕ = take error.written (bytes_due fails.next) in
     record {
       more = responses mid.0 ++ last;
       written = ap Some (fails.written ∙ ap (λ (l : List ℕ). before ++ l) (

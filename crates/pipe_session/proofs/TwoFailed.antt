@@ -70,12 +70,12 @@ one_meant bytes s (y ∷ ys) d (x ∷ xs) e stops other =
 wrote : (bytes : List ℕ) (s : Held) (w : List ℕ) (f : Failed bytes s w) → IsPrefix w (meant f.fails.opens f.fails.next)
 wrote bytes s w f =
     let all : List ℕ = meant f.fails.opens f.fails.next in
-    let own : w ≡ responses f.fails.opens ++ take f.fault.written (bytes_due f.fails.next) =
-    append_cancel_left f.before w (responses f.fails.opens ++ take f.fault.written (bytes_due f.fails.next)) f.fails.written in
-    subst (λ (l : List ℕ). IsPrefix l all) (sym own) (part_begins (responses f.fails.opens) (bytes_due f.fails.next) all f.fault.written (prefix_self all))
+    let own : w ≡ responses f.fails.opens ++ take f.error.written (bytes_due f.fails.next) =
+    append_cancel_left f.before w (responses f.fails.opens ++ take f.error.written (bytes_due f.fails.next)) f.fails.written in
+    subst (λ (l : List ℕ). IsPrefix l all) (sym own) (part_begins (responses f.fails.opens) (bytes_due f.fails.next) all f.error.written (prefix_self all))
 
 course : (bytes : List ℕ) (s : Held) (w : List ℕ) (f : Failed bytes s w) → Stops bytes s f.fails.opens f.fails.next
-course bytes s w f = stopped bytes f.before (f.before ++ w) f.left s f.held f.in_failed f.out_failed f.fault f.fails f.memory
+course bytes s w f = stopped bytes f.before (f.before ++ w) f.left s f.held f.in_failed f.out_failed f.error f.fails f.memory
 
 pub two_failed : (bytes : List ℕ) (s : Held) (w v : List ℕ) → Failed bytes s w → Failed bytes s v → OneBegins w v
 two_failed bytes s w v one other =

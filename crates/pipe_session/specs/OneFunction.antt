@@ -4,7 +4,7 @@ use mathlib.Core.List.{IsPrefix}
 use Rattle.trace_model.specs.Held.{Held}
 use Rattle.direct_store.specs.Exactly.{DirectSubmits, DirectReads}
 use Rattle.http_session.specs.Sessions.{Exchange, EndsAs, FailsAs, last_of, exchange_due}
-use Rattle.http_session.specs.declared.exchanges.SessionFault.{SessionFault}
+use Rattle.http_session.specs.declared.exchanges.SessionError.{SessionError}
 use Rattle.http_session.specs.declared.verdict.Remark.TheVariants.{NoMemory}
 use Rattle.http_session.specs.declared.verdict.Verdict.TheVariants.{Say}
 use Rattle.pipe_session.specs.Exact.{HasMemory}
@@ -29,8 +29,8 @@ pub record Failed (bytes : List ℕ) (s : Held) (written : List ℕ) : Type 0 wh
   pub held : Held
   pub in_failed : Bool
   pub out_failed : Bool
-  pub fault : SessionFault
-  pub fails : FailsAs DirectSubmits DirectReads (Some bytes) left (Some before) (Some (before ++ written)) s held in_failed out_failed fault
+  pub error : SessionError
+  pub fails : FailsAs DirectSubmits DirectReads (Some bytes) left (Some before) (Some (before ++ written)) s held in_failed out_failed error
   pub memory : NeverWants (fails.opens ++ exchange_due fails.next)
 
 -- one of the two begins the other

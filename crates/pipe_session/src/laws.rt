@@ -7,7 +7,7 @@ ghost use Rattle.trace_model.specs.Held.{Held};
 ghost use Rattle.direct_store.specs.Exactly.{DirectSubmits, DirectReads};
 ghost use Rattle.http_requests.specs.Asked.{Asked};
 ghost use Rattle.http_session.specs.Sessions.{Exchange as ExchangeValue, EndsAs, FailsAs, last_of, exchange_due, responses};
-ghost use Rattle.http_session.specs.declared.exchanges.SessionFault.{SessionFault as SessionFaultValue};
+ghost use Rattle.http_session.specs.declared.exchanges.SessionError.{SessionError as SessionErrorValue};
 ghost use Rattle.http_session.specs.Verdicts.{Judges};
 ghost use Rattle.http_session.specs.declared.verdict.Remark.TheVariants.{NoMemory};
 ghost use Rattle.http_session.specs.declared.verdict.Verdict.{Verdict as VerdictValue};
@@ -32,8 +32,8 @@ pub fn a_session_that_ended_is_finished()
 /// The same of a session that failed.
 pub fn a_session_that_failed_is_failed()
     ensures { (bytes before : List ℕ) (left out : Option (List ℕ)) (s t : Held) (i o : Bool)
-        (fault : SessionFaultValue) (fails : FailsAs DirectSubmits DirectReads (Some bytes) left
-        (Some before) out s t i o fault) →
+        (error : SessionErrorValue) (fails : FailsAs DirectSubmits DirectReads (Some bytes) left
+        (Some before) out s t i o error) →
         NeverWants (fails.opens ++ exchange_due fails.next) →
         (written : List ℕ) × (out ≡ Some (before ++ written)) × Failed bytes s written }
 {}
@@ -74,9 +74,9 @@ pub fn what_an_ended_session_wrote_before_memory_ran_out()
 /// The same of a session that failed.
 pub fn what_a_failed_session_wrote_before_memory_ran_out()
     ensures { (bytes before : List ℕ) (left out : Option (List ℕ)) (s t : Held) (i o : Bool)
-        (fault : SessionFaultValue)
+        (error : SessionErrorValue)
         (fails : FailsAs DirectSubmits DirectReads (Some bytes) left (Some before) out s t i o
-        fault)
+        error)
         (xs rest : List ExchangeValue) (x : ExchangeValue) →
         fails.opens ++ exchange_due fails.next ≡ xs ++ x ∷ rest →
         NeverWants xs → WroteFirst bytes before out s (responses xs) }

@@ -13,7 +13,7 @@ ghost use Rattle.http_session.specs.InTurn.{ReadsInTurn, ReadsInTurnUpTo};
 ghost use Rattle.pipe_session.specs.Exact.{IsExact};
 
 use direct_store::Direct;
-use http_session::{Ended, SessionFault, session};
+use http_session::{Ended, SessionError, session};
 use session_devices::{Input, Output};
 use std::alloc::Global;
 
@@ -30,7 +30,7 @@ pub fn pipe<R: Input, W: Output>(
     input: &mut R,
     output: &mut W,
     store: &mut Direct,
-) -> Result<Ended, SessionFault>
+) -> Result<Ended, SessionError>
     requires input_works { R.has_failed input.old ≡ false }
     requires output_works { W.has_failed output.old ≡ false }
 
@@ -43,7 +43,7 @@ pub fn pipe<R: Input, W: Output>(
     ensures works { OnOk result ((R.has_failed input.new ≡ false)
         × (W.has_failed output.new ≡ false)) }
 
-    ensures fault { IfErr result (λ f. (fails : FailsAs DirectSubmits DirectReads
+    ensures error { IfErr result (λ f. (fails : FailsAs DirectSubmits DirectReads
         (R.remaining input.old) (R.remaining input.new) (W.contents output.old)
         (W.contents output.new) store.old store.new (R.has_failed input.new)
         (W.has_failed output.new) f)
@@ -53,6 +53,6 @@ pub fn pipe<R: Input, W: Output>(
 {
     match session(&(), alloc, input, output, store) {
         Ok(ended) => Ok(ended),
-        Err(fault) => Err(fault),
+        Err(error) => Err(error),
     }
 }

@@ -6,7 +6,7 @@ use Rattle.direct_store.specs.Exactly.{DirectSubmits, DirectReads}
 use Rattle.http_session.specs.Sessions.{EndsAs, FailsAs, last_of, exchange_due}
 use Rattle.http_session.specs.declared.exchanges.Cause.{Cause}
 use Rattle.http_session.specs.declared.exchanges.Cause.TheVariants.{Reading, Writing, Memory}
-use Rattle.http_session.specs.declared.exchanges.SessionFault.{SessionFault}
+use Rattle.http_session.specs.declared.exchanges.SessionError.{SessionError}
 use Rattle.pipe_session.specs.Exact.{IsExact}
 
 abbrev pub cause_status : Cause → ℕ
@@ -26,10 +26,10 @@ pub record PipesToTheEnd (in0 in1 out0 out1 : Option (List ℕ)) (in_failed out_
 
 -- one that failed
 pub record PipesUpTo (in0 in1 out0 out1 : Option (List ℕ)) (in_failed out_failed : Bool) (limits : Limits) (status : ℕ) : Type 0 where
-  pub fault : SessionFault
-  pub status_is : status ≡ cause_status fault.cause
+  pub error : SessionError
+  pub status_is : status ≡ cause_status error.cause
   pub last : Held
-  pub fails : FailsAs DirectSubmits DirectReads in0 in1 out0 out1 (record { limits = limits; entries = [] }) last in_failed out_failed fault
+  pub fails : FailsAs DirectSubmits DirectReads in0 in1 out0 out1 (record { limits = limits; entries = [] }) last in_failed out_failed error
   pub exact : IsExact (record { limits = limits; entries = [] }) (fails.opens ++ exchange_due fails.next) last
 
 abbrev pub Pipes : Option (List ℕ) → Option (List ℕ) → Option (List ℕ) → Option (List ℕ) → Bool → Bool → Limits → ℕ → Type 0

@@ -41,6 +41,6 @@ pub fn run_pipe<R: Input, W: Output>(
     let mut store = Direct::new(opened);
     match pipe(alloc, input, output, &mut store) {
         Ok(_) => 0,
-        Err(fault) => status_of(fault.cause),
+        Err(error) => status_of(error.cause),
     }
 }

@@ -350,9 +350,9 @@ fn a_reader_that_fails_inside_chunks(rt: HostRuntime) -> Result<(), Fail> {
             (32, fails_at),
             (10_000, 10_000),
         )?;
-        let fault = ended.expect_err(&rt, "fault");
-        assert!(rt; fault.cause == Cause::Reading);
-        assert_eq!(rt; fault.written, 0);
+        let error = ended.expect_err(&rt, "error");
+        assert!(rt; error.cause == Cause::Reading);
+        assert_eq!(rt; error.written, 0);
         assert!(rt; ANSWERS.starts_with(output.as_slice()));
     }
     Ok(())

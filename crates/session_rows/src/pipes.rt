@@ -1,5 +1,5 @@
 use direct_store::Direct;
-use http_session::{Cause, Ended, SessionFault};
+use http_session::{Cause, Ended, SessionError};
 use pipe_session::pipe;
 use session_devices::{MemoryInput, MemoryOutput};
 use span_store::SpanStore;
@@ -46,7 +46,7 @@ pub(crate) fn played<R: Abort + RandomSource>(
     bytes: &[u8],
     (step, fails_at): (usize, u64),
     (room, taken): (usize, usize),
-) -> Result<(Result<Ended, SessionFault>, MemoryOutput, u64), Fail> {
+) -> Result<(Result<Ended, SessionError>, MemoryOutput, u64), Fail> {
     let mut input = MemoryInput::new(bytes, step, fails_at);
     let mut output = MemoryOutput::new(alloc, room, taken);
     let mut store = empty_store(rt, alloc)?;
@@ -84,9 +84,9 @@ fn a_reader_that_fails_at_each_call(rt: HostRuntime) -> Result<(), Fail> {
             (16, fails_at),
             (10_000, 10_000),
         )?;
-        let fault = ended.expect_err(&rt, "fault");
-        assert!(rt; fault.cause == Cause::Reading);
-        assert_eq!(rt; fault.written, 0);
+        let error = ended.expect_err(&rt, "error");
+        assert!(rt; error.cause == Cause::Reading);
+        assert_eq!(rt; error.written, 0);
         assert!(rt; ANSWERS.starts_with(output.as_slice()));
     }
     Ok(())
@@ -104,8 +104,8 @@ fn a_writer_that_fails_after_each_byte(rt: HostRuntime) -> Result<(), Fail> {
             (10_000, 0),
             (room, 5),
         )?;
-        let fault = ended.expect_err(&rt, "fault");
-        assert!(rt; fault.cause == Cause::Writing);
+        let error = ended.expect_err(&rt, "error");
+        assert!(rt; error.cause == Cause::Writing);
         assert!(rt; output.as_slice() == &ANSWERS[..room]);
         assert_eq!(rt; entries, 1);
     }

@@ -3,7 +3,7 @@
 //! [`serve_with`] takes connections until as many came as it is to serve. Each worker has a seat at the
 //! store's desk and a pass of its own, and serves one connection at a time, by a session over them
 //! ([`http_session::session`]): so each session's answers are the plain store's at points of one growing
-//! history, never before what was vouched for when it began. A fault of a connection ends that connection
+//! history, never before what was vouched for when it began. An error of a connection ends that connection
 //! alone.
 //!
 //! * `options`: how many workers, how long a queue, how many sessions.

@@ -211,7 +211,7 @@ fn serve_named<
 ///
 /// The output gets a line that says on which port it listens, once connections are accepted, and at the end
 /// one that says how many came and one that says what became of the batches that were handed in: how many
-/// were acknowledged, refused by the store, and left unanswered. A worker serves one connection at a time; a fault of a connection ends it
+/// were acknowledged, refused by the store, and left unanswered. A worker serves one connection at a time; an error of a connection ends it
 /// alone. Every call of the store stands between two calls of the gate.
 pub fn serve_with<G: Gate + Sync, W: Output, R: Threads + Wait + Clock + Sync>(
     rt: &R,

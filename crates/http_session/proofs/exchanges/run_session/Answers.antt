@@ -8,8 +8,8 @@ use Rattle.http_session.proofs.exchanges.run_session.Goals as goal
 pub requests-init : goal.requests-init
 requests-init g c = (rw c.new-received.ensures (begins g.B.Backend.submits g.B.Backend.reads (source_of g.R.Input.remaining g.R.Input.gives) _ _ _), c.requires.input_works, c.requires.output_works)
 
-pub returns-in-Err-clause-fault : goal.returns-in-Err-clause-fault
-returns-in-Err-clause-fault g c =
+pub returns-in-Err-clause-error : goal.returns-in-Err-clause-error
+returns-in-Err-clause-error g c =
     rw c.cause_of.ensures (fails_reading g.B.Backend.submits g.B.Backend.reads (source_of g.R.Input.remaining g.R.Input.gives) Heard _ _ _ _ _ _ _ _ _ _ _ _ _ c.requests.invariant.0 c.in-Err.ensures.err
     c.in-Err.ensures.stops_in_turn c.in-Err.ensures.same c.requests.invariant.1 c.requests.invariant.2)
 
@@ -19,8 +19,8 @@ returns-in-Ok-Clean-clause-ended g c =
     let so = reads_on g.B.Backend.submits g.B.Backend.reads (source_of g.R.Input.remaining g.R.Input.gives) _ _ _ _ _ _ _ _ _ _ c.requests.invariant.0 found.reads in
     ends_clean g.B.Backend.submits g.B.Backend.reads (source_of g.R.Input.remaining g.R.Input.gives) _ _ _ _ _ _ _ _ so (found.at_end, found.nothing)
 
-pub returns-in-Err-say-clause-fault : goal.returns-in-Err-say-clause-fault
-returns-in-Err-say-clause-fault g c =
+pub returns-in-Err-say-clause-error : goal.returns-in-Err-say-clause-error
+returns-in-Err-say-clause-error g c =
     let found = rw c.in-Ok-Broken.field-0-is at c.in-Ok-Broken.ensures.heard in
     let so = reads_on g.B.Backend.submits g.B.Backend.reads (source_of g.R.Input.remaining g.R.Input.gives) _ _ _ _ _ _ _ _ _ _ c.requests.invariant.0 found.reads in
     rw c.after.ensures (fails_parting g.B.Backend.submits g.B.Backend.reads (source_of g.R.Input.remaining g.R.Input.gives) _ _ _ _ _ _ _ _ _ _ _ _ _ so found.broken (rw c.requests.invariant.2 at c.in-Err-say.ensures.says)
@@ -32,8 +32,8 @@ returns-in-Ok-Broken-clause-ended g c =
     let so = reads_on g.B.Backend.submits g.B.Backend.reads (source_of g.R.Input.remaining g.R.Input.gives) _ _ _ _ _ _ _ _ _ _ c.requests.invariant.0 found.reads in
     ends_broken g.B.Backend.submits g.B.Backend.reads (source_of g.R.Input.remaining g.R.Input.gives) _ _ _ _ _ _ _ _ _ _ so found.broken c.in_default.ensures.says.0
 
-pub returns-in-Err-said-clause-fault : goal.returns-in-Err-said-clause-fault
-returns-in-Err-said-clause-fault g c =
+pub returns-in-Err-said-clause-error : goal.returns-in-Err-said-clause-error
+returns-in-Err-said-clause-error g c =
     let found = rw c.in-Ok-One.field-0-is at c.in-Ok-One.ensures.heard in
     rw c.after-in-Err-said.ensures (answered_not g.B.Backend.submits g.B.Backend.reads (source_of g.R.Input.remaining g.R.Input.gives) _ _ _ _ _ _ _ _ _ _ _ _ c.requests.invariant.0 found _ _ _ _ c.answer-reply.ensures c.closes_behind-close.ensures
     _ _ _ (rw c.requests.invariant.2 at c.in-Err-said.ensures.says) (c.in-Ok-One.ensures.same ∙ c.requests.invariant.1) c.in-Err-said.ensures.spared)

@@ -4,8 +4,8 @@ use Rattle.http_session.proofs.Points.{related, begin}
 use Rattle.http_session.proofs.Turns.{begins, fails_judging}
 use Rattle.http_session.proofs.exchanges.session.Goals as goal
 
-pub returns-in_default-clause-fault : goal.returns-in_default-clause-fault
-returns-in_default-clause-fault g c =
+pub returns-in_default-clause-error : goal.returns-in_default-clause-error
+returns-in_default-clause-error g c =
     let failed = fails_judging g.B.Backend.submits g.B.Backend.reads (source_of g.R.Input.remaining g.R.Input.gives) _ _ _ _ _ _ _ _ (g.R.Input.has_failed c.args.input.now) (g.W.Output.has_failed c.args.output.now)
     (begins g.B.Backend.submits g.B.Backend.reads (source_of g.R.Input.remaining g.R.Input.gives) c.args.input.now (g.W.Output.contents c.args.output.now) c.args.backend.now)
     c.requires.input_works c.requires.output_works in
@@ -28,9 +28,9 @@ returns-in-Ok-run_session-clause-ended g c =
       ended.1,
     )
 
-pub returns-clause-fault : goal.returns-clause-fault
-returns-clause-fault g c =
-    let failed = c.in-Err.ensures.fault in
+pub returns-clause-error : goal.returns-clause-error
+returns-clause-error g c =
+    let failed = c.in-Err.ensures.error in
     let fails = failed.0 in (
       fails,
       related g.B.Backend.limits g.B.Backend.knows g.B.Backend.submits g.B.Backend.reads g.met.B.Backend.submit_knows g.met.B.Backend.read_knows

@@ -7,7 +7,7 @@ use Rattle.program_run.proofs.pipe.run_pipe.Goals as goal
 pub returns-in_default : goal.returns-in_default
 returns-in_default g c =
     inr (record {
-      fault = record { answered = 0; written = 0; cause = Memory };
+      error = record { answered = 0; written = 0; cause = Memory };
       status_is = refl;
       last = record { limits = c.args.limits; entries = [] };
       fails = record {
@@ -49,5 +49,5 @@ returns-in-Ok-pipe g c =
 
 pub returns : goal.returns
 returns g c =
-    let both = rw (c.new-store.ensures, c.in-Ok.ensures) at c.in-Err.ensures.fault in
-    inr (record { fault = _; status_is = c.status_of.ensures; last = _; fails = both.0; exact = both.1 })
+    let both = rw (c.new-store.ensures, c.in-Ok.ensures) at c.in-Err.ensures.error in
+    inr (record { error = _; status_is = c.status_of.ensures; last = _; fails = both.0; exact = both.1 })

@@ -8,4 +8,4 @@ pub returns-else-not-ended : goal.returns-else-not-ended
 returns-else-not-ended g c = run_goes_on g.N.StoreName.limits c.args.store.now _ c.session.new.backend c.in-Ok.ensures.ended.0.run
 
 pub returns-in-Err : goal.returns-in-Err
-returns-in-Err g c = run_goes_on g.N.StoreName.limits c.args.store.now _ c.session.new.backend c.in-Err.ensures.fault.0.run
+returns-in-Err g c = run_goes_on g.N.StoreName.limits c.args.store.now _ c.session.new.backend c.in-Err.ensures.error.0.run
