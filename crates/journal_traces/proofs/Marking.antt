@@ -62,7 +62,7 @@ held [] k t e = absurd cc
 held (x ∷ xs) zero t e = let same : x ≡ t = cc e in ap (λ y. same_trace t y || holds xs t) same ∙ ap (λ b. b || holds xs t) (same_self t)
 held (x ∷ xs) (suc k) t e = ap (λ b. same_trace t x || b) (held xs k t e) ∙ or_true (same_trace t x)
 
--- the position of a trace is its place
+-- where a trace is found is its place
 placed_at : (r : List TraceId) (t : TraceId) (place : ℕ) → position (same_trace t) r ≡ Some place → slice_get r place ≡ Some t
 placed_at r t place e =
     let w = position-Some (same_trace t) r place t e in

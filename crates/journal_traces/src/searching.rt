@@ -25,7 +25,7 @@ fn mark_trace(marks: &mut [bool], ring: &Ring, trace: TraceId)
     ensures { (p : TraceIdValue → Bool) → marks.old ≡ map p ring.now.ids →
         marks.new ≡ map (λ t. p t || same_trace t trace) ring.now.ids }
 {
-    if let Some(place) = ring.position(trace) {
+    if let Some(place) = ring.place(trace) {
         marks[place as usize] = true;
     }
 }

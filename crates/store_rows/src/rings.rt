@@ -30,9 +30,9 @@ fn late_spans_renew_nothing(rt: HostRuntime) -> Result<(), Fail> {
         let arrived = arrive(&rt, &mut ring, id(trace));
         assert_eq!(rt; arrived, Arrived { opened, left }, "trace {trace}");
     }
-    assert_eq!(rt; ring.position(id(3)), Some(0));
-    assert_eq!(rt; ring.position(id(1)), Some(1));
-    assert_eq!(rt; ring.position(id(2)), None);
+    assert_eq!(rt; ring.place(id(3)), Some(0));
+    assert_eq!(rt; ring.place(id(1)), Some(1));
+    assert_eq!(rt; ring.place(id(2)), None);
     assert!(rt; ring.iter().map(|trace| trace.low).eq([3, 1]));
     Ok(())
 }

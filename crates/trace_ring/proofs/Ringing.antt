@@ -26,7 +26,7 @@ window_few limit ids rows few pos = subst (λ (n : ℕ). n < limit) (length_wind
 window_at : (ids : List TraceId) (rows : List ℕ) (p : ℕ) → p < length rows → id_at (window ids rows) p ≡ id_at ids (get_or rows p 0)
 window_at ids rows p below = get_or-map (λ row. id_at ids row) rows p 0 no_id below
 
--- an id is held where it has a position
+-- an id is held where it has a place
 pub holds_some : (id : TraceId) (ids : List TraceId) (r : ℕ) → position (same_trace id) ids ≡ Some r → holds ids id ≡ true
 holds_some id ids r e = let p = position-Some (same_trace id) ids r no_id e in list_any_at (same_trace id) ids r no_id p.0 p.1
 
@@ -191,7 +191,7 @@ ring_room limit room table rows first numbers row h known absent few =
     let l : length (rows ++ row ∷ []) ≡ length rows + 1 = length-append rows (row ∷ []) in
     omega arith
 
--- the test by the position
+-- the test by the place
 pub held_is : (id : TraceId) (ids : List TraceId) → is_some (position (same_trace id) ids) ≡ holds ids id
 held_is id ids = go (position (same_trace id) ids) refl
   where

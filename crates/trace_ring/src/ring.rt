@@ -184,7 +184,7 @@ impl Ring {
 
     /// How many traces of the ring were opened before that of the row; `None` where it isn't in the
     /// ring.
-    fn place(&self, row: u32) -> Option<u64>
+    fn place_of_row(&self, row: u32) -> Option<u64>
         requires { row < length self.now.seen }
         ensures { result ≡ position (same_trace (id_at self.now.seen row)) self.now.ids }
     {
@@ -203,15 +203,15 @@ impl Ring {
         requires { row < length self.now.seen }
         ensures { result ≡ holds self.now.ids (id_at self.now.seen row) }
     {
-        self.place(row).is_some()
+        self.place_of_row(row).is_some()
     }
 
     /// How many traces of the ring were opened before this one; `None` where it isn't in the ring.
-    pub fn position(&self, trace: TraceId) -> Option<u64>
+    pub fn place(&self, trace: TraceId) -> Option<u64>
         ensures { result ≡ position (same_trace trace) self.now.ids }
     {
         match self.table.find(trace) {
-            Some(row) => self.place(row),
+            Some(row) => self.place_of_row(row),
             None => None,
         }
     }
@@ -220,7 +220,7 @@ impl Ring {
     pub fn holds(&self, trace: TraceId) -> bool
         ensures { result ≡ holds self.now.ids trace }
     {
-        self.position(trace).is_some()
+        self.place(trace).is_some()
     }
 
     /// The next trace that is opened makes the oldest one leave.

@@ -17,7 +17,7 @@ use Rattle.trace_server.specs.Staffing.{AreOpen, GoOn, Each, HasJudged, Moves, A
 
 -- ---- their work
 
--- each result is of the job at its place
+-- each result is of the part at its place
 pub each_given : {J X : Type 0} (gives : J → X → Type 0) (js : List J) (xs : List X) → length xs ≡ length js
     → ((i : ℕ) (d : X) → i < length js → (j : J) × ((e : J) → get_or js i e ≡ j) × gives j (get_or xs i d)) → Each gives js xs
 each_given gives [] [] len each = tt

@@ -27,7 +27,7 @@ GoOn [] [] = Unit {0}
 GoOn (s ∷ ss) (t ∷ ts) = GoesOn s t × GoOn ss ts
 GoOn _ _ = ⊥
 
--- each of these may be given by the job at its place
+-- each of these may be given by the part at its place
 abbrev pub Each : {J X : Type 0} → (J → X → Type 0) → List J → List X → Type 0
 Each gives [] [] = Unit {0}
 Each gives (j ∷ js) (x ∷ xs) = gives j x × Each gives js xs

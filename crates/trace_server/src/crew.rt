@@ -6,22 +6,22 @@ ghost use Rattle.trace_server.specs.Staffing.{Each};
 use std::alloc::AllocError;
 use std::thread::{Threads, map_vec};
 
-/// What a thread does with its job. It may wait where the handle `R` may.
-pub(crate) trait Task<R, J, X> {
-    /// What a job may give.
-    ghost gives: { J → X → Type 0 };
+/// What a thread does with its part. It may wait where the handle `R` may.
+pub(crate) trait Task<R, P, X> {
+    /// What a part may give.
+    ghost gives: { P → X → Type 0 };
 
-    fn done(&self, rt: &R, job: J) -> X
-        ensures { gives job result };
+    fn done(&self, rt: &R, part: P) -> X
+        ensures { gives part result };
 }
 
-/// Has each job done in a thread of its own, where one can be made, and gives what each gave, in order.
-pub(crate) fn each_done<J: Send + Drop, X: Send + Drop, R: Threads + Sync, T: Task<R, J, X> + Sync>(
+/// Has each part done in a thread of its own, where one can be made, and gives what each gave, in order.
+pub(crate) fn each_done<P: Send + Drop, X: Send + Drop, R: Threads + Sync, T: Task<R, P, X> + Sync>(
     rt: &R,
     task: &T,
-    jobs: Vec<J>,
+    parts: Vec<P>,
 ) -> Result<Vec<X>, AllocError>
-    ensures { IfOk result (λ v. Each T.gives jobs.items v.items) }
+    ensures { IfOk result (λ v. Each T.gives parts.items v.items) }
 {
-    map_vec(rt, jobs, &|job| task.done(rt, job))
+    map_vec(rt, parts, &|part| task.done(rt, part))
 }

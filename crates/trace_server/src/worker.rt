@@ -99,9 +99,9 @@ impl<'a, N: StoreName, G: Gate, R: Wait + Clock> Task<R, (u32, Live<N>), (Shift,
     for Stage<'a, N, G> {
     ghost use Rattle.live_store.specs.Sharing.{GoesOn};
 
-    ghost gives = { λ job end. GoesOn job.1.seat end.1.seat };
+    ghost gives = { λ part end. GoesOn part.1.seat end.1.seat };
 
-    fn done(&self, rt: &R, job: (u32, Live<N>)) -> (Shift, Live<N>) {
-        self.work(rt, job)
+    fn done(&self, rt: &R, part: (u32, Live<N>)) -> (Shift, Live<N>) {
+        self.work(rt, part)
     }
 }
