@@ -199,7 +199,8 @@ fn seat_and_clerk<N: StoreName + Send + Sync, R: Threads + Wait + Sync>(
         }
     }
     keeper.close(rt);
-    answered && last == (Turn::Served { seat: 3, number: 4 })
+    answered
+        && last == (Turn::Served { seat: 3, number: 4 })
         && accounts.len() == 4
         && (acknowledged, refused, left.len()) == (3, 1, 0)
         && (front, settled) == (3, 2)

@@ -240,7 +240,10 @@ fn tags_by_key_and_text(rt: HostRuntime) -> Result<(), Fail> {
     let alloc = rt.alloc();
     for kind in 0..5u8 {
         for (place, text) in TEXTS.iter().enumerate() {
-            assert_eq!(rt; is_found_by(alloc, kind, "k", text)?, place == kind as usize);
+            assert_eq!(rt;
+                is_found_by(alloc, kind, "k", text)?,
+                place == kind as usize
+            );
         }
         assert!(rt; !is_found_by(alloc, kind, "x", "v")?);
     }
