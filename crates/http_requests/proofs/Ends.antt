@@ -10,7 +10,7 @@ use Rattle.httparse.proofs.GrammarLemmas.{print_request-append}
 use Rattle.chunked_bodies.specs.Chunks.{IsTrailer, HasNone}
 use Rattle.http_requests.specs.declared.head.TheConstants.{MOST_HEAD_BYTES}
 use Rattle.http_requests.specs.Heads.{EndsLine, AwaitsHead}
-use Rattle.http_requests.proofs.Fronts.{more_when_short}
+use Rattle.http_requests.proofs.Beginnings.{more_when_short}
 use Rattle.http_requests.proofs.Once.{some_head, some_with, some_behind, token_quiet, head_is_some}
 
 abbrev has_feed : List ℕ → Bool
@@ -151,7 +151,7 @@ no_trailer_yet text rest is e =
     let ends = trailer_ends text is in
     absurd (omega (arith, ap length e, length-append text rest, ap length ends.1, length-append ends.0 (10 ∷ [])))
 
-pub awaits_head : (bytes front : List ℕ) → front ≡ take MOST_HEAD_BYTES bytes → length bytes < MOST_HEAD_BYTES → HasNoRequest front → MayBecomeRequest front → AwaitsHead bytes
-awaits_head bytes front f short none may =
-    let same : front ≡ bytes = f ∙ take_all MOST_HEAD_BYTES bytes (omega (arith, short)) in
-    record { none = more_when_short bytes front f short none; short = short; may = subst Goes same (may_go_on front may) }
+pub awaits_head : (bytes beginning : List ℕ) → beginning ≡ take MOST_HEAD_BYTES bytes → length bytes < MOST_HEAD_BYTES → HasNoRequest beginning → MayBecomeRequest beginning → AwaitsHead bytes
+awaits_head bytes beginning f short none may =
+    let same : beginning ≡ bytes = f ∙ take_all MOST_HEAD_BYTES bytes (omega (arith, short)) in
+    record { none = more_when_short bytes beginning f short none; short = short; may = subst Goes same (may_go_on beginning may) }

@@ -1,4 +1,4 @@
-pub mod Fronts
+pub mod Beginnings
 pub mod Cuts
 pub mod Readings
 pub mod Wholes

@@ -23,15 +23,15 @@ use Rattle.http_requests.specs.Framing.{Frames}
 use Rattle.http_requests.specs.declared.asked.Breach.TheVariants as breach
 use Rattle.http_requests.specs.declared.asked.Request.{Request}
 
--- a part of the front, whatever follows the front
-pub slice_of_front : (front more : List ℕ) (start end : ℕ) → start ≤ end → end ≤ length front → slice_range (front ++ more) start end ≡ slice_range front start end
-slice_of_front front more start end ordered inside =
-    ap (take (end - start)) (drop-append-le start front more (omega arith))
-    ∙ take-append-le (end - start) (drop start front) more (omega (arith, length-drop start front))
+-- a part of the beginning, whatever follows that
+pub slice_of_beginning : (beginning more : List ℕ) (start end : ℕ) → start ≤ end → end ≤ length beginning → slice_range (beginning ++ more) start end ≡ slice_range beginning start end
+slice_of_beginning beginning more start end ordered inside =
+    ap (take (end - start)) (drop-append-le start beginning more (omega arith))
+    ∙ take-append-le (end - start) (drop start beginning) more (omega (arith, length-drop start beginning))
 
 -- the fields that the spans cover are the head's
 pub pairs_are : (bytes : List ℕ) (headers : List HeaderSpan) (spans : RequestSpans) (w : IsWholeHead bytes headers spans)
-    → map (header_bytes w.front) (take spans.headers headers) ≡ pairs_of w.head
+    → map (header_bytes w.beginning) (take spans.headers headers) ≡ pairs_of w.head
 pairs_are bytes headers spans w = w.at.fields
 
 pub target_is : (bytes : List ℕ) (headers : List HeaderSpan) (spans : RequestSpans) (w : IsWholeHead bytes headers spans)
@@ -39,7 +39,7 @@ pub target_is : (bytes : List ℕ) (headers : List HeaderSpan) (spans : RequestS
 target_is bytes headers spans w =
     let ends : spans.path.end ≤ length (print_request w.head) = omega (arith, w.within.path.1, w.at.len) in
     sym w.at.path ∙ ap (λ l. slice_range l spans.path.start spans.path.end) w.at.reads.1
-    ∙ slice_of_front (print_request w.head) (drop spans.len w.front) spans.path.start spans.path.end w.within.path.0 ends
+    ∙ slice_of_beginning (print_request w.head) (drop spans.len w.beginning) spans.path.start spans.path.end w.within.path.0 ends
 
 pub same_asked : (h : RequestHead) (m : Method) (t : List ℕ) (b c : Bool) → m ≡ method_of h.method → h.target ≡ t → b ≡ has_batch_type (pairs_of h)
     → c ≡ (h.minor == 0 || closes_by (pairs_of h)) → asked_by h ≡ record { method = m; target = t; has_batch_type = b; closes = c }

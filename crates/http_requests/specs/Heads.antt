@@ -25,7 +25,7 @@ NeverHasHead bytes = (more : List ℕ) → HasNoHead (bytes ++ more)
 
 -- the bytes end in a line feed
 abbrev pub EndsLine : List ℕ → Type 0
-EndsLine bytes = (front : List ℕ) × (bytes ≡ front ++ line_feed ∷ [])
+EndsLine bytes = (beginning : List ℕ) × (bytes ≡ beginning ++ line_feed ∷ [])
 
 -- No head stands at the beginning, there are fewer bytes than one may have, and there is no reason in the lines
 -- received whole why none can come: some continuation of them begins with a head by the grammar.
@@ -38,10 +38,10 @@ pub record AwaitsHead (bytes : List ℕ) : Type 0 where
 pub record IsWholeHead (bytes : List ℕ) (headers : List HeaderSpan) (spans : RequestSpans) : Type 0 where
   pub head : RequestHead
   pub takes : TakesHead bytes head (drop spans.len bytes)
-  pub front : List ℕ
-  pub front_is : front ≡ take MOST_HEAD_BYTES bytes
-  pub at : IsRequestAt front headers spans head
-  pub within : IsRequestWithin front headers spans
+  pub beginning : List ℕ
+  pub beginning_is : beginning ≡ take MOST_HEAD_BYTES bytes
+  pub at : IsRequestAt beginning headers spans head
+  pub within : IsRequestWithin beginning headers spans
 
 abbrev pub Looks : List ℕ → List HeaderSpan → Look → Type 0
 Looks bytes headers (Whole spans) = IsWholeHead bytes headers spans

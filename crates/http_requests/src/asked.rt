@@ -7,7 +7,7 @@ ghost use Rattle.http_requests.specs.Framing.{Frames};
 ghost use Rattle.http_requests.specs.Heads.{IsWholeHead};
 
 use crate::fields::{Fields, Values, cut, is_named, trimmed};
-use crate::head::front_of;
+use crate::head::beginning_of;
 use httparse::spans::{HeaderSpan, RequestSpans, Span};
 
 /// How many bytes a body has at most, as its data: a limit of a session's own.
@@ -154,7 +154,7 @@ fn media_type(value: &[u8]) -> &[u8]
     ensures { result.now ≡ media_type value.now }
 {
     match cut(value, b';') {
-        Some((front, _)) => trimmed(front),
+        Some((beginning, _)) => trimmed(beginning),
         None => trimmed(value),
     }
 }
@@ -196,10 +196,10 @@ pub(crate) fn frame(
     requires { IsWholeHead bytes.now headers.now spans }
     ensures { Frames bytes.now spans.len result.0 result.1 }
 {
-    let front = front_of(bytes);
-    let fields = Fields::new(front, &headers[..spans.headers]);
+    let beginning = beginning_of(bytes);
+    let fields = Fields::new(beginning, &headers[..spans.headers]);
     let request = Request {
-        method: method_of(spans.method.of(front)),
+        method: method_of(spans.method.of(beginning)),
         target: spans.path,
         has_batch_type: has_batch_type(&fields),
         closes: closes(spans.version, &fields),

@@ -23,7 +23,7 @@ pub(crate) enum Look {
 }
 
 /// The bytes that a head may take.
-pub(crate) fn front_of(bytes: &[u8]) -> &[u8]
+pub(crate) fn beginning_of(bytes: &[u8]) -> &[u8]
     ensures { result.now ≡ take MOST_HEAD_BYTES bytes.now }
 {
     if bytes.len() < MOST_HEAD_BYTES {
@@ -38,7 +38,7 @@ pub(crate) fn look_for_head(bytes: &[u8], headers: &mut [HeaderSpan]) -> Look
     requires { MOST_FIELDS ≤ length headers.old }
     ensures { Looks bytes.now headers.new result }
 {
-    match parse_request(front_of(bytes), headers) {
+    match parse_request(beginning_of(bytes), headers) {
         Ok(Status::Complete(spans)) => {
             if spans.headers > MOST_FIELDS {
                 Look::Never
