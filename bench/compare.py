@@ -15,7 +15,7 @@ temporary folder; what is not installed is left out.
 
 Each decodes all batches once, and once more as often as asked; the difference of the processor time of the two runs,
 the best of three, is the time of the decoding alone. With --count the instructions of two rounds are counted by callgrind
-(Debian: valgrind), which tells the same on a busy machine.
+(Debian: valgrind), which reports the same on a busy machine.
 """
 import argparse
 import os

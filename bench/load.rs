@@ -192,7 +192,7 @@ struct Asked {
     most: u64,
 }
 
-/// Batches of new traces, until the time or the number is up; tells how many were accepted.
+/// Batches of new traces, until the time or the number is up; returns how many were accepted.
 fn write(asked: &Asked, sent: &AtomicU64, from: u64, end: Instant) -> u64 {
     let mut client = Client::new(asked.port);
     let mut request = Request::new("orders");

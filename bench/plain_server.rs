@@ -358,7 +358,7 @@ impl Server {
         }
     }
 
-    /// Requests and responses, until the client ends or a response closes; tells whether a response did.
+    /// Requests and responses, until the client ends or a response closes; returns whether a response did.
     fn session(&self, stream: &TcpStream) -> io::Result<bool> {
         stream.set_nodelay(true)?;
         stream.set_read_timeout(self.idle)?;

@@ -90,7 +90,7 @@ fn applied<R: Clock>(rt: &R, store: &mut SpanStore, entry: Arc<Entry>) -> Result
 }
 
 /// Applies the entry of each body, and says what it took where that is asked for.
-fn filled<R: Clock + Print>(rt: &R, alloc: Global, store: &mut SpanStore, bodies: &[u8], telling: bool) -> Result<()> {
+fn filled<R: Clock + Print>(rt: &R, alloc: Global, store: &mut SpanStore, bodies: &[u8], reporting: bool) -> Result<()> {
     let mut rest = bodies;
     for before in 0..1_000_000u64 {
         let Some((body, after)) = next_body(rest) else {
@@ -98,7 +98,7 @@ fn filled<R: Clock + Print>(rt: &R, alloc: Global, store: &mut SpanStore, bodies
         };
         let entry = entry_of(alloc, body, before + 1)?;
         let took = applied(rt, store, entry)?;
-        if telling {
+        if reporting {
             println!(rt; "apply {took} 0")?;
         }
         rest = after;

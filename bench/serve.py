@@ -8,7 +8,7 @@ each server is started anew for each measurement, filled, measured and killed, t
   spans a second    1, 2, 4 and 8 writers at full speed, each of which waits for the 202 of a batch of 10 spans
   reads, paced      one reader that asks for random traces by their ids, one after the other, beside 4 writers of 25 batches
                     a second each, so that the number of spans held stays about the same
-  reads, full speed the same beside 4 writers at full speed; the rows tell how many spans were held at the end
+  reads, full speed the same beside 4 writers at full speed; the rows say how many spans were held at the end
 
     bench/serve.py [--bin PATH] [--sizes 1000,10000,100000] [--seconds 0.6] [--rounds 3] [--only ours|plain]
 
@@ -105,8 +105,8 @@ class Bench:
                 run = subprocess.run(words, capture_output=True, timeout=60, env=dict(os.environ, RUST_BACKTRACE="0"))
                 if run.returncode:
                     raise OSError(run.stderr.decode(errors="replace").strip())
-                told = run.stdout.decode().split()
-                numbers = {key: float(value) for key, value in zip(told[::2], told[1::2])}
+                reported = run.stdout.decode().split()
+                numbers = {key: float(value) for key, value in zip(reported[::2], reported[1::2])}
                 numbers["peak"] = server.peak()
                 self.shown[name] = server.get(f"/api/traces/{first_trace():x}")
         except (OSError, subprocess.TimeoutExpired) as fault:

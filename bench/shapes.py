@@ -97,8 +97,8 @@ def questions(shape):
 class Timed(Session):
     def spent(self):
         """Seconds of processor time so far."""
-        with open("/proc/%d/schedstat" % self.run.pid) as told:
-            return int(told.read().split()[0]) / 1e9
+        with open("/proc/%d/schedstat" % self.run.pid) as reported:
+            return int(reported.read().split()[0]) / 1e9
 
     def cost(self, requests):
         before = self.spent()

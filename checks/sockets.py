@@ -5,7 +5,7 @@ responses, the ends of the program.
     checks/sockets.py [--bin PATH] [--only WORD]
 
 Each case starts the program anew on a free port of 127.0.0.1 and looks only at what the sockets, its standard output and its
-status tell. Standard library alone. One line for each failing case; the last line is `N passed, M failed`.
+status say. Standard library alone. One line for each failing case; the last line is `N passed, M failed`.
 """
 import argparse
 import contextlib

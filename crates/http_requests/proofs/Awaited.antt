@@ -36,8 +36,8 @@ not_there bytes text rest h body awaits spells e =
     ]
 
 pub not_too_large : (bytes : List ℕ) → AwaitsRequest bytes → IsBroken ⊥ bytes breach.TooLarge → ⊥
-not_too_large bytes (inl head) told = head.none told.head told.after told.takes
-not_too_large bytes (inr behind) told = body_is_not_large (body_length told.head) told.after told.breaks (awaits_behind bytes told.after told.head behind told.takes)
+not_too_large bytes (inl head) reported = head.none reported.head reported.after reported.takes
+not_too_large bytes (inr behind) reported = body_is_not_large (body_length reported.head) reported.after reported.breaks (awaits_behind bytes reported.after reported.head behind reported.takes)
 
 pub not_hopeless : (lines rest : List ℕ) → AwaitsRequest (lines ++ rest) → EndsLine lines → NeverHasRequest lines → ⊥
 not_hopeless lines rest (inl head) ends never = head.may lines rest refl ends never

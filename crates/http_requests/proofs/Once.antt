@@ -78,11 +78,11 @@ body_breaks_all TooLarge after left breach.TooLarge broken = tt
 body_breaks_all size after left Head broken = absurd broken
 
 behind_all : (piece left : List ℕ) (b : Breach) → BreaksBehind (left ≡ []) piece b → BreaksBehind (Unit {0}) (piece ++ left) b
-behind_all piece left b told = record {
-  head = told.head;
-  after = told.after ++ left;
-  takes = head_stays piece told.head told.after left told.takes;
-  breaks = body_breaks_all (body_length told.head) told.after left b told.breaks;
+behind_all piece left b reported = record {
+  head = reported.head;
+  after = reported.after ++ left;
+  takes = head_stays piece reported.head reported.after left reported.takes;
+  breaks = body_breaks_all (body_length reported.head) reported.after left b reported.breaks;
 }
 
 -- what broke a piece breaks all bytes that begin with it, where the end was seen only with nothing left
@@ -91,8 +91,8 @@ breaks_all piece left Head (inl never) = inl (λ more. subst HasNoHead (sym (app
 breaks_all piece left Head (inr ended) =
     let same : piece ≡ piece ++ left = sym (nothing_more piece left ended.0) in
     inr (tt, subst (λ (l : List ℕ). 0 < length l) same ended.1, subst HasNoHead same ended.2)
-breaks_all piece left Body told = behind_all piece left Body told
-breaks_all piece left breach.TooLarge told = behind_all piece left breach.TooLarge told
+breaks_all piece left Body reported = behind_all piece left Body reported
+breaks_all piece left breach.TooLarge reported = behind_all piece left breach.TooLarge reported
 
 -- where the head is broken there is none
 no_head : (bytes : List ℕ) → Breaks bytes Head → HasNoHead bytes
@@ -112,17 +112,17 @@ body_no_breach (Bytes n) text body rest Head is broken = absurd broken
 body_no_breach Chunked text body rest Head is broken = absurd broken
 
 no_request_behind : (text rest : List ℕ) (h : RequestHead) (body : List ℕ) (b : Breach) → Spells text h body → BreaksBehind (Unit {0}) (text ++ rest) b → ⊥
-no_request_behind text rest h body b spells told =
-    let same = head_once (text ++ rest) told.head h told.after (spells.after ++ rest) told.takes (request_stays text h body rest spells) in
+no_request_behind text rest h body b spells reported =
+    let same = head_once (text ++ rest) reported.head h reported.after (spells.after ++ rest) reported.takes (request_stays text h body rest spells) in
     let broken : BodyBreaks (Unit {0}) b (body_length h) (spells.after ++ rest) =
     subst (λ (x : RequestHead). BodyBreaks (Unit {0}) b (body_length x) (spells.after ++ rest)) same.0
-    (subst (λ (l : List ℕ). BodyBreaks (Unit {0}) b (body_length told.head) l) same.1 told.breaks) in
+    (subst (λ (l : List ℕ). BodyBreaks (Unit {0}) b (body_length reported.head) l) same.1 reported.breaks) in
     body_no_breach (body_length h) spells.after body rest b spells.body_is broken
 
 pub no_request : (text rest : List ℕ) (h : RequestHead) (body : List ℕ) (b : Breach) → Spells text h body → Breaks (text ++ rest) b → ⊥
 no_request text rest h body Head spells broken = no_head (text ++ rest) broken h (spells.after ++ rest) (request_stays text h body rest spells)
-no_request text rest h body Body spells told = no_request_behind text rest h body Body spells told
-no_request text rest h body breach.TooLarge spells told = no_request_behind text rest h body breach.TooLarge spells told
+no_request text rest h body Body spells reported = no_request_behind text rest h body Body spells reported
+no_request text rest h body breach.TooLarge spells reported = no_request_behind text rest h body breach.TooLarge spells reported
 
 -- a body that can't be read isn't too large
 body_not_both : (size : BodyLength) (after : List ℕ) → IsUnreadable (Unit {0}) size after → PassesMost size after → ⊥
@@ -195,8 +195,8 @@ some_head_is_taken = record { reads = (some_head_is_one, sym (append-nil (print_
 pub nothing_is_no_breach : (b : Breach) → Breaks [] b → ⊥
 nothing_is_no_breach Head (inl never) = never (print_request some_head) some_head [] some_head_is_taken
 nothing_is_no_breach Head (inr ended) = absurd (omega (arith, ended.1))
-nothing_is_no_breach Body told = absurd (omega (arith, head_is_some [] told.head told.after told.takes))
-nothing_is_no_breach breach.TooLarge told = absurd (omega (arith, head_is_some [] told.head told.after told.takes))
+nothing_is_no_breach Body reported = absurd (omega (arith, head_is_some [] reported.head reported.after reported.takes))
+nothing_is_no_breach breach.TooLarge reported = absurd (omega (arith, head_is_some [] reported.head reported.after reported.takes))
 
 -- ---- pieces
 

@@ -24,9 +24,9 @@ taken s t b place d = (sym (ap reply_by d.0), d.1 ∙ sym (ap (λ o. held_by o s
 refused_by : (o : Option Refusal) (s t : Held) (b : Batch) (why : Refusal) → refusal_by s (next_entry s b) ≡ o → why ≢ NoMemory → t ≡ s
     → (why ≡ NoMemory) ⊎ (why ≡ turned_away_by s (next_entry s b)) → Exactly s (Submit b) (Refused why) t
 refused_by o s t b why is memory same (inl none) = absurd (memory none)
-refused_by None s t b why is memory same (inr told) = absurd (memory (told ∙ rw is refl))
-refused_by (Some r) s t b why is memory same (inr told) =
-    let reason : why ≡ r = told ∙ rw is refl in
+refused_by None s t b why is memory same (inr reported) = absurd (memory (reported ∙ rw is refl))
+refused_by (Some r) s t b why is memory same (inr reported) =
+    let reason : why ≡ r = reported ∙ rw is refl in
     (ap Refused reason ∙ sym (ap reply_by is), same ∙ sym (ap (λ o. held_by o s (next_entry s b)) is))
 
 one : (s t : Held) (v : Verdict) (reply : Reply) → reply ≢ Refused NoMemory → Step DirectSubmits DirectReads s v reply t → Exactly s v reply t

@@ -24,7 +24,7 @@ loop-id-preserved c =
     let spots = ap (spans_named h) c.spots-spots.ensures in
     let e = to_z-of_z w64 c.args.end_ms c.ranges.end_ms in
     let l = to_z-of_z w64 c.args.lookback_ms c.ranges.lookback_ms in
-    let told : c.reaches_window.result ≡ w (f (get_or c.args.ids.now i no_id)) = (rw (e, l) at c.reaches_window.ensures) ∙ ap (λ ss. w (spans_named h ss)) c.again.ensures ∙ ap w spots in
+    let determined : c.reaches_window.result ≡ w (f (get_or c.args.ids.now i no_id)) = (rw (e, l) at c.reaches_window.ensures) ∙ ap (λ ss. w (spans_named h ss)) c.again.ensures ∙ ap w spots in
     let before : given_traces c.loop-id.traces.items ≡ filter w (map f (take i c.args.ids.now)) = rw (e, l) at c.loop-id.invariant in
     rw (e, l) (elim c.if-reaches_window.branch [
       | then-reaches_window+in_ok-see+in_ok-push v ↦
@@ -32,10 +32,10 @@ loop-id-preserved c =
           ∙ ap given_traces v.in_ok-push.ensures.items
           ∙ map_push (λ (t : Vec Seen Global). given_all t.items) c.loop-id.traces.items v.in_ok-see.field-0
           ∙ (λ j. before j ++ (v.in_ok-see.ensures ∙ spots) j ∷ [])
-          ∙ sym (kept_more w f c.args.ids.now i no_id c.loop-id-test.true (sym told ∙ v.if-reaches_window.true))
+          ∙ sym (kept_more w f c.args.ids.now i no_id c.loop-id-test.true (sym determined ∙ v.if-reaches_window.true))
       | else-reaches_window v ↦
           ap (λ (ts : Vec (Vec Seen Global) Global). given_traces ts.items) v.traces-is ∙ before
-          ∙ sym (left_out w f c.args.ids.now i no_id c.loop-id-test.true (sym told ∙ v.if-reaches_window.false))
+          ∙ sym (left_out w f c.args.ids.now i no_id c.loop-id-test.true (sym determined ∙ v.if-reaches_window.false))
     ])
 
 pub returns : goal.returns
