@@ -6,7 +6,6 @@ pub mod TagSpelled
 pub mod LogSpelled
 pub mod ReferenceSpelled
 pub mod ProcessSpelled
-pub mod SpanNumbers
 pub mod SpanSpelled
 pub mod BatchSpelled
 pub mod CutStructs

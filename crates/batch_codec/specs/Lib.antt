@@ -6,7 +6,6 @@ pub mod LogReading
 pub mod ReferenceReading
 pub mod ProcessReading
 pub mod SpanReading
-pub mod SpanNumbers
 pub mod BatchReading
 pub mod Batches
 pub mod SpelledBatches

@@ -9,7 +9,8 @@
 //! * `fault`: why bytes are no batch.
 //! * `values`, `fields`, `items`: single values, a struct's fields up to its stop byte, a list of structs.
 //! * `tag`, `log`, `reference`, `process`, `span`, `batch`: one struct of `jaeger.thrift` each. What is gathered of
-//!   it (`TagSlots` and so on) is public for the specifications of crates that decode in another way.
+//!   it (`TagSlots` and so on) is public for crates that decode in another way: for what they specify, and of a
+//!   span ([`SpanSlots`]) for their code too.
 //! * `writer`: [`encode`], the one spelling of a batch.
 //! * `laws`: facts about the definitions.
 #![tactic(auto)]
