@@ -88,7 +88,7 @@ fn read_whole(alloc: Global, bytes: &[u8]) -> Result<Batch, DecodeError>
 /// # Errors
 ///
 /// The first fault from left to right, or [`DecodeError::Memory`] where there was no memory for the
-/// batch. Nothing is reserved by a size that the bytes claim.
+/// batch. Nothing is reserved by a size alone that the bytes claim.
 pub fn decode(alloc: Global, bytes: &[u8]) -> Result<Batch, DecodeError>
     // What is read is spelled so, and what is spelled so is read.
     ensures found { IfOk result (λ b. IsBatch bytes.now b) }

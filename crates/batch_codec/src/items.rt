@@ -1,4 +1,4 @@
-ghost use Rattle.std.specs.Prelude.{◌≡◌, ◌≤◌, ◌<◌, ℕ, List, length, Result, OnOk};
+ghost use Rattle.std.specs.Prelude.{◌≡◌, ◌≤◌, ◌<◌, ◌/◌, ℕ, min, List, length, Result, OnOk};
 ghost use Rattle.batch_codec.specs.declared.fault.DecodeError.{DecodeError};
 ghost use Rattle.batch_codec.specs.Decoding.{Decodes, wire};
 ghost use Rattle.thrift_binary.specs.Lists.{items_at, list_of};
@@ -12,9 +12,23 @@ use thrift_binary::{Cursor, WireError, types};
 pub(crate) trait Element: Drop + Sized {
     ghost reads: { List ℕ → Result (Self × List ℕ) DecodeError };
 
+    /// The least number of bytes of one item.
+    fn least() -> usize;
+
     fn read(alloc: Global, cursor: &mut Cursor<'_>) -> Result<Self, DecodeError>
         ensures exact { Decodes (λ s. s) reads cursor.old result cursor.new }
         ensures shorter { OnOk result (length cursor.new < length cursor.old) };
+}
+
+/// The number of items to take room for at once, of a list that claims `size` of them where `left` bytes
+/// follow: as many as those bytes can hold, where an item has at least `least` bytes, and 16 at most. So
+/// nothing is reserved by a claimed size alone. Where `least` is 0 it is 0.
+#[inline]
+pub fn room(size: u32, left: usize, least: usize) -> usize
+    ensures exact { result ≡ min (min size (left / least)) 16 }
+{
+    let held = left.checked_div(least).unwrap_or(0);
+    (size as usize).min(held).min(16)
 }
 
 fn read_items<T: Element>(
@@ -25,7 +39,7 @@ fn read_items<T: Element>(
     ensures exact { Decodes (λ v. v.items) (items_at T.reads size) cursor.old result cursor.new }
     ensures no_longer { OnOk result (length cursor.new ≤ length cursor.old) }
 {
-    let mut items = Vec::new(alloc);
+    let mut items = Vec::with_capacity(alloc, room(size, cursor.rest().len(), T::least()))?;
     for _ in 0..size {
         let item = T::read(alloc, cursor)?;
         items.push(item)?;
@@ -33,7 +47,7 @@ fn read_items<T: Element>(
     Ok(items)
 }
 
-/// A list of structs. Nothing is reserved by its size, which may be any that the bytes claim.
+/// A list of structs. Nothing is reserved by its size alone, which may be any that the bytes claim.
 #[tactic(auto, unfolding(thrift_binary::specs::Lists::list_of))]
 pub(crate) fn read_list<T: Element>(
     alloc: Global,

@@ -7,7 +7,8 @@
 //! (`specs/*Reading.antt`), and [`laws`] says where a fault stands without speaking of any reading.
 //!
 //! * `fault`: why bytes are no batch.
-//! * `values`, `fields`, `items`: single values, a struct's fields up to its stop byte, a list of structs.
+//! * `values`, `fields`, `items`: single values, a struct's fields up to its stop byte, a list of structs, for
+//!   which [`room`] is taken by its claimed size only where the bytes that are there can hold so many.
 //! * `tag`, `log`, `reference`, `process`, `span`, `batch`: one struct of `jaeger.thrift` each. What is gathered of
 //!   it (`TagSlots` and so on) is public for crates that decode in another way: for what they specify, and of a
 //!   span ([`SpanSlots`]) for their code too.
@@ -30,10 +31,11 @@ mod writer;
 
 pub use batch::{BatchSlots, decode};
 pub use fault::{DecodeError, Part};
-pub use log::LogSlots;
+pub use items::room;
+pub use log::{LEAST_LOG, LogSlots};
 pub use process::ProcessSlots;
-pub use reference::ReferenceSlots;
-pub use span::SpanSlots;
-pub use tag::{TagSlots, TagType};
+pub use reference::{LEAST_REFERENCE, ReferenceSlots};
+pub use span::{LEAST_SPAN, SpanSlots};
+pub use tag::{LEAST_TAG, TagSlots, TagType};
 pub use values::{ByteSlice, TextSlice};
 pub use writer::encode;

@@ -10,6 +10,9 @@ use std::alloc::Global;
 use thrift_binary::Cursor;
 use thrift_binary::types::{I64, LIST};
 
+/// The least number of bytes of a log: 11 of the timestamp, 8 of the fields and the stop byte.
+pub const LEAST_LOG: usize = 20;
+
 /// What was gathered of a log so far.
 #[derive(Drop)]
 pub struct LogSlots {
@@ -50,6 +53,10 @@ fn log_of(slots: LogSlots) -> Result<Log, DecodeError>
 
 impl Element for Log {
     ghost reads = { log_at };
+
+    fn least() -> usize {
+        LEAST_LOG
+    }
 
     #[tactic(auto, unfolding(crate::specs::LogReading::log_at))]
     fn read(alloc: Global, cursor: &mut Cursor<'_>) -> Result<Self, DecodeError> {

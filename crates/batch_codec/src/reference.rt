@@ -11,6 +11,10 @@ use std::alloc::Global;
 use thrift_binary::Cursor;
 use thrift_binary::types::{I32, I64};
 
+/// The least number of bytes of a reference: 7 of `refType`, 11 of each of the three numbers of its ids
+/// and the stop byte.
+pub const LEAST_REFERENCE: usize = 41;
+
 /// What was gathered of a reference so far.
 #[derive(Drop)]
 pub struct ReferenceSlots {
@@ -73,6 +77,10 @@ fn reference_of(slots: ReferenceSlots) -> Result<SpanRef, DecodeError>
 
 impl Element for SpanRef {
     ghost reads = { reference_at };
+
+    fn least() -> usize {
+        LEAST_REFERENCE
+    }
 
     #[tactic(auto, unfolding(crate::specs::ReferenceReading::reference_at))]
     fn read(alloc: Global, cursor: &mut Cursor<'_>) -> Result<Self, DecodeError> {

@@ -10,6 +10,10 @@ use std::alloc::Global;
 use thrift_binary::Cursor;
 use thrift_binary::types::{I32, I64, LIST, STRING};
 
+/// The least number of bytes of a span: 11 of each of the four numbers of its ids, 7 of the operation, 7 of
+/// the flags, 11 of each of the two times and the stop byte.
+pub const LEAST_SPAN: usize = 81;
+
 /// What was gathered of a span so far.
 #[derive(Drop)]
 pub struct SpanSlots {
@@ -113,6 +117,10 @@ impl<'a> Slots<'a> for SpanSlots {
 
 impl Element for Span {
     ghost reads = { span_at };
+
+    fn least() -> usize {
+        LEAST_SPAN
+    }
 
     #[tactic(auto, unfolding(crate::specs::SpanReading::span_at))]
     fn read(alloc: Global, cursor: &mut Cursor<'_>) -> Result<Self, DecodeError> {

@@ -13,6 +13,9 @@ use std::alloc::Global;
 use thrift_binary::Cursor;
 use thrift_binary::types::{BOOL, DOUBLE, I32, I64, STRING};
 
+/// The least number of bytes of a tag: 7 of the key, 7 of `vType` and the stop byte.
+pub const LEAST_TAG: usize = 15;
+
 /// Which of its values a tag has (`TagType` of `jaeger.thrift`).
 #[derive(Clone, Copy)]
 pub enum TagType {
@@ -117,6 +120,10 @@ fn tag_of(alloc: Global, slots: TagSlots<'_>) -> Result<Tag, DecodeError>
 
 impl Element for Tag {
     ghost reads = { tag_at };
+
+    fn least() -> usize {
+        LEAST_TAG
+    }
 
     #[tactic(auto, unfolding(crate::specs::TagReading::tag_at))]
     fn read(alloc: Global, cursor: &mut Cursor<'_>) -> Result<Self, DecodeError> {
