@@ -6,7 +6,7 @@ use Rattle.std.specs.Int.{Width, cast_signed}
 use Rattle.byteorder.specs.Endian.{big_number}
 use Rattle.thrift_binary.specs.declared.fault.WireError.TheVariants.{Truncated, BadLength, BadType}
 use Rattle.thrift_binary.specs.Reading.{bytes_at, number_at, signed_at, size_at, list_at, map_at, is_code}
-use Rattle.thrift_binary.proofs.Found.{big_number-take}
+use Rattle.thrift_binary.proofs.Found.{big_number-take, size_found}
 use Rattle.wire_pieces.specs.Pieces.{Comes, Waits, Refuses}
 
 module _ {X E : Type 0} (read : List ℕ → Result X E) where
@@ -69,6 +69,14 @@ size-whole g rest e le = let small : ltb (big_number 4 g) (2 ^ 31) ≡ true = lt
 pub size-bad : (g rest : List ℕ) → length g ≡ 4 → 2147483647 < big_number 4 g → size_at (g ++ rest) ≡ Err BadLength
 unfolding size_at
 size-bad g rest e lt = let large : ltb (big_number 4 g) (2 ^ 31) ≡ false = le-ltb _ _ (omega arith) in rw (number-whole 4 g rest e, large) refl
+
+-- four bytes that are a size, with nothing behind them
+pub size-spelled : (w : List ℕ) (n : ℕ) → size_at w ≡ Ok (n, []) → (length w ≡ 4) × (big_number 4 w ≡ n) × (n ≤ 2147483647)
+size-spelled w n e =
+    let s = size_found w n [] e in
+    let same : w ≡ s.text = s.parts ∙ append-nil s.text in
+    let small : n < 2 ^ 31 = s.spells.2 in
+    (rw same s.spells.0, rw same s.spells.1, omega arith)
 
 -- ---- heads
 

@@ -1,4 +1,4 @@
-ghost use Rattle.std.specs.Prelude.{◌≡◌, true, List, ℕ};
+ghost use Rattle.std.specs.Prelude.{◌≡◌, true, false, List, ℕ, None, Ok};
 ghost use Rattle.thrift_binary.specs.Reading.{is_code, field_at, list_at};
 ghost use Rattle.wire_pieces.specs.Pieces.{Goes, OkTakes};
 ghost use Rattle.wire_pieces.specs.Heads.{IsTyped, id_from, head_from, typed_size_from, list_head};
@@ -72,10 +72,12 @@ impl FieldHead {
         }
     }
 
-    /// Whether no byte of it has come.
+    /// Whether no byte of it has come. Where one has, it is a field's, and no stop byte can follow.
     #[inline]
     pub fn is_first(&self) -> bool
         ensures first { result ≡ true → (w : List ℕ) → head_from self.now w ≡ field_at w }
+        ensures begun { result ≡ false → (w rest : List ℕ) →
+            head_from self.now w ≡ Ok (None, rest) → ⊥ }
     {
         matches!(self.step, HeadStep::First)
     }

@@ -213,6 +213,7 @@ impl Size {
 pub fn size_of(bytes: &[u8]) -> Option<u32>
     ensures reads { (n : ℕ) → result ≡ Some n → (w : List ℕ) →
         size_at (bytes.now ++ w) ≡ Ok (n, w) }
+    ensures every { (n : ℕ) → size_at bytes.now ≡ Ok (n, []) → result ≡ Some n }
 {
     if bytes.len() != 4 {
         return None;
