@@ -53,6 +53,7 @@ use jaeger_model::Batch;
 use std::alloc::Global;
 use std::env;
 use std::io::Read;
+use std::slice;
 
 /// The bodies: a length of four bytes, then that many bytes, each.
 fn bodies(alloc: Global, input: &[u8]) -> Result<Vec<&[u8]>> {
@@ -73,39 +74,57 @@ fn bodies(alloc: Global, input: &[u8]) -> Result<Vec<&[u8]>> {
     Ok(bodies)
 }
 
-/// The batch of a body that is fed in pieces of this size.
-fn fed(alloc: Global, body: &[u8], size: usize) -> Result<Batch, DecodeError> {
+/// How a body is read: whole, or by a Feeder in pieces of a size or a byte at a time.
+#[derive(Clone, Copy)]
+enum Way {
+    Whole,
+    Pieces(usize),
+    Bytes,
+}
+
+/// The batch of a body.
+fn read(alloc: Global, body: &[u8], way: Way) -> Result<Batch, DecodeError> {
     let mut feeder = Feeder::new(alloc);
-    for piece in body.chunks(size.max(1)) {
-        feeder.feed(alloc, piece)?;
+    match way {
+        Way::Whole => return decode(alloc, body),
+        Way::Pieces(size) => {
+            for piece in body.chunks(size.max(1)) {
+                feeder.feed(alloc, piece)?;
+            }
+        }
+        Way::Bytes => {
+            for byte in body {
+                feeder.feed(alloc, slice::from_ref(byte))?;
+            }
+        }
     }
     feeder.finish()
 }
 
-/// The batch of a body, decoded whole where the size is 0.
-fn read(alloc: Global, body: &[u8], size: usize) -> Result<Batch, DecodeError> {
-    if size == 0 {
-        return decode(alloc, body);
+/// The way that a word names: `pieces` is one piece, a number a size.
+fn way_of(word: Option<&String>) -> Way {
+    match word {
+        None => Way::Whole,
+        Some(word) if word.as_str() == "pieces" => Way::Pieces(usize::MAX),
+        Some(word) => match word.parse() {
+            Ok(size) => Way::Pieces(size),
+            Err(_) => Way::Bytes,
+        },
     }
-    fed(alloc, body, size)
 }
 
 fn main(rt: HostRuntime) -> Result<()> {
     let alloc = rt.alloc();
     let words: Vec<String> = env::args(&rt)?.collect(alloc)?;
     let rounds: u32 = words.get(1).and_then(|word| word.parse().ok()).unwrap_or(1);
-    let size = match words.get(2) {
-        Some(way) if way.as_str() == "pieces" => usize::MAX,
-        Some(way) if way.as_str() == "bytes" => 1,
-        _ => 0,
-    };
+    let way = way_of(words.get(2));
     let mut input = Vec::new(alloc);
     rt.stdin().read_to_end(&mut input)?;
     let bodies = bodies(alloc, &input)?;
     let mut spans = 0_u64;
     for _ in 0..rounds {
         for body in bodies.iter() {
-            spans = spans.wrapping_add(read(alloc, body, size)?.spans.len() as u64);
+            spans = spans.wrapping_add(read(alloc, body, way)?.spans.len() as u64);
         }
     }
     println!(&rt; "{spans}")?;
@@ -148,18 +167,28 @@ def build_apache(folder):
     return program
 
 
-def seconds(program, rounds, path):
+# Each row: its name, the program and the way of reading a body.
+PROGRAMS = (
+    ("rattle", build_rattle),
+    ("pieces", build_rattle, "pieces"),
+    ("bytes", build_rattle, "bytes"),
+    ("rust", build_rust),
+    ("apache", build_apache),
+)
+
+
+def seconds(program, rounds, path, way):
     """Processor time of one run in user mode, and what it printed."""
     before = resource.getrusage(resource.RUSAGE_CHILDREN).ru_utime
     with open(path, "rb") as stdin:
-        run = subprocess.run([program, str(rounds)], stdin=stdin, capture_output=True, check=True)
+        run = subprocess.run([program, str(rounds), *way], stdin=stdin, capture_output=True, check=True)
     return resource.getrusage(resource.RUSAGE_CHILDREN).ru_utime - before, int(run.stdout)
 
 
-def instructions(program, rounds, path):
+def instructions(program, rounds, path, way):
     """The instructions of one run."""
     with open(path, "rb") as stdin, tempfile.NamedTemporaryFile() as out:
-        words = ["valgrind", "--tool=callgrind", f"--callgrind-out-file={out.name}", program, str(rounds)]
+        words = ["valgrind", "--tool=callgrind", f"--callgrind-out-file={out.name}", program, str(rounds), *way]
         run = subprocess.run(words, stdin=stdin, capture_output=True, check=True)
     return int(re.search(rb"Collected : (\d+)", run.stderr).group(1))
 
@@ -179,22 +208,24 @@ def main():
         with open(path, "wb") as file:
             file.writelines(struct.pack(">I", len(body)) + body for body in pool)
         size = options.rounds * sum(map(len, pool)) / 1_000_000
-        for name, build in (("rattle", build_rattle), ("rust", build_rust), ("apache", build_apache)):
+        built = {}
+        for name, build, *way in PROGRAMS:
             if options.only not in name:
                 continue
             try:
-                program = build(folder)
+                program = built.get(build) or build(folder)
             except (FileNotFoundError, subprocess.CalledProcessError) as fault:
                 print(f"{name:8} left out: {fault}")
                 continue
+            built[build] = program
             if options.count:
-                more = instructions(program, 3, path) - instructions(program, 1, path)
+                more = instructions(program, 3, path, way) - instructions(program, 1, path, way)
                 print(f"{name:8} {more / 2 / sum(map(len, pool)):20.1f}")
                 continue
             times = []
             for _ in range(3):
-                once, count = seconds(program, 1, path)
-                often, _ = seconds(program, 1 + options.rounds, path)
+                once, count = seconds(program, 1, path, way)
+                often, _ = seconds(program, 1 + options.rounds, path, way)
                 times.append(often - once)
                 assert spans in (None, count), (name, spans, count)
                 spans = count

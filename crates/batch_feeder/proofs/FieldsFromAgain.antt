@@ -1,5 +1,5 @@
 -- The steps of a struct that comes in pieces.
-use Rattle.std.proofs.Common.{◌≡◌, ℕ, ℤ, eqb, true, arith, List, [], ◌∷◌, length, Some, None, Result, Ok, Err, refl, ap, sym, ◌∙◌}
+use Rattle.std.proofs.Common.{◌≡◌, ℕ, ℤ, eqb, Bool, true, false, arith, List, [], ◌∷◌, length, Some, None, Result, Ok, Err, refl, ap, sym, ◌∙◌}
 use Rattle.std.proofs.lemmas.Bool.{eqb-true}
 use Rattle.thrift_binary.specs.declared.fault.WireError.TheVariants.{Truncated}
 use Rattle.thrift_binary.specs.Reading.{◌>>=◌, field_at}
@@ -16,7 +16,7 @@ use Rattle.batch_codec.specs.declared.fault.DecodeError.TheVariants.{Wire}
 use Rattle.batch_codec.specs.Decoding.{Reading, wire}
 use Rattle.batch_feeder.specs.declared.fields.Step.{Step}
 use Rattle.batch_feeder.specs.declared.fields.Step.TheVariants.{Head, Value}
-use Rattle.batch_feeder.specs.Going.{fault_of, Faults}
+use Rattle.batch_feeder.specs.Going.{fault_of, Arrives, Faults, GoesTo}
 use Rattle.batch_feeder.specs.Fields.{IsFresh, fields_from, struct_at, struct_from}
 use Rattle.batch_feeder.proofs.GoingAgain.{faults-lift, faults-inside, comes-faults}
 
@@ -87,3 +87,8 @@ module _ {S V A : Type 0} (take : Take S DecodeError) (res : S → V → Reading
 
   pub fields-faults : (s : S) (step : Step V) (p : List ℕ) (e : DecodeError) → Faults (fields_from take res s step) p e → Faults (struct_from take res makes s step) p e
   fields-faults s step p e g = faults-inside made (fields_from take res s step) p e g
+
+  pub struct-arrives : (s t : S) (step next : Step V) (p q : List ℕ) (r : Result Bool DecodeError) → GoesTo t (fields_from take res s step) (fields_from take res t next) p q r → Arrives (struct_from take res makes s step) (struct_from take res makes t next) (makes t) p q r
+  struct-arrives s t step next p q (Ok true) g = comes-inside made g
+  struct-arrives s t step next p q (Ok false) g = waits-inside made g
+  struct-arrives s t step next p q (Err e) g = faults-inside made (fields_from take res s step) p e g

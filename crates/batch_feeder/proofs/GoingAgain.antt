@@ -10,7 +10,7 @@ use Rattle.wire_pieces.proofs.Steps.{comes-trans, comes-waits, comes-inside, wai
 use Rattle.batch_codec.specs.declared.fault.DecodeError.{DecodeError}
 use Rattle.batch_codec.specs.declared.fault.DecodeError.TheVariants.{Wire}
 use Rattle.batch_codec.specs.Decoding.{Reading, wire}
-use Rattle.batch_feeder.specs.Going.{fault_of, Faults, GoesTo, Places, Sets}
+use Rattle.batch_feeder.specs.Going.{fault_of, ended, Faults, GoesTo, Places, Sets}
 
 pub one_wire : (e f : WireError) → wire e ≡ wire f → e ≡ f
 one_wire e f h = cc
@@ -41,6 +41,13 @@ ends-faults a then x p q e apart same g = λ n. record { same = λ rest. (comes-
 -- a value that makes another
 pub ends-comes : {A X : Type 0} (a : Reading A) (then : A × List ℕ → Result (X × List ℕ) DecodeError) (x : A) (y : X) (p q : List ℕ) → ((rest : List ℕ) → then (x, rest) ≡ Ok (y, rest)) → Comes a (λ w. Ok (x, w)) p q → Comes (λ w. a w >>= then) (λ w. Ok (y, w)) p q
 ends-comes a then x y p q same g = comes-trans (comes-inside then g) (record { same = λ rest. same (q ++ rest) })
+
+-- what came is a fault, or a value
+pub arrived-faults : {A : Type 0} (a : Reading A) (end : Result A DecodeError) (e : DecodeError) (p q : List ℕ) → end ≡ Err e → (end ≡ Err (Wire Truncated) → ⊥) → Comes a (ended end) p q → Faults a p e
+arrived-faults a end e p q is never g = λ n. record { same = λ rest. g.same rest ∙ rw is refl; no_want = λ h. never (is ∙ ap (λ d. Err d) h) }
+
+pub arrived-whole : {A : Type 0} (a : Reading A) (end : Result A DecodeError) (x : A) (p q : List ℕ) → end ≡ Ok x → Comes a (ended end) p q → Comes a (λ w. Ok (x, w)) p q
+arrived-whole a end x p q is g = comes-trans g (record { same = λ rest. rw is refl })
 
 -- ---- before the first byte
 

@@ -46,18 +46,6 @@ short-has-no-fault (Ok b) h = tt
 short-has-no-fault (Err e) h = let k : e ≡ Wire Truncated = cc in k
 
 module _ (s : State) (w : List ℕ) (n : ℕ) (h : Holds s w n) where
-  -- a byte that waits
-  pub byte-waits : (b : ℕ) (next : List ℕ) → 1 < n → next ≡ w ++ b ∷ [] → Holds s next (n - 1)
-  byte-waits b next lt is = record {
-    none = λ z. absurd (omega arith);
-    rests = λ some. h.rests (omega arith);
-    quiet = λ v few. rw is (rw (append_assoc w (b ∷ []) v) (h.quiet (b ∷ v) (omega arith)));
-  }
-
-  -- a byte that is the last one wanted, but it is of a longer field
-  pub byte-begins : (b m : ℕ) (next : List ℕ) → n ≡ 1 → 0 < m → AreQuiet next m → Holds s next m
-  byte-begins b m next is some quiet = record { none = λ z. absurd (omega arith); rests = λ t. h.rests (omega (arith, is)); quiet = quiet }
-
   -- what is answered of bytes that wait
   pub byte-taken : (b : ℕ) (next : List ℕ) → 0 < n → Rests s → IsPart next → next ≡ w ++ b ∷ [] → Taken (λ v. answers_of s (w ++ v)) (λ v. answers_of s (next ++ v)) (b ∷ [])
   byte-taken b next some rest part is = record {
@@ -86,11 +74,6 @@ module _ (s : State) (w : List ℕ) (n : ℕ) (h : Holds s w n) where
 pub feeds-behind : (old new : Answer) (w next p : List ℕ) (r : Result (Unit {0}) DecodeError) → next ≡ w ++ p → Feeds old new next r → Feeds (λ v. old (w ++ v)) new p r
 feeds-behind old new w next p (Ok x) is g = record { same = λ v. ap old (sym (append_assoc w p v)) ∙ ap (λ u. old (u ++ v)) (sym is) ∙ g.same v; sound = rw (← is) g.sound }
 feeds-behind old new w next p (Err e) is g = record { faults = λ n. record { same = λ v. ap old (sym (append_assoc w p v)) ∙ ap (λ u. old (u ++ v)) (sym is) ∙ (g.faults n).same v; no_want = (g.faults n).no_want }; stays = g.stays }
-
--- one piece after another
-pub feeds-after : (a b c : Answer) (p q : List ℕ) (r : Result (Unit {0}) DecodeError) → Taken a b p → Feeds b c q r → Feeds a c (p ++ q) r
-feeds-after a b c p q (Ok x) f g = record { same = λ v. ap a (append_assoc p q v) ∙ f.same (q ++ v) ∙ g.same v; sound = rw (f.same q) g.sound }
-feeds-after a b c p q (Err e) f g = record { faults = λ n. record { same = λ v. ap a (append_assoc p q v) ∙ f.same (q ++ v) ∙ (g.faults n).same v; no_want = (g.faults n).no_want }; stays = g.stays }
 
 -- ---- how many bytes are wanted
 
@@ -152,23 +135,6 @@ unfolding answers_of
 reading-rests now s step is w h = rw is (rw h refl)
 
 -- ---- bytes that waited
-
--- what waits is read
-pub keeps-read : (old new : Answer) (w next : List ℕ) (r : Result (Unit {0}) DecodeError) → next ≡ [] → Feeds old new w r → Keeps (λ v. old (w ++ v)) (λ v. new (next ++ v)) r
-keeps-read old new w next (Ok x) none g = rw none (λ rest. g.same rest)
-keeps-read old new w next (Err e) none g = rw none (record { faults = λ n. record { same = λ rest. (g.faults n).same rest; no_want = (g.faults n).no_want }; stays = g.stays })
-
--- a piece behind what waited
-pub feeds-kept : (old mid new : Answer) (p : List ℕ) (r : Result (Unit {0}) DecodeError) → ((rest : List ℕ) → old rest ≡ mid rest) → Feeds mid new p r → Feeds old new p r
-feeds-kept old mid new p (Ok x) same g = record { same = λ rest. same (p ++ rest) ∙ g.same rest; sound = rw (same p) g.sound }
-feeds-kept old mid new p (Err e) same g = record { faults = λ n. record { same = λ rest. same (p ++ rest) ∙ (g.faults n).same rest; no_want = (g.faults n).no_want }; stays = g.stays }
-
-pub refuses-longer : (old new : Answer) (p : List ℕ) (e : DecodeError) → Refuses old new [] e → Refuses old new p e
-refuses-longer old new p e g = record { faults = λ n. record { same = λ rest. (g.faults n).same (p ++ rest); no_want = (g.faults n).no_want }; stays = g.stays }
-
--- where nothing waits any more
-pub feeds-empty : (old new : Answer) (w p : List ℕ) (r : Result (Unit {0}) DecodeError) → w ≡ [] → Feeds old new p r → Feeds (λ v. old (w ++ v)) (λ v. new (w ++ v)) p r
-feeds-empty old new w p r none g = rw none g
 
 -- what waits was read with a byte behind it
 pub feeds-last : (old new : Answer) (w next spent : List ℕ) (b : ℕ) (r : Result (Unit {0}) DecodeError) → next ≡ w ++ b ∷ [] → spent ≡ [] → Feeds old new next r → Feeds (λ v. old (w ++ v)) (λ v. new (spent ++ v)) (b ∷ []) r

@@ -1,5 +1,5 @@
 -- The steps of a list of structs that comes in pieces.
-use Rattle.std.proofs.Common.{◌≡◌, ℕ, suc, ◌<◌, ◌-◌, Bool, true, false, eqb, List, [], ◌∷◌, ◌++◌, Option, None, Result, Ok, Err, refl, ap, arith, append_assoc, append-nil}
+use Rattle.std.proofs.Common.{◌≡◌, ℕ, suc, ◌<◌, ◌-◌, Bool, true, false, eqb, List, [], ◌∷◌, ◌++◌, Option, None, Result, Ok, Err, refl, ap, sym, ◌∙◌, arith, append_assoc, append-nil}
 use Rattle.std.proofs.lemmas.Bool.{ne_eqb}
 use Rattle.thrift_binary.specs.declared.fault.WireError.TheVariants.{Truncated, BadType}
 use Rattle.thrift_binary.specs.Reading.{◌>>=◌}
@@ -14,8 +14,8 @@ use Rattle.wire_pieces.proofs.ItemsAgain.{items-refuses, list-waits}
 use Rattle.batch_codec.specs.declared.fault.DecodeError.{DecodeError}
 use Rattle.batch_codec.specs.declared.fault.DecodeError.TheVariants.{Wire}
 use Rattle.batch_codec.specs.Decoding.{Reading, wire}
-use Rattle.batch_feeder.specs.Going.{fault_of, Enters, Faults, GoesTo}
-use Rattle.batch_feeder.specs.Lists.{items_behind, list_from}
+use Rattle.batch_feeder.specs.Going.{fault_of, ended, Enters, Faults, GoesTo}
+use Rattle.batch_feeder.specs.Lists.{items_behind, items_ended, list_from}
 use Rattle.batch_feeder.proofs.GoingAgain.{faults-lift, faults-inside}
 
 module _ {A : Type 0} (one : Reading A) where
@@ -56,6 +56,30 @@ module _ {A : Type 0} (one : Reading A) where
   pub behind-none : (a : Reading (List A)) (items : List A) (n : ℕ) (p w : List ℕ) → n ≡ 0 → Comes a (items_behind one items n) p w → Comes a (λ u. Ok (items, u)) p w
   unfolding items_at
   behind-none a items n p w is inv = comes-trans inv (record { same = λ rest. rw (is, append-nil items) refl })
+
+  -- an item whose bytes have come
+  ended-then : (end : Result A DecodeError) (f : A × List ℕ → Result (List A × List ℕ) DecodeError) (w : List ℕ) → (ended end w >>= f) ≡ (end >>= λ x. f (x, w))
+  ended-then (Ok x) f w = refl
+  ended-then (Err e) f w = refl
+
+  pub item-ended : (items : List A) (n : ℕ) (now : Reading A) (end : Result A DecodeError) (w v : List ℕ) → Comes now (ended end) w v → Comes (items_from one items n now) (items_ended one items n end) w v
+  unfolding items_from
+  item-ended items n now end w v g =
+      let then = λ (y : A × List ℕ). with_front (items ++ y.0 ∷ []) (items_at one n y.1) in
+      comes-trans (comes-inside then g) (record { same = λ rest. ended-then end then (v ++ rest) })
+
+  -- a fault that it makes
+  pub ended-faults : (a : Reading (List A)) (items : List A) (n : ℕ) (end : Result A DecodeError) (e : DecodeError) (p w : List ℕ) → end ≡ Err e → (end ≡ Err (Wire Truncated) → ⊥) → Comes a (items_ended one items n end) p w → Faults a p e
+  ended-faults a items n end e p w is never inv = λ apart. record { same = λ rest. inv.same rest ∙ rw is refl; no_want = λ h. never (is ∙ ap (λ d. Err d) h) }
+
+  -- the value that it makes
+  pub ended-behind : (a : Reading (List A)) (items next : List A) (n : ℕ) (end : Result A DecodeError) (x : A) (p w : List ℕ) → end ≡ Ok x → next ≡ items ++ x ∷ [] → Comes a (items_ended one items n end) p w → Comes a (items_behind one next n) p w
+  ended-behind a items next n end x p w is push inv = comes-trans inv (record { same = λ rest. rw (is, push) refl })
+
+  -- the first of n items, in the place of one before
+  pub item-next : (a : Reading (List A)) (items : List A) (n m : ℕ) (now : Reading A) (p w : List ℕ) → 0 < n → m ≡ n - 1 → ((u : List ℕ) → now u ≡ one u) → Comes a (items_behind one items n) p w → Comes a (items_from one items m now) p w
+  unfolding items_from
+  item-next a items n m now p w lt is same inv = comes-trans (behind-opens a items n m p w lt is inv) (comes-is (items_from one items m one) (items_from one items m now) w (λ u. ap (λ r. r >>= λ y. with_front (items ++ y.0 ∷ []) (items_at one m y.1)) (sym (same u))))
 
   no_front : (r : Result (List A × List ℕ) DecodeError) → r ≡ with_front [] r
   no_front (Ok z) = refl

@@ -1,6 +1,7 @@
 -- What a call gave that went on over a piece.
 use Rattle.std.specs.Prelude.{◌≡◌, ℕ, List, Option, Some, None, Result, Ok, Err, Bool, true, false}
 use Rattle.thrift_binary.specs.declared.fault.WireError.TheVariants.{Truncated}
+use Rattle.thrift_binary.specs.Reading.{◌>>=◌}
 use Rattle.wire_pieces.specs.declared.fault.PieceError.{PieceError}
 use Rattle.wire_pieces.specs.declared.fault.PieceError.TheVariants as piece
 use Rattle.wire_pieces.specs.Pieces.{Comes, Waits, Refuses, Reaches}
@@ -22,11 +23,21 @@ abbrev pub Goes : {A : Type 0} → Reading A → Reading A → List ℕ → List
 Goes old new piece left (Ok o) = Reaches (Wire Truncated) (λ x. x) old new piece left o
 Goes old new piece left (Err e) = Faults old piece e
 
--- the same of a call that changes what was gathered, and tells whether it is whole
+-- the same of a call that changes what was gathered, and says whether it is whole
 abbrev pub GoesTo : {X : Type 0} → X → Reading X → Reading X → List ℕ → List ℕ → Result Bool DecodeError → Type 0
 GoesTo x old new piece left (Ok true) = Comes old (λ w. Ok (x, w)) piece left
 GoesTo x old new piece left (Ok false) = Waits (Wire Truncated) old new piece left
 GoesTo x old new piece left (Err e) = Faults old piece e
+
+-- what a value or a fault is, read of no bytes
+abbrev pub ended : {A : Type 0} → Result A DecodeError → Reading A
+ended end w = end >>= λ m. Ok (m, w)
+
+-- the same of a call after which the value, which may be a fault, is still to be taken
+abbrev pub Arrives : {A : Type 0} → Reading A → Reading A → Result A DecodeError → List ℕ → List ℕ → Result Bool DecodeError → Type 0
+Arrives old new end piece left (Ok true) = Comes old (ended end) piece left
+Arrives old new end piece left (Ok false) = Waits (Wire Truncated) old new piece left
+Arrives old new end piece left (Err e) = Faults old piece e
 
 -- the same of a call that puts a value into its place
 abbrev pub Places : {A : Type 0} → Reading A → Reading A → A → A → List ℕ → List ℕ → Result Bool DecodeError → Type 0
@@ -40,13 +51,19 @@ Sets {A = A} old new before after piece left (Ok true) = (x : A) × (after ≡ S
 Sets old new before after piece left (Ok false) = Waits (Wire Truncated) old new piece left × (after ≡ before)
 Sets old new before after piece left (Err e) = Faults old piece e
 
+-- a value that began and was put into its place: whole, or the part of it that has come, or a fault
+abbrev pub Lays : {A P : Type 0} → Reading A → (P → Reading A) → A → A → List ℕ → List ℕ → Result (Option P) DecodeError → Type 0
+Lays reads resumes before after piece left (Ok None) = Comes reads (λ w. Ok (after, w)) piece left
+Lays reads resumes before after piece left (Ok (Some p)) = Waits (Wire Truncated) reads (resumes p) piece left × (after ≡ before)
+Lays reads resumes before after piece left (Err e) = Faults reads piece e
+
 -- a value that began: whole, or the part of it that has come, or a fault
 abbrev pub Begins : {A P : Type 0} → Reading A → (P → Reading A) → Option P → List ℕ → List ℕ → Result (Option A) DecodeError → Type 0
 Begins reads resumes part piece left (Ok (Some x)) = Comes reads (λ w. Ok (x, w)) piece left
 Begins {P = P} reads resumes part piece left (Ok None) = (p : P) × (part ≡ Some p) × Waits (Wire Truncated) reads (resumes p) piece left
 Begins reads resumes part piece left (Err e) = Faults reads piece e
 
--- the same of a call that changes what was gathered, and tells whether it is whole
+-- the same of a call that changes what was gathered, and says whether it is whole
 abbrev pub Enters : {X V : Type 0} → Reading X → (V → Reading X) → X → Option V → List ℕ → List ℕ → Result Bool DecodeError → Type 0
 Enters reads resumes x part piece left (Ok true) = Comes reads (λ w. Ok (x, w)) piece left
 Enters {V = V} reads resumes x part piece left (Ok false) = (v : V) × (part ≡ Some v) × Waits (Wire Truncated) reads (resumes v) piece left

@@ -7,16 +7,18 @@ use crate::items::ListPart;
 use crate::process::ProcessParts;
 use crate::reads::read_i64;
 use crate::skipped::SkipPart;
-use crate::span::SpanParts;
 use crate::structs::Struct;
 use crate::values::I64Part;
-use batch_codec::{DecodeError, Part};
+use batch_codec::{DecodeError, Part, SpanSlots};
 use jaeger_model::{Batch, Process, Seq, Span};
 use std::alloc::Global;
 use std::marker::Model;
 use thrift_binary::Cursor;
 use thrift_binary::types::{I64, LIST, STRUCT};
 use wire_pieces::Piece;
+
+/// The least number of bytes of a batch: 11 of the process, 8 of the spans and the stop byte.
+const LEAST_BATCH: usize = 20;
 
 /// What was gathered of a batch so far.
 #[derive(Drop)]
@@ -38,7 +40,7 @@ impl Model for BatchParts {
 #[derive(Drop)]
 pub(crate) enum BatchHeld {
     Process(Struct<ProcessParts>),
-    Spans(ListPart<Struct<SpanParts>>),
+    Spans(ListPart<Struct<SpanSlots>>),
     SeqNo(I64Part),
     Skip(SkipPart),
 }
@@ -127,6 +129,10 @@ impl Slots for BatchParts {
     ghost none = { no_batch };
 
     ghost makes = { batch_from };
+
+    fn least() -> usize {
+        LEAST_BATCH
+    }
 
     fn start(_alloc: Global) -> Self {
         BatchParts {

@@ -8,7 +8,7 @@ ghost use Rattle.batch_feeder.specs.Outsets.{AreQuiet, least};
 ghost use Rattle.batch_feeder.specs.Feeding.{IsSettled, Rests, Holds, Ends, Advances, Feeds, Keeps, answers_of};
 
 use crate::batch::BatchParts;
-use crate::going::Partial;
+use crate::going::Item;
 use crate::structs::Struct;
 use batch_codec::DecodeError;
 use jaeger_model::Batch;
@@ -61,11 +61,12 @@ fn advance(state: &mut State, alloc: Global, piece: &[u8]) -> Result<(), DecodeE
     let mut left = Piece::new(piece);
     match state {
         State::Reading(reading) => {
-            let batch = match reading.more(alloc, &mut left) {
+            match reading.arrive(alloc, &mut left) {
                 Err(error) => return Err(error),
-                Ok(None) => return Ok(()),
-                Ok(Some(batch)) => batch,
-            };
+                Ok(false) => return Ok(()),
+                Ok(true) => {}
+            }
+            let batch = reading.take(alloc)?;
             complete(state, batch);
             end_of(&left)
         }
@@ -236,6 +237,19 @@ impl Feeder {
     fn feed_byte(&mut self, alloc: Global, byte: u8) -> Result<(), DecodeError>
         ensures feeds { Feeds (answers self.old) (answers self.new) (byte ∷ []) result }
     {
+        if self.wanted > 1 && self.waiting.len() < self.waiting.capacity() {
+            self.waiting.push_reserved(byte);
+            self.wanted -= 1;
+            return Ok(());
+        }
+        self.feed_slowly(alloc, byte)
+    }
+
+    /// Takes a byte that is looked at, or that there may be no room for.
+    #[inline(never)]
+    fn feed_slowly(&mut self, alloc: Global, byte: u8) -> Result<(), DecodeError>
+        ensures feeds { Feeds (answers self.old) (answers self.new) (byte ∷ []) result }
+    {
         if self.wanted > 1 {
             return self.wait(byte);
         }
@@ -243,7 +257,6 @@ impl Feeder {
     }
 
     /// Keeps a byte that shows no fault.
-    #[inline(always)]
     fn wait(&mut self, byte: u8) -> Result<(), DecodeError>
         requires { 1 < self.old.wanted }
         ensures feeds { Feeds (answers self.old) (answers self.new) (byte ∷ []) result }
@@ -258,7 +271,6 @@ impl Feeder {
     }
 
     /// Takes the last byte that is wanted.
-    #[inline(never)]
     fn feed_last(&mut self, alloc: Global, byte: u8) -> Result<(), DecodeError>
         requires { self.old.wanted ≤ 1 }
         ensures feeds { Feeds (answers self.old) (answers self.new) (byte ∷ []) result }

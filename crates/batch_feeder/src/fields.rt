@@ -37,6 +37,9 @@ pub(crate) trait Slots: Drop + Sized {
     /// What the fields make at the stop byte.
     ghost makes: { Self → Result Self.Made DecodeError };
 
+    /// The least number of bytes of the struct.
+    fn least() -> usize;
+
     fn start(alloc: Global) -> Self
         ensures { result ≡ none };
 

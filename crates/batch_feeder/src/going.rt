@@ -4,7 +4,7 @@ ghost use Rattle.batch_codec.specs.declared.fault.DecodeError.{DecodeError};
 ghost use Rattle.batch_codec.specs.declared.fault.DecodeError.TheVariants.{Wire};
 ghost use Rattle.batch_codec.specs.Decoding.{Reading};
 ghost use Rattle.batch_feeder.specs.Outsets.{IsPart};
-ghost use Rattle.batch_feeder.specs.Going.{Begins, Goes, Places, Sets, fault_of};
+ghost use Rattle.batch_feeder.specs.Going.{Arrives, Begins, Goes, Places, Sets, fault_of};
 
 use batch_codec::DecodeError;
 use std::alloc::Global;
@@ -31,6 +31,12 @@ pub(crate) trait Partial: Drop + Sized {
 pub(crate) trait Item: Partial {
     ghost reads: { List ℕ → Result (Self.Value × List ℕ) DecodeError };
 
+    /// What it makes where all of its bytes have come.
+    ghost ends: { Self → Result Self.Value DecodeError };
+
+    /// The least number of bytes of a value.
+    fn least() -> usize;
+
     /// Whether the value stands between two fields of the innermost struct that has begun in it.
     fn rests(&self) -> bool
         ensures wants { result ≡ true → (w : List ℕ) → IsPart w →
@@ -44,6 +50,18 @@ pub(crate) trait Item: Partial {
     ) -> Result<Option<Self::Value>, DecodeError>
         ensures goes { Begins reads Self.resumes part.new piece.old piece.new result }
         ensures no_longer { OnOk result (length piece.new ≤ length piece.old) };
+
+    /// Goes on over a piece: whether all bytes of the value have come, which is then to be taken.
+    fn arrive(&mut self, alloc: Global, piece: &mut Piece<'_>) -> Result<bool, DecodeError>
+        ensures goes { Arrives (Self.resumes self.old) (Self.resumes self.new) (ends self.new)
+            piece.old piece.new result }
+        ensures no_longer { OnOk result (length piece.new ≤ length piece.old) };
+
+    /// Takes the value, all of whose bytes have come, and stands before the first byte of another.
+    fn take(&mut self, alloc: Global) -> Result<Self::Value, DecodeError>
+        ensures value { result ≡ ends self.old }
+        ensures no_want { result ≡ Err (Wire Truncated) → ⊥ }
+        ensures fresh { (w : List ℕ) → Self.resumes self.new w ≡ reads w };
 }
 
 /// The fault of a part.

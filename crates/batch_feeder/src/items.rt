@@ -4,12 +4,12 @@ ghost use Rattle.thrift_binary.specs.Lists.{list_of};
 ghost use Rattle.wire_pieces.specs.Lists.{behind_head, items_from};
 ghost use Rattle.batch_codec.specs.declared.fault.DecodeError.TheVariants.{Wire};
 ghost use Rattle.batch_codec.specs.Decoding.{wire};
-ghost use Rattle.batch_feeder.specs.Going.{Enters, GoesTo, Places, Sets};
-ghost use Rattle.batch_feeder.specs.Lists.{items_behind, list_from};
+ghost use Rattle.batch_feeder.specs.Going.{Enters, GoesTo, Lays, Places, Sets};
+ghost use Rattle.batch_feeder.specs.Lists.{items_behind, items_ended, list_from};
 ghost use Rattle.batch_feeder.specs.Outsets.{IsPart};
 
 use crate::going::{Item, fault_of};
-use batch_codec::DecodeError;
+use batch_codec::{DecodeError, room};
 use jaeger_model::Seq;
 use std::alloc::Global;
 use std::mem;
@@ -38,6 +38,36 @@ fn begin_items<P: Item>(
         }
     }
     Ok(true)
+}
+
+/// Goes on over so many values of a list, behind one whose bytes have come and in its place.
+#[inline(never)]
+fn next_items<P: Item>(
+    items: &mut Vec<P::Value>,
+    left: &mut u32,
+    one: &mut P,
+    alloc: Global,
+    piece: &mut Piece<'_>,
+) -> Result<bool, DecodeError>
+    ensures goes { GoesTo items.new.items
+        (items_ended P.reads items.old.items left.old (P.ends one.old))
+        (items_from P.reads items.new.items left.new (P.Partial.resumes one.new))
+        piece.old piece.new result }
+    ensures no_longer { OnOk result (length piece.new ≤ length piece.old) }
+{
+    loop {
+        let item = one.take(alloc)?;
+        items.push(item)?;
+        if *left == 0 {
+            return Ok(true);
+        }
+        *left -= 1;
+        match one.arrive(alloc, piece) {
+            Err(error) => return Err(error),
+            Ok(false) => return Ok(false),
+            Ok(true) => {}
+        }
+    }
 }
 
 /// A list of structs. It grows by the structs that have come, whatever its size says.
@@ -92,13 +122,14 @@ impl<P: Item> ListPart<P> {
             self.new.one) piece.old piece.new result }
         ensures no_longer { OnOk result (length piece.new ≤ length piece.old) }
     {
-        self.items = Vec::new(alloc);
         if size == 0 {
+            self.items = Vec::new(alloc);
             return Ok(true);
         }
         if code != types::STRUCT {
             return Err(DecodeError::Wire(WireError::BadType));
         }
+        self.items = Vec::with_capacity(alloc, room(size, piece.rest().len(), P::least()))?;
         self.left = size;
         begin_items(&mut self.items, &mut self.left, &mut self.one, alloc, piece)
     }
@@ -119,14 +150,31 @@ impl<P: Item> ListPart<P> {
                 Ok(None) => Ok(false),
                 Ok(Some((code, size))) => self.enter(code, size, alloc, piece),
             },
-            Some(one) => {
-                match one.more(alloc, piece) {
-                    Err(error) => return Err(error),
-                    Ok(None) => return Ok(false),
-                    Ok(Some(item)) => self.items.push(item)?,
-                }
-                begin_items(&mut self.items, &mut self.left, &mut self.one, alloc, piece)
-            }
+            Some(one) => match one.arrive(alloc, piece) {
+                Err(error) => Err(error),
+                Ok(false) => Ok(false),
+                Ok(true) => next_items(&mut self.items, &mut self.left, one, alloc, piece),
+            },
+        }
+    }
+
+    /// Begins a list over a piece, and puts it into its place: the part of it that has come, where it isn't whole.
+    #[inline(always)]
+    pub(crate) fn begin(
+        slot: &mut Seq<P::Value>,
+        alloc: Global,
+        piece: &mut Piece<'_>,
+    ) -> Result<Option<Self>, DecodeError>
+        ensures goes { Lays (list_of wire 12 P.reads)
+            (λ p. list_from P.reads P.Partial.resumes p.items.items p.left p.head p.one)
+            slot.old slot.new piece.old piece.new result }
+        ensures no_longer { OnOk result (length piece.new ≤ length piece.old) }
+    {
+        let mut part = ListPart::new(alloc);
+        match part.place(slot, alloc, piece) {
+            Err(error) => Err(error),
+            Ok(true) => Ok(None),
+            Ok(false) => Ok(Some(part)),
         }
     }
 

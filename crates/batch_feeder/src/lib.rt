@@ -1,10 +1,10 @@
 //! Batches of spans whose bytes come in pieces: `jaeger.thrift` in the Thrift binary protocol.
 //!
 //! A [`Feeder`] is fed piece by piece, and is proved to answer what `batch_codec` decodes of the joined bytes, however
-//! they are cut: [`Feeder::feed`] tells a fault in the piece that holds its last byte, and no other way of cutting
-//! tells another; [`Feeder::finish`] gives the batch. What it keeps grows only by bytes that have come, never by a
-//! size that they claim. Bytes of short pieces wait until the field that they are of is whole or may show a fault, and
-//! are then read at once; others are read where they stand. [`decode_pieces`] joins the calls.
+//! they are cut: [`Feeder::feed`] reports a fault at the piece that holds its last byte, and another cut has no other
+//! fault; [`Feeder::finish`] gives the batch. What it keeps grows only by bytes that have come, never by a size that
+//! they claim. Bytes of short pieces wait until the field that they are of is whole or may show a fault, and are then
+//! read at once; others are read where they stand. [`decode_pieces`] joins the calls.
 //!
 //! - `going`: values of which some bytes have come, as readings of the bytes still to come (`specs/Going.antt`).
 //! - `values`, `texts`, `enums`, `skipped`: single values.

@@ -9,7 +9,7 @@ use crate::skipped::SkipPart;
 use crate::structs::Struct;
 use crate::tag::TagParts;
 use crate::values::I64Part;
-use batch_codec::{DecodeError, Part};
+use batch_codec::{DecodeError, LEAST_LOG, Part};
 use jaeger_model::{Log, Seq, Tag};
 use std::alloc::Global;
 use std::marker::Model;
@@ -94,6 +94,10 @@ impl Slots for LogParts {
     ghost none = { no_log };
 
     ghost makes = { log_from };
+
+    fn least() -> usize {
+        LEAST_LOG
+    }
 
     fn start(_alloc: Global) -> Self {
         LogParts {

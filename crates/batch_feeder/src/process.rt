@@ -17,6 +17,9 @@ use thrift_binary::Cursor;
 use thrift_binary::types::{LIST, STRING};
 use wire_pieces::Piece;
 
+/// The least number of bytes of a process: 7 of the service and the stop byte.
+const LEAST_PROCESS: usize = 8;
+
 /// What was gathered of a process so far.
 #[derive(Drop)]
 pub(crate) struct ProcessParts {
@@ -57,17 +60,10 @@ impl ProcessParts {
             next.new piece.old piece.new result }
         ensures no_longer { OnOk result (length piece.new ≤ length piece.old) }
     {
-        let mut part = ListPart::new(alloc);
-        match part.place(&mut self.tags, alloc, piece) {
-            Err(error) => {
-                drop(part);
-                Err(error)
-            }
-            Ok(true) => {
-                drop(part);
-                Ok(true)
-            }
-            Ok(false) => {
+        match ListPart::begin(&mut self.tags, alloc, piece) {
+            Err(error) => Err(error),
+            Ok(None) => Ok(true),
+            Ok(Some(part)) => {
                 hold_next(next, Step::Value(ProcessHeld::Tags(part)));
                 Ok(false)
             }
@@ -94,6 +90,10 @@ impl Slots for ProcessParts {
     ghost none = { no_process };
 
     ghost makes = { process_from };
+
+    fn least() -> usize {
+        LEAST_PROCESS
+    }
 
     fn start(alloc: Global) -> Self {
         ProcessParts {

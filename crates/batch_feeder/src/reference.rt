@@ -4,7 +4,7 @@ use crate::going::{place, set};
 use crate::reads::{read_id, read_kind};
 use crate::skipped::SkipPart;
 use crate::values::IdPart;
-use batch_codec::{DecodeError, Part};
+use batch_codec::{DecodeError, LEAST_REFERENCE, Part};
 use jaeger_model::{RefKind, SpanId, SpanRef, TraceId};
 use std::alloc::Global;
 use std::marker::Model;
@@ -63,6 +63,10 @@ impl Slots for ReferenceParts {
     ghost none = { no_reference };
 
     ghost makes = { reference_from };
+
+    fn least() -> usize {
+        LEAST_REFERENCE
+    }
 
     fn start(_alloc: Global) -> Self {
         ReferenceParts {

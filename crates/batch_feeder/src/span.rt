@@ -1,7 +1,9 @@
 ghost use Rattle.std.specs.Prelude.{◌≡◌, ◌≤◌, pos, length, OnOk};
+ghost use Rattle.batch_codec.specs.SpanReading.{take_span};
 ghost use Rattle.batch_feeder.specs.Fields.{Opens};
+ghost use Rattle.batch_feeder.specs.Spans.{span_goes_on};
 
-use crate::fields::{Fields, Slots, Step, enter_slowly, hold_next, required};
+use crate::fields::{Fields, Slots, Step, enter_slowly, hold_next};
 use crate::going::{place, set};
 use crate::items::ListPart;
 use crate::log::LogParts;
@@ -12,49 +14,12 @@ use crate::structs::Struct;
 use crate::tag::TagParts;
 use crate::texts::TextPart;
 use crate::values::{I32Part, I64Part, IdPart};
-use batch_codec::{DecodeError, Part};
-use jaeger_model::{Log, Seq, Span, SpanId, SpanRef, Tag, Text, TraceId};
+use batch_codec::{DecodeError, LEAST_SPAN, SpanSlots};
+use jaeger_model::Span;
 use std::alloc::Global;
-use std::marker::Model;
 use thrift_binary::Cursor;
 use thrift_binary::types::{I32, I64, LIST, STRING};
 use wire_pieces::Piece;
-
-/// What was gathered of a span so far.
-#[derive(Drop)]
-pub(crate) struct SpanParts {
-    trace_low: Option<u64>,
-    trace_high: Option<u64>,
-    id: Option<u64>,
-    parent: Option<u64>,
-    operation: Option<Text>,
-    references: Seq<SpanRef>,
-    flags: Option<i32>,
-    start: Option<i64>,
-    duration: Option<i64>,
-    tags: Seq<Tag>,
-    logs: Seq<Log>,
-}
-
-impl Model for SpanParts {
-    ghost use Rattle.batch_codec.specs.declared.span.SpanSlots.{SpanSlots};
-
-    ghost Value = { SpanSlots };
-
-    ghost view = { λ s. record {
-      trace_low = s.trace_low;
-      trace_high = s.trace_high;
-      id = s.id;
-      parent = s.parent;
-      operation = s.operation;
-      references = s.references;
-      flags = s.flags;
-      start = s.start;
-      duration = s.duration;
-      tags = s.tags;
-      logs = s.logs;
-    } };
-}
 
 /// The value of a field of a span, of which some bytes have come.
 #[derive(Drop)]
@@ -73,106 +38,79 @@ pub(crate) enum SpanHeld {
     Skip(SkipPart),
 }
 
-impl SpanParts {
-    ghost use Rattle.batch_codec.specs.SpanReading.{take_span};
-    ghost use Rattle.batch_feeder.specs.Spans.{span_goes_on};
-
-    /// Begins the references over a piece. It stands apart, so that other fields have no place for such a part on their stack.
-    #[tactic(auto, unfolding(batch_codec::specs::SpanReading::take_span, batch_codec::specs::ReferenceReading::reference_at))]
-    #[inline(never)]
-    fn enter_references(
-        &mut self,
-        next: &mut Option<Step<SpanHeld>>,
-        alloc: Global,
-        piece: &mut Piece<'_>,
-    ) -> Result<bool, DecodeError>
-        ensures goes { Opens (take_span self.old 15 (pos 6)) (span_goes_on self.new) self.new
-            next.new piece.old piece.new result }
-        ensures no_longer { OnOk result (length piece.new ≤ length piece.old) }
-    {
-        let mut part = ListPart::new(alloc);
-        match part.place(&mut self.references, alloc, piece) {
-            Err(error) => {
-                drop(part);
-                Err(error)
-            }
-            Ok(true) => {
-                drop(part);
-                Ok(true)
-            }
-            Ok(false) => {
-                hold_next(next, Step::Value(SpanHeld::References(part)));
-                Ok(false)
-            }
-        }
-    }
-
-    /// Begins the tags over a piece. It stands apart, so that other fields have no place for such a part on their stack.
-    #[tactic(auto, unfolding(batch_codec::specs::SpanReading::take_span, batch_codec::specs::TagReading::tag_at))]
-    #[inline(never)]
-    fn enter_tags(
-        &mut self,
-        next: &mut Option<Step<SpanHeld>>,
-        alloc: Global,
-        piece: &mut Piece<'_>,
-    ) -> Result<bool, DecodeError>
-        ensures goes { Opens (take_span self.old 15 (pos 10)) (span_goes_on self.new) self.new
-            next.new piece.old piece.new result }
-        ensures no_longer { OnOk result (length piece.new ≤ length piece.old) }
-    {
-        let mut part = ListPart::new(alloc);
-        match part.place(&mut self.tags, alloc, piece) {
-            Err(error) => {
-                drop(part);
-                Err(error)
-            }
-            Ok(true) => {
-                drop(part);
-                Ok(true)
-            }
-            Ok(false) => {
-                hold_next(next, Step::Value(SpanHeld::Tags(part)));
-                Ok(false)
-            }
-        }
-    }
-
-    /// Begins the logs over a piece. It stands apart, so that other fields have no place for such a part on their stack.
-    #[tactic(auto, unfolding(batch_codec::specs::SpanReading::take_span, batch_codec::specs::LogReading::log_at))]
-    #[inline(never)]
-    fn enter_logs(
-        &mut self,
-        next: &mut Option<Step<SpanHeld>>,
-        alloc: Global,
-        piece: &mut Piece<'_>,
-    ) -> Result<bool, DecodeError>
-        ensures goes { Opens (take_span self.old 15 (pos 11)) (span_goes_on self.new) self.new
-            next.new piece.old piece.new result }
-        ensures no_longer { OnOk result (length piece.new ≤ length piece.old) }
-    {
-        let mut part = ListPart::new(alloc);
-        match part.place(&mut self.logs, alloc, piece) {
-            Err(error) => {
-                drop(part);
-                Err(error)
-            }
-            Ok(true) => {
-                drop(part);
-                Ok(true)
-            }
-            Ok(false) => {
-                hold_next(next, Step::Value(SpanHeld::Logs(part)));
-                Ok(false)
-            }
+/// Begins the references over a piece. It stands apart, so that other fields have no place for such a part on their stack.
+#[tactic(auto, unfolding(batch_codec::specs::SpanReading::take_span, batch_codec::specs::ReferenceReading::reference_at))]
+#[inline(never)]
+fn enter_references(
+    slots: &mut SpanSlots,
+    next: &mut Option<Step<SpanHeld>>,
+    alloc: Global,
+    piece: &mut Piece<'_>,
+) -> Result<bool, DecodeError>
+    ensures goes { Opens (take_span slots.old 15 (pos 6)) (span_goes_on slots.new) slots.new
+        next.new piece.old piece.new result }
+    ensures no_longer { OnOk result (length piece.new ≤ length piece.old) }
+{
+    match ListPart::begin(&mut slots.references, alloc, piece) {
+        Err(error) => Err(error),
+        Ok(None) => Ok(true),
+        Ok(Some(part)) => {
+            hold_next(next, Step::Value(SpanHeld::References(part)));
+            Ok(false)
         }
     }
 }
 
-impl Slots for SpanParts {
+/// Begins the tags over a piece. It stands apart, so that other fields have no place for such a part on their stack.
+#[tactic(auto, unfolding(batch_codec::specs::SpanReading::take_span, batch_codec::specs::TagReading::tag_at))]
+#[inline(never)]
+fn enter_tags(
+    slots: &mut SpanSlots,
+    next: &mut Option<Step<SpanHeld>>,
+    alloc: Global,
+    piece: &mut Piece<'_>,
+) -> Result<bool, DecodeError>
+    ensures goes { Opens (take_span slots.old 15 (pos 10)) (span_goes_on slots.new) slots.new
+        next.new piece.old piece.new result }
+    ensures no_longer { OnOk result (length piece.new ≤ length piece.old) }
+{
+    match ListPart::begin(&mut slots.tags, alloc, piece) {
+        Err(error) => Err(error),
+        Ok(None) => Ok(true),
+        Ok(Some(part)) => {
+            hold_next(next, Step::Value(SpanHeld::Tags(part)));
+            Ok(false)
+        }
+    }
+}
+
+/// Begins the logs over a piece. It stands apart, so that other fields have no place for such a part on their stack.
+#[tactic(auto, unfolding(batch_codec::specs::SpanReading::take_span, batch_codec::specs::LogReading::log_at))]
+#[inline(never)]
+fn enter_logs(
+    slots: &mut SpanSlots,
+    next: &mut Option<Step<SpanHeld>>,
+    alloc: Global,
+    piece: &mut Piece<'_>,
+) -> Result<bool, DecodeError>
+    ensures goes { Opens (take_span slots.old 15 (pos 11)) (span_goes_on slots.new) slots.new
+        next.new piece.old piece.new result }
+    ensures no_longer { OnOk result (length piece.new ≤ length piece.old) }
+{
+    match ListPart::begin(&mut slots.logs, alloc, piece) {
+        Err(error) => Err(error),
+        Ok(None) => Ok(true),
+        Ok(Some(part)) => {
+            hold_next(next, Step::Value(SpanHeld::Logs(part)));
+            Ok(false)
+        }
+    }
+}
+
+impl Slots for SpanSlots {
     ghost use Rattle.batch_codec.specs.Gathered.{no_span};
-    ghost use Rattle.batch_codec.specs.SpanReading.{take_span, span_from};
+    ghost use Rattle.batch_codec.specs.SpanReading.{span_from};
     ghost use Rattle.batch_codec.proofs.CutBatches.{take_span_safe};
-    ghost use Rattle.batch_feeder.specs.Spans.{span_goes_on};
     ghost use Rattle.batch_feeder.specs.NotShort.{span_not_short};
     ghost use Rattle.batch_feeder.specs.ShortFields.{take_span_short};
 
@@ -188,20 +126,12 @@ impl Slots for SpanParts {
 
     ghost makes = { span_from };
 
+    fn least() -> usize {
+        LEAST_SPAN
+    }
+
     fn start(alloc: Global) -> Self {
-        SpanParts {
-            trace_low: None,
-            trace_high: None,
-            id: None,
-            parent: None,
-            operation: None,
-            references: Seq::new(alloc),
-            flags: None,
-            start: None,
-            duration: None,
-            tags: Seq::new(alloc),
-            logs: Seq::new(alloc),
-        }
+        SpanSlots::new(alloc)
     }
 
     #[tactic(auto, unfolding(batch_codec::specs::SpanReading::take_span))]
@@ -276,29 +206,9 @@ impl Slots for SpanParts {
         }
     }
 
-    #[tactic(auto, unfolding(batch_codec::specs::SpanReading::span_from))]
     #[inline(always)]
     fn whole(self) -> Result<Span, DecodeError> {
-        let low = required(self.trace_low, Part::Span, 1)?;
-        let high = required(self.trace_high, Part::Span, 2)?;
-        let id = required(self.id, Part::Span, 3)?;
-        let parent = required(self.parent, Part::Span, 4)?;
-        let operation = required(self.operation, Part::Span, 5)?;
-        let flags = required(self.flags, Part::Span, 7)?;
-        let start = required(self.start, Part::Span, 8)?;
-        let duration = required(self.duration, Part::Span, 9)?;
-        Ok(Span {
-            trace: TraceId { high, low },
-            id: SpanId(id),
-            parent: SpanId(parent),
-            operation,
-            references: self.references,
-            flags,
-            start,
-            duration,
-            tags: self.tags,
-            logs: self.logs,
-        })
+        SpanSlots::whole(self)
     }
 
     ghost safe = { take_span_safe };
@@ -308,7 +218,7 @@ impl Slots for SpanParts {
     ghost short = { take_span_short };
 }
 
-impl Fields for SpanParts {
+impl Fields for SpanSlots {
     fn enter(
         &mut self,
         next: &mut Option<Step<SpanHeld>>,
@@ -318,9 +228,9 @@ impl Fields for SpanParts {
         piece: &mut Piece<'_>,
     ) -> Result<bool, DecodeError> {
         match (code, id) {
-            (LIST, 6) => self.enter_references(next, alloc, piece),
-            (LIST, 10) => self.enter_tags(next, alloc, piece),
-            (LIST, 11) => self.enter_logs(next, alloc, piece),
+            (LIST, 6) => enter_references(self, next, alloc, piece),
+            (LIST, 10) => enter_tags(self, next, alloc, piece),
+            (LIST, 11) => enter_logs(self, next, alloc, piece),
             _ => enter_slowly(self, next, code, id, alloc, piece),
         }
     }

@@ -32,13 +32,22 @@ impl<S: Fields> Partial for Struct<S> {
         match more_fields(&mut self.slots, &mut self.step, alloc, piece) {
             Err(error) => Err(error),
             Ok(false) => Ok(None),
-            Ok(true) => self.finish(alloc),
+            Ok(true) => match self.take_made(alloc) {
+                Err(error) => Err(error),
+                Ok(made) => Ok(Some(made)),
+            },
         }
     }
 }
 
 impl<S: Fields> Item for Struct<S> {
     ghost reads = { struct_at S.takes S.none S.makes };
+
+    ghost ends = { λ p. S.makes p.slots };
+
+    fn least() -> usize {
+        S::least()
+    }
 
     fn rests(&self) -> bool {
         self.is_between()
@@ -59,6 +68,15 @@ impl<S: Fields> Item for Struct<S> {
                 Ok(None)
             }
         }
+    }
+
+    #[inline(always)]
+    fn arrive(&mut self, alloc: Global, piece: &mut Piece<'_>) -> Result<bool, DecodeError> {
+        more_fields(&mut self.slots, &mut self.step, alloc, piece)
+    }
+
+    fn take(&mut self, alloc: Global) -> Result<S::Made, DecodeError> {
+        self.take_made(alloc)
     }
 }
 
@@ -108,12 +126,16 @@ impl<S: Slots> Struct<S> {
         }
     }
 
-    /// The struct of its fields, which are whole. It stands apart, so that a call that goes on inside a field has no place
-    /// for a struct on its stack.
+    /// Takes the struct of its fields, which are whole, and stands before the first byte of another. It stands apart, so
+    /// that a call that goes on inside a field has no place for a struct on its stack.
     #[inline(never)]
-    fn finish(&mut self, alloc: Global) -> Result<Option<S::Made>, DecodeError>
-        ensures { result ≡ made_of S.makes self.old.slots }
+    fn take_made(&mut self, alloc: Global) -> Result<S::Made, DecodeError>
+        ensures made { result ≡ S.makes self.old.slots }
+        ensures fresh { (w : List ℕ) → struct_from S.takes S.resumes S.makes self.new.slots
+            self.new.step w ≡ struct_at S.takes S.none S.makes w }
     {
-        made(mem::replace(&mut self.slots, S::start(alloc)))
+        let slots = mem::replace(&mut self.slots, S::start(alloc));
+        self.step = Step::Head(FieldHead::new());
+        slots.whole()
     }
 }

@@ -7,7 +7,7 @@ use crate::reads::{read_binary, read_bool, read_double, read_i64, read_text, rea
 use crate::skipped::SkipPart;
 use crate::texts::{BinaryPart, TextPart};
 use crate::values::{BoolPart, DoublePart, I64Part};
-use batch_codec::{DecodeError, Part, TagType};
+use batch_codec::{DecodeError, LEAST_TAG, Part, TagType};
 use jaeger_model::{Seq, Tag, Text, Value};
 use std::alloc::Global;
 use std::marker::Model;
@@ -75,6 +75,10 @@ impl Slots for TagParts {
     ghost none = { no_tag };
 
     ghost makes = { tag_from };
+
+    fn least() -> usize {
+        LEAST_TAG
+    }
 
     fn start(alloc: Global) -> Self {
         TagParts {

@@ -97,7 +97,8 @@ fn breach_message(breach: Breach) -> &'static str
 /// The response of a refusal, where it takes no memory.
 #[tactic(auto, unfolding(crate::specs::Replies::response_of))]
 fn fixed_refusal(refusal: Refusal, close: bool) -> Option<&'static [u8]>
-    ensures response { IfSome result (λ bytes. bytes.now ≡ response_of (reply.Refused refusal) close) }
+    ensures response { IfSome result (λ bytes.
+        bytes.now ≡ response_of (reply.Refused refusal) close) }
     ensures which { is_some result ≡ takes_no_memory (reply.Refused refusal) }
 {
     match refusal {

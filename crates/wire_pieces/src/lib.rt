@@ -4,7 +4,7 @@
 //! which gives the value once its last byte has come, and nothing before that. Contracts speak of what
 //! a part reads of the bytes that are still to come, in the words of `thrift_binary`: so a part that is
 //! fed a piece and then read with what follows gives what the joined bytes give, faults included, and
-//! a fault is told in the piece that holds its last byte.
+//! a fault is reported at the piece that holds its last byte.
 //!
 //! - [`I16`], [`I32`], [`I64`], [`Double`], [`Bool`], [`Size`]: single values.
 //! - [`StringPart`]: a string or binary, which grows only by bytes that have come.

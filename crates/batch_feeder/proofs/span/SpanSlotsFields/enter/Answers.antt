@@ -1,7 +1,7 @@
 use Rattle.std.proofs.Common.{rules, w16, ◌≡◌, pos, sym}
 use Rattle.std.proofs.lemmas.Int.{to_z-of_z}
 use mir.Val.{SFits}
-use Rattle.batch_feeder.proofs.span.SpanPartsFields.enter.Goals as goal
+use Rattle.batch_feeder.proofs.span.SpanSlotsFields.enter.Goals as goal
 
 pub returns-in_default-clause-goes : goal.returns-in_default-clause-goes
 returns-in_default-clause-goes c =
