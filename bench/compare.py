@@ -43,7 +43,7 @@ CRATES = {
 
 # The program over `decode` and the Feeder: main of plain.rs, with a second word for the way.
 MAIN = """//! Decodes the bodies of standard input so many times as its first word says, and prints the number of their spans. The second
-//! word may be `pieces`, each body fed in one piece, or `bytes`, a byte at a time.
+//! word may be `pieces`, each body fed in one piece, or the size of the pieces.
 #![tactic(auto)]
 
 use anyhow::Result;
@@ -74,42 +74,30 @@ fn bodies(alloc: Global, input: &[u8]) -> Result<Vec<&[u8]>> {
     Ok(bodies)
 }
 
-/// How a body is read: whole, or by a Feeder in pieces of a size or a byte at a time.
-#[derive(Clone, Copy)]
-enum Way {
-    Whole,
-    Pieces(usize),
-    Bytes,
-}
-
-/// The batch of a body.
-fn read(alloc: Global, body: &[u8], way: Way) -> Result<Batch, DecodeError> {
+/// The batch of a body that is fed in pieces of this size.
+fn fed(alloc: Global, body: &[u8], size: usize) -> Result<Batch, DecodeError> {
     let mut feeder = Feeder::new(alloc);
-    match way {
-        Way::Whole => return decode(alloc, body),
-        Way::Pieces(size) => {
-            for piece in body.chunks(size.max(1)) {
-                feeder.feed(alloc, piece)?;
-            }
-        }
-        Way::Bytes => {
-            for byte in body {
-                feeder.feed(alloc, slice::from_ref(byte))?;
-            }
-        }
+    for piece in body.chunks(size.max(1)) {
+        feeder.feed(alloc, piece)?;
     }
     feeder.finish()
 }
 
-/// The way that a word names: `pieces` is one piece, a number a size.
-fn way_of(word: Option<&String>) -> Way {
-    match word {
-        None => Way::Whole,
-        Some(word) if word.as_str() == "pieces" => Way::Pieces(usize::MAX),
-        Some(word) => match word.parse() {
-            Ok(size) => Way::Pieces(size),
-            Err(_) => Way::Bytes,
-        },
+/// The same a byte at a time.
+fn fed_by_bytes(alloc: Global, body: &[u8]) -> Result<Batch, DecodeError> {
+    let mut feeder = Feeder::new(alloc);
+    for byte in body {
+        feeder.feed(alloc, slice::from_ref(byte))?;
+    }
+    feeder.finish()
+}
+
+/// The batch of a body, decoded whole where the size is 0.
+fn read(alloc: Global, body: &[u8], size: usize) -> Result<Batch, DecodeError> {
+    match size {
+        0 => decode(alloc, body),
+        1 => fed_by_bytes(alloc, body),
+        _ => fed(alloc, body, size),
     }
 }
 
@@ -117,14 +105,18 @@ fn main(rt: HostRuntime) -> Result<()> {
     let alloc = rt.alloc();
     let words: Vec<String> = env::args(&rt)?.collect(alloc)?;
     let rounds: u32 = words.get(1).and_then(|word| word.parse().ok()).unwrap_or(1);
-    let way = way_of(words.get(2));
+    let size: usize = match words.get(2) {
+        Some(way) if way.as_str() == "pieces" => usize::MAX,
+        Some(way) => way.parse().unwrap_or(0),
+        None => 0,
+    };
     let mut input = Vec::new(alloc);
     rt.stdin().read_to_end(&mut input)?;
     let bodies = bodies(alloc, &input)?;
     let mut spans = 0_u64;
     for _ in 0..rounds {
         for body in bodies.iter() {
-            spans = spans.wrapping_add(read(alloc, body, way)?.spans.len() as u64);
+            spans = spans.wrapping_add(read(alloc, body, size)?.spans.len() as u64);
         }
     }
     println!(&rt; "{spans}")?;
@@ -171,7 +163,7 @@ def build_apache(folder):
 PROGRAMS = (
     ("rattle", build_rattle),
     ("pieces", build_rattle, "pieces"),
-    ("bytes", build_rattle, "bytes"),
+    ("bytes", build_rattle, "1"),
     ("rust", build_rust),
     ("apache", build_apache),
 )
