@@ -8,6 +8,7 @@ use Rattle.trace_model.specs.declared.limits.Limits.{Limits}
 use Rattle.trace_model.specs.declared.refusal.Refusal.{Refusal}
 use Rattle.trace_model.specs.declared.refusal.Refusal.TheVariants.{Stale, JournalFull}
 use Rattle.trace_model.specs.Histories.{last_number, span_count}
+use Rattle.trace_model.specs.Works.{spans_brought}
 use Rattle.trace_model.specs.Refusals.{has_room, refusal_of}
 use Rattle.trace_model.proofs.Legality.{legal_push, span_count_push}
 use Rattle.arrival_journal.specs.Invariants.{IsKept}
@@ -19,16 +20,16 @@ use Rattle.std.proofs.lemmas.List.{map_push}
 pub record MayFollow (limits : Limits) (h : List Entry) (e : Entry) : Type 0 where
   pub rises : last_number e.seat h < e.number
   pub batches : length h < limits.batches
-  pub spans : span_count h + length e.batch.spans ≤ limits.spans
+  pub spans : span_count h + length (spans_brought e.work) ≤ limits.spans
 
 pub may_follow : (limits : Limits) (h : List Entry) (e : Entry) → refusal_of limits h e ≡ None → MayFollow limits h e
 may_follow limits h e none =
     let tests = by_tests (nat_le e.number (last_number e.seat h)) (has_room limits h e) (Stale (last_number e.seat h)) (JournalFull (length h) (span_count h)) none in
-    let rooms = both (nat_le (length h + 1) limits.batches) (nat_le (span_count h + length e.batch.spans) limits.spans) tests.1 in
+    let rooms = both (nat_le (length h + 1) limits.batches) (nat_le (span_count h + length (spans_brought e.work)) limits.spans) tests.1 in
     record {
       rises = leb-false e.number (last_number e.seat h) tests.0;
       batches = let few = leb-true (length h + 1) limits.batches rooms.0 in omega arith;
-      spans = leb-true (span_count h + length e.batch.spans) limits.spans rooms.1;
+      spans = leb-true (span_count h + length (spans_brought e.work)) limits.spans rooms.1;
     }
   where
     by_tests : (a b : Bool) (x y : Refusal) → (if a then Some x else if b then None else Some y) ≡ None → (a ≡ false) × (b ≡ true)
@@ -56,7 +57,7 @@ last_push h e old new last rises noted seat =
 pub kept_push : (limits : Limits) (h : List Entry) (most most' : ℕ) (outlines outlines' : List Outline) (most_outlines most_outlines' spans : ℕ) (e : Entry) (old new : List ℕ) (seats seats' : ℕ)
     → IsKept limits h most outlines most_outlines spans old seats → refusal_of limits h e ≡ None → outlines' ≡ outlines ++ outline_in e ∷ []
     → ((seat : ℕ) → get_or new seat 0 ≡ (if e.seat == seat then e.number else get_or old seat 0)) → most' ≡ most → most_outlines' ≡ most_outlines → seats' ≡ seats
-    → IsKept limits (h ++ e ∷ []) most' outlines' most_outlines' (spans + length e.batch.spans) new seats'
+    → IsKept limits (h ++ e ∷ []) most' outlines' most_outlines' (spans + length (spans_brought e.work)) new seats'
 kept_push limits h most most' outlines outlines' most_outlines most_outlines' spans e old new seats seats' kept none outlined noted same same_outlines stays =
     let follows = may_follow limits h e none in
     record {
@@ -64,7 +65,7 @@ kept_push limits h most most' outlines outlines' most_outlines most_outlines' sp
       room = let room = kept.room in omega arith;
       outlined = outlined ∙ ap (λ os. os ++ outline_in e ∷ []) kept.outlined ∙ sym (map_push outline_in h e);
       room_for_outlines = let room = kept.room_for_outlines in omega arith;
-      counted = ap (λ k. k + length e.batch.spans) kept.counted ∙ sym (span_count_push h e);
+      counted = ap (λ k. k + length (spans_brought e.work)) kept.counted ∙ sym (span_count_push h e);
       last = last_push h e old new kept.last follows.rises noted;
       seats_fit = let fit = kept.seats_fit in omega arith;
     }

@@ -2,11 +2,14 @@
 use Rattle.std.specs.Prelude.{ℕ, ◌+◌, ◌*◌, ◌/◌, ◌%◌, ◌-◌, ◌^◌, ◌==◌, Bool, true, ◌||◌, ◌&&◌, List, [], ◌∷◌, ◌++◌, length, get_or, flat_map, nat_le, if◌then◌else◌}
 use Rattle.std.specs.Int.Bits.{bit_or}
 use Rattle.std.specs.List.{fold}
+use Rattle.std.specs.Option.{option_map_or}
 use Rattle.jaeger_model.specs.declared.tag.Tag.{Tag}
 use Rattle.jaeger_model.specs.declared.span.Log.{Log}
 use Rattle.jaeger_model.specs.declared.span.Span.{Span}
 use Rattle.jaeger_model.specs.declared.batch.Batch.{Batch}
 use Rattle.jaeger_model.specs.Tags.{tag_text}
+use Rattle.trace_model.specs.declared.entry.Work.{Work}
+use Rattle.trace_model.specs.Works.{batch_brought}
 
 -- a number for a text, by its length and by its first, middle and last byte
 abbrev pub mixed : List ℕ → ℕ
@@ -45,3 +48,7 @@ own_tags s = s.tags ++ fields_of s.logs
 -- the bits of the tags of the process, of its spans and of their logs
 abbrev pub bits_of : Batch → ℕ
 bits_of b = fold with_tag 0 (b.process.tags ++ flat_map own_tags b.spans)
+
+-- a limit has no tags
+abbrev pub bits_brought : Work → ℕ
+bits_brought w = option_map_or bits_of (batch_brought w) 0

@@ -4,6 +4,7 @@ use Rattle.std.specs.List.{fold}
 use Rattle.std.specs.Int.{int_min, int_max}
 use Rattle.jaeger_model.specs.declared.span.Span.{Span}
 use Rattle.trace_model.specs.declared.entry.Entry.{Entry}
+use Rattle.trace_model.specs.Works.{spans_brought}
 use Rattle.arrival_journal.specs.declared.times.Times.{Times}
 
 -- the greatest and the least number of microseconds
@@ -38,4 +39,4 @@ times_with t s = record {
 }
 
 abbrev pub times_in : Entry → Times
-times_in e = times_of e.batch.spans
+times_in e = times_of (spans_brought e.work)

@@ -146,7 +146,7 @@ impl Journal {
         if entry.number <= last {
             return Err(Refusal::Stale { last });
         }
-        let more = entry.batch.spans.len() as u64;
+        let more = entry.work.spans().len() as u64;
         if batches >= u64::from(self.limits.batches)
             || more > u64::from(self.limits.spans) - spans
         {
@@ -161,9 +161,9 @@ impl Journal {
         ensures appended { self.new.held ≡ followed_by self.old.held (arc_value entry) }
         ensures legal { IsLegal self.new.held.limits self.new.held.entries }
     {
-        self.spans += entry.batch.spans.len() as u64;
+        self.spans += entry.work.spans().len() as u64;
         note(&mut self.last_numbers, entry.seat, entry.number);
-        self.outlines.push_reserved(Outline::of(&entry.batch));
+        self.outlines.push_reserved(Outline::of(&entry.work));
         self.entries.push_reserved(entry);
     }
 

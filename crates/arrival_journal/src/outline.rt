@@ -1,9 +1,9 @@
 ghost use Rattle.std.specs.Prelude.{◌≡◌};
 ghost use Rattle.arrival_journal.specs.Outlines.{outline_of};
 
-use crate::tagging::bits_of;
+use crate::tagging::bits_brought;
 use crate::times::Times;
-use jaeger_model::Batch;
+use trace_model::Work;
 
 /// What is known of an entry without a look at its spans.
 #[derive(Clone, Copy, Debug, PartialEq, Eq)]
@@ -16,14 +16,14 @@ pub struct Outline {
 }
 
 impl Outline {
-    /// The outline of an entry with this batch.
+    /// The outline of an entry that brings this; a limit has no spans and no tags.
     #[tactic(auto, unfolding(crate::specs::Outlines::outline_of))]
-    pub(crate) fn of(batch: &Batch) -> Self
-        ensures { result ≡ outline_of batch.now }
+    pub(crate) fn of(work: &Work) -> Self
+        ensures { result ≡ outline_of work.now }
     {
         Outline {
-            times: Times::of(batch.spans.as_slice()),
-            tags: bits_of(batch),
+            times: Times::of(work.spans()),
+            tags: bits_brought(work),
         }
     }
 }

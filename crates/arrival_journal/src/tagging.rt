@@ -3,9 +3,10 @@
 ghost use Rattle.std.specs.Prelude.{◌≡◌, ◌<◌, get_or, flat_map};
 ghost use Rattle.std.specs.List.{fold};
 ghost use Rattle.jaeger_model.specs.Tags.{tag_text, hex_text};
-ghost use Rattle.arrival_journal.specs.Tagging.{mixed, begins_number, may_be_number, text_part, tag_place, bit_of, with_tag, fields_of, own_tags, bits_of};
+ghost use Rattle.arrival_journal.specs.Tagging.{mixed, begins_number, may_be_number, text_part, tag_place, bit_of, with_tag, fields_of, own_tags, bits_of, bits_brought};
 
 use jaeger_model::{Batch, Log, Span, Tag, Value};
+use trace_model::Work;
 
 /// The byte at an index, 0 behind the end.
 fn byte_at(bytes: &[u8], at: usize) -> u8
@@ -130,11 +131,21 @@ fn with_spans(before: u128, spans: &[Span]) -> u128
 }
 
 /// The bits of the tags of the process, of its spans and of their logs.
-pub(crate) fn bits_of(batch: &Batch) -> u128
+fn bits_of(batch: &Batch) -> u128
     ensures { result ≡ bits_of batch.now }
 {
     with_spans(
-        with_tags(0, batch.process.tags.as_slice()),
+        with_tags(0, batch.process.get().tags.as_slice()),
         batch.spans.as_slice(),
     )
+}
+
+/// The bits of what an entry brings: those of its batch, and none of a limit.
+pub(crate) fn bits_brought(work: &Work) -> u128
+    ensures { result ≡ bits_brought work.now }
+{
+    match work.batch() {
+        Some(batch) => bits_of(batch),
+        None => 0,
+    }
 }

@@ -8,15 +8,26 @@ use Rattle.trace_model.specs.Histories.{arrivals}
 use Rattle.service_index.specs.Listing.{Listed, listed, listed_in}
 use Rattle.service_index.specs.Naming.{Names, service_alone}
 use Rattle.service_index.specs.Indexes.{Index, IsIndexed, listing_by}
+use Rattle.service_places.specs.Reported.{group_in}
+use Rattle.arrival_names.specs.declared.kind.Kind.{Kind}
+use Rattle.arrival_names.specs.Kinds.{kind_text}
 use Rattle.arrival_names.specs.Numbers.{Numbered, AreOf}
 
 -- what the arrivals report, one after the other
 abbrev pub reports : List Entry → List Listed
 reports h = map listed (arrivals h)
 
--- the names of the arrivals, each under its arrival number
+-- what the arrival of a number reports
+abbrev pub reported_at : List Entry → ℕ → Listed
+reported_at h n = get_or (reports h) n (service_alone [])
+
+-- the kinds are those of the arrivals
+abbrev pub AreKinds : List Entry → List Kind → Type 0
+AreKinds h kinds = map kind_text kinds ≡ map (λ (l : Listed). l.operation.kind) (reports h)
+
+-- the names of the arrivals, each under its arrival number, and the numbers of their services
 abbrev pub names_of : List Entry → Names
-names_of h = record { count = length (arrivals h); at = λ n. get_or (reports h) n (service_alone []) }
+names_of h = record { count = length (arrivals h); at = reported_at h; group = λ n. group_in h (reported_at h n).service }
 
 -- what is seen of the names that are kept
 pub record Kept : Type 0 where
@@ -26,6 +37,7 @@ pub record Kept : Type 0 where
 -- they are those of the arrivals of these entries
 pub record IsKept (h : List Entry) (kept : Kept) : Type 0 where
   pub numbers : AreOf h kept.numbers.entry_of kept.numbers.firsts
+  pub kinds : AreKinds h kept.numbers.kinds
   pub indexed : IsIndexed (names_of h) kept.index
   pub listed : listing_by (names_of h) kept.index ≡ listed_in (arrivals h)
   pub used : kept.index.used ≡ length (arrivals h)

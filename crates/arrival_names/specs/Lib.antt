@@ -1,2 +1,4 @@
+pub mod Kinds
 pub mod Numbers
 pub mod Kept
+pub mod Grouping

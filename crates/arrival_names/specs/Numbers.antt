@@ -1,16 +1,17 @@
 -- The spans of entries by their arrival numbers, the first of all being 0.
-use Rattle.std.specs.Prelude.{◌≡◌, ℕ, ◌-◌, ◌<◌, ◌≤◌, List, length, get_or, take}
+use Rattle.std.specs.Prelude.{◌≡◌, ℕ, ◌-◌, ◌<◌, ◌≤◌, List, length, get_or}
 use Rattle.jaeger_model.specs.declared.placed.Placed.{Placed}
-use Rattle.jaeger_model.specs.declared.span.Span.{Span}
-use Rattle.jaeger_model.specs.Parents.{placed}
 use Rattle.trace_model.specs.declared.entry.Entry.{Entry}
+use Rattle.arrival_names.specs.declared.kind.Kind.{Kind}
+use Rattle.trace_model.specs.Works.{spans_brought, placed_brought}
 use Rattle.trace_model.specs.Histories.{arrivals}
 
 -- what is seen of the numbers: for each arrival which entry it came in, for each entry the number of its
--- first span, and how many of both there is room for
+-- first span, for each arrival its kind, and how many of both there is room for
 pub record Numbered : Type 0 where
   pub entry_of : List ℕ
   pub firsts : List ℕ
+  pub kinds : List Kind
   pub batches : ℕ
   pub spans : ℕ
 
@@ -18,15 +19,11 @@ pub record Numbered : Type 0 where
 pub record IsAt (h : List Entry) (before first n : ℕ) : Type 0 where
   pub entry : before < length h
   pub from : first ≤ n
-  pub within : (e : Entry) → e ≡ get_or h before e → n - first < length e.batch.spans
-  pub is : (e : Entry) → e ≡ get_or h before e → (s : Span) → s ≡ get_or e.batch.spans (n - first) s → (d : Placed) → get_or (arrivals h) n d ≡ placed e.batch s
+  pub within : (e : Entry) → e ≡ get_or h before e → n - first < length (spans_brought e.work)
+  pub is : (e : Entry) → e ≡ get_or h before e → (d : Placed) → get_or (arrivals h) n d ≡ get_or (placed_brought e.work) (n - first) d
 
 -- the numbers are those of the arrivals of these entries
 pub record AreOf (h : List Entry) (entry_of firsts : List ℕ) : Type 0 where
   pub as_many : length entry_of ≡ length (arrivals h)
   pub starts : length firsts ≡ length h
   pub at : (n : ℕ) → n < length entry_of → IsAt h (get_or entry_of n 0) (get_or firsts (get_or entry_of n 0) 0) n
-
--- all entries but the last
-abbrev pub before_last : List Entry → List Entry
-before_last h = take (length h - 1) h

@@ -1,16 +1,22 @@
-ghost use Rattle.std.specs.Prelude.{◌≡◌, ◌<◌, ◌≤◌, [], map, length, get_or, IfOk};
+ghost use Rattle.std.specs.Prelude.{◌≡◌, ◌<◌, ◌≤◌, ◌+◌, ◌++◌, [], map, length, get_or, IfOk, vec_capacity};
 ghost use Rattle.std.specs.Arc.{arc_value};
 ghost use Rattle.jaeger_model.specs.declared.placed.Placed.{Placed};
 ghost use Rattle.trace_model.specs.Histories.{arrivals};
 ghost use Rattle.trace_model.specs.Seeing.{seen};
-ghost use Rattle.arrival_names.specs.Numbers.{AreOf, IsAt, before_last};
+ghost use Rattle.jaeger_model.specs.Tags.{kind_of};
+ghost use Rattle.service_places.specs.Reported.{before_last, IsKept as PlacesKept};
+ghost use Rattle.arrival_names.specs.Numbers.{AreOf, IsAt};
+ghost use Rattle.arrival_names.specs.Kinds.{kind_text};
+ghost use Rattle.arrival_names.specs.Kept.{AreKinds};
 
-use jaeger_model::{Seen, kind_of};
+use crate::kind::Kind;
+use jaeger_model::Span;
 use service_index::Texts;
+use service_places::ServicePlaces;
 use std::alloc::{AllocError, Global};
 use std::marker::Model;
 use std::sync::Arc;
-use trace_model::Entry;
+use trace_model::{Entry, Work};
 
 /// Which span has which arrival number.
 #[derive(Drop)]
@@ -21,6 +27,8 @@ pub struct ArrivalNumbers {
     entry_of: Vec<u32>,
     /// For each entry the number of its first span.
     firsts: Vec<u32>,
+    /// For each arrival its kind.
+    kinds: Vec<Kind>,
 }
 
 impl Model for ArrivalNumbers {
@@ -29,40 +37,73 @@ impl Model for ArrivalNumbers {
 
     ghost Value = { Numbered };
 
-    ghost view = { λ a. record { entry_of = a.entry_of.items; firsts = a.firsts.items; batches = a.batches; spans = a.spans } };
+    ghost view = { λ a. record { entry_of = a.entry_of.items; firsts = a.firsts.items; kinds = a.kinds.items; batches = a.batches; spans = a.spans } };
 
     ghost invariant = { λ a. (a.batches ≤ vec_capacity a.firsts)
         × (a.spans ≤ vec_capacity a.entry_of) × (length a.entry_of.items ≤ a.spans)
-        × (a.spans < 2 ^ 32) };
+        × (a.spans < 2 ^ 32) × (a.spans ≤ vec_capacity a.kinds) };
 }
 
 /// The arrivals of a list of entries under their numbers, where they stand.
 #[derive(Drop)]
 pub struct Arrivals<'a> {
     entries: &'a [Arc<Entry>],
+    reported: &'a ServicePlaces,
     entry_of: &'a [u32],
     firsts: &'a [u32],
-    ghost numbered: { AreOf (map arc_value entries.now) entry_of.now firsts.now },
+    kinds: &'a [Kind],
+}
+
+impl<'a> Model for Arrivals<'a> {
+    ghost use Rattle.std.specs.Prelude.{List, map};
+    ghost use Rattle.std.specs.Arc.{arc_value};
+    ghost use Rattle.trace_model.specs.declared.entry.Entry.{Entry as EntryValue};
+    ghost use Rattle.service_places.specs.Reported.{IsKept as PlacesKept};
+    ghost use Rattle.arrival_names.specs.Numbers.{AreOf};
+    ghost use Rattle.arrival_names.specs.Kept.{AreKinds};
+
+    ghost Value = { List EntryValue };
+
+    ghost view = { λ a. map arc_value a.entries.now };
+
+    ghost invariant = { λ a. AreOf (map arc_value a.entries.now) a.entry_of.now a.firsts.now
+        × AreKinds (map arc_value a.entries.now) a.kinds.now
+        × PlacesKept (map arc_value a.entries.now) a.reported.now };
 }
 
 impl<'a> Texts for Arrivals<'a> {
-    ghost use Rattle.std.specs.Prelude.{map};
-    ghost use Rattle.std.specs.Arc.{arc_value};
     ghost use Rattle.arrival_names.specs.Kept.{names_of};
+    ghost use Rattle.arrival_names.specs.Grouping.{names_grouped};
 
-    ghost names = { λ a. names_of (map arc_value a.entries.now) };
+    ghost names = { names_of };
 
     fn name_at(&self, n: u32) -> (&str, &str, &str) {
         let before = self.entry_of[n as usize];
         let entry = &self.entries[before as usize];
         let index = n - self.firsts[before as usize];
-        let span = &entry.batch.spans.as_slice()[index as usize];
-        (
-            entry.batch.process.service.as_str(),
-            span.operation.as_str(),
-            kind_of(span),
-        )
+        let kind = self.kinds[n as usize];
+        match &entry.work {
+            Work::Batch(batch) => {
+                let span = &batch.spans.as_slice()[index as usize];
+                (
+                    batch.process.get().service.as_str(),
+                    span.operation.as_str(),
+                    kind.text(),
+                )
+            }
+            Work::TraceLimit(_) => unreachable!(),
+        }
     }
+
+    fn group_at(&self, n: u32) -> u32 {
+        self.reported.group_at(self.entry_of[n as usize])
+    }
+
+    fn group_of(&self, service: &str) -> Option<u32> {
+        self.reported.group_of(self.entries, service)
+    }
+
+    ghost grouped = { names_grouped };
 }
 
 impl ArrivalNumbers {
@@ -73,16 +114,19 @@ impl ArrivalNumbers {
     /// Out of memory, and nothing else.
     pub fn with_room(alloc: Global, batches: u32, spans: u32) -> Result<Self, AllocError>
         ensures numbers { IfOk result (λ numbers. AreOf [] numbers.entry_of numbers.firsts) }
+        ensures kinds { IfOk result (λ numbers. numbers.kinds ≡ []) }
         ensures batches { IfOk result (λ numbers. numbers.batches ≡ batches) }
         ensures spans { IfOk result (λ numbers. numbers.spans ≡ spans) }
     {
         let entry_of = Vec::with_capacity(alloc, spans as usize)?;
         let firsts = Vec::with_capacity(alloc, batches as usize)?;
+        let kinds = Vec::with_capacity(alloc, spans as usize)?;
         Ok(ArrivalNumbers {
             batches,
             spans,
             entry_of,
             firsts,
+            kinds,
         })
     }
 
@@ -99,28 +143,52 @@ impl ArrivalNumbers {
         requires some { 0 < length entries.now }
         requires numbers { AreOf (before_last (map arc_value entries.now)) self.old.entry_of
             self.old.firsts }
+        requires kinds { AreKinds (before_last (map arc_value entries.now)) self.old.kinds }
         requires batches { length entries.now ≤ self.old.batches }
         requires spans { length (arrivals (map arc_value entries.now)) ≤ self.old.spans }
         ensures numbers { AreOf (map arc_value entries.now) self.new.entry_of self.new.firsts }
+        ensures kinds { AreKinds (map arc_value entries.now) self.new.kinds }
         ensures batches { self.new.batches ≡ self.old.batches }
         ensures spans { self.new.spans ≡ self.old.spans }
     {
         let before = entries.len() - 1;
         self.firsts.push_reserved(self.entry_of.len() as u32);
-        for _span in entries[before].batch.spans.as_slice() {
+        for _span in entries[before].work.spans() {
             self.entry_of.push_reserved(before as u32);
         }
+        add_kinds(&mut self.kinds, entries[before].work.spans());
     }
 
-    /// The arrivals of these entries under their numbers.
-    pub fn arrivals<'a>(&'a self, entries: &'a [Arc<Entry>]) -> Arrivals<'a>
-        requires { AreOf (map arc_value entries.now) self.now.entry_of self.now.firsts }
-        ensures { map arc_value result.entries.now ≡ map arc_value entries.now }
+    /// The arrivals of these entries under their numbers, with the numbers of the services of these
+    /// entries.
+    pub fn arrivals<'a>(
+        &'a self,
+        entries: &'a [Arc<Entry>],
+        reported: &'a ServicePlaces,
+    ) -> Arrivals<'a>
+        requires numbers { AreOf (map arc_value entries.now) self.now.entry_of self.now.firsts }
+        requires kinds { AreKinds (map arc_value entries.now) self.now.kinds }
+        requires placed { PlacesKept (map arc_value entries.now) reported.now }
+        ensures { result ≡ map arc_value entries.now }
     {
         Arrivals {
             entries,
+            reported,
             entry_of: &self.entry_of,
             firsts: &self.firsts,
+            kinds: &self.kinds,
         }
+    }
+}
+
+/// Puts the kinds of the spans behind the others.
+fn add_kinds(kinds: &mut Vec<Kind>, spans: &[Span])
+    requires { length kinds.old.items + length spans.now ≤ vec_capacity kinds.old }
+    ensures kinds { map kind_text kinds.new.items ≡
+        map kind_text kinds.old.items ++ map kind_of spans.now }
+    ensures capacity { vec_capacity kinds.new ≡ vec_capacity kinds.old }
+{
+    for span in spans {
+        kinds.push_reserved(Kind::of(span));
     }
 }

@@ -8,7 +8,7 @@ use crate::fields::{Slots, read_fields, required};
 use crate::items::read_list;
 use crate::process::read_process;
 use crate::values::read_i64;
-use jaeger_model::{Batch, Process, Seq, Span};
+use jaeger_model::{Batch, Process, Seq, SharedProcess, Span};
 use std::alloc::Global;
 use thrift_binary::Cursor;
 use thrift_binary::types::{I64, LIST, STRUCT};
@@ -45,13 +45,13 @@ impl<'a> Slots<'a> for BatchSlots {
 }
 
 #[tactic(auto, unfolding(crate::specs::BatchReading::batch_from))]
-fn batch_of(slots: BatchSlots) -> Result<Batch, DecodeError>
-    ensures { result ≡ batch_from slots }
+fn batch_of(alloc: Global, slots: BatchSlots) -> Result<Batch, DecodeError>
+    ensures { Gives result (batch_from slots) }
 {
     let process = required(slots.process, Part::Batch, 1)?;
     let spans = required(slots.spans, Part::Batch, 2)?;
     Ok(Batch {
-        process,
+        process: SharedProcess::new(alloc, process)?,
         spans,
         seq_no: slots.seq_no,
     })
@@ -67,7 +67,7 @@ fn read_batch(alloc: Global, cursor: &mut Cursor<'_>) -> Result<Batch, DecodeErr
         seq_no: None,
     };
     let slots = read_fields(alloc, none, cursor)?;
-    batch_of(slots)
+    batch_of(alloc, slots)
 }
 
 #[tactic(auto, unfolding(crate::specs::BatchReading::decoded))]

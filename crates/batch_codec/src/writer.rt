@@ -289,7 +289,7 @@ fn write_batch(out: &mut Out, batch: &Batch) -> Result<(), WriteError>
     ensures proper { OnOk result (IsProper batch.now) }
 {
     out.field(types::STRUCT, 1)?;
-    write_process(out, &batch.process)?;
+    write_process(out, batch.process.get())?;
     write_list(out, 2, batch.spans.as_slice())?;
     write_number_if_any(out, 3, batch.seq_no)?;
     out.stop()

@@ -4,7 +4,7 @@ use Rattle.std.proofs.lemmas.Bool.{ne_eqb}
 use Rattle.thrift_binary.specs.declared.fault.WireError.TheVariants.{Truncated, BadLength, BadType, TooDeep, BadBool, BadText}
 use Rattle.thrift_binary.specs.Reading.{◌>>=◌}
 use Rattle.thrift_binary.specs.Fields.{fields_in, fields_at}
-use Rattle.wire_pieces.specs.Pieces.{Comes, Waits}
+use Rattle.wire_pieces.specs.Pieces.{Comes, NeedsMore}
 use Rattle.wire_pieces.proofs.Steps.{comes-inside, waits-inside}
 use Rattle.jaeger_model.specs.declared.batch.Batch.{Batch}
 use Rattle.batch_codec.specs.declared.batch.BatchSlots.{BatchSlots}
@@ -17,22 +17,22 @@ use Rattle.batch_feeder.specs.declared.fields.Step.{Step}
 use Rattle.batch_feeder.specs.declared.batch.BatchHeld.{BatchHeld}
 use Rattle.batch_feeder.specs.declared.feeder.State.{State}
 use Rattle.batch_feeder.specs.declared.feeder.State.TheVariants as state
-use Rattle.batch_feeder.specs.Going.{Faults}
+use Rattle.batch_feeder.specs.Continuing.{Faults}
 use Rattle.batch_feeder.specs.Fields.{struct_at, struct_from}
-use Rattle.batch_feeder.specs.Batches.{batch_goes_on}
-use Rattle.batch_feeder.specs.Feeding.{answers_of, is_want, is_short, settled, IsSettled, HasNoFault, Taken, Ends, Advances}
-use Rattle.batch_feeder.proofs.GoingAgain.{faults-inside}
+use Rattle.batch_feeder.specs.Batches.{batch_continues}
+use Rattle.batch_feeder.specs.Feeding.{answers_of, is_truncated, is_short, settled, IsSettled, HasNoFault, Taken, Ends, Advances}
+use Rattle.batch_feeder.proofs.ContinuingAgain.{faults-inside}
 
 -- a state of a struct as a reading
 abbrev pub reads : BatchSlots → Step BatchHeld → Reading Batch
-reads s step = struct_from take_batch batch_goes_on batch_from s step
+reads s step = struct_from take_batch batch_continues batch_from s step
 
 -- ---- faults
 
 pub faults-apart : {X : Type 0} (a : List ℕ → Result X DecodeError) (p : List ℕ) (e : DecodeError) → Faults a p e → e ≡ Wire Truncated → ⊥
 faults-apart a p e g h = (g (λ m. absurd (let k : Wire Truncated ≡ Memory = sym h ∙ m in cc))).no_want h
 
-no_want : (e : DecodeError) → (e ≡ Wire Truncated → ⊥) → not (is_want e) ≡ true
+no_want : (e : DecodeError) → (e ≡ Wire Truncated → ⊥) → not (is_truncated e) ≡ true
 no_want (Wire Truncated) n = absurd (n refl)
 no_want (Wire BadLength) n = refl
 no_want (Wire BadType) n = refl
@@ -44,7 +44,7 @@ no_want BadEnum n = refl
 no_want Trailing n = refl
 no_want Memory n = refl
 
-want_is : (e : DecodeError) → is_want e ≡ true → e ≡ Wire Truncated
+want_is : (e : DecodeError) → is_truncated e ≡ true → e ≡ Wire Truncated
 want_is (Wire Truncated) h = refl
 want_is (Wire BadLength) h = absurd cc
 want_is (Wire BadType) h = absurd cc
@@ -74,10 +74,10 @@ module _ (now : State) (s : BatchSlots) (step : Step BatchHeld) (is : now ≡ st
   unfolding answers_of
   reading-faults p e g = rw is (faults-inside at_end (reads s step) p e g, faults-apart (reads s step) p e g)
 
-  pub reading-waits : (t : BatchSlots) (next : Step BatchHeld) (p v : List ℕ) → Waits (Wire Truncated) (reads s step) (reads t next) p v → Taken (answers_of now) (answers_of (state.Reading (record { slots = t; step = next }))) p × IsSettled (state.Reading (record { slots = t; step = next }))
+  pub reading-waits : (t : BatchSlots) (next : Step BatchHeld) (p v : List ℕ) → NeedsMore (Wire Truncated) (reads s step) (reads t next) p v → Taken (answers_of now) (answers_of (state.Reading (record { slots = t; step = next }))) p × IsSettled (state.Reading (record { slots = t; step = next }))
   unfolding answers_of settled
   reading-waits t next p v g =
-      let k : Waits (Wire Truncated) (λ w. reads s step w >>= at_end) (λ w. reads t next w >>= at_end) p v = waits-inside at_end g in
+      let k : NeedsMore (Wire Truncated) (λ w. reads s step w >>= at_end) (λ w. reads t next w >>= at_end) p v = waits-inside at_end g in
       let each : (rest : List ℕ) → (reads s step (p ++ rest) >>= at_end) ≡ (reads t next rest >>= at_end) = λ rest. rw k.spent at (k.comes.same rest) in
       let here : (reads s step p >>= at_end) ≡ Err (Wire Truncated) = (rw append-nil at (each [])) ∙ k.want in
       rw is (record { same = each; sound = rw here refl }, ap is_short g.want)
@@ -118,7 +118,7 @@ unfolding answers_of settled
 refused-faults now e p is h =
     rw is (λ n. record { same = λ rest. refl; no_want = apart (rw is at h) }, apart (rw is at h))
   where
-    apart : not (is_want e) ≡ true → e ≡ Wire Truncated → ⊥
+    apart : not (is_truncated e) ≡ true → e ≡ Wire Truncated → ⊥
     apart k t = let q : false ≡ true = rw t at k in absurd cc
 
 -- ---- no more bytes

@@ -7,7 +7,7 @@ use Rattle.thrift_binary.specs.Fields.{Take, behind_field, fields_in, fields_at}
 use Rattle.thrift_binary.specs.Cuts.{IsCutSafe}
 use Rattle.wire_pieces.specs.declared.fault.PieceError.{PieceError}
 use Rattle.wire_pieces.specs.declared.heads.FieldHead.{FieldHead}
-use Rattle.wire_pieces.specs.Pieces.{Comes, Waits, Refused}
+use Rattle.wire_pieces.specs.Pieces.{Comes, NeedsMore, Refused}
 use Rattle.wire_pieces.specs.Heads.{head_from, fields_value}
 use Rattle.wire_pieces.proofs.Steps.{comes-is, comes-trans, comes-waits, comes-inside, waits-inside}
 use Rattle.wire_pieces.proofs.FieldsAgain as wires
@@ -16,15 +16,15 @@ use Rattle.batch_codec.specs.declared.fault.DecodeError.TheVariants.{Wire}
 use Rattle.batch_codec.specs.Decoding.{Reading, wire}
 use Rattle.batch_feeder.specs.declared.fields.Step.{Step}
 use Rattle.batch_feeder.specs.declared.fields.Step.TheVariants.{Head, Value}
-use Rattle.batch_feeder.specs.Going.{fault_of, Arrives, Faults, GoesTo}
+use Rattle.batch_feeder.specs.Continuing.{fault_of, Arrives, Faults, ContinuesTo}
 use Rattle.batch_feeder.specs.Fields.{IsFresh, fields_from, struct_at, struct_from}
-use Rattle.batch_feeder.proofs.GoingAgain.{faults-lift, faults-inside, comes-faults}
+use Rattle.batch_feeder.proofs.ContinuingAgain.{faults-lift, faults-inside, comes-faults}
 
 module _ {S V : Type 0} (take : Take S DecodeError) (res : S → V → Reading S) {a : List ℕ → Result (S × List ℕ) DecodeError} {p : List ℕ} where
   pub head-faults : (s : S) (step : Step V) (h : FieldHead) (w : List ℕ) (e : PieceError) → step ≡ Head h → Refused (head_from h) w e → Comes a (fields_from take res s step) p w → Faults a p (fault_of e)
   head-faults s step h w e is g inv = comes-faults a (fields_from take res s (Head h)) p w (fault_of e) (rw is at inv) (faults-inside (λ x. behind_field (fields_at wire take) take s x.0 x.1) _ w (fault_of e) (faults-lift (head_from h) w e g))
 
-  pub head-waits : (s : S) (step : Step V) (h k : FieldHead) (w v : List ℕ) → step ≡ Head h → Waits Truncated (head_from h) (head_from k) w v → Comes a (fields_from take res s step) p w → Waits (Wire Truncated) a (fields_from take res s (Head k)) p v
+  pub head-waits : (s : S) (step : Step V) (h k : FieldHead) (w v : List ℕ) → step ≡ Head h → NeedsMore Truncated (head_from h) (head_from k) w v → Comes a (fields_from take res s step) p w → NeedsMore (Wire Truncated) a (fields_from take res s (Head k)) p v
   head-waits s step h k w v is g inv = comes-waits (rw is at inv) (wires.head-waits wire take s h k w v g)
 
   pub head-stop : (s : S) (step : Step V) (h : FieldHead) (w v : List ℕ) → step ≡ Head h → Comes (head_from h) (λ u. Ok (None, u)) w v → Comes a (fields_from take res s step) p w → Comes a (λ u. Ok (s, u)) p v
@@ -38,13 +38,13 @@ module _ {S V : Type 0} (take : Take S DecodeError) (res : S → V → Reading S
   pub value-bad : (now : Reading S) (v : List ℕ) (e : DecodeError) → Comes a (fields_value wire take now) p v → Faults now v e → Faults a p e
   value-bad now v e inv g = comes-faults a (fields_value wire take now) p v e inv (faults-inside (λ x. fields_at wire take x.0 x.1) now v e g)
 
-  pub value-part : (now : Reading S) (t : S) (held : V) (v q : List ℕ) → Comes a (fields_value wire take now) p v → Waits (Wire Truncated) now (res t held) v q → Waits (Wire Truncated) a (fields_from take res t (Value held)) p q
+  pub value-part : (now : Reading S) (t : S) (held : V) (v q : List ℕ) → Comes a (fields_value wire take now) p v → NeedsMore (Wire Truncated) now (res t held) v q → NeedsMore (Wire Truncated) a (fields_from take res t (Value held)) p q
   value-part now t held v q inv g = comes-waits inv (waits-inside (λ x. fields_at wire take x.0 x.1) g)
 
   pub value-whole : (now : Reading S) (t : S) (v q : List ℕ) → Comes a (fields_value wire take now) p v → Comes now (λ u. Ok (t, u)) v q → Comes a (fields_at wire take t) p q
   value-whole now t v q inv g = comes-trans inv (comes-inside (λ x. fields_at wire take x.0 x.1) g)
 
-  pub value-waits : (s t : S) (step : Step V) (h k : V) (w v : List ℕ) → step ≡ Value h → Waits (Wire Truncated) (res s h) (res t k) w v → Comes a (fields_from take res s step) p w → Waits (Wire Truncated) a (fields_from take res t (Value k)) p v
+  pub value-waits : (s t : S) (step : Step V) (h k : V) (w v : List ℕ) → step ≡ Value h → NeedsMore (Wire Truncated) (res s h) (res t k) w v → Comes a (fields_from take res s step) p w → NeedsMore (Wire Truncated) a (fields_from take res t (Value k)) p v
   value-waits s t step h k w v is g inv = comes-waits (rw is at inv) (wires.value-waits wire take (res s h) (res t k) w v g)
 
   module _ (safe : (s : S) (c : ℕ) (i : ℤ) → IsCutSafe (Wire Truncated) (take s c i)) where
@@ -58,7 +58,7 @@ none-left (b ∷ w) h = absurd (let k : length (b ∷ w) ≡ 0 = eqb-true _ 0 h 
 
 module _ {S V : Type 0} (take : Take S DecodeError) (res : S → V → Reading S) where
   -- a piece that ends in front of a head of which no byte has come
-  pub fresh-waits : (s t : S) (step : Step V) (p w : List ℕ) → IsFresh take res step → w ≡ [] → Comes (fields_at wire take s) (fields_at wire take t) p w → Waits (Wire Truncated) (fields_at wire take s) (fields_from take res t step) p w
+  pub fresh-waits : (s t : S) (step : Step V) (p w : List ℕ) → IsFresh take res step → w ≡ [] → Comes (fields_at wire take s) (fields_at wire take t) p w → NeedsMore (Wire Truncated) (fields_at wire take s) (fields_from take res t step) p w
   unfolding fields_at fields_in
   fresh-waits s t step p w fresh spent g = record { comes = comes-trans g (comes-is (fields_at wire take t) (fields_from take res t step) w (λ u. sym (fresh t u))); want = fresh t []; spent = spent }
 
@@ -82,13 +82,13 @@ module _ {S V A : Type 0} (take : Take S DecodeError) (res : S → V → Reading
   pub struct-faults : (s t : S) (step : Step V) (e : DecodeError) (p q : List ℕ) → ((r : S) → makes r ≡ Err (Wire Truncated) → ⊥) → makes t ≡ Err e → Comes (fields_from take res s step) (λ u. Ok (t, u)) p q → Faults (struct_from take res makes s step) p e
   struct-faults s t step e p q never is g = λ n. record { same = λ rest. (comes-inside made g).same rest ∙ rw is refl; no_want = λ h. never t (is ∙ ap (λ d. Err d) h) }
 
-  pub struct-waits : (s t : S) (step next : Step V) (p q : List ℕ) → Waits (Wire Truncated) (fields_from take res s step) (fields_from take res t next) p q → Waits (Wire Truncated) (struct_from take res makes s step) (struct_from take res makes t next) p q
+  pub struct-waits : (s t : S) (step next : Step V) (p q : List ℕ) → NeedsMore (Wire Truncated) (fields_from take res s step) (fields_from take res t next) p q → NeedsMore (Wire Truncated) (struct_from take res makes s step) (struct_from take res makes t next) p q
   struct-waits s t step next p q g = waits-inside made g
 
   pub fields-faults : (s : S) (step : Step V) (p : List ℕ) (e : DecodeError) → Faults (fields_from take res s step) p e → Faults (struct_from take res makes s step) p e
   fields-faults s step p e g = faults-inside made (fields_from take res s step) p e g
 
-  pub struct-arrives : (s t : S) (step next : Step V) (p q : List ℕ) (r : Result Bool DecodeError) → GoesTo t (fields_from take res s step) (fields_from take res t next) p q r → Arrives (struct_from take res makes s step) (struct_from take res makes t next) (makes t) p q r
+  pub struct-arrives : (s t : S) (step next : Step V) (p q : List ℕ) (r : Result Bool DecodeError) → ContinuesTo t (fields_from take res s step) (fields_from take res t next) p q r → Arrives (struct_from take res makes s step) (struct_from take res makes t next) (makes t) p q r
   struct-arrives s t step next p q (Ok true) g = comes-inside made g
   struct-arrives s t step next p q (Ok false) g = waits-inside made g
   struct-arrives s t step next p q (Err e) g = faults-inside made (fields_from take res s step) p e g

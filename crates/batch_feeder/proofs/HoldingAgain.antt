@@ -13,11 +13,11 @@ use Rattle.batch_codec.specs.BatchReading.{take_batch, batch_from}
 use Rattle.batch_feeder.specs.declared.batch.BatchHeld.{BatchHeld}
 use Rattle.batch_feeder.specs.declared.fields.Step.{Step}
 use Rattle.batch_feeder.specs.Fields.{struct_from}
-use Rattle.batch_feeder.specs.Batches.{batch_goes_on}
+use Rattle.batch_feeder.specs.Batches.{batch_continues}
 use Rattle.batch_feeder.specs.declared.feeder.State.{State}
 use Rattle.batch_feeder.specs.declared.feeder.State.TheVariants as state
-use Rattle.batch_feeder.specs.Outsets.{least, outset, behind_head, IsPart, AreQuiet}
-use Rattle.batch_feeder.specs.Feeding.{answers_of, HasNoFault, Rests, Holds, Taken, Refuses, Feeds, Keeps}
+use Rattle.batch_feeder.specs.LeastBytes.{least, least_bytes, behind_head, IsPart, AreQuiet}
+use Rattle.batch_feeder.specs.Feeding.{answers_of, HasNoFault, IsBetweenFields, Holds, Taken, Refuses, Feeds, Keeps}
 
 abbrev Answer : Type 0
 Answer = List ℕ → Result Batch DecodeError
@@ -37,8 +37,8 @@ empty-quiet [] lt = nothing-quiet 1 (omega arith)
 empty-quiet (b ∷ w) lt = absurd (omega arith)
 
 -- behind what was read
-pub holds-none : (s : State) (n : ℕ) (rest : 0 < n → Rests s) → n ≤ 1 → Holds s [] n
-holds-none s n rest le = record { none = λ z. refl; rests = rest; quiet = nothing-quiet n le }
+pub holds-none : (s : State) (n : ℕ) (rest : 0 < n → IsBetweenFields s) → n ≤ 1 → Holds s [] n
+holds-none s n rest le = record { none = λ z. refl; is_between_fields = rest; quiet = nothing-quiet n le }
 
 -- nothing is looked at before bytes have come that show no fault
 short-has-no-fault : (r : Result Batch DecodeError) → r ≡ Err (Wire Truncated) → HasNoFault r
@@ -47,24 +47,24 @@ short-has-no-fault (Err e) h = let k : e ≡ Wire Truncated = cc in k
 
 module _ (s : State) (w : List ℕ) (n : ℕ) (h : Holds s w n) where
   -- what is answered of bytes that wait
-  pub byte-taken : (b : ℕ) (next : List ℕ) → 0 < n → Rests s → IsPart next → next ≡ w ++ b ∷ [] → Taken (λ v. answers_of s (w ++ v)) (λ v. answers_of s (next ++ v)) (b ∷ [])
+  pub byte-taken : (b : ℕ) (next : List ℕ) → 0 < n → IsBetweenFields s → IsPart next → next ≡ w ++ b ∷ [] → Taken (λ v. answers_of s (w ++ v)) (λ v. answers_of s (next ++ v)) (b ∷ [])
   byte-taken b next some rest part is = record {
     same = λ v. rw is (ap (answers_of s) (sym (append_assoc w (b ∷ []) v)));
     sound = short-has-no-fault _ (rw is at (rest next part));
   }
 
   pub byte-begun : (b m : ℕ) (next seen : List ℕ) → 0 < n → 0 < m → seen ≡ next → AreQuiet seen m → next ≡ w ++ b ∷ [] → Taken (λ v. answers_of s (w ++ v)) (λ v. answers_of s (next ++ v)) (b ∷ [])
-  byte-begun b m next seen some more same quiet is = let part : IsPart seen = rw append-nil at (quiet [] more) in byte-taken b next some (h.rests some) (rw same at part) is
+  byte-begun b m next seen some more same quiet is = let part : IsPart seen = rw append-nil at (quiet [] more) in byte-taken b next some (h.is_between_fields some) (rw same at part) is
 
   pub ends-short : 0 < n → answers_of s (w ++ []) ≡ Err (Wire Truncated)
-  ends-short some = rw append-nil (h.rests some w (rw append-nil at (h.quiet [] some)))
+  ends-short some = rw append-nil (h.is_between_fields some w (rw append-nil at (h.quiet [] some)))
 
   pub whole-waits-not : (b : Batch) → s ≡ state.Whole b → w ≡ []
   unfolding answers_of
   whole-waits-not b is = by n refl
     where
       none : 0 < n → ⊥
-      none some = absurd (let k : answers_of (state.Whole b) [] ≡ Err (Wire Truncated) = rw is at (h.rests some [] nothing-is-part) in cc)
+      none some = absurd (let k : answers_of (state.Whole b) [] ≡ Err (Wire Truncated) = rw is at (h.is_between_fields some [] nothing-is-part) in cc)
 
       by : (m : ℕ) → n ≡ m → w ≡ []
       by zero z = h.none z
@@ -84,8 +84,8 @@ no_type c none = rw (apart 2 refl, apart 3 refl, apart 4 refl, apart 6 refl, apa
     apart : (k : ℕ) → is_code k ≡ true → eqb c k ≡ false
     apart k is = ne_eqb c k (λ e. absurd (let f : false ≡ true = sym none ∙ ap is_code e ∙ is in cc))
 
-few-bytes : (c : ℕ) (w : List ℕ) → length w < least c → outset c w ≡ Err Truncated
-unfolding outset text string_at size_at
+few-bytes : (c : ℕ) (w : List ℕ) → length w < least c → least_bytes c w ≡ Err Truncated
+unfolding least_bytes text string_at size_at
 few-bytes c w few = at (eqb c 11) refl
   where
     at : (b : Bool) → eqb c 11 ≡ b → cond b (text w) (past (least c) w) ≡ Err Truncated
@@ -109,7 +109,7 @@ quiet-type c some v few = let isnt : eqb c 0 ≡ false = ne_eqb c 0 some in rw i
     at z false isnt = behind-id c z v (is_code c) refl few (λ lt. absurd (let k : false ≡ true = sym isnt ∙ lt-ltb _ _ lt in cc))
 
 pub quiet-string : (a b n : ℕ) (w : List ℕ) → ((v : List ℕ) → size_at (w ++ v) ≡ Ok (n, v)) → AreQuiet (11 ∷ a ∷ b ∷ w) n
-unfolding field_at outset text string_at
+unfolding field_at least_bytes text string_at
 quiet-string a b n w size v few =
     let l : ltb (length v) n ≡ true = lt-ltb _ _ few in
     let two : ltb (length (a ∷ b ∷ (w ++ v))) 2 ≡ false = le-ltb _ _ (omega arith) in
@@ -130,9 +130,9 @@ whole-holds s w n b h is here = rw (whole-waits-not s w n h b is) here
 pub gave-up : (old new : Answer) (p : List ℕ) → ((w : List ℕ) → new w ≡ Err Memory) → Refuses old new p Memory
 gave-up old new p stays = record { faults = λ n. absurd (n refl); stays = stays }
 
-pub reading-rests : (now : State) (s : BatchSlots) (step : Step BatchHeld) → now ≡ state.Reading (record { slots = s; step = step }) → (w : List ℕ) → struct_from take_batch batch_goes_on batch_from s step w ≡ Err (Wire Truncated) → answers_of now w ≡ Err (Wire Truncated)
+pub reading-between_fields : (now : State) (s : BatchSlots) (step : Step BatchHeld) → now ≡ state.Reading (record { slots = s; step = step }) → (w : List ℕ) → struct_from take_batch batch_continues batch_from s step w ≡ Err (Wire Truncated) → answers_of now w ≡ Err (Wire Truncated)
 unfolding answers_of
-reading-rests now s step is w h = rw is (rw h refl)
+reading-between_fields now s step is w h = rw is (rw h refl)
 
 -- ---- bytes that waited
 

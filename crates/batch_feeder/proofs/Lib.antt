@@ -1,4 +1,4 @@
-pub mod GoingAgain
+pub mod ContinuingAgain
 pub mod FieldsFromAgain
 pub mod ListsFromAgain
 pub mod TextsAgain

@@ -6,17 +6,17 @@ use Rattle.thrift_binary.specs.Reading.{◌>>=◌}
 use Rattle.thrift_binary.specs.Lists.{items_at}
 use Rattle.wire_pieces.specs.declared.fault.PieceError.{PieceError}
 use Rattle.wire_pieces.specs.declared.heads.ListHead.{ListHead}
-use Rattle.wire_pieces.specs.Pieces.{Comes, Waits, Refused}
+use Rattle.wire_pieces.specs.Pieces.{Comes, NeedsMore, Refused}
 use Rattle.wire_pieces.specs.Heads.{list_head}
-use Rattle.wire_pieces.specs.Lists.{items_from, with_front, behind_head}
+use Rattle.wire_pieces.specs.Lists.{items_from, with_beginning, behind_head}
 use Rattle.wire_pieces.proofs.Steps.{comes-trans, comes-is, comes-inside, comes-lift}
 use Rattle.wire_pieces.proofs.ItemsAgain.{items-refuses, list-waits}
 use Rattle.batch_codec.specs.declared.fault.DecodeError.{DecodeError}
 use Rattle.batch_codec.specs.declared.fault.DecodeError.TheVariants.{Wire}
 use Rattle.batch_codec.specs.Decoding.{Reading, wire}
-use Rattle.batch_feeder.specs.Going.{fault_of, ended, Enters, Faults, GoesTo}
+use Rattle.batch_feeder.specs.Continuing.{fault_of, ended, Enters, Faults, ContinuesTo}
 use Rattle.batch_feeder.specs.Lists.{items_behind, items_ended, list_from}
-use Rattle.batch_feeder.proofs.GoingAgain.{faults-lift, faults-inside}
+use Rattle.batch_feeder.proofs.ContinuingAgain.{faults-lift, faults-inside}
 
 module _ {A : Type 0} (one : Reading A) where
   -- an item of which bytes are wanted
@@ -29,11 +29,11 @@ module _ {A : Type 0} (one : Reading A) where
 
 -- what n items make behind those that have come
 module _ {A : Type 0} (one : Reading A) where
-  behind-of : (items : List A) (x : A) (r : Result (List A × List ℕ) DecodeError) → with_front items (r >>= λ z. Ok (x ∷ z.0, z.1)) ≡ with_front (items ++ x ∷ []) r
+  behind-of : (items : List A) (x : A) (r : Result (List A × List ℕ) DecodeError) → with_beginning items (r >>= λ z. Ok (x ∷ z.0, z.1)) ≡ with_beginning (items ++ x ∷ []) r
   behind-of items x (Err e) = refl
   behind-of items x (Ok z) = ap (λ (zs : List A). Ok (zs, z.1)) (simp append_assoc)
 
-  behind-next : (items : List A) (m : ℕ) (r : Result (A × List ℕ) DecodeError) → with_front items (r >>= λ y. items_at one m y.1 >>= λ z. Ok (y.0 ∷ z.0, z.1)) ≡ (r >>= λ x. with_front (items ++ x.0 ∷ []) (items_at one m x.1))
+  behind-next : (items : List A) (m : ℕ) (r : Result (A × List ℕ) DecodeError) → with_beginning items (r >>= λ y. items_at one m y.1 >>= λ z. Ok (y.0 ∷ z.0, z.1)) ≡ (r >>= λ x. with_beginning (items ++ x.0 ∷ []) (items_at one m x.1))
   behind-next items m (Err e) = refl
   behind-next items m (Ok y) = behind-of items y.0 (items_at one m y.1)
 
@@ -50,7 +50,7 @@ module _ {A : Type 0} (one : Reading A) where
   -- an item that is whole
   pub item-done : (now : Reading A) (items next : List A) (m : ℕ) (x : A) (w v : List ℕ) → next ≡ items ++ x ∷ [] → Comes now (λ u. Ok (x, u)) w v → Comes (items_from one items m now) (items_behind one next m) w v
   unfolding items_from
-  item-done now items next m x w v is g = rw is (comes-inside (λ y. with_front (items ++ y.0 ∷ []) (items_at one m y.1)) g)
+  item-done now items next m x w v is g = rw is (comes-inside (λ y. with_beginning (items ++ y.0 ∷ []) (items_at one m y.1)) g)
 
   -- no more items
   pub behind-none : (a : Reading (List A)) (items : List A) (n : ℕ) (p w : List ℕ) → n ≡ 0 → Comes a (items_behind one items n) p w → Comes a (λ u. Ok (items, u)) p w
@@ -65,7 +65,7 @@ module _ {A : Type 0} (one : Reading A) where
   pub item-ended : (items : List A) (n : ℕ) (now : Reading A) (end : Result A DecodeError) (w v : List ℕ) → Comes now (ended end) w v → Comes (items_from one items n now) (items_ended one items n end) w v
   unfolding items_from
   item-ended items n now end w v g =
-      let then = λ (y : A × List ℕ). with_front (items ++ y.0 ∷ []) (items_at one n y.1) in
+      let then = λ (y : A × List ℕ). with_beginning (items ++ y.0 ∷ []) (items_at one n y.1) in
       comes-trans (comes-inside then g) (record { same = λ rest. ended-then end then (v ++ rest) })
 
   -- a fault that it makes
@@ -79,9 +79,9 @@ module _ {A : Type 0} (one : Reading A) where
   -- the first of n items, in the place of one before
   pub item-next : (a : Reading (List A)) (items : List A) (n m : ℕ) (now : Reading A) (p w : List ℕ) → 0 < n → m ≡ n - 1 → ((u : List ℕ) → now u ≡ one u) → Comes a (items_behind one items n) p w → Comes a (items_from one items m now) p w
   unfolding items_from
-  item-next a items n m now p w lt is same inv = comes-trans (behind-opens a items n m p w lt is inv) (comes-is (items_from one items m one) (items_from one items m now) w (λ u. ap (λ r. r >>= λ y. with_front (items ++ y.0 ∷ []) (items_at one m y.1)) (sym (same u))))
+  item-next a items n m now p w lt is same inv = comes-trans (behind-opens a items n m p w lt is inv) (comes-is (items_from one items m one) (items_from one items m now) w (λ u. ap (λ r. r >>= λ y. with_beginning (items ++ y.0 ∷ []) (items_at one m y.1)) (sym (same u))))
 
-  no_front : (r : Result (List A × List ℕ) DecodeError) → r ≡ with_front [] r
+  no_front : (r : Result (List A × List ℕ) DecodeError) → r ≡ with_beginning [] r
   no_front (Ok z) = refl
   no_front (Err e) = refl
 
@@ -105,14 +105,14 @@ module _ {A P : Type 0} (one : Reading A) (res : P → Reading A) (items : List 
   pub head-faults : (w : List ℕ) (e : PieceError) → Refused (list_head p) w e → Faults (list_from one res items left p None) w (fault_of e)
   head-faults w e g = faults-inside (λ h. behind_head wire 12 one h.0 h.1) _ w (fault_of e) (faults-lift (list_head p) w e g)
 
-  pub head-waits : (q : ListHead) (w v : List ℕ) → Waits Truncated (list_head p) (list_head q) w v → Waits (Wire Truncated) (list_from one res items left p None) (list_from one res items left q None) w v
+  pub head-waits : (q : ListHead) (w v : List ℕ) → NeedsMore Truncated (list_head p) (list_head q) w v → NeedsMore (Wire Truncated) (list_from one res items left p None) (list_from one res items left q None) w v
   head-waits q w v g = list-waits one wire 12 p q w v g
 
   pub head-behind : (w v : List ℕ) (d n : ℕ) → Comes (list_head p) (λ u. Ok ((d, n), u)) w v → Comes (list_from one res items left p None) (behind_head wire 12 one (d, n)) w v
   head-behind w v d n g = comes-inside (λ h. behind_head wire 12 one h.0 h.1) (comes-lift wire g)
 
   -- the items behind the head, of which one may be held
-  pub list-held : (a : Reading (List A)) (x : List A) (part : Option P) (w v : List ℕ) (r : Result Bool DecodeError) → Enters a (λ k. items_from one items left (res k)) x part w v r → GoesTo x a (list_from one res items left p part) w v r
+  pub list-held : (a : Reading (List A)) (x : List A) (part : Option P) (w v : List ℕ) (r : Result Bool DecodeError) → Enters a (λ k. items_from one items left (res k)) x part w v r → ContinuesTo x a (list_from one res items left p part) w v r
   list-held a x part w v (Ok true) g = g
   list-held a x part w v (Ok false) (k, is, g) = rw is g
   list-held a x part w v (Err e) g = g

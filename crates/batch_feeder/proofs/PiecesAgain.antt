@@ -5,7 +5,7 @@ use Rattle.std.proofs.Math.ListN.{drop_of_length-le}
 use Rattle.jaeger_model.specs.declared.batch.Batch.{Batch}
 use Rattle.batch_codec.specs.declared.fault.DecodeError.{DecodeError}
 use Rattle.batch_codec.specs.Decoding.{Fails, Gives}
-use Rattle.batch_feeder.specs.Going.{Faults}
+use Rattle.batch_feeder.specs.Continuing.{Faults}
 use Rattle.batch_feeder.specs.Feeding.{HasNoFault, Taken, Refuses}
 use Rattle.batch_feeder.proofs.FeedingAgain.{fails-unless}
 

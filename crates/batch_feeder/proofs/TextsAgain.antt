@@ -8,9 +8,9 @@ use Rattle.wire_pieces.specs.Pieces.{Comes}
 use Rattle.wire_pieces.proofs.Steps.{comes-lift}
 use Rattle.batch_codec.specs.declared.fault.DecodeError.TheVariants.{Wire}
 use Rattle.batch_codec.specs.Decoding.{wire}
-use Rattle.batch_feeder.specs.Going.{Faults}
+use Rattle.batch_feeder.specs.Continuing.{Faults}
 use Rattle.batch_feeder.specs.Values.{judged}
-use Rattle.batch_feeder.proofs.GoingAgain.{ends-comes, ends-faults}
+use Rattle.batch_feeder.proofs.ContinuingAgain.{ends-comes, ends-faults}
 
 pub text-whole : (a : List ℕ → Read (List ℕ)) (t p q : List ℕ) → is_utf8 t ≡ true → Comes a (λ w. Ok (t, w)) p q → Comes (λ w. lift wire (a w) >>= judged) (λ w. Ok (t, w)) p q
 text-whole a t p q is g = ends-comes (λ w. lift wire (a w)) judged t t p q (λ rest. rw is refl) (comes-lift wire g)

@@ -11,11 +11,11 @@ use Rattle.batch_feeder.specs.declared.batch.BatchHeld.TheVariants as held
 use Rattle.batch_feeder.specs.Values.{i64_part, skip_part}
 use Rattle.batch_feeder.specs.Fields.{struct_at, struct_from}
 use Rattle.batch_feeder.specs.Lists.{list_from}
-use Rattle.batch_feeder.specs.Processes.{process_goes_on}
-use Rattle.batch_feeder.specs.Spans.{span_goes_on}
+use Rattle.batch_feeder.specs.Processes.{process_continues}
+use Rattle.batch_feeder.specs.Spans.{span_continues}
 
-abbrev pub batch_goes_on : BatchSlots → BatchHeld → Reading BatchSlots
-batch_goes_on s (held.Process p) w = struct_from take_process process_goes_on process_from p.slots p.step w >>= λ x. Ok (record s { process = Some x.0 }, x.1)
-batch_goes_on s (held.Spans p) w = list_from (struct_at take_span no_span span_from) (λ q. struct_from take_span span_goes_on span_from q.slots q.step) p.items.items p.left p.head p.one w >>= λ x. Ok (record s { spans = Some x.0 }, x.1)
-batch_goes_on s (held.SeqNo p) w = i64_part p w >>= λ x. Ok (record s { seq_no = Some x.0 }, x.1)
-batch_goes_on s (held.Skip p) w = skip_part s p w
+abbrev pub batch_continues : BatchSlots → BatchHeld → Reading BatchSlots
+batch_continues s (held.Process p) w = struct_from take_process process_continues process_from p.slots p.step w >>= λ x. Ok (record s { process = Some x.0 }, x.1)
+batch_continues s (held.Spans p) w = list_from (struct_at take_span no_span span_from) (λ q. struct_from take_span span_continues span_from q.slots q.step) p.items.items p.left p.head p.one w >>= λ x. Ok (record s { spans = Some x.0 }, x.1)
+batch_continues s (held.SeqNo p) w = i64_part p w >>= λ x. Ok (record s { seq_no = Some x.0 }, x.1)
+batch_continues s (held.Skip p) w = skip_part s p w

@@ -8,52 +8,52 @@ use Rattle.batch_codec.specs.declared.fault.DecodeError.TheVariants.{Wire, Missi
 use Rattle.batch_codec.specs.BatchReading.{take_batch, batch_from, at_end}
 use Rattle.batch_feeder.specs.declared.feeder.State.{State}
 use Rattle.batch_feeder.specs.declared.feeder.State.TheVariants as state
-use Rattle.batch_feeder.specs.Going.{Faults}
+use Rattle.batch_feeder.specs.Continuing.{Faults}
 use Rattle.batch_feeder.specs.Fields.{struct_from}
-use Rattle.batch_feeder.specs.Outsets.{IsPart, AreQuiet}
-use Rattle.batch_feeder.specs.Batches.{batch_goes_on}
+use Rattle.batch_feeder.specs.LeastBytes.{IsPart, AreQuiet}
+use Rattle.batch_feeder.specs.Batches.{batch_continues}
 
 -- what it answers if these bytes are still to come, and no others
 unfoldable pub answers_of : State → List ℕ → Result Batch DecodeError
-answers_of (state.Reading r) w = struct_from take_batch batch_goes_on batch_from r.slots r.step w >>= at_end
+answers_of (state.Reading r) w = struct_from take_batch batch_continues batch_from r.slots r.step w >>= at_end
 answers_of (state.Whole b) w = at_end (b, w)
 answers_of (state.Refused e) w = Err e
 
 -- the fault is want of bytes
-abbrev pub is_want : DecodeError → Bool
-is_want (Wire Truncated) = true
-is_want (Wire BadLength) = false
-is_want (Wire BadType) = false
-is_want (Wire TooDeep) = false
-is_want (Wire BadBool) = false
-is_want (Wire BadText) = false
-is_want (Missing p i) = false
-is_want BadEnum = false
-is_want Trailing = false
-is_want Memory = false
+abbrev pub is_truncated : DecodeError → Bool
+is_truncated (Wire Truncated) = true
+is_truncated (Wire BadLength) = false
+is_truncated (Wire BadType) = false
+is_truncated (Wire TooDeep) = false
+is_truncated (Wire BadBool) = false
+is_truncated (Wire BadText) = false
+is_truncated (Missing p i) = false
+is_truncated BadEnum = false
+is_truncated Trailing = false
+is_truncated Memory = false
 
 abbrev pub is_short : {A : Type 0} → Result A DecodeError → Bool
 is_short (Ok x) = false
-is_short (Err e) = is_want e
+is_short (Err e) = is_truncated e
 
 -- no bytes are too few while it reads, and it refuses for no want of bytes
 unfoldable pub settled : State → Bool
-settled (state.Reading r) = is_short (struct_from take_batch batch_goes_on batch_from r.slots r.step [])
+settled (state.Reading r) = is_short (struct_from take_batch batch_continues batch_from r.slots r.step [])
 settled (state.Whole b) = true
-settled (state.Refused e) = not (is_want e)
+settled (state.Refused e) = not (is_truncated e)
 
 abbrev pub IsSettled : State → Type 0
 IsSettled s = settled s ≡ true
 
 -- it stands between two fields, a part of one of which is too short
-abbrev pub Rests : State → Type 0
-Rests s = (w : List ℕ) → IsPart w → answers_of s w ≡ Err (Wire Truncated)
+abbrev pub IsBetweenFields : State → Type 0
+IsBetweenFields s = (w : List ℕ) → IsPart w → answers_of s w ≡ Err (Wire Truncated)
 
 -- Bytes that a state has still to read, and how many more are wanted before they can show a fault: none where they
 -- are read as they come.
 pub record Holds (s : State) (w : List ℕ) (n : ℕ) : Type 0 where
   pub none : n ≡ 0 → w ≡ []
-  pub rests : 0 < n → Rests s
+  pub is_between_fields : 0 < n → IsBetweenFields s
   pub quiet : AreQuiet w n
 
 -- whole, or too short

@@ -3,7 +3,7 @@ use Rattle.std.specs.Prelude.{◌≡◌, ◌<◌, ℕ, List, length, Option, Som
 use Rattle.thrift_binary.specs.declared.fault.WireError.TheVariants.{Truncated}
 use Rattle.thrift_binary.specs.Reading.{◌>>=◌, field_at, is_code}
 use Rattle.thrift_binary.specs.Fields.{Take, fields_at}
-use Rattle.wire_pieces.specs.Pieces.{Comes, Waits}
+use Rattle.wire_pieces.specs.Pieces.{Comes, NeedsMore}
 use Rattle.wire_pieces.specs.Heads.{fields_head, fields_value}
 use Rattle.batch_codec.specs.declared.fault.DecodeError.{DecodeError}
 use Rattle.batch_codec.specs.declared.fault.DecodeError.TheVariants.{Wire}
@@ -12,7 +12,7 @@ use Rattle.batch_feeder.specs.declared.fields.Step.{Step}
 use Rattle.batch_feeder.specs.declared.fields.Step.TheVariants.{Head, Value}
 use Rattle.batch_feeder.specs.declared.fields.Place.{Place}
 use Rattle.batch_feeder.specs.declared.fields.Place.TheVariants as place
-use Rattle.batch_feeder.specs.Going.{Faults}
+use Rattle.batch_feeder.specs.Continuing.{Faults}
 
 abbrev pub fields_from : {S V : Type 0} → Take S DecodeError → (S → V → Reading S) → S → Step V → Reading S
 fields_from take resumes s (Head h) w = fields_head wire take s h w
@@ -44,5 +44,5 @@ Reads take s t piece left (Err e) = Faults (fields_at wire take s) piece e
 -- A value of a field that began: whole, or the part of it that has come, which is held, or a fault.
 abbrev pub Opens : {S V : Type 0} → Reading S → (V → Reading S) → S → Option (Step V) → List ℕ → List ℕ → Result Bool DecodeError → Type 0
 Opens reads resumes t next piece left (Ok true) = Comes reads (λ w. Ok (t, w)) piece left
-Opens {V = V} reads resumes t next piece left (Ok false) = (v : V) × (next ≡ Some (Value v)) × Waits (Wire Truncated) reads (resumes v) piece left
+Opens {V = V} reads resumes t next piece left (Ok false) = (v : V) × (next ≡ Some (Value v)) × NeedsMore (Wire Truncated) reads (resumes v) piece left
 Opens reads resumes t next piece left (Err e) = Faults reads piece e

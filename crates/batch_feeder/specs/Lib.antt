@@ -1,7 +1,7 @@
-pub mod Going
+pub mod Continuing
 pub mod Values
 pub mod Fields
-pub mod Outsets
+pub mod LeastBytes
 pub mod Lists
 pub mod ShortValues
 pub mod ShortFields

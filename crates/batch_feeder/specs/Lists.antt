@@ -2,7 +2,7 @@
 use Rattle.std.specs.Prelude.{ℕ, List, [], ◌∷◌, ◌++◌, Option, Some, None, Result}
 use Rattle.thrift_binary.specs.Reading.{◌>>=◌}
 use Rattle.thrift_binary.specs.Lists.{items_at}
-use Rattle.wire_pieces.specs.Lists.{list_head_from, items_from, with_front}
+use Rattle.wire_pieces.specs.Lists.{list_head_from, items_from, with_beginning}
 use Rattle.batch_codec.specs.declared.fault.DecodeError.{DecodeError}
 use Rattle.batch_codec.specs.Decoding.{Reading, wire}
 use Rattle.wire_pieces.specs.declared.heads.ListHead.{ListHead}
@@ -13,8 +13,8 @@ list_from one resumes items left head (Some p) w = items_from one items left (re
 
 -- n items behind those that have come
 abbrev pub items_behind : {A : Type 0} → Reading A → List A → ℕ → Reading (List A)
-items_behind one items n w = with_front items (items_at one n w)
+items_behind one items n w = with_beginning items (items_at one n w)
 
 -- behind the items that have come, one whose bytes have come, which may be a fault, and n others
 abbrev pub items_ended : {A : Type 0} → Reading A → List A → ℕ → Result A DecodeError → Reading (List A)
-items_ended one items n end w = end >>= λ x. with_front (items ++ x ∷ []) (items_at one n w)
+items_ended one items n end w = end >>= λ x. with_beginning (items ++ x ∷ []) (items_at one n w)

@@ -10,9 +10,9 @@ use Rattle.batch_feeder.specs.declared.log.LogHeld.TheVariants as held
 use Rattle.batch_feeder.specs.Values.{i64_part, skip_part}
 use Rattle.batch_feeder.specs.Fields.{struct_at, struct_from}
 use Rattle.batch_feeder.specs.Lists.{list_from}
-use Rattle.batch_feeder.specs.Tags.{tag_goes_on}
+use Rattle.batch_feeder.specs.Tags.{tag_continues}
 
-abbrev pub log_goes_on : LogSlots → LogHeld → Reading LogSlots
-log_goes_on s (held.At p) w = i64_part p w >>= λ x. Ok (record s { at = Some x.0 }, x.1)
-log_goes_on s (held.Fields p) w = list_from (struct_at take_tag no_tag tag_from) (λ q. struct_from take_tag tag_goes_on tag_from q.slots q.step) p.items.items p.left p.head p.one w >>= λ x. Ok (record s { fields = Some x.0 }, x.1)
-log_goes_on s (held.Skip p) w = skip_part s p w
+abbrev pub log_continues : LogSlots → LogHeld → Reading LogSlots
+log_continues s (held.At p) w = i64_part p w >>= λ x. Ok (record s { at = Some x.0 }, x.1)
+log_continues s (held.Fields p) w = list_from (struct_at take_tag no_tag tag_from) (λ q. struct_from take_tag tag_continues tag_from q.slots q.step) p.items.items p.left p.head p.one w >>= λ x. Ok (record s { fields = Some x.0 }, x.1)
+log_continues s (held.Skip p) w = skip_part s p w

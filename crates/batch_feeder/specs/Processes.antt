@@ -10,9 +10,9 @@ use Rattle.batch_feeder.specs.declared.process.ProcessHeld.TheVariants as held
 use Rattle.batch_feeder.specs.Values.{text_part, skip_part}
 use Rattle.batch_feeder.specs.Fields.{struct_at, struct_from}
 use Rattle.batch_feeder.specs.Lists.{list_from}
-use Rattle.batch_feeder.specs.Tags.{tag_goes_on}
+use Rattle.batch_feeder.specs.Tags.{tag_continues}
 
-abbrev pub process_goes_on : ProcessSlots → ProcessHeld → Reading ProcessSlots
-process_goes_on s (held.Service p) w = text_part p w >>= λ x. Ok (record s { service = Some x.0 }, x.1)
-process_goes_on s (held.Tags p) w = list_from (struct_at take_tag no_tag tag_from) (λ q. struct_from take_tag tag_goes_on tag_from q.slots q.step) p.items.items p.left p.head p.one w >>= λ x. Ok (record s { tags = x.0 }, x.1)
-process_goes_on s (held.Skip p) w = skip_part s p w
+abbrev pub process_continues : ProcessSlots → ProcessHeld → Reading ProcessSlots
+process_continues s (held.Service p) w = text_part p w >>= λ x. Ok (record s { service = Some x.0 }, x.1)
+process_continues s (held.Tags p) w = list_from (struct_at take_tag no_tag tag_from) (λ q. struct_from take_tag tag_continues tag_from q.slots q.step) p.items.items p.left p.head p.one w >>= λ x. Ok (record s { tags = x.0 }, x.1)
+process_continues s (held.Skip p) w = skip_part s p w

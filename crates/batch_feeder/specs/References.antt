@@ -7,9 +7,9 @@ use Rattle.batch_feeder.specs.declared.reference.ReferenceHeld.{ReferenceHeld}
 use Rattle.batch_feeder.specs.declared.reference.ReferenceHeld.TheVariants as held
 use Rattle.batch_feeder.specs.Values.{id_part, kind_part, skip_part}
 
-abbrev pub reference_goes_on : ReferenceSlots → ReferenceHeld → Reading ReferenceSlots
-reference_goes_on s (held.Kind p) w = kind_part p w >>= λ x. Ok (record s { kind = Some x.0 }, x.1)
-reference_goes_on s (held.TraceLow p) w = id_part p w >>= λ x. Ok (record s { trace_low = Some x.0 }, x.1)
-reference_goes_on s (held.TraceHigh p) w = id_part p w >>= λ x. Ok (record s { trace_high = Some x.0 }, x.1)
-reference_goes_on s (held.Id p) w = id_part p w >>= λ x. Ok (record s { id = Some x.0 }, x.1)
-reference_goes_on s (held.Skip p) w = skip_part s p w
+abbrev pub reference_continues : ReferenceSlots → ReferenceHeld → Reading ReferenceSlots
+reference_continues s (held.Kind p) w = kind_part p w >>= λ x. Ok (record s { kind = Some x.0 }, x.1)
+reference_continues s (held.TraceLow p) w = id_part p w >>= λ x. Ok (record s { trace_low = Some x.0 }, x.1)
+reference_continues s (held.TraceHigh p) w = id_part p w >>= λ x. Ok (record s { trace_high = Some x.0 }, x.1)
+reference_continues s (held.Id p) w = id_part p w >>= λ x. Ok (record s { id = Some x.0 }, x.1)
+reference_continues s (held.Skip p) w = skip_part s p w

@@ -17,10 +17,10 @@ use Rattle.batch_codec.specs.ReferenceReading.{take_reference, reference_at, kin
 use Rattle.batch_codec.specs.ProcessReading.{take_process, process_from, process_at}
 use Rattle.batch_codec.specs.SpanReading.{take_span, span_at}
 use Rattle.batch_codec.specs.BatchReading.{take_batch}
-use Rattle.batch_feeder.specs.Outsets.{outset}
+use Rattle.batch_feeder.specs.LeastBytes.{least_bytes}
 use Rattle.batch_feeder.specs.ShortValues.{Short, bool_short, double_short, i32_short, i64_short, id_short, text_short, binary_short, kind_short, type_short, list_short, struct_short, known_short, skipped_short}
 
-pub take_tag_short : (s : TagSlots) (c : ℕ) (i : ℤ) (w : List ℕ) → outset c w ≡ Err Truncated → take_tag s c i w ≡ Err (Wire Truncated)
+pub take_tag_short : (s : TagSlots) (c : ℕ) (i : ℤ) (w : List ℕ) → least_bytes c w ≡ Err Truncated → take_tag s c i w ≡ Err (Wire Truncated)
 unfolding take_tag
 take_tag_short s c i w h =
     known_short 11 text_at text_short (λ x. record s { key = Some x }) c (int_eq i (pos 1)) w _ h (
@@ -32,14 +32,14 @@ take_tag_short s c i w h =
     known_short 11 binary_at binary_short (λ x. record s { binary = x }) c (int_eq i (pos 7)) w _ h (
     skipped_short s c w h)))))))
 
-pub take_log_short : (s : LogSlots) (c : ℕ) (i : ℤ) (w : List ℕ) → outset c w ≡ Err Truncated → take_log s c i w ≡ Err (Wire Truncated)
+pub take_log_short : (s : LogSlots) (c : ℕ) (i : ℤ) (w : List ℕ) → least_bytes c w ≡ Err Truncated → take_log s c i w ≡ Err (Wire Truncated)
 unfolding take_log
 take_log_short s c i w h =
     known_short 10 i64_at i64_short (λ x. record s { at = Some x }) c (int_eq i (pos 1)) w _ h (
     known_short 15 _ (list_short tag_at) (λ x. record s { fields = Some x }) c (int_eq i (pos 2)) w _ h (
     skipped_short s c w h))
 
-pub take_reference_short : (s : ReferenceSlots) (c : ℕ) (i : ℤ) (w : List ℕ) → outset c w ≡ Err Truncated → take_reference s c i w ≡ Err (Wire Truncated)
+pub take_reference_short : (s : ReferenceSlots) (c : ℕ) (i : ℤ) (w : List ℕ) → least_bytes c w ≡ Err Truncated → take_reference s c i w ≡ Err (Wire Truncated)
 unfolding take_reference
 take_reference_short s c i w h =
     known_short 8 kind_at kind_short (λ x. record s { kind = Some x }) c (int_eq i (pos 1)) w _ h (
@@ -48,14 +48,14 @@ take_reference_short s c i w h =
     known_short 10 id_at id_short (λ x. record s { id = Some x }) c (int_eq i (pos 4)) w _ h (
     skipped_short s c w h))))
 
-pub take_process_short : (s : ProcessSlots) (c : ℕ) (i : ℤ) (w : List ℕ) → outset c w ≡ Err Truncated → take_process s c i w ≡ Err (Wire Truncated)
+pub take_process_short : (s : ProcessSlots) (c : ℕ) (i : ℤ) (w : List ℕ) → least_bytes c w ≡ Err Truncated → take_process s c i w ≡ Err (Wire Truncated)
 unfolding take_process
 take_process_short s c i w h =
     known_short 11 text_at text_short (λ x. record s { service = Some x }) c (int_eq i (pos 1)) w _ h (
     known_short 15 _ (list_short tag_at) (λ x. record s { tags = x }) c (int_eq i (pos 2)) w _ h (
     skipped_short s c w h))
 
-pub take_span_short : (s : SpanSlots) (c : ℕ) (i : ℤ) (w : List ℕ) → outset c w ≡ Err Truncated → take_span s c i w ≡ Err (Wire Truncated)
+pub take_span_short : (s : SpanSlots) (c : ℕ) (i : ℤ) (w : List ℕ) → least_bytes c w ≡ Err Truncated → take_span s c i w ≡ Err (Wire Truncated)
 unfolding take_span
 take_span_short s c i w h =
     known_short 10 id_at id_short (λ x. record s { trace_low = Some x }) c (int_eq i (pos 1)) w _ h (
@@ -75,7 +75,7 @@ process_short : Short 12 process_at
 unfolding process_at
 process_short = struct_short take_process no_process process_from
 
-pub take_batch_short : (s : BatchSlots) (c : ℕ) (i : ℤ) (w : List ℕ) → outset c w ≡ Err Truncated → take_batch s c i w ≡ Err (Wire Truncated)
+pub take_batch_short : (s : BatchSlots) (c : ℕ) (i : ℤ) (w : List ℕ) → least_bytes c w ≡ Err Truncated → take_batch s c i w ≡ Err (Wire Truncated)
 unfolding take_batch
 take_batch_short s c i w h =
     known_short 12 process_at process_short (λ x. record s { process = Some x }) c (int_eq i (pos 1)) w _ h (

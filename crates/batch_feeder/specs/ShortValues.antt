@@ -12,7 +12,7 @@ use Rattle.batch_codec.specs.declared.fault.DecodeError.TheVariants.{Wire}
 use Rattle.batch_codec.specs.Decoding.{Reading, wire, skipped, bool_at, double_at, i32_at, i64_at, id_at, text_at, binary_at}
 use Rattle.batch_codec.specs.TagReading.{type_at}
 use Rattle.batch_codec.specs.ReferenceReading.{kind_at}
-use Rattle.batch_feeder.specs.Outsets.{least, outset}
+use Rattle.batch_feeder.specs.LeastBytes.{least, least_bytes}
 
 -- fewer bytes than n
 pub few : (n : ℕ) (w : List ℕ) → past n w ≡ Err Truncated → ltb (length w) n ≡ true
@@ -24,7 +24,7 @@ few n w h = by (ltb (length w) n) h
 
 -- a value of the type that has fewer bytes is want of bytes
 abbrev pub Short : {A : Type 0} → ℕ → Reading A → Type 0
-Short c read = (w : List ℕ) → outset c w ≡ Err Truncated → read w ≡ Err (Wire Truncated)
+Short c read = (w : List ℕ) → least_bytes c w ≡ Err Truncated → read w ≡ Err (Wire Truncated)
 
 -- no byte
 none : (w : List ℕ) → past 1 w ≡ Err Truncated → w ≡ []
@@ -32,19 +32,19 @@ none [] h = refl
 none (b ∷ w) h = absurd (let k : length (b ∷ w) < 1 = ltb-true _ _ (few 1 (b ∷ w) h) in omega arith)
 
 pub bool_short : Short 2 bool_at
-unfolding bool_at outset wires.bool_at
+unfolding bool_at least_bytes wires.bool_at
 bool_short w h = rw (none w h) refl
 
 pub double_short : Short 4 double_at
-unfolding double_at outset
+unfolding double_at least_bytes
 double_short w h = rw (few 8 w h) refl
 
 pub i32_short : Short 8 i32_at
-unfolding i32_at outset
+unfolding i32_at least_bytes
 i32_short w h = rw (few 4 w h) refl
 
 pub i64_short : Short 10 i64_at
-unfolding i64_at outset
+unfolding i64_at least_bytes
 i64_short w h = rw (few 8 w h) refl
 
 pub id_short : Short 10 id_at
@@ -64,11 +64,11 @@ few_of_text (Ok x) h = absurd cc
 few_of_text (Err e) h = let k : e ≡ Truncated = cc in rw k refl
 
 pub binary_short : Short 11 binary_at
-unfolding binary_at outset text
+unfolding binary_at least_bytes text
 binary_short w h = rw (few_of_text (string_at w) h) refl
 
 pub text_short : Short 11 text_at
-unfolding text_at outset text
+unfolding text_at least_bytes text
 text_short w h = rw (few_of_text (string_at w) h) refl
 
 few_of_list : (w : List ℕ) → past 5 w ≡ Err Truncated → list_at w ≡ Err Truncated
@@ -80,14 +80,14 @@ few_of_list (b ∷ w) h =
     rw l refl
 
 pub list_short : {A : Type 0} (read : Reading A) → Short 15 (list_of wire 12 read)
-unfolding outset list_of
+unfolding least_bytes list_of
 list_short read w h = rw (few_of_list w h) refl
 
 pub struct_short : {S X : Type 0} (take : Take S DecodeError) (none : S) (from : S → Result X DecodeError) → Short 12 (λ w. fields_at wire take none w >>= λ y. from y.0 >>= λ z. Ok (z, y.1))
-unfolding outset fields_at fields_in
+unfolding least_bytes fields_at fields_in
 struct_short take start from w h = rw (none w h) refl
 
-pub known_short : {A S : Type 0} (code : ℕ) (read : Reading A) → Short code read → (set : A → S) (c : ℕ) (b : Bool) (w : List ℕ) (others : Result (S × List ℕ) DecodeError) → outset c w ≡ Err Truncated → others ≡ Err (Wire Truncated) → cond (eqb c code && b) (read w >>= λ x. Ok (set x.0, x.1)) others ≡ Err (Wire Truncated)
+pub known_short : {A S : Type 0} (code : ℕ) (read : Reading A) → Short code read → (set : A → S) (c : ℕ) (b : Bool) (w : List ℕ) (others : Result (S × List ℕ) DecodeError) → least_bytes c w ≡ Err Truncated → others ≡ Err (Wire Truncated) → cond (eqb c code && b) (read w >>= λ x. Ok (set x.0, x.1)) others ≡ Err (Wire Truncated)
 known_short {S = S} code read short set c b w others h more = by (eqb c code) refl b
   where
     known : c ≡ code → ◌≡◌ {A = Result (S × List ℕ) DecodeError} (read w >>= λ x. Ok (set x.0, x.1)) (Err (Wire Truncated))
@@ -109,8 +109,8 @@ few_of_map (b ∷ d ∷ w) h =
     let l : ltb (length w) 4 ≡ true = lt-ltb _ _ (omega arith) in
     rw l refl
 
-container_short : (value : ℕ → Skip) (c : ℕ) (w : List ℕ) → is_container c ≡ true → outset c w ≡ Err Truncated → container value c w ≡ Err Truncated
-unfolding outset struct items pairs fields_at fields_in
+container_short : (value : ℕ → Skip) (c : ℕ) (w : List ℕ) → is_container c ≡ true → least_bytes c w ≡ Err Truncated → container value c w ≡ Err Truncated
+unfolding least_bytes struct items pairs fields_at fields_in
 container_short value c w inside h = at (eqb c 12) refl (eqb c 13) refl
   where
     within : (b d : Bool) → (b && d) ≡ true → (b ≡ true) × (d ≡ true)
@@ -146,8 +146,8 @@ past_some n w h =
     let l : ltb 0 n ≡ true = lt-ltb _ _ (omega arith) in
     rw l h
 
-leaf_short : (c : ℕ) (w : List ℕ) → is_container c ≡ false → outset c w ≡ Err Truncated → leaf c w ≡ Err Truncated
-unfolding outset
+leaf_short : (c : ℕ) (w : List ℕ) → is_container c ≡ false → least_bytes c w ≡ Err Truncated → leaf c w ≡ Err Truncated
+unfolding least_bytes
 leaf_short c w outside h = at (eqb c 11) refl h
   where
     apart : (k : ℕ) → (ltb 11 k && ltb k 16) ≡ true → eqb c k ≡ false
@@ -160,7 +160,7 @@ leaf_short c w outside h = at (eqb c 11) refl h
     at true is k = k
     at false isnt k = past_some (width c) w (sym (ap (λ n. past n w) (same isnt)) ∙ k)
 
-pub skip_short : (c : ℕ) (w : List ℕ) → outset c w ≡ Err Truncated → skip_at c w ≡ Err Truncated
+pub skip_short : (c : ℕ) (w : List ℕ) → least_bytes c w ≡ Err Truncated → skip_at c w ≡ Err Truncated
 unfolding skip_at
 skip_short c w h = by (eqb (length w) 0)
   where
@@ -172,5 +172,5 @@ skip_short c w h = by (eqb (length w) 0)
     by true = refl
     by false = value (is_container c) refl
 
-pub skipped_short : {S : Type 0} (s : S) (c : ℕ) (w : List ℕ) → outset c w ≡ Err Truncated → skipped s c w ≡ Err (Wire Truncated)
+pub skipped_short : {S : Type 0} (s : S) (c : ℕ) (w : List ℕ) → least_bytes c w ≡ Err Truncated → skipped s c w ≡ Err (Wire Truncated)
 skipped_short s c w h = rw (skip_short c w h) refl

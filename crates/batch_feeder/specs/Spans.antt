@@ -12,20 +12,20 @@ use Rattle.batch_feeder.specs.declared.span.SpanHeld.TheVariants as held
 use Rattle.batch_feeder.specs.Values.{i32_part, i64_part, id_part, text_part, skip_part}
 use Rattle.batch_feeder.specs.Fields.{struct_at, struct_from}
 use Rattle.batch_feeder.specs.Lists.{list_from}
-use Rattle.batch_feeder.specs.Tags.{tag_goes_on}
-use Rattle.batch_feeder.specs.Logs.{log_goes_on}
-use Rattle.batch_feeder.specs.References.{reference_goes_on}
+use Rattle.batch_feeder.specs.Tags.{tag_continues}
+use Rattle.batch_feeder.specs.Logs.{log_continues}
+use Rattle.batch_feeder.specs.References.{reference_continues}
 
-abbrev pub span_goes_on : SpanSlots → SpanHeld → Reading SpanSlots
-span_goes_on s (held.TraceLow p) w = id_part p w >>= λ x. Ok (record s { trace_low = Some x.0 }, x.1)
-span_goes_on s (held.TraceHigh p) w = id_part p w >>= λ x. Ok (record s { trace_high = Some x.0 }, x.1)
-span_goes_on s (held.Id p) w = id_part p w >>= λ x. Ok (record s { id = Some x.0 }, x.1)
-span_goes_on s (held.Parent p) w = id_part p w >>= λ x. Ok (record s { parent = Some x.0 }, x.1)
-span_goes_on s (held.Operation p) w = text_part p w >>= λ x. Ok (record s { operation = Some x.0 }, x.1)
-span_goes_on s (held.References p) w = list_from (struct_at take_reference no_reference reference_from) (λ q. struct_from take_reference reference_goes_on reference_from q.slots q.step) p.items.items p.left p.head p.one w >>= λ x. Ok (record s { references = x.0 }, x.1)
-span_goes_on s (held.Flags p) w = i32_part p w >>= λ x. Ok (record s { flags = Some x.0 }, x.1)
-span_goes_on s (held.Start p) w = i64_part p w >>= λ x. Ok (record s { start = Some x.0 }, x.1)
-span_goes_on s (held.Duration p) w = i64_part p w >>= λ x. Ok (record s { duration = Some x.0 }, x.1)
-span_goes_on s (held.Tags p) w = list_from (struct_at take_tag no_tag tag_from) (λ q. struct_from take_tag tag_goes_on tag_from q.slots q.step) p.items.items p.left p.head p.one w >>= λ x. Ok (record s { tags = x.0 }, x.1)
-span_goes_on s (held.Logs p) w = list_from (struct_at take_log no_log log_from) (λ q. struct_from take_log log_goes_on log_from q.slots q.step) p.items.items p.left p.head p.one w >>= λ x. Ok (record s { logs = x.0 }, x.1)
-span_goes_on s (held.Skip p) w = skip_part s p w
+abbrev pub span_continues : SpanSlots → SpanHeld → Reading SpanSlots
+span_continues s (held.TraceLow p) w = id_part p w >>= λ x. Ok (record s { trace_low = Some x.0 }, x.1)
+span_continues s (held.TraceHigh p) w = id_part p w >>= λ x. Ok (record s { trace_high = Some x.0 }, x.1)
+span_continues s (held.Id p) w = id_part p w >>= λ x. Ok (record s { id = Some x.0 }, x.1)
+span_continues s (held.Parent p) w = id_part p w >>= λ x. Ok (record s { parent = Some x.0 }, x.1)
+span_continues s (held.Operation p) w = text_part p w >>= λ x. Ok (record s { operation = Some x.0 }, x.1)
+span_continues s (held.References p) w = list_from (struct_at take_reference no_reference reference_from) (λ q. struct_from take_reference reference_continues reference_from q.slots q.step) p.items.items p.left p.head p.one w >>= λ x. Ok (record s { references = x.0 }, x.1)
+span_continues s (held.Flags p) w = i32_part p w >>= λ x. Ok (record s { flags = Some x.0 }, x.1)
+span_continues s (held.Start p) w = i64_part p w >>= λ x. Ok (record s { start = Some x.0 }, x.1)
+span_continues s (held.Duration p) w = i64_part p w >>= λ x. Ok (record s { duration = Some x.0 }, x.1)
+span_continues s (held.Tags p) w = list_from (struct_at take_tag no_tag tag_from) (λ q. struct_from take_tag tag_continues tag_from q.slots q.step) p.items.items p.left p.head p.one w >>= λ x. Ok (record s { tags = x.0 }, x.1)
+span_continues s (held.Logs p) w = list_from (struct_at take_log no_log log_from) (λ q. struct_from take_log log_continues log_from q.slots q.step) p.items.items p.left p.head p.one w >>= λ x. Ok (record s { logs = x.0 }, x.1)
+span_continues s (held.Skip p) w = skip_part s p w

@@ -1,16 +1,19 @@
 ghost use Rattle.std.specs.Prelude.{◌≡◌, ◌≤◌, pos, length, OnOk};
-ghost use Rattle.batch_feeder.specs.Fields.{Opens};
+ghost use Rattle.batch_codec.specs.ProcessReading.{take_process, process_from};
+ghost use Rattle.batch_feeder.specs.Continuing.{Sets};
+ghost use Rattle.batch_feeder.specs.Fields.{Opens, struct_from};
+ghost use Rattle.batch_feeder.specs.Processes.{process_continues};
 
 use crate::fields::{Fields, Slots, Step, enter_slowly, hold_next, required};
-use crate::going::{place, set};
 use crate::items::ListPart;
+use crate::partial::{Partial, place, set};
 use crate::process::ProcessParts;
 use crate::reads::read_i64;
 use crate::skipped::SkipPart;
 use crate::structs::Struct;
 use crate::values::I64Part;
 use batch_codec::{DecodeError, Part, SpanSlots};
-use jaeger_model::{Batch, Process, Seq, Span};
+use jaeger_model::{Batch, Seq, SharedProcess, Span};
 use std::alloc::Global;
 use std::marker::Model;
 use thrift_binary::Cursor;
@@ -23,7 +26,7 @@ const LEAST_BATCH: usize = 20;
 /// What was gathered of a batch so far.
 #[derive(Drop)]
 pub(crate) struct BatchParts {
-    process: Option<Process>,
+    process: Option<SharedProcess>,
     spans: Option<Seq<Span>>,
     seq_no: Option<i64>,
 }
@@ -45,9 +48,32 @@ pub(crate) enum BatchHeld {
     Skip(SkipPart),
 }
 
+/// Continues over a piece inside the process, and puts it into its place to be shared.
+fn share(
+    part: &mut Struct<ProcessParts>,
+    slot: &mut Option<SharedProcess>,
+    alloc: Global,
+    piece: &mut Piece<'_>,
+) -> Result<bool, DecodeError>
+    ensures continues { Sets
+        (struct_from take_process process_continues process_from part.old.slots part.old.step)
+        (struct_from take_process process_continues process_from part.new.slots part.new.step)
+        slot.old slot.new piece.old piece.new result }
+    ensures no_longer { OnOk result (length piece.new ≤ length piece.old) }
+{
+    match part.more(alloc, piece) {
+        Err(error) => Err(error),
+        Ok(None) => Ok(false),
+        Ok(Some(process)) => {
+            *slot = Some(SharedProcess::new(alloc, process)?);
+            Ok(true)
+        }
+    }
+}
+
 impl BatchParts {
     ghost use Rattle.batch_codec.specs.BatchReading.{take_batch};
-    ghost use Rattle.batch_feeder.specs.Batches.{batch_goes_on};
+    ghost use Rattle.batch_feeder.specs.Batches.{batch_continues};
 
     /// Begins the process over a piece. It stands apart, so that other fields have no place for such a part on their stack.
     #[tactic(auto, unfolding(batch_codec::specs::BatchReading::take_batch, batch_codec::specs::ProcessReading::process_at))]
@@ -58,12 +84,12 @@ impl BatchParts {
         alloc: Global,
         piece: &mut Piece<'_>,
     ) -> Result<bool, DecodeError>
-        ensures goes { Opens (take_batch self.old 12 (pos 1)) (batch_goes_on self.new) self.new
+        ensures continues { Opens (take_batch self.old 12 (pos 1)) (batch_continues self.new) self.new
             next.new piece.old piece.new result }
         ensures no_longer { OnOk result (length piece.new ≤ length piece.old) }
     {
         let mut part = Struct::new(alloc);
-        match set(&mut part, &mut self.process, alloc, piece) {
+        match share(&mut part, &mut self.process, alloc, piece) {
             Err(error) => {
                 drop(part);
                 Err(error)
@@ -88,7 +114,7 @@ impl BatchParts {
         alloc: Global,
         piece: &mut Piece<'_>,
     ) -> Result<bool, DecodeError>
-        ensures goes { Opens (take_batch self.old 15 (pos 2)) (batch_goes_on self.new) self.new
+        ensures continues { Opens (take_batch self.old 15 (pos 2)) (batch_continues self.new) self.new
             next.new piece.old piece.new result }
         ensures no_longer { OnOk result (length piece.new ≤ length piece.old) }
     {
@@ -114,17 +140,17 @@ impl Slots for BatchParts {
     ghost use Rattle.batch_codec.specs.Gathered.{no_batch};
     ghost use Rattle.batch_codec.specs.BatchReading.{take_batch, batch_from};
     ghost use Rattle.batch_codec.proofs.CutBatches.{take_batch_safe};
-    ghost use Rattle.batch_feeder.specs.Batches.{batch_goes_on};
+    ghost use Rattle.batch_feeder.specs.Batches.{batch_continues};
     ghost use Rattle.batch_feeder.specs.NotShort.{batch_not_short};
     ghost use Rattle.batch_feeder.specs.ShortFields.{take_batch_short};
 
     type Held = BatchHeld;
 
-    type Made = Batch;
+    type Output = Batch;
 
     ghost takes = { take_batch };
 
-    ghost resumes = { batch_goes_on };
+    ghost resumes = { batch_continues };
 
     ghost none = { no_batch };
 
@@ -175,17 +201,17 @@ impl Slots for BatchParts {
         piece: &mut Piece<'_>,
     ) -> Result<bool, DecodeError> {
         match held {
-            BatchHeld::Process(part) => set(part, &mut self.process, alloc, piece),
+            BatchHeld::Process(part) => share(part, &mut self.process, alloc, piece),
             BatchHeld::Spans(part) => part.set(&mut self.spans, alloc, piece),
             BatchHeld::SeqNo(part) => set(part, &mut self.seq_no, alloc, piece),
             BatchHeld::Skip(part) => place(part, &mut (), alloc, piece),
         }
     }
 
-    fn rests(held: &BatchHeld) -> bool {
+    fn is_between_fields(held: &BatchHeld) -> bool {
         match held {
             BatchHeld::Process(part) => part.is_between(),
-            BatchHeld::Spans(part) => part.rests(),
+            BatchHeld::Spans(part) => part.is_between_fields(),
             _ => false,
         }
     }

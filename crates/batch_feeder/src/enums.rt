@@ -3,7 +3,7 @@ ghost use Rattle.batch_codec.specs.TagReading.{type_at};
 ghost use Rattle.batch_codec.specs.ReferenceReading.{kind_at};
 ghost use Rattle.batch_feeder.specs.Values.{type_part, kind_part};
 
-use crate::going::Partial;
+use crate::partial::Partial;
 use batch_codec::{DecodeError, TagType};
 use jaeger_model::RefKind;
 use std::alloc::Global;

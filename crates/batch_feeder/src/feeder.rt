@@ -4,11 +4,11 @@ ghost use Rattle.batch_codec.specs.declared.fault.DecodeError.TheVariants.{Wire}
 ghost use Rattle.batch_codec.specs.BatchReading.{decoded};
 ghost use Rattle.batch_codec.specs.Decoding.{Gives};
 ghost use Rattle.batch_feeder.specs.declared.feeder.State.TheVariants.{Whole, Refused};
-ghost use Rattle.batch_feeder.specs.Outsets.{AreQuiet, least};
-ghost use Rattle.batch_feeder.specs.Feeding.{IsSettled, Rests, Holds, Ends, Advances, Feeds, Keeps, answers_of};
+ghost use Rattle.batch_feeder.specs.LeastBytes.{AreQuiet, least};
+ghost use Rattle.batch_feeder.specs.Feeding.{IsSettled, IsBetweenFields, Holds, Ends, Advances, Feeds, Keeps, answers_of};
 
 use crate::batch::BatchParts;
-use crate::going::Item;
+use crate::partial::Item;
 use crate::structs::Struct;
 use batch_codec::DecodeError;
 use jaeger_model::Batch;
@@ -27,7 +27,7 @@ pub(crate) enum State {
     Refused(DecodeError),
 }
 
-/// The batch is whole. It stands apart, so that a call that goes on has no place for a state on its stack.
+/// The batch is whole. It stands apart, so that a call that continues has no place for a state on its stack.
 #[inline(never)]
 fn complete(state: &mut State, batch: Batch)
     ensures { state.new ≡ Whole batch }
@@ -53,7 +53,7 @@ fn end_of(left: &Piece<'_>) -> Result<(), DecodeError>
     Err(DecodeError::Trailing)
 }
 
-/// Goes on over a piece. A refusal leaves the state to be given up.
+/// Continues over a piece. A refusal leaves the state to be given up.
 fn advance(state: &mut State, alloc: Global, piece: &[u8]) -> Result<(), DecodeError>
     requires { IsSettled state.old }
     ensures { Advances state.old state.new piece.now result }
@@ -75,9 +75,9 @@ fn advance(state: &mut State, alloc: Global, piece: &[u8]) -> Result<(), DecodeE
     }
 }
 
-/// Goes on over a piece, and keeps a refusal: how many bytes are wanted from there on, none where each is looked at.
+/// Continues over a piece, and keeps a refusal: how many bytes are wanted from there on, none where each is looked at.
 #[inline(never)]
-fn go_over(
+fn advance_or_refuse(
     state: &mut State,
     wanted: &mut usize,
     alloc: Global,
@@ -95,15 +95,15 @@ fn go_over(
             Err(error)
         }
         Ok(()) => {
-            *wanted = rests(state);
+            *wanted = wanted_between_fields(state);
             Ok(())
         }
     }
 }
 
 /// A byte is wanted where it stands between two fields of the innermost struct that has begun.
-fn rests(state: &State) -> usize
-    ensures wants { 0 < result → Rests state.now }
+fn wanted_between_fields(state: &State) -> usize
+    ensures wants { 0 < result → IsBetweenFields state.now }
     ensures one { result ≤ 1 }
 {
     match state {
@@ -283,7 +283,7 @@ impl Feeder {
                     self.wanted = more;
                     return Ok(());
                 }
-                let result = go_over(
+                let result = advance_or_refuse(
                     &mut self.state,
                     &mut self.wanted,
                     alloc,
@@ -315,7 +315,7 @@ impl Feeder {
     {
         match self.read_waiting(alloc) {
             Err(error) => Err(error),
-            Ok(()) => go_over(&mut self.state, &mut self.wanted, alloc, piece),
+            Ok(()) => advance_or_refuse(&mut self.state, &mut self.wanted, alloc, piece),
         }
     }
 
@@ -327,7 +327,7 @@ impl Feeder {
         if self.waiting.is_empty() {
             return Ok(());
         }
-        let result = go_over(
+        let result = advance_or_refuse(
             &mut self.state,
             &mut self.wanted,
             alloc,

@@ -7,11 +7,11 @@ ghost use Rattle.wire_pieces.specs.Heads.{fields_value};
 ghost use Rattle.batch_codec.specs.declared.fault.DecodeError.{DecodeError};
 ghost use Rattle.batch_codec.specs.declared.fault.DecodeError.TheVariants.{Wire};
 ghost use Rattle.batch_codec.specs.Decoding.{required, wire};
-ghost use Rattle.batch_feeder.specs.Going.{Enters, GoesTo, IsWant, Tries};
+ghost use Rattle.batch_feeder.specs.Continuing.{Enters, ContinuesTo, IsTruncated, Tries};
 ghost use Rattle.batch_feeder.specs.Fields.{IsFresh, Opens, Reads, fields_from};
-ghost use Rattle.batch_feeder.specs.Outsets.{IsPart, outset};
+ghost use Rattle.batch_feeder.specs.LeastBytes.{IsPart, least_bytes};
 
-use crate::going::fault_of;
+use crate::partial::fault_of;
 use batch_codec::{DecodeError, Part};
 use std::alloc::Global;
 use thrift_binary::{Cursor, WireError};
@@ -23,7 +23,7 @@ pub(crate) trait Slots: Drop + Sized {
     type Held: Drop;
 
     /// The struct.
-    type Made: Drop;
+    type Output: Drop;
 
     /// What a field of a type and id makes of what was gathered.
     ghost takes: { Self → ℕ → ℤ → List ℕ → Result (Self × List ℕ) DecodeError };
@@ -35,7 +35,7 @@ pub(crate) trait Slots: Drop + Sized {
     ghost none: { Self };
 
     /// What the fields make at the stop byte.
-    ghost makes: { Self → Result Self.Made DecodeError };
+    ghost makes: { Self → Result Self.Output DecodeError };
 
     /// The least number of bytes of the struct.
     fn least() -> usize;
@@ -60,23 +60,23 @@ pub(crate) trait Slots: Drop + Sized {
         requires { is_code code ≡ true }
         ensures fresh { (w : List ℕ) → resumes self.now result w ≡ takes self.now code id w };
 
-    /// Goes on over a piece inside the value of a field: whether it is whole.
+    /// Continues over a piece inside the value of a field: whether it is whole.
     fn more(
         &mut self,
         held: &mut Self::Held,
         alloc: Global,
         piece: &mut Piece<'_>,
     ) -> Result<bool, DecodeError>
-        ensures goes { GoesTo self.new (resumes self.old held.old) (resumes self.new held.new)
+        ensures continues { ContinuesTo self.new (resumes self.old held.old) (resumes self.new held.new)
             piece.old piece.new result }
         ensures no_longer { OnOk result (length piece.new ≤ length piece.old) };
 
     /// Whether the value stands between two fields of the innermost struct that has begun in it.
-    fn rests(held: &Self::Held) -> bool
+    fn is_between_fields(held: &Self::Held) -> bool
         ensures wants { result ≡ true → (s : Self) (w : List ℕ) → IsPart w →
             resumes s held.now w ≡ Err (Wire Truncated) };
 
-    fn whole(self) -> Result<Self::Made, DecodeError>
+    fn whole(self) -> Result<Self::Output, DecodeError>
         ensures { result ≡ makes self };
 
     /// The faults of a field's value have places.
@@ -86,7 +86,7 @@ pub(crate) trait Slots: Drop + Sized {
     ghost not_short: { (s : Self) → makes s ≡ Err (Wire Truncated) → ⊥ };
 
     /// A value that every value of its type is longer than is no field's.
-    ghost short: { (s : Self) (c : ℕ) (i : ℤ) (w : List ℕ) → outset c w ≡ Err Truncated → takes s c i w ≡ Err (Wire Truncated) };
+    ghost short: { (s : Self) (c : ℕ) (i : ℤ) (w : List ℕ) → least_bytes c w ≡ Err Truncated → takes s c i w ≡ Err (Wire Truncated) };
 }
 
 /// What was gathered of a struct so far, whose fields are begun over a piece.
@@ -101,7 +101,7 @@ pub(crate) trait Fields: Slots {
         piece: &mut Piece<'_>,
     ) -> Result<bool, DecodeError>
         requires { is_code code ≡ true }
-        ensures goes { Opens (Self.takes self.old code id) (Self.resumes self.new) self.new next.new
+        ensures continues { Opens (Self.takes self.old code id) (Self.resumes self.new) self.new next.new
             piece.old piece.new result }
         ensures no_longer { OnOk result (length piece.new ≤ length piece.old) };
 }
@@ -123,8 +123,8 @@ pub(crate) enum Place {
 
 /// The fault is that the bytes are too few.
 #[inline(always)]
-fn is_want(error: DecodeError) -> bool
-    ensures { IsWant error result }
+fn is_truncated(error: DecodeError) -> bool
+    ensures { IsTruncated error result }
 {
     match error {
         DecodeError::Wire(fault) => match fault {
@@ -157,7 +157,7 @@ fn read_fields<S: Slots>(
         let head = cursor.rest();
         let field = match cursor.field() {
             Err(error) => {
-                if !is_want(DecodeError::Wire(error)) {
+                if !is_truncated(DecodeError::Wire(error)) {
                     return Err(DecodeError::Wire(error));
                 }
                 *piece = Piece::new(head);
@@ -177,7 +177,7 @@ fn read_fields<S: Slots>(
                 return Ok(Place::Value(code, id));
             }
             Err(error) => {
-                if !is_want(error) {
+                if !is_truncated(error) {
                     return Err(error);
                 }
                 *piece = Piece::new(value);
@@ -187,7 +187,7 @@ fn read_fields<S: Slots>(
     }
 }
 
-/// Begins the value of a field over a piece, in the way that goes on over it.
+/// Begins the value of a field over a piece, in the way that continues over it.
 #[inline(never)]
 pub(crate) fn enter_slowly<S: Slots>(
     slots: &mut S,
@@ -198,7 +198,7 @@ pub(crate) fn enter_slowly<S: Slots>(
     piece: &mut Piece<'_>,
 ) -> Result<bool, DecodeError>
     requires { is_code code ≡ true }
-    ensures goes { Opens (S.takes slots.old code id) (S.resumes slots.new) slots.new next.new
+    ensures continues { Opens (S.takes slots.old code id) (S.resumes slots.new) slots.new next.new
         piece.old piece.new result }
     ensures no_longer { OnOk result (length piece.new ≤ length piece.old) }
 {
@@ -221,7 +221,7 @@ fn enter_head<S: Slots>(
     piece: &mut Piece<'_>,
 ) -> Result<bool, DecodeError>
     requires { field_at piece.old ≡ Err Truncated }
-    ensures goes { Enters (fields_at wire S.takes _slots.now)
+    ensures continues { Enters (fields_at wire S.takes _slots.now)
         (fields_from S.takes S.resumes _slots.now) _slots.now next.new piece.old piece.new result }
     ensures no_longer { OnOk result (length piece.new ≤ length piece.old) }
 {
@@ -235,7 +235,7 @@ fn enter_head<S: Slots>(
     }
 }
 
-/// Goes on over fields from the first byte of a head on, up to the stop byte: what is held where the piece ends before.
+/// Continues over fields from the first byte of a head on, up to the stop byte: what is held where the piece ends before.
 #[inline(always)]
 pub(crate) fn enter_fields<S: Fields>(
     slots: &mut S,
@@ -243,7 +243,7 @@ pub(crate) fn enter_fields<S: Fields>(
     alloc: Global,
     piece: &mut Piece<'_>,
 ) -> Result<bool, DecodeError>
-    ensures goes { Enters (fields_at wire S.takes slots.old)
+    ensures continues { Enters (fields_at wire S.takes slots.old)
         (fields_from S.takes S.resumes slots.new) slots.new next.new piece.old piece.new result }
     ensures no_longer { OnOk result (length piece.new ≤ length piece.old) }
 {
@@ -278,8 +278,8 @@ fn go_to<V: Drop>(step: &mut Step<V>, next: Option<Step<V>>)
     }
 }
 
-/// Goes on over fields, up to the stop byte, and holds what has come of the last one. It stands apart, so that a call
-/// that goes on inside a value has no place for such a part on its stack.
+/// Continues over fields, up to the stop byte, and holds what has come of the last one. It stands apart, so that a call
+/// that continues inside a value has no place for such a part on its stack.
 #[inline(never)]
 fn hold_fields<S: Fields>(
     slots: &mut S,
@@ -287,7 +287,7 @@ fn hold_fields<S: Fields>(
     alloc: Global,
     piece: &mut Piece<'_>,
 ) -> Result<bool, DecodeError>
-    ensures goes { GoesTo slots.new (fields_at wire S.takes slots.old)
+    ensures continues { ContinuesTo slots.new (fields_at wire S.takes slots.old)
         (fields_from S.takes S.resumes slots.new step.new)
         piece.old piece.new result }
     ensures no_longer { OnOk result (length piece.new ≤ length piece.old) }
@@ -298,7 +298,7 @@ fn hold_fields<S: Fields>(
     result
 }
 
-/// Begins the value of a field, and goes on over fields. It stands apart as `hold_fields` does.
+/// Begins the value of a field, and continues over fields. It stands apart as `hold_fields` does.
 #[inline(never)]
 fn hold_field<S: Fields>(
     slots: &mut S,
@@ -309,7 +309,7 @@ fn hold_field<S: Fields>(
     piece: &mut Piece<'_>,
 ) -> Result<bool, DecodeError>
     requires { is_code code ≡ true }
-    ensures goes { GoesTo slots.new (fields_value wire S.takes (S.takes slots.old code id))
+    ensures continues { ContinuesTo slots.new (fields_value wire S.takes (S.takes slots.old code id))
         (fields_from S.takes S.resumes slots.new step.new)
         piece.old piece.new result }
     ensures no_longer { OnOk result (length piece.new ≤ length piece.old) }
@@ -325,7 +325,7 @@ fn hold_field<S: Fields>(
     }
 }
 
-/// Goes on over fields from a head of which no byte has come, which it leaves where the piece ends in front of a head.
+/// Continues over fields from a head of which no byte has come, which it leaves where the piece ends in front of a head.
 #[inline(never)]
 fn read_on<S: Fields>(
     slots: &mut S,
@@ -334,7 +334,7 @@ fn read_on<S: Fields>(
     piece: &mut Piece<'_>,
 ) -> Result<bool, DecodeError>
     requires { IsFresh S.takes S.resumes step.old }
-    ensures goes { GoesTo slots.new (fields_at wire S.takes slots.old)
+    ensures continues { ContinuesTo slots.new (fields_at wire S.takes slots.old)
         (fields_from S.takes S.resumes slots.new step.new)
         piece.old piece.new result }
     ensures no_longer { OnOk result (length piece.new ≤ length piece.old) }
@@ -352,7 +352,7 @@ fn read_on<S: Fields>(
     }
 }
 
-/// Goes on over fields, up to the stop byte.
+/// Continues over fields, up to the stop byte.
 #[inline(always)]
 pub(crate) fn more_fields<S: Fields>(
     slots: &mut S,
@@ -360,7 +360,7 @@ pub(crate) fn more_fields<S: Fields>(
     alloc: Global,
     piece: &mut Piece<'_>,
 ) -> Result<bool, DecodeError>
-    ensures goes { GoesTo slots.new (fields_from S.takes S.resumes slots.old step.old)
+    ensures continues { ContinuesTo slots.new (fields_from S.takes S.resumes slots.old step.old)
         (fields_from S.takes S.resumes slots.new step.new) piece.old piece.new result }
     ensures no_longer { OnOk result (length piece.new ≤ length piece.old) }
 {

@@ -4,11 +4,11 @@ ghost use Rattle.thrift_binary.specs.Lists.{list_of};
 ghost use Rattle.wire_pieces.specs.Lists.{behind_head, items_from};
 ghost use Rattle.batch_codec.specs.declared.fault.DecodeError.TheVariants.{Wire};
 ghost use Rattle.batch_codec.specs.Decoding.{wire};
-ghost use Rattle.batch_feeder.specs.Going.{Enters, GoesTo, Lays, Places, Sets};
+ghost use Rattle.batch_feeder.specs.Continuing.{Enters, ContinuesTo, Lays, Places, Sets};
 ghost use Rattle.batch_feeder.specs.Lists.{items_behind, items_ended, list_from};
-ghost use Rattle.batch_feeder.specs.Outsets.{IsPart};
+ghost use Rattle.batch_feeder.specs.LeastBytes.{IsPart};
 
-use crate::going::{Item, fault_of};
+use crate::partial::{Item, fault_of};
 use batch_codec::{DecodeError, room};
 use jaeger_model::Seq;
 use std::alloc::Global;
@@ -16,7 +16,7 @@ use std::mem;
 use thrift_binary::{WireError, types};
 use wire_pieces::{ListHead, Piece};
 
-/// Goes on over so many values of a list, from the first byte of one, and holds the part of the last one that has come.
+/// Continues over so many values of a list, from the first byte of one, and holds the part of the last one that has come.
 fn begin_items<P: Item>(
     items: &mut Vec<P::Value>,
     left: &mut u32,
@@ -24,7 +24,7 @@ fn begin_items<P: Item>(
     alloc: Global,
     piece: &mut Piece<'_>,
 ) -> Result<bool, DecodeError>
-    ensures goes { Enters (items_behind P.reads items.old.items left.old)
+    ensures continues { Enters (items_behind P.reads items.old.items left.old)
         (λ p. items_from P.reads items.new.items left.new (P.Partial.resumes p))
         items.new.items one.new piece.old piece.new result }
     ensures no_longer { OnOk result (length piece.new ≤ length piece.old) }
@@ -40,7 +40,7 @@ fn begin_items<P: Item>(
     Ok(true)
 }
 
-/// Goes on over so many values of a list, behind one whose bytes have come and in its place.
+/// Continues over so many values of a list, behind one whose bytes have come and in its place.
 #[inline(never)]
 fn next_items<P: Item>(
     items: &mut Vec<P::Value>,
@@ -49,7 +49,7 @@ fn next_items<P: Item>(
     alloc: Global,
     piece: &mut Piece<'_>,
 ) -> Result<bool, DecodeError>
-    ensures goes { GoesTo items.new.items
+    ensures continues { ContinuesTo items.new.items
         (items_ended P.reads items.old.items left.old (P.ends one.old))
         (items_from P.reads items.new.items left.new (P.Partial.resumes one.new))
         piece.old piece.new result }
@@ -97,18 +97,18 @@ impl<P: Item> ListPart<P> {
     }
 
     /// Whether it stands between two fields of the innermost struct that has begun in it.
-    pub(crate) fn rests(&self) -> bool
+    pub(crate) fn is_between_fields(&self) -> bool
         ensures wants { result ≡ true → (w : List ℕ) → IsPart w →
             list_from P.reads P.Partial.resumes self.now.items.items self.now.left self.now.head
             self.now.one w ≡ Err (Wire Truncated) }
     {
         match &self.one {
             None => false,
-            Some(one) => one.rests(),
+            Some(one) => one.is_between_fields(),
         }
     }
 
-    /// Goes on behind the head of a list.
+    /// Continues behind the head of a list.
     #[inline]
     fn enter(
         &mut self,
@@ -117,7 +117,7 @@ impl<P: Item> ListPart<P> {
         alloc: Global,
         piece: &mut Piece<'_>,
     ) -> Result<bool, DecodeError>
-        ensures goes { GoesTo self.new.items.items (behind_head wire 12 P.reads (code, size))
+        ensures continues { ContinuesTo self.new.items.items (behind_head wire 12 P.reads (code, size))
             (list_from P.reads P.Partial.resumes self.new.items.items self.new.left self.new.head
             self.new.one) piece.old piece.new result }
         ensures no_longer { OnOk result (length piece.new ≤ length piece.old) }
@@ -134,10 +134,10 @@ impl<P: Item> ListPart<P> {
         begin_items(&mut self.items, &mut self.left, &mut self.one, alloc, piece)
     }
 
-    /// Goes on over a piece.
+    /// Continues over a piece.
     #[inline(always)]
     fn go_on(&mut self, alloc: Global, piece: &mut Piece<'_>) -> Result<bool, DecodeError>
-        ensures goes { GoesTo self.new.items.items
+        ensures continues { ContinuesTo self.new.items.items
             (list_from P.reads P.Partial.resumes self.old.items.items self.old.left self.old.head
             self.old.one)
             (list_from P.reads P.Partial.resumes self.new.items.items self.new.left self.new.head
@@ -165,7 +165,7 @@ impl<P: Item> ListPart<P> {
         alloc: Global,
         piece: &mut Piece<'_>,
     ) -> Result<Option<Self>, DecodeError>
-        ensures goes { Lays (list_of wire 12 P.reads)
+        ensures continues { Lays (list_of wire 12 P.reads)
             (λ p. list_from P.reads P.Partial.resumes p.items.items p.left p.head p.one)
             slot.old slot.new piece.old piece.new result }
         ensures no_longer { OnOk result (length piece.new ≤ length piece.old) }
@@ -178,7 +178,7 @@ impl<P: Item> ListPart<P> {
         }
     }
 
-    /// Goes on over a piece, and puts the list into its place.
+    /// Continues over a piece, and puts the list into its place.
     #[inline(always)]
     pub(crate) fn place(
         &mut self,
@@ -186,7 +186,7 @@ impl<P: Item> ListPart<P> {
         alloc: Global,
         piece: &mut Piece<'_>,
     ) -> Result<bool, DecodeError>
-        ensures goes { Places (list_from P.reads P.Partial.resumes
+        ensures continues { Places (list_from P.reads P.Partial.resumes
             self.old.items.items self.old.left self.old.head self.old.one)
             (list_from P.reads P.Partial.resumes
             self.new.items.items self.new.left self.new.head self.new.one)
@@ -208,7 +208,7 @@ impl<P: Item> ListPart<P> {
         alloc: Global,
         piece: &mut Piece<'_>,
     ) -> Result<bool, DecodeError>
-        ensures goes { Sets (list_from P.reads P.Partial.resumes
+        ensures continues { Sets (list_from P.reads P.Partial.resumes
             self.old.items.items self.old.left self.old.head self.old.one)
             (list_from P.reads P.Partial.resumes
             self.new.items.items self.new.left self.new.head self.new.one)
@@ -222,7 +222,7 @@ impl<P: Item> ListPart<P> {
         result
     }
 
-    /// The items. It stands apart, so that a call that goes on inside of one has no place for a list on its stack.
+    /// The items. It stands apart, so that a call that continues inside of one has no place for a list on its stack.
     #[inline(never)]
     fn take_items(&mut self, alloc: Global) -> Seq<P::Value>
         ensures { result ≡ self.old.items.items }

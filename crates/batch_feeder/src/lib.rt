@@ -6,7 +6,7 @@
 //! they claim. Bytes of short pieces wait until the field that they are of is whole or may show a fault, and are then
 //! read at once; others are read where they stand. [`decode_pieces`] joins the calls.
 //!
-//! - `going`: values of which some bytes have come, as readings of the bytes still to come (`specs/Going.antt`).
+//! - `partial`: values of which some bytes have come, as readings of the bytes still to come (`specs/Continuing.antt`).
 //! - `values`, `texts`, `enums`, `skipped`: single values.
 //! - `fields`, `structs`, `items`: a struct's fields up to its stop byte, a struct, a list of structs.
 //! - `tag`, `log`, `reference`, `process`, `span`, `batch`: one struct of `jaeger.thrift` each.
@@ -17,9 +17,9 @@ mod batch;
 mod enums;
 mod feeder;
 mod fields;
-mod going;
 mod items;
 mod log;
+mod partial;
 mod process;
 mod reads;
 mod reference;

@@ -2,8 +2,8 @@ ghost use Rattle.std.specs.Prelude.{◌≡◌, ◌≤◌, pos, length, OnOk};
 ghost use Rattle.batch_feeder.specs.Fields.{Opens};
 
 use crate::fields::{Fields, Slots, Step, enter_slowly, hold_next, required};
-use crate::going::{place, set};
 use crate::items::ListPart;
+use crate::partial::{place, set};
 use crate::reads::read_i64;
 use crate::skipped::SkipPart;
 use crate::structs::Struct;
@@ -42,7 +42,7 @@ pub(crate) enum LogHeld {
 
 impl LogParts {
     ghost use Rattle.batch_codec.specs.LogReading.{take_log};
-    ghost use Rattle.batch_feeder.specs.Logs.{log_goes_on};
+    ghost use Rattle.batch_feeder.specs.Logs.{log_continues};
 
     /// Begins the fields over a piece. It stands apart, so that other fields have no place for such a part on their stack.
     #[tactic(auto, unfolding(batch_codec::specs::LogReading::take_log, batch_codec::specs::TagReading::tag_at))]
@@ -53,7 +53,7 @@ impl LogParts {
         alloc: Global,
         piece: &mut Piece<'_>,
     ) -> Result<bool, DecodeError>
-        ensures goes { Opens (take_log self.old 15 (pos 2)) (log_goes_on self.new) self.new next.new
+        ensures continues { Opens (take_log self.old 15 (pos 2)) (log_continues self.new) self.new next.new
             piece.old piece.new result }
         ensures no_longer { OnOk result (length piece.new ≤ length piece.old) }
     {
@@ -79,17 +79,17 @@ impl Slots for LogParts {
     ghost use Rattle.batch_codec.specs.Gathered.{no_log};
     ghost use Rattle.batch_codec.specs.LogReading.{take_log, log_from};
     ghost use Rattle.batch_codec.proofs.CutBatches.{take_log_safe};
-    ghost use Rattle.batch_feeder.specs.Logs.{log_goes_on};
+    ghost use Rattle.batch_feeder.specs.Logs.{log_continues};
     ghost use Rattle.batch_feeder.specs.NotShort.{log_not_short};
     ghost use Rattle.batch_feeder.specs.ShortFields.{take_log_short};
 
     type Held = LogHeld;
 
-    type Made = Log;
+    type Output = Log;
 
     ghost takes = { take_log };
 
-    ghost resumes = { log_goes_on };
+    ghost resumes = { log_continues };
 
     ghost none = { no_log };
 
@@ -144,9 +144,9 @@ impl Slots for LogParts {
         }
     }
 
-    fn rests(held: &LogHeld) -> bool {
+    fn is_between_fields(held: &LogHeld) -> bool {
         match held {
-            LogHeld::Fields(part) => part.rests(),
+            LogHeld::Fields(part) => part.is_between_fields(),
             _ => false,
         }
     }

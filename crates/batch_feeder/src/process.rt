@@ -2,8 +2,8 @@ ghost use Rattle.std.specs.Prelude.{◌≡◌, ◌≤◌, pos, length, OnOk};
 ghost use Rattle.batch_feeder.specs.Fields.{Opens};
 
 use crate::fields::{Fields, Slots, Step, enter_slowly, hold_next, required};
-use crate::going::{place, set};
 use crate::items::ListPart;
+use crate::partial::{place, set};
 use crate::reads::read_text;
 use crate::skipped::SkipPart;
 use crate::structs::Struct;
@@ -45,7 +45,7 @@ pub(crate) enum ProcessHeld {
 
 impl ProcessParts {
     ghost use Rattle.batch_codec.specs.ProcessReading.{take_process};
-    ghost use Rattle.batch_feeder.specs.Processes.{process_goes_on};
+    ghost use Rattle.batch_feeder.specs.Processes.{process_continues};
 
     /// Begins the tags over a piece. It stands apart, so that other fields have no place for such a part on their stack.
     #[tactic(auto, unfolding(batch_codec::specs::ProcessReading::take_process, batch_codec::specs::TagReading::tag_at))]
@@ -56,7 +56,7 @@ impl ProcessParts {
         alloc: Global,
         piece: &mut Piece<'_>,
     ) -> Result<bool, DecodeError>
-        ensures goes { Opens (take_process self.old 15 (pos 2)) (process_goes_on self.new) self.new
+        ensures continues { Opens (take_process self.old 15 (pos 2)) (process_continues self.new) self.new
             next.new piece.old piece.new result }
         ensures no_longer { OnOk result (length piece.new ≤ length piece.old) }
     {
@@ -75,17 +75,17 @@ impl Slots for ProcessParts {
     ghost use Rattle.batch_codec.specs.Gathered.{no_process};
     ghost use Rattle.batch_codec.specs.ProcessReading.{take_process, process_from};
     ghost use Rattle.batch_codec.proofs.CutBatches.{take_process_safe};
-    ghost use Rattle.batch_feeder.specs.Processes.{process_goes_on};
+    ghost use Rattle.batch_feeder.specs.Processes.{process_continues};
     ghost use Rattle.batch_feeder.specs.NotShort.{process_not_short};
     ghost use Rattle.batch_feeder.specs.ShortFields.{take_process_short};
 
     type Held = ProcessHeld;
 
-    type Made = Process;
+    type Output = Process;
 
     ghost takes = { take_process };
 
-    ghost resumes = { process_goes_on };
+    ghost resumes = { process_continues };
 
     ghost none = { no_process };
 
@@ -140,9 +140,9 @@ impl Slots for ProcessParts {
         }
     }
 
-    fn rests(held: &ProcessHeld) -> bool {
+    fn is_between_fields(held: &ProcessHeld) -> bool {
         match held {
-            ProcessHeld::Tags(part) => part.rests(),
+            ProcessHeld::Tags(part) => part.is_between_fields(),
             _ => false,
         }
     }

@@ -1,6 +1,6 @@
 use crate::enums::KindPart;
 use crate::fields::{Fields, Slots, Step, enter_slowly, required};
-use crate::going::{place, set};
+use crate::partial::{place, set};
 use crate::reads::{read_id, read_kind};
 use crate::skipped::SkipPart;
 use crate::values::IdPart;
@@ -48,17 +48,17 @@ impl Slots for ReferenceParts {
     ghost use Rattle.batch_codec.specs.Gathered.{no_reference};
     ghost use Rattle.batch_codec.specs.ReferenceReading.{take_reference, reference_from};
     ghost use Rattle.batch_codec.proofs.CutBatches.{take_reference_safe};
-    ghost use Rattle.batch_feeder.specs.References.{reference_goes_on};
+    ghost use Rattle.batch_feeder.specs.References.{reference_continues};
     ghost use Rattle.batch_feeder.specs.NotShort.{reference_not_short};
     ghost use Rattle.batch_feeder.specs.ShortFields.{take_reference_short};
 
     type Held = ReferenceHeld;
 
-    type Made = SpanRef;
+    type Output = SpanRef;
 
     ghost takes = { take_reference };
 
-    ghost resumes = { reference_goes_on };
+    ghost resumes = { reference_continues };
 
     ghost none = { no_reference };
 
@@ -122,7 +122,7 @@ impl Slots for ReferenceParts {
         }
     }
 
-    fn rests(_held: &ReferenceHeld) -> bool {
+    fn is_between_fields(_held: &ReferenceHeld) -> bool {
         false
     }
 

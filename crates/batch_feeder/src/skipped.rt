@@ -4,7 +4,7 @@ ghost use Rattle.thrift_binary.specs.Skipping.{skip_at};
 ghost use Rattle.batch_codec.specs.Decoding.{wire};
 ghost use Rattle.batch_feeder.specs.Values.{skip_from};
 
-use crate::going::{Partial, fault_of};
+use crate::partial::{Partial, fault_of};
 use batch_codec::DecodeError;
 use std::alloc::Global;
 use wire_pieces::{Piece, Skipping};

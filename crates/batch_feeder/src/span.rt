@@ -1,12 +1,12 @@
 ghost use Rattle.std.specs.Prelude.{◌≡◌, ◌≤◌, pos, length, OnOk};
 ghost use Rattle.batch_codec.specs.SpanReading.{take_span};
 ghost use Rattle.batch_feeder.specs.Fields.{Opens};
-ghost use Rattle.batch_feeder.specs.Spans.{span_goes_on};
+ghost use Rattle.batch_feeder.specs.Spans.{span_continues};
 
 use crate::fields::{Fields, Slots, Step, enter_slowly, hold_next};
-use crate::going::{place, set};
 use crate::items::ListPart;
 use crate::log::LogParts;
+use crate::partial::{place, set};
 use crate::reads::{read_i32, read_i64, read_id, read_text};
 use crate::reference::ReferenceParts;
 use crate::skipped::SkipPart;
@@ -47,7 +47,7 @@ fn enter_references(
     alloc: Global,
     piece: &mut Piece<'_>,
 ) -> Result<bool, DecodeError>
-    ensures goes { Opens (take_span slots.old 15 (pos 6)) (span_goes_on slots.new) slots.new
+    ensures continues { Opens (take_span slots.old 15 (pos 6)) (span_continues slots.new) slots.new
         next.new piece.old piece.new result }
     ensures no_longer { OnOk result (length piece.new ≤ length piece.old) }
 {
@@ -70,7 +70,7 @@ fn enter_tags(
     alloc: Global,
     piece: &mut Piece<'_>,
 ) -> Result<bool, DecodeError>
-    ensures goes { Opens (take_span slots.old 15 (pos 10)) (span_goes_on slots.new) slots.new
+    ensures continues { Opens (take_span slots.old 15 (pos 10)) (span_continues slots.new) slots.new
         next.new piece.old piece.new result }
     ensures no_longer { OnOk result (length piece.new ≤ length piece.old) }
 {
@@ -93,7 +93,7 @@ fn enter_logs(
     alloc: Global,
     piece: &mut Piece<'_>,
 ) -> Result<bool, DecodeError>
-    ensures goes { Opens (take_span slots.old 15 (pos 11)) (span_goes_on slots.new) slots.new
+    ensures continues { Opens (take_span slots.old 15 (pos 11)) (span_continues slots.new) slots.new
         next.new piece.old piece.new result }
     ensures no_longer { OnOk result (length piece.new ≤ length piece.old) }
 {
@@ -116,11 +116,11 @@ impl Slots for SpanSlots {
 
     type Held = SpanHeld;
 
-    type Made = Span;
+    type Output = Span;
 
     ghost takes = { take_span };
 
-    ghost resumes = { span_goes_on };
+    ghost resumes = { span_continues };
 
     ghost none = { no_span };
 
@@ -197,11 +197,11 @@ impl Slots for SpanSlots {
         }
     }
 
-    fn rests(held: &SpanHeld) -> bool {
+    fn is_between_fields(held: &SpanHeld) -> bool {
         match held {
-            SpanHeld::References(part) => part.rests(),
-            SpanHeld::Tags(part) => part.rests(),
-            SpanHeld::Logs(part) => part.rests(),
+            SpanHeld::References(part) => part.is_between_fields(),
+            SpanHeld::Tags(part) => part.is_between_fields(),
+            SpanHeld::Logs(part) => part.is_between_fields(),
             _ => false,
         }
     }

@@ -3,10 +3,10 @@ ghost use Rattle.thrift_binary.specs.declared.fault.WireError.TheVariants.{Trunc
 ghost use Rattle.batch_codec.specs.declared.fault.DecodeError.TheVariants.{Wire};
 ghost use Rattle.batch_feeder.specs.declared.fields.Step.{Step};
 ghost use Rattle.batch_feeder.specs.Fields.{made_of, struct_at, struct_from};
-ghost use Rattle.batch_feeder.specs.Outsets.{IsPart};
+ghost use Rattle.batch_feeder.specs.LeastBytes.{IsPart};
 
 use crate::fields::{Fields, Slots, Step, enter_fields, more_fields};
-use crate::going::{Item, Partial};
+use crate::partial::{Item, Partial};
 use batch_codec::DecodeError;
 use std::alloc::Global;
 use std::mem;
@@ -20,7 +20,7 @@ pub(crate) struct Struct<S: Slots> {
 }
 
 impl<S: Fields> Partial for Struct<S> {
-    type Value = S::Made;
+    type Value = S::Output;
 
     ghost resumes = { λ p. struct_from S.takes S.resumes S.makes p.slots p.step };
 
@@ -28,7 +28,7 @@ impl<S: Fields> Partial for Struct<S> {
         &mut self,
         alloc: Global,
         piece: &mut Piece<'_>,
-    ) -> Result<Option<S::Made>, DecodeError> {
+    ) -> Result<Option<S::Output>, DecodeError> {
         match more_fields(&mut self.slots, &mut self.step, alloc, piece) {
             Err(error) => Err(error),
             Ok(false) => Ok(None),
@@ -49,7 +49,7 @@ impl<S: Fields> Item for Struct<S> {
         S::least()
     }
 
-    fn rests(&self) -> bool {
+    fn is_between_fields(&self) -> bool {
         self.is_between()
     }
 
@@ -57,7 +57,7 @@ impl<S: Fields> Item for Struct<S> {
         part: &mut Option<Self>,
         alloc: Global,
         piece: &mut Piece<'_>,
-    ) -> Result<Option<S::Made>, DecodeError> {
+    ) -> Result<Option<S::Output>, DecodeError> {
         let mut slots = S::start(alloc);
         let mut next = None;
         match enter_fields(&mut slots, &mut next, alloc, piece) {
@@ -75,7 +75,7 @@ impl<S: Fields> Item for Struct<S> {
         more_fields(&mut self.slots, &mut self.step, alloc, piece)
     }
 
-    fn take(&mut self, alloc: Global) -> Result<S::Made, DecodeError> {
+    fn take(&mut self, alloc: Global) -> Result<S::Output, DecodeError> {
         self.take_made(alloc)
     }
 }
@@ -93,7 +93,7 @@ fn hold<S: Slots>(part: &mut Option<Struct<S>>, slots: S, next: Option<Step<S::H
 
 /// The struct of fields that are whole.
 #[inline(always)]
-fn made<S: Slots>(slots: S) -> Result<Option<S::Made>, DecodeError>
+fn made<S: Slots>(slots: S) -> Result<Option<S::Output>, DecodeError>
     ensures { result ≡ made_of S.makes slots }
 {
     match slots.whole() {
@@ -111,7 +111,7 @@ impl<S: Slots> Struct<S> {
     {
         match &self.step {
             Step::Head(head) => head.is_first(),
-            Step::Value(held) => S::rests(held),
+            Step::Value(held) => S::is_between_fields(held),
         }
     }
 
@@ -127,9 +127,9 @@ impl<S: Slots> Struct<S> {
     }
 
     /// Takes the struct of its fields, which are whole, and stands before the first byte of another. It stands apart, so
-    /// that a call that goes on inside a field has no place for a struct on its stack.
+    /// that a call that continues inside a field has no place for a struct on its stack.
     #[inline(never)]
-    fn take_made(&mut self, alloc: Global) -> Result<S::Made, DecodeError>
+    fn take_made(&mut self, alloc: Global) -> Result<S::Output, DecodeError>
         ensures made { result ≡ S.makes self.old.slots }
         ensures fresh { (w : List ℕ) → struct_from S.takes S.resumes S.makes self.new.slots
             self.new.step w ≡ struct_at S.takes S.none S.makes w }

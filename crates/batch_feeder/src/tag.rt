@@ -2,7 +2,7 @@ ghost use Rattle.std.specs.Prelude.{◌≡◌};
 
 use crate::enums::TypePart;
 use crate::fields::{Fields, Slots, Step, enter_slowly, required};
-use crate::going::{place, set};
+use crate::partial::{place, set};
 use crate::reads::{read_binary, read_bool, read_double, read_i64, read_text, read_type};
 use crate::skipped::SkipPart;
 use crate::texts::{BinaryPart, TextPart};
@@ -60,17 +60,17 @@ impl Slots for TagParts {
     ghost use Rattle.batch_codec.specs.Gathered.{no_tag};
     ghost use Rattle.batch_codec.specs.TagReading.{take_tag, tag_from};
     ghost use Rattle.batch_codec.proofs.CutBatches.{take_tag_safe};
-    ghost use Rattle.batch_feeder.specs.Tags.{tag_goes_on};
+    ghost use Rattle.batch_feeder.specs.Tags.{tag_continues};
     ghost use Rattle.batch_feeder.specs.NotShort.{tag_not_short};
     ghost use Rattle.batch_feeder.specs.ShortFields.{take_tag_short};
 
     type Held = TagHeld;
 
-    type Made = Tag;
+    type Output = Tag;
 
     ghost takes = { take_tag };
 
-    ghost resumes = { tag_goes_on };
+    ghost resumes = { tag_continues };
 
     ghost none = { no_tag };
 
@@ -146,7 +146,7 @@ impl Slots for TagParts {
         }
     }
 
-    fn rests(_held: &TagHeld) -> bool {
+    fn is_between_fields(_held: &TagHeld) -> bool {
         false
     }
 

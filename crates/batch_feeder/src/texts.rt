@@ -2,7 +2,7 @@ ghost use Rattle.std.specs.Prelude.{◌≡◌, ℕ, List};
 ghost use Rattle.batch_codec.specs.Decoding.{text_at, binary_at};
 ghost use Rattle.batch_feeder.specs.Values.{text_part, binary_part};
 
-use crate::going::{Partial, fault_of};
+use crate::partial::{Partial, fault_of};
 use batch_codec::DecodeError;
 use jaeger_model::{Seq, Text};
 use std::alloc::Global;

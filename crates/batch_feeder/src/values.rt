@@ -2,7 +2,7 @@ ghost use Rattle.std.specs.Prelude.{◌≡◌, ℕ, List};
 ghost use Rattle.batch_codec.specs.Decoding.{bool_at, double_at, i32_at, i64_at, id_at};
 ghost use Rattle.batch_feeder.specs.Values.{bool_from, double_part, i32_part, i64_part, id_part};
 
-use crate::going::{Partial, fault_of};
+use crate::partial::{Partial, fault_of};
 use batch_codec::DecodeError;
 use std::alloc::Global;
 use wire_pieces::{Bool, Double, I32, I64, Piece};

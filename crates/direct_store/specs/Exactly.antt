@@ -3,6 +3,7 @@ use Rattle.std.specs.Prelude.{◌≡◌, ℕ, ◌+◌, ◌⊎◌, [], ◌∷◌,
 use Rattle.std.proofs.Common.{append_assoc, sym, ◌∙◌, ap, subst, append-nil}
 use Rattle.jaeger_model.specs.declared.batch.Batch.{Batch}
 use Rattle.trace_model.specs.declared.entry.Entry.{Entry}
+use Rattle.trace_model.specs.declared.entry.Work.TheVariants as brings
 use Rattle.trace_model.specs.declared.query.Query.{Query}
 use Rattle.trace_model.specs.declared.answer.Answer.{Answer}
 use Rattle.trace_model.specs.declared.refusal.Refusal.{Refusal}
@@ -16,7 +17,7 @@ use Rattle.store_backend.specs.Knowing.{History, Begins, HasAt, Keeps, SubmitKno
 
 -- the next entry of seat 0
 abbrev pub next_entry : Held → Batch → Entry
-next_entry s b = record { seat = 0; number = length s.entries + 1; batch = b }
+next_entry s b = record { seat = 0; number = length s.entries + 1; work = brings.Batch b }
 
 abbrev pub DirectKnows : Held → History → Type 0
 DirectKnows s h = Begins h s.entries
@@ -40,7 +41,7 @@ submit_knows s b (Ok place) t d =
     let e = next_entry s b in
     let entries : t.entries ≡ s.entries ++ e ∷ [] = ap (λ (x : Held). x.entries) d.1 in
     let goes : (h : History) → DirectKnows s h → DirectKnows t h = λ h k. (k.0 ++ e ∷ [], entries ∙ ap (λ x. x ++ e ∷ []) k.1 ∙ append_assoc h k.0 (e ∷ [])) in
-    let has : HasAt t.entries place b = record { before = s.entries; entry = e; after = []; whole = entries; batch_is = refl; place_is = d.2 } in (
+    let has : HasAt t.entries place b = record { before = s.entries; entry = e; after = []; whole = entries; work_is = refl; place_is = d.2 } in (
       record { same_limits = ap (λ (x : Held). x.limits) d.1; knowledge = goes },
       record { history = t.entries; legal = d.3; has = has; known = ([], sym (append-nil t.entries)) },
     )

@@ -15,7 +15,7 @@ use std::alloc::Global;
 use std::marker::Model;
 use std::sync::Arc;
 use store_backend::Backend;
-use trace_model::{Answer, Entry, Query, Refusal};
+use trace_model::{Answer, Entry, Query, Refusal, Work};
 
 /// The seat that hands in every batch.
 const SEAT: u16 = 0;
@@ -77,7 +77,7 @@ impl<T> Backend<T> for Direct {
         let entry = Entry {
             seat: SEAT,
             number: self.store.len() + 1,
-            batch,
+            work: Work::Batch(batch),
         };
         self.store.apply(Arc::new(alloc, entry)?)
     }

@@ -1,4 +1,5 @@
-pub mod Hex
+pub mod Counting
+pub mod Wanting
 pub mod Choosing
 pub mod Rising
 pub mod Order

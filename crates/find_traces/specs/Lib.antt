@@ -1,2 +1,4 @@
 pub mod Places
 pub mod Keys
+pub mod Wanting
+pub mod Prepared

@@ -11,7 +11,6 @@ ghost use Rattle.find_traces.specs.Keys.{is_full, key_of, key_place, key_cmp, be
 use crate::searched::Searched;
 use std::alloc::{AllocError, Global};
 use std::collections::BinaryHeap;
-use trace_model::Find;
 
 /// A trace that may match. The one with the latest first start is the greatest, and of equal starts
 /// the one at the later place, which was opened later.
@@ -54,21 +53,21 @@ fn judge_popped<T: Searched>(
     alloc: Global,
     traces: &T,
     mut keys: BinaryHeap<Key>,
-    query: &Find,
 ) -> Result<Vec<usize>, AllocError>
     ghost ranking: { List Key }
     requires rises { IsStrictlySortedBy best_cmp ranking }
     requires permutation { IsPermutation ranking (heap_items keys) }
     requires heap { IsHeap key_cmp (heap_items keys) }
     ensures { IfOk result (λ v. v.items ≡ map key_place
-        (cut query.now.limit (filter (key_judged query.now (T.traces traces.now)) ranking))) }
+        (cut (T.query traces.now).limit
+        (filter (key_judged (T.query traces.now) (T.traces traces.now)) ranking))) }
 {
     let mut places = Vec::new(alloc);
     while let Some(key) = keys.pop() {
-        if is_full(query.limit, places.len()) {
+        if is_full(traces.limit(), places.len()) {
             break;
         }
-        if traces.is_found_at(key.place, query) {
+        if traces.is_found_at(alloc, key.place)? {
             places.push(key.place)?;
         }
     }
@@ -76,13 +75,10 @@ fn judge_popped<T: Searched>(
 }
 
 /// The places of the best traces that match, in the order of the answer.
-pub(crate) fn find_best<T: Searched>(
-    alloc: Global,
-    traces: &T,
-    query: &Find,
-) -> Result<Vec<usize>, AllocError>
-    ensures { IfOk result (λ v. v.items ≡ places_found query.now (T.traces traces.now)) }
+pub(crate) fn find_best<T: Searched>(alloc: Global, traces: &T) -> Result<Vec<usize>, AllocError>
+    ensures { IfOk result (λ v. v.items ≡
+        places_found (T.query traces.now) (T.traces traces.now)) }
 {
     let keys = all_keys(alloc, traces)?;
-    judge_popped(alloc, traces, BinaryHeap::from(keys), query)
+    judge_popped(alloc, traces, BinaryHeap::from(keys))
 }

@@ -7,7 +7,6 @@ use crate::matched::find_all;
 use crate::searched::Searched;
 use jaeger_model::TraceId;
 use std::alloc::{AllocError, Global};
-use trace_model::Find;
 
 /// The places of the traces that a search finds, in the order of its answer: latest first start
 /// first, of equal starts the trace opened later, and no more than the limit. With a limit no trace
@@ -16,15 +15,16 @@ use trace_model::Find;
 /// # Errors
 ///
 /// Out of memory, and nothing else.
-pub fn find<T: Searched>(alloc: Global, traces: &T, query: &Find) -> Result<Vec<usize>, AllocError>
-    ensures places { IfOk result (λ v. v.items ≡ places_found query.now (T.traces traces.now)) }
+pub fn find<T: Searched>(alloc: Global, traces: &T) -> Result<Vec<usize>, AllocError>
+    ensures places { IfOk result (λ v. v.items ≡
+        places_found (T.query traces.now) (T.traces traces.now)) }
     ensures traces { IfOk result (λ v. map (trace_at (T.traces traces.now)) v.items ≡
-        found_in query.now (T.traces traces.now)) }
+        found_in (T.query traces.now) (T.traces traces.now)) }
 {
-    if query.limit == 0 {
-        return find_all(alloc, traces, query);
+    if traces.limit() == 0 {
+        return find_all(alloc, traces);
     }
-    find_best(alloc, traces, query)
+    find_best(alloc, traces)
 }
 
 /// The ids of the traces that a search finds, in the order of its answer, as [`find`] gives it.
@@ -32,15 +32,12 @@ pub fn find<T: Searched>(alloc: Global, traces: &T, query: &Find) -> Result<Vec<
 /// # Errors
 ///
 /// Out of memory, and nothing else.
-pub fn find_ids<T: Searched>(
-    alloc: Global,
-    traces: &T,
-    query: &Find,
-) -> Result<Vec<TraceId>, AllocError>
-    ensures { IfOk result (λ v. v.items ≡ ids_of (found_in query.now (T.traces traces.now))) }
+pub fn find_ids<T: Searched>(alloc: Global, traces: &T) -> Result<Vec<TraceId>, AllocError>
+    ensures { IfOk result (λ v. v.items ≡
+        ids_of (found_in (T.query traces.now) (T.traces traces.now))) }
 {
     let mut ids = Vec::new(alloc);
-    let places = find(alloc, traces, query)?;
+    let places = find(alloc, traces)?;
     for place in &places {
         if let Some(id) = traces.id_at(*place) {
             ids.push(id)?;

@@ -6,7 +6,6 @@ ghost use Rattle.find_traces.specs.Places.{hits, hit_of, place_of, places_found,
 use crate::searched::Searched;
 use std::alloc::{AllocError, Global};
 use std::cmp::Reverse;
-use trace_model::Find;
 
 /// A trace that matches. The one with the latest first start comes first, and of equal starts the
 /// one at the later place, which was opened later.
@@ -26,12 +25,13 @@ fn hit_at<T: Searched>(traces: &T, place: usize) -> Hit
 }
 
 /// The traces that match, the one opened longest ago first.
-fn all_hits<T: Searched>(alloc: Global, traces: &T, query: &Find) -> Result<Vec<Hit>, AllocError>
-    ensures { IfOk result (λ v. v.items ≡ map hit_of (hits query.now (T.traces traces.now))) }
+fn all_hits<T: Searched>(alloc: Global, traces: &T) -> Result<Vec<Hit>, AllocError>
+    ensures { IfOk result (λ v. v.items ≡
+        map hit_of (hits (T.query traces.now) (T.traces traces.now))) }
 {
     let mut found = Vec::new(alloc);
     for place in 0..traces.count() {
-        if traces.is_found_at(place, query) {
+        if traces.is_found_at(alloc, place)? {
             found.push(hit_at(traces, place))?;
         }
     }
@@ -49,15 +49,12 @@ fn places_of(alloc: Global, hits: &[Hit]) -> Result<Vec<usize>, AllocError>
 }
 
 /// The places of all traces that match, in the order of the answer. Only those that match are sorted.
-pub(crate) fn find_all<T: Searched>(
-    alloc: Global,
-    traces: &T,
-    query: &Find,
-) -> Result<Vec<usize>, AllocError>
-    requires { query.now.limit ≡ 0 }
-    ensures { IfOk result (λ v. v.items ≡ places_found query.now (T.traces traces.now)) }
+pub(crate) fn find_all<T: Searched>(alloc: Global, traces: &T) -> Result<Vec<usize>, AllocError>
+    requires { (T.query traces.now).limit ≡ 0 }
+    ensures { IfOk result (λ v. v.items ≡
+        places_found (T.query traces.now) (T.traces traces.now)) }
 {
-    let mut found = all_hits(alloc, traces, query)?;
+    let mut found = all_hits(alloc, traces)?;
     found.sort_unstable();
     places_of(alloc, &found)
 }

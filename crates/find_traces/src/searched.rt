@@ -1,19 +1,27 @@
-ghost use Rattle.std.specs.Prelude.{◌≡◌, length};
+ghost use Rattle.std.specs.Prelude.{◌≡◌, IfOk, length};
 ghost use Rattle.std.specs.List.{list_any};
 ghost use Rattle.trace_model.specs.Searching.{matches, first_start};
 ghost use Rattle.find_traces.specs.Places.{trace_at, id_at};
 
 use jaeger_model::TraceId;
-use trace_model::Find;
+use std::alloc::{AllocError, Global};
 
-/// Traces that a search looks at one by one, wherever their spans stand. A trace has its place among
-/// them, the one opened longest ago the first, 0.
+/// A search, and traces that it looks at one by one, wherever their spans stand. A trace has its place
+/// among them, the one opened longest ago the first, 0.
 pub trait Searched {
     ghost use Rattle.std.specs.Prelude.{List};
     ghost use Rattle.jaeger_model.specs.declared.placed.Placed.{Placed as PlacedValue};
+    ghost use Rattle.trace_model.specs.declared.query.Find.{Find as FindValue};
 
     /// The spans of each trace.
     ghost traces: { Self → List (List PlacedValue) };
+
+    /// The search.
+    ghost query: { Self → FindValue };
+
+    /// How many traces the search asks for at most; 0 is no limit.
+    fn limit(&self) -> u64
+        ensures { result ≡ (query self.now).limit };
 
     /// How many traces there are.
     fn count(&self) -> usize
@@ -28,6 +36,11 @@ pub trait Searched {
         ensures { result ≡ id_at (traces self.now) place };
 
     /// Whether one span of the trace meets every condition of the search.
-    fn is_found_at(&self, place: usize, query: &Find) -> bool
-        ensures { result ≡ list_any (matches query.now) (trace_at (traces self.now) place) };
+    ///
+    /// # Errors
+    ///
+    /// Out of memory, and nothing else.
+    fn is_found_at(&self, alloc: Global, place: usize) -> Result<bool, AllocError>
+        ensures { IfOk result (λ found. found ≡
+            list_any (matches (query self.now)) (trace_at (traces self.now) place)) };
 }

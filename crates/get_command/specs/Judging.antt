@@ -6,6 +6,7 @@ use Rattle.jaeger_model.specs.declared.batch.Batch.{Batch}
 use Rattle.batch_codec.specs.declared.fault.DecodeError.{DecodeError}
 use Rattle.batch_codec.specs.BatchReading.{decoded}
 use Rattle.trace_model.specs.declared.entry.Entry.{Entry}
+use Rattle.trace_model.specs.declared.entry.Work.TheVariants as brings
 use Rattle.trace_model.specs.declared.refusal.Refusal.{Refusal}
 use Rattle.trace_model.specs.Held.{Held}
 use Rattle.trace_model.specs.Refusals.{refusal_of, followed_by}
@@ -38,7 +39,7 @@ batch_on line = if length (without_blanks line) == 0 then None else Some (batch_
 
 -- all entries come from seat 0, and are numbered from 1
 abbrev pub next_entry : Held → Batch → Entry
-next_entry held batch = record { seat = 0; number = length held.entries + 1; batch = batch }
+next_entry held batch = record { seat = 0; number = length held.entries + 1; work = brings.Batch batch }
 
 -- why a line can't be used, if it can't, and what is held after it
 pub record Judged : Type 0 where

@@ -7,7 +7,7 @@ use Rattle.jaeger_model.specs.Ids.{trace_text, span_text}
 use Rattle.trace_model.specs.declared.answer.Shown.{Shown}
 use Rattle.trace_model.specs.declared.limits.Limits.{Limits}
 use Rattle.trace_model.specs.Held.{Held}
-use Rattle.trace_model.specs.Histories.{arrivals}
+use Rattle.trace_model.specs.Histories.{events}
 use Rattle.trace_model.specs.Showing.{trace_found}
 use Rattle.text_lines.specs.Lines.{lines_of}
 use Rattle.text_lines.specs.Taking.{Said, Takes}
@@ -65,7 +65,7 @@ trace_lines None = codes "trace not found\n"
 trace_lines (Some spans) = flat_map span_line spans
 
 abbrev pub found_in : Held → TraceId → Option (List Placed)
-found_in held id = trace_found held.limits.traces (arrivals held.entries) id
+found_in held id = trace_found held.limits.traces (events held.entries) id
 
 -- ---- the whole
 

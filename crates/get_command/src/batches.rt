@@ -15,7 +15,7 @@ use std::io::Write;
 use std::marker::Model;
 use std::sync::Arc;
 use text_lines::LineTaker;
-use trace_model::{Entry, Limits};
+use trace_model::{Entry, Limits, Work};
 
 /// The fault of text that isn't hexadecimal.
 fn bad_hex(error: FromHexError) -> Result<LineFault, AllocError>
@@ -69,7 +69,7 @@ fn admit(
         Entry {
             seat: 0,
             number,
-            batch,
+            work: Work::Batch(batch),
         },
     ) else {
         return Err(AllocError);

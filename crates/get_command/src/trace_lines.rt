@@ -37,7 +37,7 @@ fn say_times(said: &mut Vec<u8>, placed: &Placed) -> Result<(), AllocError>
 fn say_names(said: &mut Vec<u8>, placed: &Placed) -> Result<(), AllocError>
     ensures { OnOk result (said.new.items ≡ said.old.items ++ names_text placed.now) }
 {
-    let service = placed.process.service.as_str();
+    let service = placed.process.get().service.as_str();
     let operation = placed.span.operation.as_str();
     let Ok(()) = writeln!(said, "{service} {operation}") else {
         return Err(AllocError);

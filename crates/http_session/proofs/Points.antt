@@ -22,7 +22,7 @@ still_has h long place b has goes = record {
   before = has.before;
   entry = has.entry;
   after = has.after ++ goes.0;
-  batch_is = has.batch_is;
+  work_is = has.work_is;
   place_is = has.place_is;
   whole = goes.1 ∙ ap (λ l. l ++ goes.0) has.whole ∙ append_assoc has.before (has.entry ∷ has.after) goes.0;
 }

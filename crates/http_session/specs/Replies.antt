@@ -28,6 +28,7 @@ refusal_status why.Closed = 503
 refusal_status why.Stranger = 500
 refusal_status why.NoReply = 500
 refusal_status (why.Behind front) = 500
+refusal_status (why.Conflict place) = 409
 refusal_status why.Gone = 500
 
 abbrev pub refusal_message : Refusal → List ℕ
@@ -40,6 +41,7 @@ refusal_message why.Closed = codes "closed"
 refusal_message why.Stranger = codes "internal error"
 refusal_message why.NoReply = codes "internal error"
 refusal_message (why.Behind front) = codes "internal error"
+refusal_message (why.Conflict place) = codes "conflict"
 refusal_message why.Gone = codes "internal error"
 
 abbrev pub remark_status : Remark → ℕ

@@ -30,6 +30,7 @@ fn refusal_status(refusal: Refusal) -> u16
 {
     match refusal {
         Refusal::JournalFull { .. } | Refusal::Deferred | Refusal::Busy | Refusal::Closed => 503,
+        Refusal::Conflict { .. } => 409,
         _ => 500,
     }
 }
@@ -42,6 +43,7 @@ fn refusal_message(refusal: Refusal) -> &'static str
         Refusal::Deferred => "deferred",
         Refusal::Busy => "busy",
         Refusal::Closed => "closed",
+        Refusal::Conflict { .. } => "conflict",
         Refusal::NoMemory => "out of memory",
         _ => "internal error",
     }
@@ -103,6 +105,7 @@ fn fixed_refusal(refusal: Refusal, close: bool) -> Option<&'static [u8]>
 {
     match refusal {
         Refusal::JournalFull { .. } | Refusal::Deferred | Refusal::Busy | Refusal::Closed => None,
+        Refusal::Conflict { .. } => None,
         Refusal::NoMemory => Some(out_of_memory(close)),
         _ => Some(internal_error(close)),
     }

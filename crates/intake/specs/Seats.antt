@@ -2,10 +2,10 @@
 use Rattle.std.specs.Prelude.{◌≡◌, ℕ, ◌+◌, ◌⊎◌, Bool, true, false, List, [], ◌∷◌, ◌++◌, length}
 use Rattle.atomic_table.specs.Seated.{TableId}
 use Rattle.crossbeam_queue.specs.Passes.{Pass, view}
-use Rattle.jaeger_model.specs.declared.batch.Batch.{Batch}
 use Rattle.trace_model.specs.declared.entry.Entry.{Entry}
+use Rattle.trace_model.specs.declared.entry.Work.{Work}
 use Rattle.trace_model.specs.declared.refusal.Refusal.{Refusal}
-use Rattle.trace_model.specs.declared.refusal.Refusal.TheVariants.{JournalFull, Stale, NoMemory, Deferred, Busy, Closed, Stranger, NoReply}
+use Rattle.trace_model.specs.declared.refusal.Refusal.TheVariants.{JournalFull, Stale, NoMemory, Deferred, Busy, Closed, Stranger, NoReply, Conflict}
 use Rattle.intake.specs.declared.queue.QueueView.{QueueView}
 use Rattle.intake.specs.Queues.{jobs_of}
 
@@ -27,9 +27,9 @@ abbrev pub IsNewSeat : TableId → ℕ → SeatValue → Type 0
 IsNewSeat desk capacity s =
     (s.desk ≡ desk) × (s.capacity ≡ capacity) × (s.jobs ≡ []) × (s.hands_in ≡ true)
 
--- the entry that the seat makes of the batch: it has the seat's next number, the first one being 1
-abbrev pub next_job : SeatValue → Batch → Entry
-next_job s b = record { seat = s.seat; number = length s.jobs + 1; batch = b }
+-- the entry that the seat makes of the work: it has the seat's next number, the first one being 1
+abbrev pub next_job : SeatValue → Work → Entry
+next_job s w = record { seat = s.seat; number = length s.jobs + 1; work = w }
 
 -- one more job was handed in
 abbrev pub with_job : SeatValue → Entry → SeatValue
@@ -57,6 +57,7 @@ IsUnacknowledged Deferred = Unit {0}
 IsUnacknowledged Closed = Unit {0}
 IsUnacknowledged Stranger = Unit {0}
 IsUnacknowledged NoReply = Unit {0}
+IsUnacknowledged (Conflict place) = Unit {0}
 IsUnacknowledged _ = ⊥
 
 -- a seat's right to hand in, and its list

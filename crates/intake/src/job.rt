@@ -60,11 +60,11 @@ impl<N: StoreName> Model for Job<N> {
     ghost invariant = { λ j. arc_value j.named ≡ arc_value j.entry };
 }
 
-/// Both are of one seat and number, and report the same.
+/// Both are of one seat and number, and bring the same.
 fn is_same(entry: &Entry, other: &Entry) -> bool
     ensures { IsTrue result ↔ (entry.now ≡ other.now) }
 {
-    entry.seat == other.seat && entry.number == other.number && entry.batch.is_same(&other.batch)
+    entry.seat == other.seat && entry.number == other.number && entry.work.is_same(&other.work)
 }
 
 impl<N: StoreName> Reply<N> {

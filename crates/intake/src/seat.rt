@@ -1,8 +1,9 @@
-//! Where batches are handed in.
+//! Where batches and limits are handed in.
 
-ghost use Rattle.std.specs.Prelude.{◌≡◌, ◌+◌, true, false, length, [], MatchOption, OnOk, OnErr, IfOk, IfErr};
+ghost use Rattle.std.specs.Prelude.{◌≡◌, ◌≤◌, ◌+◌, true, false, length, [], MatchOption, OnOk, OnErr, IfOk, IfErr};
 ghost use Rattle.std.specs.Arc.{arc_value};
 ghost use Rattle.crossbeam_queue.specs.Passes.{view, IsPassOf, ruled_capacity};
+ghost use Rattle.trace_model.specs.declared.entry.Work.TheVariants as brings;
 ghost use Rattle.intake.specs.Seats.{next_job, with_job, IsNotTaken, IsEndOf, IsNewSeat};
 
 use crate::job::Job;
@@ -14,7 +15,7 @@ use read_side::StoreName;
 use std::alloc::Global;
 use std::marker::Model;
 use std::sync::{Arc, Mutex, Wait};
-use trace_model::{Entry, Refusal};
+use trace_model::{Entry, Refusal, Work};
 
 /// A seat. Contracts see its desk and number, the jobs that it handed in, and whether it may hand in
 /// more.
@@ -121,28 +122,81 @@ impl<N: StoreName> Seat<N> {
         batch: Batch,
     ) -> Result<Ticket<N>, (Refusal, Batch)>
         ensures may { OnOk result (self.old.hands_in ≡ true) }
-        ensures job { IfOk result (λ ticket. ticket ≡ next_job self.old batch) }
-        ensures handed_in { OnOk result (self.new ≡ with_job self.old (next_job self.old batch)) }
+        ensures job { IfOk result (λ ticket. ticket ≡ next_job self.old (brings.Batch batch)) }
+        ensures handed_in { OnOk result
+            (self.new ≡ with_job self.old (next_job self.old (brings.Batch batch))) }
 
         ensures batch_back { IfErr result (λ r. r.1 ≡ batch) }
         ensures unchanged { OnErr result (self.new ≡ self.old) }
         ensures reason { IfErr result (λ r. IsNotTaken self.old r.0) }
     {
+        match self.hand_in(rt, alloc, Work::Batch(batch)) {
+            Ok(ticket) => Ok(ticket),
+            Err((refusal, Work::Batch(batch))) => Err((refusal, batch)),
+            Err((_, Work::TraceLimit(_))) => unreachable!(),
+        }
+    }
+
+    /// Hands a trace limit in, as the entry with the seat's next number: from that entry on so many of the
+    /// newest traces are shown, all where it is 0.
+    ///
+    /// A refused limit uses no number. The call may wait as [`submit`](Self::submit) may.
+    ///
+    /// # Errors
+    ///
+    /// Those of [`submit`](Self::submit), judged in the same order.
+    pub fn submit_limit<R: Wait>(
+        &mut self,
+        rt: &R,
+        alloc: Global,
+        limit: u32,
+    ) -> Result<Ticket<N>, Refusal>
+        requires limit { limit ≤ 1000000 }
+
+        ensures may { OnOk result (self.old.hands_in ≡ true) }
+        ensures job { IfOk result (λ ticket. ticket ≡ next_job self.old (brings.TraceLimit limit)) }
+        ensures handed_in { OnOk result
+            (self.new ≡ with_job self.old (next_job self.old (brings.TraceLimit limit))) }
+
+        ensures unchanged { OnErr result (self.new ≡ self.old) }
+        ensures reason { IfErr result (λ why. IsNotTaken self.old why) }
+    {
+        match self.hand_in(rt, alloc, Work::TraceLimit(limit)) {
+            Ok(ticket) => Ok(ticket),
+            Err((refusal, _)) => Err(refusal),
+        }
+    }
+
+    /// Hands work in, as the entry with the seat's next number. What was refused comes back.
+    fn hand_in<R: Wait>(
+        &mut self,
+        rt: &R,
+        alloc: Global,
+        work: Work,
+    ) -> Result<Ticket<N>, (Refusal, Work)>
+        ensures may { OnOk result (self.old.hands_in ≡ true) }
+        ensures job { IfOk result (λ ticket. ticket ≡ next_job self.old work) }
+        ensures handed_in { OnOk result (self.new ≡ with_job self.old (next_job self.old work)) }
+
+        ensures work_back { IfErr result (λ r. r.1 ≡ work) }
+        ensures unchanged { OnErr result (self.new ≡ self.old) }
+        ensures reason { IfErr result (λ r. IsNotTaken self.old r.0) }
+    {
         if self.shared.is_closed() || !self.stays || self.handed == u64::MAX {
-            return Err((Refusal::Closed, batch));
+            return Err((Refusal::Closed, work));
         }
         let number = self.handed + 1;
         let entry = Entry {
             seat: self.number,
             number,
-            batch,
+            work,
         };
         let entry = match Arc::new(alloc, entry) {
             Ok(entry) => entry,
-            Err(failed) => return Err((Refusal::NoMemory, failed.value.batch)),
+            Err(failed) => return Err((Refusal::NoMemory, failed.value.work)),
         };
         let Ok((ticket, job)) = self.pair(alloc, &entry) else {
-            return Err((Refusal::NoMemory, alone(rt, entry).batch));
+            return Err((Refusal::NoMemory, alone(rt, entry).work));
         };
         match self
             .shared
@@ -157,7 +211,7 @@ impl<N: StoreName> Seat<N> {
             Err(job) => {
                 drop(job);
                 drop(ticket);
-                Err((Refusal::Busy, alone(rt, entry).batch))
+                Err((Refusal::Busy, alone(rt, entry).work))
             }
         }
     }

@@ -1,10 +1,10 @@
 //! A store with a desk of four seats, whose queue has room for one job.
 
-ghost use Rattle.std.specs.Prelude.{◌≡◌};
+ghost use Rattle.std.specs.Prelude.{◌≡◌, ◌≤◌};
 
 use crate::rows::Row;
 use intake::{Clerk, Desk, Seat, desk};
-use jaeger_model::{Batch, Process, Seq, Span, SpanId, Text, TraceId};
+use jaeger_model::{Batch, Process, Seq, SharedProcess, Span, SpanId, Text, TraceId};
 use read_side::{Keeper, Opened, Pass, StoreName, open};
 use std::alloc::{AllocError, Global};
 use std::hash::RandomState;
@@ -45,7 +45,7 @@ pub fn batch(alloc: Global, id: u64) -> Result<Batch, AllocError> {
         tags: Seq::new(alloc),
     };
     Ok(Batch {
-        process,
+        process: SharedProcess::new(alloc, process)?,
         spans: Seq::from_vec(spans),
         seq_no: None,
     })
@@ -57,13 +57,15 @@ pub fn played<N: StoreName + Send + Sync, R: Threads + Wait + Abort + RandomSour
     alloc: Global,
     name: Opened,
     limits: Limits,
+    capacity: usize,
     row: Row,
 ) -> Result<bool, Fail>
-    requires { (name.seen.book ≡ N.book) × (limits ≡ N.limits) }
+    requires store { (name.seen.book ≡ N.book) × (limits ≡ N.limits) }
+    requires queue { (1 ≤ capacity) × (capacity ≤ 4096) }
 {
     let (mut keeper, passes) = open::<N>(alloc, RandomState::new(rt)?, name, limits, 2)?;
     let first = keeper.receipt();
-    match desk(alloc, first, 1, 4) {
+    match desk(alloc, first, capacity, 4) {
         Err(_) => {
             keeper.close(rt);
             Ok(false)

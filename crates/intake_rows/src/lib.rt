@@ -7,4 +7,6 @@ mod ending;
 #[cfg(test)]
 mod house;
 #[cfg(test)]
+mod limits;
+#[cfg(test)]
 mod rows;

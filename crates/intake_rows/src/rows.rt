@@ -1,8 +1,9 @@
 //! The rows.
 
-ghost use Rattle.std.specs.Prelude.{◌≡◌};
+ghost use Rattle.std.specs.Prelude.{◌≡◌, ◌≤◌};
 
 use crate::house::{House, batch, played};
+use crate::limits::a_limit_is_in_force;
 use intake::{Ack, Books, Clerk, Seat, Ticket, Turn};
 use jaeger_model::Batch;
 use read_side::{Keeper, Opened, StoreName};
@@ -23,6 +24,7 @@ pub enum Row {
     ClerkGone,
     ClosedAndClerkGone,
     FourSeats,
+    LimitBySeat,
 }
 
 impl Row {
@@ -39,47 +41,68 @@ impl Row {
             Row::ClerkGone => clerk_gone(rt, alloc, house, false),
             Row::ClosedAndClerkGone => clerk_gone(rt, alloc, house, true),
             Row::FourSeats => four_seats(rt, alloc, house),
+            Row::LimitBySeat => a_limit_is_in_force(rt, alloc, house),
         }
     }
 }
 
-/// The store has room for three batches.
+/// Plays a row over a store with these limits and a queue with room for so many jobs.
 fn plays<R: Threads + Wait + Abort + RandomSource + Sync>(
+    rt: &R,
+    alloc: Global,
+    limits: Limits,
+    capacity: usize,
+    row: Row,
+) -> Result<bool, Fail>
+    requires { (1 ≤ capacity) × (capacity ≤ 4096) }
+{
+    played::<Brand, _>(rt, alloc, Opened::new(), limits, capacity, row)
+}
+
+/// The same where the store has room for three batches, and the queue for one job.
+fn plays_small<R: Threads + Wait + Abort + RandomSource + Sync>(
     rt: &R,
     alloc: Global,
     row: Row,
 ) -> Result<bool, Fail> {
     let limits = Limits::new(3, 100, 0, 0).expect(rt, "limits");
-    played::<Brand, _>(rt, alloc, Opened::new(), limits, row)
+    plays(rt, alloc, limits, 1, row)
 }
 
 #[test]
 fn a_seat_waits_while_the_clerk_turns(rt: HostRuntime) -> Result<(), Fail> {
-    assert!(rt; plays(&rt, rt.alloc(), Row::SeatAndClerk)?);
+    assert!(rt; plays_small(&rt, rt.alloc(), Row::SeatAndClerk)?);
     Ok(())
 }
 
 #[test]
 fn a_full_queue_and_a_closed_desk(rt: HostRuntime) -> Result<(), Fail> {
-    assert!(rt; plays(&rt, rt.alloc(), Row::FullThenClosed)?);
+    assert!(rt; plays_small(&rt, rt.alloc(), Row::FullThenClosed)?);
     Ok(())
 }
 
 #[test]
 fn no_reply_from_a_clerk_that_went(rt: HostRuntime) -> Result<(), Fail> {
-    assert!(rt; plays(&rt, rt.alloc(), Row::ClerkGone)?);
-    assert!(rt; plays(&rt, rt.alloc(), Row::ClosedAndClerkGone)?);
+    assert!(rt; plays_small(&rt, rt.alloc(), Row::ClerkGone)?);
+    assert!(rt; plays_small(&rt, rt.alloc(), Row::ClosedAndClerkGone)?);
     Ok(())
 }
 
 #[test]
 fn one_of_four_seats(rt: HostRuntime) -> Result<(), Fail> {
-    assert!(rt; plays(&rt, rt.alloc(), Row::FourSeats)?);
+    assert!(rt; plays_small(&rt, rt.alloc(), Row::FourSeats)?);
+    Ok(())
+}
+
+#[test]
+fn limit_by_seat(rt: HostRuntime) -> Result<(), Fail> {
+    let limits = Limits::new(1000, 100_000, 0, 0).expect(&rt, "limits");
+    assert!(rt; plays(&rt, rt.alloc(), limits, 4, Row::LimitBySeat)?);
     Ok(())
 }
 
 /// Hands in a batch with this id. None where memory ran out before.
-fn hands_in<N: StoreName, R: Wait>(
+pub(crate) fn hands_in<N: StoreName, R: Wait>(
     rt: &R,
     alloc: Global,
     seat: &mut Seat<N>,

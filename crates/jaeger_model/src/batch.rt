@@ -3,6 +3,7 @@ ghost use Rattle.std.specs.Cmp.{decided, partial_equiv_from_equiv};
 ghost use Rattle.jaeger_model.specs.Same.{same_process, same_process-decides, same_batch, same_batch-decides};
 
 use crate::seq::Seq;
+use crate::shared_process::SharedProcess;
 use crate::span::Span;
 use crate::tag::Tag;
 use crate::text::Text;
@@ -11,7 +12,7 @@ use std::alloc::AllocError;
 /// What a client sends at once: spans of one process (`Batch` of `jaeger.thrift`).
 #[derive(Debug, Drop)]
 pub struct Batch {
-    pub process: Process,
+    pub process: SharedProcess,
     pub spans: Seq<Span>,
     /// The sender's own number of the batch, where it gave one.
     pub seq_no: Option<i64>,

@@ -10,7 +10,9 @@
 //!   text.
 //! * `kind`: a span's kind, by its tag `span.kind`.
 //! * `parent`: which span is the parent of a span.
+//! * `shared_process`: a process that the spans of its batch share.
 //! * `placed`: a span together with the process that reported it.
+//! * `text`, `short_text`, `seq`: texts and lists, as contracts see them.
 //! * `laws`: facts about these rules in the subject's own words.
 #![tactic(auto)]
 
@@ -21,6 +23,8 @@ pub mod laws;
 mod parent;
 mod placed;
 mod seq;
+mod shared_process;
+mod short_text;
 mod span;
 mod tag;
 mod text;
@@ -31,6 +35,7 @@ pub use kind::kind_of;
 pub use parent::parent_of;
 pub use placed::{Placed, Seen, domain, place_span, refer_to_parent};
 pub use seq::Seq;
+pub use shared_process::SharedProcess;
 pub use span::{Log, RefKind, Span, SpanRef};
 pub use tag::{Tag, Value, first_tag, first_text, tag_text};
 pub use text::Text;

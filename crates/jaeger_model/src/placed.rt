@@ -6,6 +6,7 @@ ghost use Rattle.jaeger_model.specs.Parents.{with_parent, parent_reference, doma
 use crate::batch::{Batch, Process};
 use crate::parent::is_referred;
 use crate::seq::Seq;
+use crate::shared_process::SharedProcess;
 use crate::span::{RefKind, Span, SpanRef};
 use std::alloc::{AllocError, Global};
 
@@ -13,7 +14,7 @@ use std::alloc::{AllocError, Global};
 /// its parent is among its references.
 #[derive(Debug, Drop)]
 pub struct Placed {
-    pub process: Process,
+    pub process: SharedProcess,
     pub span: Span,
 }
 
@@ -93,7 +94,7 @@ fn with_reference(alloc: Global, span: &Span) -> Result<Span, AllocError>
 /// # Errors
 ///
 /// Out of memory, and nothing else.
-pub fn place_span(alloc: Global, process: &Process, span: &Span) -> Result<Placed, AllocError>
+pub fn place_span(alloc: Global, process: &SharedProcess, span: &Span) -> Result<Placed, AllocError>
     ensures { IfOk result (λ p. p ≡ record { process = process.now; span = with_parent span.now }) }
 {
     Ok(Placed {

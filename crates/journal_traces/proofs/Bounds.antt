@@ -15,6 +15,11 @@ use Rattle.arrival_journal.specs.Times.{times_of, starts, durations, latest, ear
 use Rattle.arrival_journal.specs.declared.outline.Outline.{Outline}
 use Rattle.arrival_journal.specs.Outlines.{outline_of, outline_in}
 use Rattle.trace_model.specs.declared.entry.Entry.{Entry}
+use Rattle.trace_model.specs.declared.entry.Work.{Work}
+use Rattle.trace_model.specs.declared.entry.Work.TheVariants as brings
+use Rattle.trace_model.specs.Works.{batch_brought}
+use Rattle.arrival_journal.specs.Tagging.{bits_of}
+use Rattle.std.specs.Option.{option_and_then}
 use Rattle.journal_traces.specs.Picked.{meets, met, met_or_none}
 use Rattle.journal_traces.specs.Pruned.{may_meet}
 use Rattle.journal_traces.proofs.Asked.{AreSet, all_set, all_marked}
@@ -99,18 +104,20 @@ none_met q o ol (s ∷ ss) known none = elim (meets q o s) as (λ b. meets q o s
   | false ↦ λ _. none_met q o ol ss known.1 none
 ] refl
 
--- no span of the entry meets the search
-passed : (q : Find) (e : Entry) → may_meet q (outline_in e) ≡ false → met q e.batch.process e.batch.spans ≡ []
+-- no span that an entry brings meets the search
+passed : (q : Find) (w : Work) → may_meet q (outline_of w) ≡ false → met_or_none q (batch_brought w) ≡ []
 unfolding outline_of
-passed q e none =
-    none_met q e.batch.process (outline_in e) e.batch.spans (outlined (outline_in e) e.batch.process e.batch.spans (all_within e.batch.spans) (all_set e.batch)) none
+passed q (brings.Batch b) none =
+    let o : Outline = record { times = times_of b.spans; tags = bits_of b } in
+    none_met q b.process o b.spans (outlined o b.process b.spans (all_within b.spans) (all_set b)) none
+passed q (brings.TraceLimit n) none = refl
 
 -- ---- at a place
-pub passed_there : (q : Find) (e : Option Entry) (ol : Outline) → Some ol ≡ option_map outline_in e → may_meet q ol ≡ false → met_or_none q e ≡ []
+pub passed_there : (q : Find) (e : Option Entry) (ol : Outline) → Some ol ≡ option_map outline_in e → may_meet q ol ≡ false → met_or_none q (option_and_then (λ (x : Entry). batch_brought x.work) e) ≡ []
 passed_there q None ol e none = absurd (cc e)
-passed_there q (Some x) ol e none = let same : ol ≡ outline_in x = cc e in passed q x (ap (may_meet q) (sym same) ∙ none)
+passed_there q (Some x) ol e none = let same : ol ≡ outline_in x = cc e in passed q x.work (ap (may_meet q) (sym same) ∙ none)
 
-pub none_there : (q : Find) (e : Option Entry) → None ≡ option_map outline_in e → met_or_none q e ≡ []
+pub none_there : (q : Find) (e : Option Entry) → None ≡ option_map outline_in e → met_or_none q (option_and_then (λ (x : Entry). batch_brought x.work) e) ≡ []
 none_there q None e = refl
 none_there q (Some x) e = absurd (cc e)
 

@@ -1,6 +1,7 @@
 pub mod Adopting
 pub mod Asked
 pub mod Marking
+pub mod Processes
 pub mod Spots
 pub mod Bounds
 pub mod Windows

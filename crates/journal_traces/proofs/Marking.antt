@@ -17,8 +17,9 @@ use Rattle.trace_model.specs.declared.query.Find.{Find}
 use Rattle.jaeger_model.specs.Parents.{same_trace}
 use Rattle.trace_model.specs.declared.entry.Entry.{Entry}
 use Rattle.trace_model.specs.Rings.{holds, newest, arrive}
-use Rattle.trace_model.specs.Showing.{ring, trace_of}
-use Rattle.trace_model.proofs.Shows.{by_pushes, ring_push}
+use Rattle.trace_model.specs.Events.{Event, came, limited}
+use Rattle.trace_model.specs.Showing.{ring, limit_after, trace_of}
+use Rattle.trace_model.proofs.Shows.{by_pushes, ring_came, ring_limited}
 use Rattle.trace_model.proofs.Traces.{same_is, same_self, or_true}
 use Rattle.trace_ring.specs.Windows.{NoneTwice}
 use Rattle.trace_assembly.specs.declared.spot.Spot.{Spot}
@@ -53,8 +54,12 @@ twice_arrive n ids t once = elim (holds ids t) as (λ b. holds ids t ≡ b → N
   | false ↦ λ absent. twice_newest n (ids ++ t ∷ []) (twice_push ids t once absent)
 ] refl
 
-pub ring_once : (n : ℕ) (ps : List Placed) → NoneTwice (ring n ps)
-ring_once n = by_pushes (λ ps. NoneTwice (ring n ps)) tt (λ ps p once. subst NoneTwice (sym (ring_push n ps p)) (twice_arrive n (ring n ps) (trace_of p) once))
+pub ring_once : (n : ℕ) (es : List (Event Placed)) → NoneTwice (ring n es)
+ring_once n = by_pushes (λ es. NoneTwice (ring n es)) tt go
+  where
+    go : (es : List (Event Placed)) (e : Event Placed) → NoneTwice (ring n es) → NoneTwice (ring n (es ++ e ∷ []))
+    go es (came p) once = subst NoneTwice (sym (ring_came n es p)) (twice_arrive (limit_after n es) (ring n es) (trace_of p) once)
+    go es (limited m) once = subst NoneTwice (sym (ring_limited n es m)) (twice_newest m (ring n es) once)
 
 -- ---- where a trace stands in the ring
 held : (r : List TraceId) (k : ℕ) (t : TraceId) → slice_get r k ≡ Some t → holds r t ≡ true

@@ -5,12 +5,18 @@ use Rattle.std.specs.Prelude.{pos, slice_get, slice_index_or, filter, if◌then�
 use Rattle.std.specs.List.{list_any, cons_option}
 use Rattle.std.proofs.lemmas.List.{append-nil, take_more, drop_more, drop_all, map_push}
 use Rattle.std.proofs.lemmas.List.Elements.{filter-append, filter_map-append}
-use Rattle.std.specs.Option.{option_copied}
+use Rattle.std.specs.Option.{option_copied, option_and_then}
 use Rattle.std.specs.Slice.{IsItemAt}
 use Rattle.jaeger_model.specs.declared.ids.TraceId.{TraceId}
 use Rattle.jaeger_model.specs.declared.placed.Placed.{Placed}
 use Rattle.jaeger_model.specs.declared.placed.Seen.{Seen}
 use Rattle.trace_model.specs.declared.entry.Entry.{Entry}
+use Rattle.trace_model.specs.declared.entry.Work.{Work}
+use Rattle.trace_model.specs.declared.entry.Work.TheVariants as brings
+use Rattle.trace_model.specs.Works.{batch_brought, placed_brought}
+use Rattle.trace_model.specs.Places.{entry_at}
+use Rattle.jaeger_model.specs.declared.batch.Batch.{Batch}
+use Rattle.jaeger_model.specs.Parents.{domain}
 use Rattle.trace_model.specs.Linking.{in_window, calls_of, calls_within, counted, links}
 use Rattle.trace_model.specs.Searching.{first_start, first_id}
 use Rattle.trace_model.specs.Seeing.{seen}
@@ -19,7 +25,7 @@ use Rattle.trace_model.proofs.Parents.{with_parent-trace}
 use Rattle.trace_assembly.specs.declared.spot.Spot.{Spot}
 use Rattle.trace_assembly.specs.Located.{span_at}
 use Rattle.journal_traces.specs.Given.{given}
-use Rattle.journal_traces.specs.Standing.{spans_named, traces_named}
+use Rattle.journal_traces.specs.Standing.{batch_at, spans_named, traces_named}
 use Rattle.journal_traces.proofs.Adopting.{start-adopted}
 
 pub named_is : (h : List Entry) (ss : List Spot) (ps : List Placed) → map (span_at h) ss ≡ map Some ps → spans_named h ss ≡ ps
@@ -30,6 +36,29 @@ named_is h (s ∷ ss) (p ∷ ps) e =
     let first : span_at h s ≡ Some p = cc e in
     let rest : map (span_at h) ss ≡ map Some ps = cc e in
     ap (λ o. cons_option o (spans_named h ss)) first ∙ ap (λ l. p ∷ l) (named_is h ss ps rest)
+
+-- ---- the span at a spot is that of the batch of its entry
+brought : (w : Work) (i : ℕ) (b : Batch) → Some b ≡ batch_brought w → slice_get (domain b) i ≡ slice_get (placed_brought w) i
+brought (brings.Batch x) i b is = let same : b ≡ x = cc is in ap (λ (y : Batch). slice_get (domain y) i) same
+brought (brings.TraceLimit n) i b is = absurd (cc is)
+
+not_brought : (w : Work) (i : ℕ) → None ≡ batch_brought w → None ≡ slice_get (placed_brought w) i
+not_brought (brings.Batch x) i is = absurd (cc is)
+not_brought (brings.TraceLimit n) i is = refl
+
+pub span_there : (h : List Entry) (s : Spot) (b : Batch) → Some b ≡ batch_at h s.place → slice_get (domain b) s.index ≡ span_at h s
+span_there h s b is = there (entry_at h s.place) is
+  where
+    there : (o : Option Entry) → Some b ≡ option_and_then (λ (e : Entry). batch_brought e.work) o → slice_get (domain b) s.index ≡ option_and_then (λ (e : Entry). slice_get (placed_brought e.work) s.index) o
+    there None is = absurd (cc is)
+    there (Some e) is = brought e.work s.index b is
+
+pub no_span_there : (h : List Entry) (s : Spot) → None ≡ batch_at h s.place → None ≡ span_at h s
+no_span_there h s is = there (entry_at h s.place) is
+  where
+    there : (o : Option Entry) → None ≡ option_and_then (λ (e : Entry). batch_brought e.work) o → None ≡ option_and_then (λ (e : Entry). slice_get (placed_brought e.work) s.index) o
+    there None is = refl
+    there (Some e) is = not_brought e.work s.index is
 
 abbrev pub no_id : TraceId
 no_id = record { high = 0; low = 0 }

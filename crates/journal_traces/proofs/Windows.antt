@@ -7,12 +7,15 @@ use Rattle.std.proofs.lemmas.Int.{ints}
 use Rattle.jaeger_model.specs.declared.placed.Placed.{Placed}
 use Rattle.jaeger_model.specs.declared.batch.Batch.{Batch}
 use Rattle.jaeger_model.specs.declared.span.Span.{Span}
-use Rattle.jaeger_model.specs.Parents.{placed, domain}
+use Rattle.jaeger_model.specs.Parents.{placed}
 use Rattle.trace_model.specs.declared.entry.Entry.{Entry}
+use Rattle.trace_model.specs.declared.entry.Work.{Work}
+use Rattle.trace_model.specs.declared.entry.Work.TheVariants as brings
+use Rattle.trace_model.specs.Works.{spans_brought, placed_brought}
 use Rattle.trace_model.specs.Linking.{is_between, in_window}
 use Rattle.trace_model.specs.Places.{entry_at}
 use Rattle.arrival_journal.specs.declared.times.Times.{Times}
-use Rattle.arrival_journal.specs.Times.{times_in}
+use Rattle.arrival_journal.specs.Times.{times_of}
 use Rattle.arrival_journal.specs.declared.outline.Outline.{Outline}
 use Rattle.arrival_journal.specs.Outlines.{outline_of, outline_in}
 use Rattle.trace_assembly.specs.declared.spot.Spot.{Spot}
@@ -57,13 +60,17 @@ none_placed e l t b (s ∷ ss) w none zero =
     ap (λ (x : Bool). x || false) (window-adopted e l (record { process = b.process; span = s }) ∙ not_reaching e l t s w.0 none)
 none_placed e l t b (s ∷ ss) w none (suc i) = none_placed e l t b ss w.1 none i
 
+none_brought : (e l : ℤ) (w : Work) (i : ℕ) → may_reach e l (times_of (spans_brought w)) ≡ false → list_any (in_window e l) (cons_option (slice_get (placed_brought w) i) []) ≡ false
+none_brought e l (brings.Batch b) i none = none_placed e l (times_of b.spans) b b.spans (all_within b.spans) none i
+none_brought e l (brings.TraceLimit n) i none = refl
+
 none_at : (e l : ℤ) (o : Option Entry) (i : ℕ) (ol : Outline) → Some ol ≡ option_map outline_in o → may_reach e l ol.times ≡ false
-    → list_any (in_window e l) (cons_option (option_and_then (λ (x : Entry). slice_get (domain x.batch) i) o) []) ≡ false
+    → list_any (in_window e l) (cons_option (option_and_then (λ (x : Entry). slice_get (placed_brought x.work) i) o) []) ≡ false
 unfolding outline_of
 none_at e l None i ol is none = absurd (cc is)
 none_at e l (Some x) i ol is none =
     let same : ol ≡ outline_in x = cc is in
-    none_placed e l (times_in x) x.batch x.batch.spans (all_within x.batch.spans) (ap (λ (o : Outline). may_reach e l o.times) (sym same) ∙ none) i
+    none_brought e l x.work i (ap (λ (o : Outline). may_reach e l o.times) (sym same) ∙ none)
 
 -- no span at this spot starts in the window
 pub none_starts : (e l : ℤ) (h : List Entry) (s : Spot) (ol : Outline) → Some ol ≡ option_map outline_in (entry_at h s.place) → may_reach e l ol.times ≡ false

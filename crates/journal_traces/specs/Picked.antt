@@ -4,13 +4,14 @@ use Rattle.std.specs.Option.{option_and_then}
 use Rattle.std.specs.List.{list_any}
 use Rattle.jaeger_model.specs.declared.ids.TraceId.{TraceId}
 use Rattle.jaeger_model.specs.declared.span.Span.{Span}
+use Rattle.jaeger_model.specs.declared.batch.Batch.{Batch}
 use Rattle.jaeger_model.specs.declared.batch.Process.{Process}
 use Rattle.jaeger_model.specs.Parents.{same_trace}
 use Rattle.trace_model.specs.declared.query.Find.{Find}
 use Rattle.trace_model.specs.Searching.{matches}
 use Rattle.trace_model.specs.declared.entry.Entry.{Entry}
-use Rattle.trace_model.specs.Places.{entry_at}
 use Rattle.trace_assembly.specs.Rows.{is_of}
+use Rattle.journal_traces.specs.Standing.{batch_at}
 
 -- the trace at this place of the ring, where it passes the test
 abbrev pub picked : (TraceId → Bool) → List TraceId → ℕ → Option TraceId
@@ -28,13 +29,13 @@ meets q p s = matches q (record { process = p; span = s })
 abbrev pub met : Find → Process → List Span → List Span
 met q p ss = filter (meets q p) ss
 
-abbrev pub met_or_none : Find → Option Entry → List Span
+abbrev pub met_or_none : Find → Option Batch → List Span
 met_or_none q None = []
-met_or_none q (Some e) = met q e.batch.process e.batch.spans
+met_or_none q (Some b) = met q b.process b.spans
 
--- those of the entry at this place
+-- those of the batch at this place
 abbrev pub met_at : Find → List Entry → ℕ → List Span
-met_at q h place = met_or_none q (entry_at h place)
+met_at q h place = met_or_none q (batch_at h place)
 
 -- those of the entries at these places
 abbrev pub met_along : Find → List Entry → List ℕ → List Span

@@ -1,10 +1,19 @@
 -- Spans and traces where they stand in the entries.
-use Rattle.std.specs.Prelude.{List, map, filter_map}
+use Rattle.std.specs.Prelude.{◌≡◌, ℕ, List, map, filter_map, Option, Some, option_map}
+use Rattle.std.specs.Option.{option_and_then}
+use Rattle.jaeger_model.specs.declared.batch.Batch.{Batch}
+use Rattle.jaeger_model.specs.declared.batch.Process.{Process}
 use Rattle.jaeger_model.specs.declared.ids.TraceId.{TraceId}
 use Rattle.jaeger_model.specs.declared.placed.Placed.{Placed}
 use Rattle.trace_model.specs.declared.entry.Entry.{Entry}
+use Rattle.trace_model.specs.Places.{entry_at}
+use Rattle.trace_model.specs.Works.{batch_brought}
 use Rattle.trace_assembly.specs.declared.spot.Spot.{Spot}
 use Rattle.trace_assembly.specs.Located.{span_at}
+
+-- the batch that the entry at the place brings; a limit brings none
+abbrev pub batch_at : List Entry → ℕ → Option Batch
+batch_at h place = option_and_then (λ (e : Entry). batch_brought e.work) (entry_at h place)
 
 -- the spans that the spots name, in their order
 abbrev pub spans_named : List Entry → List Spot → List Placed
@@ -17,3 +26,11 @@ trace_named h spots t = spans_named h (spots t)
 -- the traces that have these spots
 abbrev pub traces_named : List Entry → List (List Spot) → List (List Placed)
 traces_named h ss = map (spans_named h) ss
+
+-- the process of the batch at a place
+abbrev pub process_at : List Entry → ℕ → Option Process
+process_at h place = option_map (λ (b : Batch). b.process) (batch_at h place)
+
+-- the entries at these places reported the spans
+abbrev pub AreAt : List Entry → List Placed → List ℕ → Type 0
+AreAt h spans places = map (λ (p : Placed). Some p.process) spans ≡ map (process_at h) places

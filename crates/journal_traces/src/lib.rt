@@ -17,6 +17,6 @@ mod seeing;
 mod standing;
 
 pub use candidates::Candidates;
-pub use gathering::gather;
+pub use gathering::{GatheredSpans, gather};
 pub use searching::spots_along;
 pub use seeing::{ring_ids, see_within};

@@ -1,6 +1,6 @@
 //! The traces that a search by a service has to look at.
 
-ghost use Rattle.std.specs.Prelude.{◌≡◌, Bool, ◌||◌, ◌&&◌, not, [], IfOk, map, filter, length};
+ghost use Rattle.std.specs.Prelude.{◌≡◌, Bool, ◌||◌, ◌&&◌, not, [], IfOk, OnOk, map, filter, length};
 ghost use Rattle.std.specs.Bool.{OnTrue};
 ghost use Rattle.jaeger_model.specs.Parents.{same_trace};
 ghost use Rattle.jaeger_model.specs.declared.ids.TraceId.{TraceId as TraceIdValue};
@@ -9,9 +9,10 @@ ghost use Rattle.trace_ring.specs.Windows.{NoneTwice};
 ghost use Rattle.journal_traces.specs.Picked.{reaches, meets, met, met_at, met_along, same_before};
 
 use crate::pruning::may_meet;
+use crate::standing::batch_at;
 use arrival_journal::Journal;
-use find_traces::is_match;
-use jaeger_model::{Process, Seen, Span, TraceId};
+use find_traces::{Judged, Wanted};
+use jaeger_model::{Span, TraceId};
 use service_places::Places;
 use std::alloc::{AllocError, Global};
 use trace_assembly::{Assembly, Spots};
@@ -41,27 +42,41 @@ fn is_again(before: Option<TraceId>, trace: TraceId) -> bool
 }
 
 /// The span meets the search, and its trace is not the one before.
-fn is_news(before: Option<TraceId>, process: &Process, span: &Span, query: &Find) -> bool
-    ensures { result ≡
-        not (same_before before span.now.trace) && meets query.now process.now span.now }
+fn is_news(
+    alloc: Global,
+    before: Option<TraceId>,
+    judged: &Judged<'_>,
+    span: &Span,
+) -> Result<bool, AllocError>
+    ensures { IfOk result (λ b. b ≡ (not (same_before before span.now.trace)
+        && meets judged.now.query judged.now.process span.now)) }
 {
-    !is_again(before, span.trace) && is_match(Seen { process, span }, query)
+    Ok(!is_again(before, span.trace) && judged.is_match(alloc, span)?)
 }
 
 /// Marks the traces that stand in the ring and of which one of the spans meets the search.
-fn mark_spans(marks: &mut [bool], ring: &Ring, process: &Process, spans: &[Span], query: &Find)
+fn mark_spans(
+    alloc: Global,
+    marks: &mut [bool],
+    ring: &Ring,
+    judged: &Judged<'_>,
+    spans: &[Span],
+) -> Result<(), AllocError>
     requires once { NoneTwice ring.now.ids }
     requires size { length marks.old ≡ length ring.now.ids }
-    ensures { (p : TraceIdValue → Bool) → marks.old ≡ map p ring.now.ids → marks.new ≡
-        map (λ t. p t || reaches (met query.now process.now spans.now) t) ring.now.ids }
+    ensures { OnOk result ((p : TraceIdValue → Bool) → marks.old ≡ map p ring.now.ids →
+        marks.new ≡ map (λ t. p t ||
+        reaches (met judged.now.query judged.now.process spans.now) t) ring.now.ids) }
 {
     let mut before = None;
     for span in spans {
-        if is_news(before, process, span, query) {
+        let is_news = is_news(alloc, before, judged, span)?;
+        if is_news {
             mark_trace(marks, ring, span.trace);
             before = Some(span.trace);
         }
     }
+    Ok(())
 }
 
 /// Whether no span of the entry at a place can meet the search, by its outline alone.
@@ -74,21 +89,29 @@ fn is_passed(journal: &Journal, place: u64, query: &Find) -> bool
     }
 }
 
-/// The same for the entry at a place.
-fn mark_entry(marks: &mut [bool], ring: &Ring, journal: &Journal, place: u64, query: &Find)
+/// The same for the entry at a place, whose process is judged once for all its spans.
+fn mark_entry(
+    alloc: Global,
+    marks: &mut [bool],
+    ring: &Ring,
+    journal: &Journal,
+    place: u64,
+    wanted: &Wanted<'_>,
+) -> Result<(), AllocError>
     requires once { NoneTwice ring.now.ids }
     requires size { length marks.old ≡ length ring.now.ids }
-    ensures { (p : TraceIdValue → Bool) → marks.old ≡ map p ring.now.ids →
-        marks.new ≡ map (λ t. p t || reaches (met_at query.now journal.now.held.entries place) t)
-        ring.now.ids }
+    ensures { OnOk result ((p : TraceIdValue → Bool) → marks.old ≡ map p ring.now.ids →
+        marks.new ≡ map (λ t. p t || reaches (met_at wanted.now journal.now.held.entries place) t)
+        ring.now.ids) }
 {
-    if is_passed(journal, place, query) {
-        return;
+    if is_passed(journal, place, wanted.query()) {
+        return Ok(());
     }
-    if let Some(entry) = journal.entry(place) {
-        let batch = &entry.batch;
-        mark_spans(marks, ring, &batch.process, batch.spans.as_slice(), query);
+    if let Some(batch) = batch_at(journal, place) {
+        let judged = Judged::new(alloc, wanted, batch.process.get())?;
+        mark_spans(alloc, marks, ring, &judged, batch.spans.as_slice())?;
     }
+    Ok(())
 }
 
 /// For each trace of the ring whether the entries at these places have a span of it that meets the search.
@@ -97,15 +120,15 @@ fn marks_along(
     ring: &Ring,
     journal: &Journal,
     places: Places<'_>,
-    query: &Find,
+    wanted: &Wanted<'_>,
 ) -> Result<Vec<bool>, AllocError>
     requires { NoneTwice ring.now.ids }
     ensures { IfOk result (λ v. v.items ≡
-        map (reaches (met_along query.now journal.now.held.entries places.entry)) ring.now.ids) }
+        map (reaches (met_along wanted.now journal.now.held.entries places.entry)) ring.now.ids) }
 {
     let mut marks = vec![in alloc; false; ring.len()]?;
     for place in places {
-        mark_entry(&mut marks, ring, journal, place, query);
+        mark_entry(alloc, &mut marks, ring, journal, place, wanted)?;
     }
     Ok(marks)
 }
@@ -143,13 +166,13 @@ pub fn spots_along<'a>(
     assembly: &'a Assembly,
     journal: &Journal,
     places: Places<'_>,
-    query: &Find,
+    wanted: &Wanted<'_>,
 ) -> Result<Vec<Spots<'a>>, AllocError>
     requires { NoneTwice ring.now.ids }
     ensures { IfOk result (λ v. v.items ≡ map (spots_of assembly.now)
-        (filter (reaches (met_along query.now journal.now.held.entries places.entry))
+        (filter (reaches (met_along wanted.now journal.now.held.entries places.entry))
         ring.now.ids)) }
 {
-    let marks = marks_along(alloc, ring, journal, places, query)?;
+    let marks = marks_along(alloc, ring, journal, places, wanted)?;
     marked_spots(alloc, ring, assembly, &marks)
 }

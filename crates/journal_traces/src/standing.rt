@@ -1,32 +1,54 @@
 //! Spans where they stand in the journal.
 
-ghost use Rattle.std.specs.Prelude.{◌≡◌, false, [], ◌∷◌, option_map, slice_get};
+ghost use Rattle.std.specs.Prelude.{◌≡◌, false, [], ◌∷◌, option_map, slice_get, IfOk};
 ghost use Rattle.std.specs.Bool.{OnTrue};
 ghost use Rattle.std.specs.List.{list_any};
+ghost use Rattle.jaeger_model.specs.Parents.{domain};
 ghost use Rattle.trace_model.specs.Searching.{matches, first_start, first_id};
 ghost use Rattle.trace_model.specs.Linking.{in_window};
+ghost use Rattle.trace_model.specs.Seeing.{seen};
 ghost use Rattle.trace_assembly.specs.Located.{span_at};
 ghost use Rattle.journal_traces.specs.Given.{given};
-ghost use Rattle.journal_traces.specs.Standing.{spans_named};
+ghost use Rattle.journal_traces.specs.Standing.{batch_at, spans_named};
 
 use crate::pruning::may_reach;
 use arrival_journal::Journal;
-use find_traces::is_match;
-use jaeger_model::{Seen, TraceId};
-use span_steps::is_in_window;
+use find_traces::{Judged, Wanted};
+use jaeger_model::{Batch, Seen, TraceId};
+use span_steps::{is_in_window, is_named, is_timed};
+use std::alloc::{AllocError, Global};
 use trace_assembly::{Spot, Spots};
-use trace_model::Find;
+
+/// The batch that the entry at a place brings, unless it is a limit.
+pub(crate) fn batch_at(journal: &Journal, place: u64) -> Option<&Batch>
+    ensures { option_map (λ b. b.now) result ≡ batch_at journal.now.held.entries place }
+{
+    match journal.entry(place) {
+        Some(entry) => entry.work.batch(),
+        None => None,
+    }
+}
+
+/// The span of a batch at an index.
+fn seen_in(batch: &Batch, index: u32) -> Option<Seen<'_>>
+    ensures { option_map given result ≡ slice_get (domain batch.now) index }
+{
+    let span = batch.spans.as_slice().get(index as usize)?;
+    Some(Seen {
+        process: batch.process.get(),
+        span,
+    })
+}
 
 /// The span that a spot names.
+#[tactic(auto, using(crate::proofs::Spots::span_there, crate::proofs::Spots::no_span_there))]
 pub(crate) fn seen_at(journal: &Journal, spot: Spot) -> Option<Seen<'_>>
     ensures { option_map given result ≡ span_at journal.now.held.entries spot }
 {
-    let entry = journal.entry(spot.place)?;
-    let span = entry.batch.spans.as_slice().get(spot.index as usize)?;
-    Some(Seen {
-        process: &entry.batch.process,
-        span,
-    })
+    match batch_at(journal, spot.place) {
+        Some(batch) => seen_in(batch, spot.index),
+        None => None,
+    }
 }
 
 /// The first span that the spots name.
@@ -68,29 +90,53 @@ pub(crate) fn first_id(journal: &Journal, spots: Spots<'_>) -> Option<TraceId>
     }
 }
 
+/// Whether the span meets every condition of the search. Its process is judged where the span has the
+/// asked names, duration and start.
+fn is_match(alloc: Global, wanted: &Wanted<'_>, at: Seen<'_>) -> Result<bool, AllocError>
+    ensures { IfOk result (λ b. b ≡ matches wanted.now (seen at.entry)) }
+{
+    let query = wanted.query();
+    if !is_named(at, query) || !is_timed(at, query) {
+        return Ok(false);
+    }
+    let judged = Judged::new(alloc, wanted, at.process)?;
+    judged.is_match(alloc, at.span)
+}
+
 /// Whether the span at a spot meets every condition of the search.
-fn is_match_at(journal: &Journal, spot: Spot, query: &Find) -> bool
-    ensures { result ≡
-        list_any (matches query.now) (spans_named journal.now.held.entries (spot ∷ [])) }
+fn is_match_at(
+    alloc: Global,
+    journal: &Journal,
+    spot: Spot,
+    wanted: &Wanted<'_>,
+) -> Result<bool, AllocError>
+    ensures { IfOk result (λ b. b ≡
+        list_any (matches wanted.now) (spans_named journal.now.held.entries (spot ∷ []))) }
 {
     match seen_at(journal, spot) {
-        Some(seen) => is_match(seen, query),
-        None => false,
+        Some(seen) => is_match(alloc, wanted, seen),
+        None => Ok(false),
     }
 }
 
 /// Whether one of the spans meets every condition of the search. None is copied, and none is looked
 /// at after that one.
-pub(crate) fn is_found(journal: &Journal, spots: Spots<'_>, query: &Find) -> bool
-    ensures { result ≡
-        list_any (matches query.now) (spans_named journal.now.held.entries spots.entry) }
+pub(crate) fn is_found(
+    alloc: Global,
+    journal: &Journal,
+    spots: Spots<'_>,
+    wanted: &Wanted<'_>,
+) -> Result<bool, AllocError>
+    ensures { IfOk result (λ b. b ≡
+        list_any (matches wanted.now) (spans_named journal.now.held.entries spots.entry)) }
 {
     for spot in spots {
-        if is_match_at(journal, spot, query) {
-            return true;
+        let is_match = is_match_at(alloc, journal, spot, wanted)?;
+        if is_match {
+            return Ok(true);
         }
     }
-    false
+    Ok(false)
 }
 
 /// Whether no span of the entry of a spot can start strictly between the bounds: by the bounds of their

@@ -3,6 +3,7 @@ use Rattle.std.proofs.Common.{◌≡◌, ℕ, List, [], ◌∷◌, ◌++◌, ⊎
 use mathlib.Core.List.{IsPrefix}
 use Rattle.jaeger_model.specs.declared.batch.Batch.{Batch}
 use Rattle.trace_model.specs.declared.entry.Entry.{Entry}
+use Rattle.trace_model.specs.declared.entry.Work.TheVariants as brings
 use Rattle.trace_model.specs.declared.limits.Limits.{Limits}
 use Rattle.trace_model.specs.declared.query.Query.{Query}
 use Rattle.trace_model.specs.declared.answer.Answer.{Answer}
@@ -27,7 +28,7 @@ goes_further s t u a b = record {
 
 pub goes_by_a_job : (s : SeatValue) (b : Batch) (t : SeatValue) → HandsIn s b t → GoesOn s t
 goes_by_a_job s b t h =
-    let one : GoesOn s (with_job s (next_job s b)) = record { desk_is = refl; seat_is = refl; hands_in_is = refl; more = prefix_append s.jobs (next_job s b ∷ []) } in
+    let one : GoesOn s (with_job s (next_job s (brings.Batch b))) = record { desk_is = refl; seat_is = refl; hands_in_is = refl; more = prefix_append s.jobs (next_job s (brings.Batch b) ∷ []) } in
     subst (λ (z : SeatValue). GoesOn s z) (sym h) one
 
 -- whatever a batch is answered

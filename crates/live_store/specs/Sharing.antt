@@ -4,6 +4,7 @@ use Rattle.std.proofs.Common.{sym, subst}
 use mathlib.Core.List.{IsPrefix}
 use Rattle.jaeger_model.specs.declared.batch.Batch.{Batch}
 use Rattle.trace_model.specs.declared.entry.Entry.{Entry}
+use Rattle.trace_model.specs.declared.entry.Work.TheVariants as brings
 use Rattle.trace_model.specs.declared.limits.Limits.{Limits}
 use Rattle.trace_model.specs.declared.query.Query.{Query}
 use Rattle.trace_model.specs.declared.answer.Answer.{Answer}
@@ -34,7 +35,7 @@ LiveKnows s h = IsPrefix h s.known
 
 -- the seat handed the batch in
 abbrev pub HandsIn : SeatValue → Batch → SeatValue → Type 0
-HandsIn s b t = t ≡ with_job s (next_job s b)
+HandsIn s b t = t ≡ with_job s (next_job s (brings.Batch b))
 
 -- a legal list is known that has the entry at the place
 abbrev pub KnowsPlace : Limits → Entry → ℕ → List Entry → Type 0
@@ -46,7 +47,7 @@ KnowsPlace limits e place known =
 abbrev pub LiveSubmits : Limits → LiveValue → Batch → Result ℕ Refusal → LiveValue → Type 0
 LiveSubmits limits s b (Ok place) t =
     IsPrefix s.known t.known × HandsIn s.seat b t.seat
-    × KnowsPlace limits (next_job s.seat b) place t.known
+    × KnowsPlace limits (next_job s.seat (brings.Batch b)) place t.known
 LiveSubmits limits s b (Err why) t =
     (t.known ≡ s.known)
     × (((t.seat ≡ s.seat) × IsNotTaken s.seat why) ⊎ (HandsIn s.seat b t.seat × IsUnacknowledged why))
@@ -68,9 +69,9 @@ keeps limits s t more = record { same_limits = refl; knowledge = λ h k. prefix_
 pub submit_knows : (limits : Limits) (s : LiveValue) (b : Batch) (r : Result ℕ Refusal) (t : LiveValue) → LiveSubmits limits s b r t → SubmitKnows (λ _. limits) LiveKnows s b r t
 submit_knows limits s b (Ok place) t d =
     let list = d.2.0 in
-    let job = next_job s.seat b in
+    let job = next_job s.seat (brings.Batch b) in
     let split = stands-split list place job d.2.2 in
-    let has : HasAt list place b = record { before = split.0; entry = job; after = split.1; whole = split.2; batch_is = refl; place_is = split.3 } in
+    let has : HasAt list place b = record { before = split.0; entry = job; after = split.1; whole = split.2; work_is = refl; place_is = split.3 } in
     (keeps limits s t d.0, record { history = list; legal = d.2.1; has = has; known = d.2.3 })
 submit_knows limits s b (Err why) t d =
     let P : List Entry → Type 0 = λ z. IsPrefix s.known z in keeps limits s t (subst P (sym d.0) (prefix_self s.known))

@@ -1,11 +1,6 @@
-//! Tests of the stepped machine: what comes of lists of steps (`schedule_core`), and the lines of its
-//! scripts (`step_lines`).
-//!
-//! * `schedules`: lists of steps and their outcomes.
-//! * `script_lines`: the step of a line or its fault, and the text of an outcome.
+//! Tests of the lines of the stepped machine's scripts (`step_lines`): the text of each outcome, with numbers that no
+//! script reaches, and lines as they stand. What `play` shows of scripts stands in `cases/scripts`.
 #![tactic(auto)]
 
-#[cfg(test)]
-mod schedules;
 #[cfg(test)]
 mod script_lines;

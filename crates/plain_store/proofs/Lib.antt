@@ -1,3 +1,4 @@
 pub mod Climbing
 pub mod Found
+pub mod Happenings
 pub mod Ids

@@ -29,11 +29,11 @@ fn call_of(trace: &[Placed], placed: &Placed) -> Result<Option<(Text, Text)>, Al
     let Some(above) = parent_in(trace, placed) else {
         return Ok(None);
     };
-    if above.process.service == placed.process.service {
+    if above.process.get().service == placed.process.get().service {
         return Ok(None);
     }
-    let caller = above.process.service.clone()?;
-    let callee = placed.process.service.clone()?;
+    let caller = above.process.get().service.clone()?;
+    let callee = placed.process.get().service.clone()?;
     Ok(Some((caller, callee)))
 }
 

@@ -1,10 +1,13 @@
 //! The plain store: each answer is made from the whole list of entries.
 
-ghost use Rattle.std.specs.Prelude.{◌≡◌, List, map, IfOk, option_map};
+ghost use Rattle.std.specs.Prelude.{◌≡◌, List, [], ◌∷◌, map, IfOk, option_map};
 ghost use Rattle.std.specs.Arc.{arc_value};
 ghost use Rattle.trace_model.specs.Adjusting.{adjusted};
 ghost use Rattle.trace_model.specs.Answers.{answer, shown_as};
-ghost use Rattle.trace_model.specs.Histories.{arrivals};
+ghost use Rattle.trace_model.specs.Histories.{arrivals, events};
+ghost use Rattle.trace_model.specs.Events.{came, without_limits};
+ghost use Rattle.trace_model.specs.Works.{placed_brought, events_brought};
+ghost use Rattle.plain_store.specs.Happened.{event_of};
 ghost use Rattle.trace_model.specs.Searching.{traces};
 ghost use Rattle.trace_model.specs.Showing.{trace_found};
 
@@ -12,12 +15,22 @@ use crate::adjust::adjusted_trace;
 use crate::links::service_links;
 use crate::names::{operation_names, operations, services};
 use crate::search::{find_traces, trace_ids};
-use crate::showing::{all_shown, keep_trace, shown_traces};
+use crate::showing::{Happening, all_shown, keep_trace, shown_traces};
 use jaeger_model::{Placed, Seq, TraceId, domain};
 use span_steps::all_unadjusted;
 use std::alloc::{AllocError, Global};
 use std::sync::Arc;
-use trace_model::{Answer, Entry, Limits, Query, Shown};
+use trace_model::{Answer, Entry, Limits, Query, Shown, Work};
+
+/// The spans that an entry brings.
+fn spans_of(alloc: Global, work: &Work) -> Result<Vec<Placed>, AllocError>
+    ensures { IfOk result (λ v. v.items ≡ placed_brought work.now) }
+{
+    match work {
+        Work::Batch(batch) => domain(alloc, batch),
+        Work::TraceLimit(_) => Ok(Vec::new(alloc)),
+    }
+}
 
 /// The spans of all entries, in order.
 fn all_arrivals(alloc: Global, entries: &[Arc<Entry>]) -> Result<Vec<Placed>, AllocError>
@@ -25,8 +38,58 @@ fn all_arrivals(alloc: Global, entries: &[Arc<Entry>]) -> Result<Vec<Placed>, Al
 {
     let mut all = Vec::new(alloc);
     for entry in entries {
-        let mut spans = domain(alloc, &entry.batch)?;
+        let mut spans = spans_of(alloc, &entry.work)?;
         all.append(&mut spans)?;
+    }
+    Ok(all)
+}
+
+/// The spans of all that happened, in order.
+#[tactic(auto, using(trace_model::proofs::Arriving::came_of))]
+fn all_came(alloc: Global, entries: &[Arc<Entry>]) -> Result<Vec<Placed>, AllocError>
+    ensures { IfOk result (λ v. v.items ≡ without_limits (events (map arc_value entries.now))) }
+{
+    all_arrivals(alloc, entries)
+}
+
+/// What happens as the spans come.
+#[tactic(auto, using(std::proofs::lemmas::List::map_push))]
+fn coming(alloc: Global, spans: Vec<Placed>) -> Result<Vec<Happening>, AllocError>
+    ensures { IfOk result (λ v. map event_of v.items ≡ map came spans.items) }
+{
+    let mut happened = Vec::new(alloc);
+    for placed in spans {
+        happened.push(Happening::Came(placed))?;
+    }
+    Ok(happened)
+}
+
+fn one(alloc: Global, happening: Happening) -> Result<Vec<Happening>, AllocError>
+    ensures { IfOk result (λ v. v.items ≡ happening ∷ []) }
+{
+    let mut all = Vec::new(alloc);
+    all.push(happening)?;
+    Ok(all)
+}
+
+/// What happens by an entry.
+fn happenings_of(alloc: Global, work: &Work) -> Result<Vec<Happening>, AllocError>
+    ensures { IfOk result (λ v. map event_of v.items ≡ events_brought work.now) }
+{
+    match work {
+        Work::Batch(batch) => coming(alloc, domain(alloc, batch)?),
+        Work::TraceLimit(limit) => one(alloc, Happening::Limited(*limit)),
+    }
+}
+
+/// All that happened, in order.
+fn all_happened(alloc: Global, entries: &[Arc<Entry>]) -> Result<Vec<Happening>, AllocError>
+    ensures { IfOk result (λ v. map event_of v.items ≡ events (map arc_value entries.now)) }
+{
+    let mut all = Vec::new(alloc);
+    for entry in entries {
+        let mut happened = happenings_of(alloc, &entry.work)?;
+        all.append(&mut happened)?;
     }
     Ok(all)
 }
@@ -38,10 +101,10 @@ fn all_traces(
     limits: Limits,
 ) -> Result<Vec<Seq<Placed>>, AllocError>
     ensures { IfOk result (λ v. v.items ≡
-        traces limits.traces (arrivals (map arc_value entries.now))) }
+        traces limits.traces (events (map arc_value entries.now))) }
 {
-    let arrived = all_arrivals(alloc, entries)?;
-    shown_traces(alloc, arrived, limits.traces)
+    let happened = all_happened(alloc, entries)?;
+    shown_traces(alloc, happened, limits.traces)
 }
 
 /// The shown spans of a trace in the order in which they arrived, or None where there are none.
@@ -56,10 +119,10 @@ pub fn get_trace(
     id: TraceId,
 ) -> Result<Option<Vec<Placed>>, AllocError>
     ensures { IfOk result (λ found. option_map (λ v. v.items) found ≡
-        trace_found limits.traces (arrivals (map arc_value entries.now)) id) }
+        trace_found limits.traces (events (map arc_value entries.now)) id) }
 {
-    let arrived = all_arrivals(alloc, entries)?;
-    let spans = keep_trace(all_shown(alloc, arrived, limits.traces)?.spans, id);
+    let happened = all_happened(alloc, entries)?;
+    let spans = keep_trace(all_shown(alloc, happened, limits.traces)?.spans, id);
     if spans.is_empty() {
         return Ok(None);
     }
@@ -121,16 +184,16 @@ pub fn plain_answer(
             Some(spans) => Ok(Answer::Trace(Some(trace_shown(alloc, spans, limits, *raw)?))),
         },
         Query::Services => {
-            let arrived = all_arrivals(alloc, entries)?;
+            let arrived = all_came(alloc, entries)?;
             Ok(Answer::Names(Seq::from_vec(services(alloc, &arrived)?)))
         }
         Query::OperationNames { service } => {
-            let arrived = all_arrivals(alloc, entries)?;
+            let arrived = all_came(alloc, entries)?;
             let names = operation_names(alloc, &arrived, service)?;
             Ok(Answer::Names(Seq::from_vec(names)))
         }
         Query::Operations { service, kind } => {
-            let arrived = all_arrivals(alloc, entries)?;
+            let arrived = all_came(alloc, entries)?;
             let found = operations(alloc, &arrived, service, kind)?;
             Ok(Answer::Operations(Seq::from_vec(found)))
         }

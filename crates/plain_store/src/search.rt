@@ -53,7 +53,7 @@ fn has_tag(alloc: Global, placed: &Placed, asked: &(Text, Text)) -> Result<bool,
 {
     Ok(
         is_among(alloc, placed.span.tags.as_slice(), asked)?
-            || is_among(alloc, placed.process.tags.as_slice(), asked)?
+            || is_among(alloc, placed.process.get().tags.as_slice(), asked)?
             || is_logged(alloc, placed.span.logs.as_slice(), asked)?,
     )
 }
@@ -74,7 +74,7 @@ fn is_match(alloc: Global, query: &Find, placed: &Placed) -> Result<bool, AllocE
     ensures { IfOk result (λ b. b ≡ matches query.now placed.now) }
 {
     let at = Seen {
-        process: &placed.process,
+        process: placed.process.get(),
         span: &placed.span,
     };
     Ok(

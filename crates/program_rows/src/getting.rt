@@ -12,7 +12,7 @@ type Row = (
     &'static [&'static str],
 );
 
-const WORKED_ROWS: [Row; 12] = [
+const WORKED_ROWS: [Row; 16] = [
     (&["1"], &[OPEN, "00"], 1, &[NONE]),
     (&["1"], &[OPEN], 3, &["line 1: refused 1 Truncated\n", NONE]),
     (
@@ -68,6 +68,53 @@ const WORKED_ROWS: [Row; 12] = [
         3,
         &["line 2: refused 20 JournalFull\n", SPAN],
     ),
+    (&["g"], &["zz"], 2, &["bad trace id\n"]),
+    (&["0x1"], &[HEAD, TAIL], 2, &["bad trace id\n"]),
+    (&["xyz"], &[HEAD, TAIL], 2, &["bad trace id\n"]),
+    (
+        &["000000000000000000000000000000001"],
+        &[HEAD, TAIL],
+        2,
+        &["bad trace id\n"],
+    ),
+];
+
+/// Words behind the program's name that can't be used, or that ask for help.
+const UNUSABLE: [&[&str]; 34] = [
+    &[],
+    &["get"],
+    &["get", "1", "2"],
+    &["get", "--spans=0", "1"],
+    &["get", "1", "--spans", "0"],
+    &["get", "1", "--spans", "10000001"],
+    &["get", "1", "--batches", "0"],
+    &["get", "1", "--batches", "1000001"],
+    &["get", "1", "--batches="],
+    &["get", "1", "--batches", "1", "--batches", "2"],
+    &["--batches", "1", "get", "1"],
+    &["get", "1", "--traces"],
+    &["get", "1", "--traces", "-1"],
+    &["get", "1", "--traces", "x"],
+    &["get", "1", "--traces", "1000001"],
+    &["get", "1", "--max-skew", "9223372036854775808"],
+    &["get", "1", "--nope", "1"],
+    &["get", "1", "--workers", "4"],
+    &["get", "1", "-x"],
+    &["get", "--help"],
+    &["help"],
+    &["--help"],
+    &["nope"],
+    &["pipe", "extra"],
+    &["pipe", "--batches", "0"],
+    &["pipe", "--help"],
+    &["play", "extra"],
+    &["play", "--traces", "1000001"],
+    &["serve", "--port", "65536"],
+    &["serve", "--queue", "0"],
+    &["serve", "--queue", "4097"],
+    &["serve", "--sessions", "4294967296"],
+    &["serve", "--workers", "0"],
+    &["serve", "--workers", "65"],
 ];
 
 #[test]
@@ -81,64 +128,23 @@ fn worked_rows(rt: HostRuntime) -> Result<(), Fail> {
     Ok(())
 }
 
+/// Each ends with the status 2; the texts are those of `clap`.
 #[test]
-fn lines_and_words(rt: HostRuntime) -> Result<(), Fail> {
+fn unusable_words(rt: HostRuntime) -> Result<(), Fail> {
     let alloc = rt.alloc();
-    let one = ["jaeger_one", "get", "1"];
-    check(
-        &rt,
-        alloc,
-        &one,
-        &["\n \t\n\r\nf\r\n", HEAD, " \t", TAIL, "\r\n"],
-        3,
-        &["line 4: bad hex\n", SPAN],
-    )?;
-    check(
-        &rt,
-        alloc,
-        &one,
-        &[HEAD, TAIL, "\r"],
-        3,
-        &["line 1: bad hex\n", NONE],
-    )?;
-    check(
-        &rt,
-        alloc,
-        &["jaeger_one", "get", "g"],
-        &["zz"],
-        2,
-        &["bad trace id\n"],
-    )?;
-    let mut text = Vec::new(alloc);
-    for words in [
-        ["jaeger_one", "--help"].as_slice(),
-        ["jaeger_one"].as_slice(),
-        ["jaeger_one", "get", "--spans=0", "1"].as_slice(),
-    ] {
-        assert_eq!(&rt;
-            run(
-                &rt,
-                alloc,
-                words,
-                &mut Watched::new("zz".as_bytes()),
-                &mut Watched::new(&mut text)
-            ),
-            2
+    for words in UNUSABLE {
+        let mut all = vec![in alloc; "jaeger_one"]?;
+        all.extend_from_slice(words)?;
+        let mut text = Vec::new(alloc);
+        let mut input = Watched::new("zz".as_bytes());
+        let status = run(
+            &rt,
+            alloc,
+            all.as_slice(),
+            &mut input,
+            &mut Watched::new(&mut text),
         );
+        assert_eq!(&rt; status, 2, "{words:?}");
     }
     Ok(())
-}
-
-/// As many lines as the store takes batches.
-#[test]
-fn a_thousand_lines(rt: HostRuntime) -> Result<(), Fail> {
-    let alloc = rt.alloc();
-    let mut input = Vec::new(alloc);
-    let mut output = Vec::new(alloc);
-    for _ in 0..1_000u32 {
-        input.extend_from_slice(&[HEAD, TAIL, "\n"])?;
-        output.push(SPAN)?;
-    }
-    let words = ["jaeger_one", "get", "1"];
-    check(&rt, alloc, &words, input.as_slice(), 0, output.as_slice())
 }

@@ -1,5 +1,6 @@
-//! Tests of the program over memory: the worked rows of each subcommand, whole and in pieces, and devices
-//! that fail. What is promised of every input stands on the functions that are tested.
+//! Tests of the program over memory: a table of worked rows of each subcommand, those of `pipe` in pieces too, and
+//! devices that fail. More of what each prints stands in `cases/`. What is promised of every input stands on the
+//! functions that are tested.
 #![tactic(auto)]
 
 #[cfg(test)]

@@ -1,6 +1,5 @@
 //! `play`.
-use crate::runs::{HEAD, TAIL, check, check_bytes};
-use std::alloc::Global;
+use crate::runs::{HEAD, TAIL, check};
 use std::test::Fail;
 
 const WORDS: [&str; 2] = ["jaeger_one", "play"];
@@ -34,28 +33,62 @@ fn a_reader_inside_does_not_see_the_publish(rt: HostRuntime) -> Result<(), Fail>
     )
 }
 
-/// What is said of so many batches that are put and taken.
-fn taken_by_one(alloc: Global, batches: u32) -> Result<String, Fail> {
-    let mut said = String::new(alloc);
-    for number in 1..=batches {
-        let lines = format!(in alloc; "put {number}\ntaken 0 {number}\n")?;
-        said.push_str(lines.as_str())?;
-    }
-    Ok(said)
+/// A batch of one span of trace 2, which is like the first one else.
+const OF_TRACE_2: &str =
+    "0c00010b00010000000161000f00020c000000010a000100000000000000020a000200000000000000000a000300000000000000020a000400000000000000000b0005000000026f70080007000000010a000800000000000003e80a000900000000000000320000";
+
+/// What a reader is told of a trace that is not shown, behind the front.
+const NOT_FOUND: &str =
+    "{\"data\":null,\"errors\":[{\"code\":404,\"msg\":\"trace not found\"}],\"limit\":0,\"offset\":0,\"total\":0}\n";
+
+/// A limit of one hides trace 1, and it stays hidden when the limit is taken away.
+#[test]
+fn a_limit_hides_the_oldest_trace(rt: HostRuntime) -> Result<(), Fail> {
+    check(
+        &rt,
+        rt.alloc(),
+        &WORDS,
+        &[
+            "put 0 ",
+            HEAD,
+            TAIL,
+            "\nput 0 ",
+            OF_TRACE_2,
+            "\nlimit 0 1\ntake\ntake\ntake\npublish\nenter 0\nread 0 /api/traces/1\nleave 0\n",
+            "limit 0 0\ntake\npublish\nenter 0\nread 0 /api/traces/1\nlimit 0 1000001\nlimit 64 1",
+        ],
+        0,
+        &[
+            "put 1\nput 2\nput 3\ntaken 0 1\ntaken 0 2\ntaken 0 3\npublished 3\nentered 3\nread 3 ",
+            NOT_FOUND,
+            "left\nput 4\ntaken 0 4\npublished 4\nentered 4\nread 4 ",
+            NOT_FOUND,
+            "unknown\nunknown\n",
+        ],
+    )
 }
 
-/// As many batches as the machine takes, published at once.
+/// A limit counts as a batch.
 #[test]
-fn a_thousand_batches(rt: HostRuntime) -> Result<(), Fail> {
-    let alloc = rt.alloc();
-    let mut input = Vec::new(alloc);
-    for _ in 0..1_000u32 {
-        input.extend_from_slice(&["put 0 ", HEAD, TAIL, "\ntake\n"])?;
-    }
-    input.push("publish\nenter 0\n")?;
-    let said = taken_by_one(alloc, 1_000)?;
-    let output = [said.as_str(), "published 1000\nentered 1000\n"];
-    check(&rt, alloc, &WORDS, input.as_slice(), 0, &output)
+fn a_limit_is_counted(rt: HostRuntime) -> Result<(), Fail> {
+    check(
+        &rt,
+        rt.alloc(),
+        &["jaeger_one", "play", "--batches", "2"],
+        &[
+            "put 0 ",
+            HEAD,
+            TAIL,
+            "\nput 0 ",
+            OF_TRACE_2,
+            "\nlimit 0 1\ntake\ntake\ntake\nlimit 0 1234567890",
+        ],
+        3,
+        &[
+            "put 1\nput 2\nput 3\ntaken 0 1\ntaken 0 2\nrefused 20 JournalFull\n",
+            "line 7: bad step\n",
+        ],
+    )
 }
 
 #[test]
@@ -108,39 +141,5 @@ fn outcomes_are_no_faults(rt: HostRuntime) -> Result<(), Fail> {
         &["leave 4\nenter 64\ntake\n"],
         0,
         &["outside\nunknown\nidle\n"],
-    )
-}
-
-#[test]
-fn faults_have_the_numbers_of_their_lines(rt: HostRuntime) -> Result<(), Fail> {
-    check(
-        &rt,
-        rt.alloc(),
-        &WORDS,
-        &[
-            "\nenter 0\r\npublish\npublish\nput 0 zz\nput 0 00\nread 0 /api/x\n\nread 0 /api/traces/z\n \nleave 0",
-        ],
-        3,
-        &[
-            "entered 0\npublished 0\nheld 0\n",
-            "line 5: bad hex\nline 6: refused 7 Missing Batch 1\n",
-            "line 7: no such path\nline 9: bad parameter traceID\nline 10: bad step\nleft\n",
-        ],
-    )
-}
-
-#[test]
-fn bytes_that_are_no_text_are_a_bad_step(rt: HostRuntime) -> Result<(), Fail> {
-    check_bytes(
-        &rt,
-        rt.alloc(),
-        &WORDS,
-        b"put 0 \xff\nput 0 00\xc3\ntake\xff\npublish \xff\nenter \xff\nread 0 /api/services\xff\nlearn 0 \xff\nleave \xed\xa0\x80\n\xff\n",
-        3,
-        &[
-            "line 1: bad step\nline 2: bad step\nline 3: bad step\n",
-            "line 4: bad step\nline 5: bad step\nline 6: bad step\n",
-            "line 7: bad step\nline 8: bad step\nline 9: bad step\n",
-        ],
     )
 }

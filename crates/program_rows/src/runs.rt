@@ -37,25 +37,13 @@ pub(crate) fn check<H: Host + Net<Stream = TcpStream, Listener = TcpListener>>(
     output: &[&str],
 ) -> Result<(), Fail> {
     let input = joined(alloc, input)?;
-    check_bytes(rt, alloc, words, input.as_bytes(), status, output)
-}
-
-/// The same of any bytes.
-pub(crate) fn check_bytes<H: Host + Net<Stream = TcpStream, Listener = TcpListener>>(
-    rt: &H,
-    alloc: Global,
-    words: &[&str],
-    input: &[u8],
-    status: u8,
-    output: &[&str],
-) -> Result<(), Fail> {
     let wanted = joined(alloc, output)?;
     let mut written = Vec::new(alloc);
     let got = run(
         rt,
         alloc,
         words,
-        &mut Watched::new(input),
+        &mut Watched::new(input.as_bytes()),
         &mut Watched::new(&mut written),
     );
     assert_eq!(rt; written.as_slice(), wanted.as_bytes());

@@ -60,7 +60,7 @@ fn spans_json(alloc: Global, spans: &[Shown]) -> Result<(Value, Vec<&Process>), 
     let mut numbering = Numbering::new(alloc);
     let mut trees = Vec::new(alloc);
     for span in spans {
-        let number = numbering.number_of(&span.placed.process)?;
+        let number = numbering.number_of(span.placed.process.get())?;
         trees.push(span_json(alloc, number, span)?)?;
     }
     Ok((Value::Array(trees), numbering.into_processes()))

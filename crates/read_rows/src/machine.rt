@@ -1,6 +1,6 @@
 ghost use Rattle.std.specs.Prelude.{◌≡◌};
 
-use crate::entries::{batch_of, entries_to, limits_of};
+use crate::entries::{batch_of, limit_under, limits_of, works_to};
 use jaeger_model::TraceId;
 use read_side::{Keeper, Opened, Pass, StoreName, open};
 use schedule_core::{Outcome, Step, play};
@@ -17,24 +17,38 @@ use trace_model::{Entry, Limits, Query, Refusal};
 /// to both questions, as text.
 type Looks = Vec<(u64, String)>;
 
+/// How many entries are admitted.
+const LAST: u64 = 20;
+
 fn question(before: u64) -> Query {
     if before % 2 == 0 {
         Query::Services
     } else {
         let id = TraceId {
             high: 0,
-            low: before,
+            low: before.saturating_sub(before % 5),
         };
         Query::Trace { id, raw: false }
     }
 }
 
-/// The steps by which a machine admits this batch and a reader looks at what is shown then.
+/// The step by which a seat hands in what stands under the number.
+fn hand_in(alloc: Global, number: u64) -> Result<Step, Fail> {
+    let seat = 0;
+    match limit_under(number) {
+        Some(limit) => Ok(Step::Limit { seat, limit }),
+        None => {
+            let batch = batch_of(alloc, number)?;
+            Ok(Step::Put { seat, batch })
+        }
+    }
+}
+
+/// The steps by which a machine admits one more entry and a reader looks at what is shown then.
 fn steps_of(alloc: Global, before: u64) -> Result<Vec<Step>, Fail> {
-    let batch = batch_of(alloc, before.saturating_add(1))?;
     let query = question(before);
     let mut steps = Vec::new(alloc);
-    steps.push(Step::Put { seat: 0, batch })?;
+    steps.push(hand_in(alloc, before.saturating_add(1))?)?;
     steps.push(Step::Take)?;
     steps.push(Step::Publish)?;
     steps.push(Step::Enter { reader: 5 })?;
@@ -43,7 +57,7 @@ fn steps_of(alloc: Global, before: u64) -> Result<Vec<Step>, Fail> {
     Ok(steps)
 }
 
-/// The looks of a machine to which so many batches are admitted.
+/// The looks of a machine to which so many entries are admitted.
 fn machine_looks(
     alloc: Global,
     keys: RandomState,
@@ -70,7 +84,7 @@ fn looks_of(alloc: Global, outcomes: Vec<Outcome>) -> Result<Looks, Fail> {
     Ok(looks)
 }
 
-/// The looks of a pass of two copies to which the same batches are admitted.
+/// The looks of a pass of two copies to which the same entries are admitted.
 fn copies_look<N: StoreName, R: Wait>(
     rt: &R,
     alloc: Global,
@@ -112,19 +126,19 @@ fn followed<N: StoreName, R: Wait + Abort + RandomSource>(
     requires limits { limits ≡ N.limits }
 {
     let keys = RandomState::new(rt)?;
-    let wanted = machine_looks(alloc, keys, limits, 12)?;
-    let entries = entries_to(alloc, 12)?;
+    let wanted = machine_looks(alloc, keys, limits, LAST)?;
+    let entries = works_to(alloc, LAST)?;
     let (mut keeper, mut passes) = open::<N>(alloc, keys, name, limits, 1)?;
     let seen = copies_look(rt, alloc, &mut keeper, &mut passes, entries);
     keeper.close(rt);
-    assert_eq!(rt; wanted.len(), 12);
+    assert_eq!(rt; wanted.len() as u64, LAST);
     match seen {
         Ok(looks) => {
             for (look, wanted) in looks.iter().zip(wanted.iter()) {
                 assert_eq!(rt; look.0, wanted.0);
                 assert!(rt; look.1 == wanted.1);
             }
-            assert_eq!(rt; looks.len(), 12);
+            assert_eq!(rt; looks.len() as u64, LAST);
         }
         Err(_) => panic!(rt; "a call was refused"),
     }

@@ -8,6 +8,8 @@ use Rattle.std.proofs.lemmas.List.{append-nil, take-append-drop}
 use Rattle.std.proofs.lemmas.List.Elements.{All-nil, All-replicate, All-get_or, All-set, All-weaker}
 use Rattle.std.proofs.lemmas.Option.{none-some, same_Some, slice_get_within, get_or_from_slice_get}
 use mathlib.Core.List.{IsPrefix}
+use Rattle.trace_model.specs.Works.{spans_brought}
+use Rattle.trace_model.specs.declared.entry.Work.TheVariants as brings
 use Rattle.trace_model.specs.declared.entry.Entry.{Entry}
 use Rattle.trace_model.specs.declared.limits.Limits.{Limits}
 use Rattle.trace_model.specs.Histories.{span_count, IsLegal}
@@ -77,7 +79,7 @@ legal_taken : (limits : Limits) (m : Machine) (job : Entry) (rest : List Entry) 
     → IsLegal limits (accepted m ++ job ∷ [])
 legal_taken limits m job rest fits e room =
     let within : has_room limits (accepted m) job ≡ true = subst (λ l. has_room l (accepted m) job ≡ true) fits.bounds room in
-    let spans = span_count (accepted m) + length job.batch.spans in
+    let spans = span_count (accepted m) + length (spans_brought job.work) in
     let parts = and_parts (nat_le (length (accepted m) + 1) limits.batches) (nat_le spans limits.spans) within in
     let batches = leb-true (length (accepted m) + 1) limits.batches parts.0 in
     legal_push limits (accepted m) job fits.legal
@@ -93,7 +95,13 @@ step_fits limits m fits = on_step m (λ s t. Fits limits t.machine) (record {
   put = λ seat batch last e. record {
     bounds = fits.bounds;
     legal = fits.legal;
-    numbered = numbered_put (accepted m) m.waiting m.numbers (record { seat = seat; number = last + 1; batch = batch }) last fits.numbered e refl;
+    numbered = numbered_put (accepted m) m.waiting m.numbers (record { seat = seat; number = last + 1; work = brings.Batch batch }) last fits.numbered e refl;
+    readers = fits.readers;
+  };
+  limited = λ seat n last e. record {
+    bounds = fits.bounds;
+    legal = fits.legal;
+    numbered = numbered_put (accepted m) m.waiting m.numbers (record { seat = seat; number = last + 1; work = brings.TraceLimit n }) last fits.numbered e refl;
     readers = fits.readers;
   };
   taken = λ job rest e room. record {

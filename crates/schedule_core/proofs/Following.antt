@@ -1,15 +1,16 @@
 -- Each entry of a legal list may follow those before it.
 use Rattle.std.proofs.Common.{◌≡◌, ◌∙◌, ℕ, suc, ◌+◌, ◌<◌, ◌≤◌, List, [], ◌∷◌, ◌++◌, length, get_or, map, drop, drop-cons, None, refl, sym, ap, subst, append_assoc, arith, length-append}
 use Rattle.std.proofs.lemmas.Bool.{le-leb, lt-leb}
+use Rattle.trace_model.specs.Works.{spans_brought}
 use Rattle.trace_model.specs.declared.entry.Entry.{Entry}
 use Rattle.trace_model.specs.declared.limits.Limits.{Limits}
 use Rattle.trace_model.specs.Histories.{last_number, span_count, IsLegal}
 use Rattle.trace_model.specs.Refusals.{refusal_of}
 use Rattle.trace_model.proofs.Legality.{rises_pushed, above_last, span_count_push, legal_front}
 
-taken : (limits : Limits) (h : List Entry) (e : Entry) → last_number e.seat h < e.number → length h + 1 ≤ limits.batches → span_count h + length e.batch.spans ≤ limits.spans → refusal_of limits h e ≡ None
+taken : (limits : Limits) (h : List Entry) (e : Entry) → last_number e.seat h < e.number → length h + 1 ≤ limits.batches → span_count h + length (spans_brought e.work) ≤ limits.spans → refusal_of limits h e ≡ None
 taken limits h e rises batches spans =
-    simp (lt-leb e.number (last_number e.seat h) rises, le-leb (length h + 1) limits.batches batches, le-leb (span_count h + length e.batch.spans) limits.spans spans) refl
+    simp (lt-leb e.number (last_number e.seat h) rises, le-leb (length h + 1) limits.batches batches, le-leb (span_count h + length (spans_brought e.work)) limits.spans spans) refl
 
 last_follows : (limits : Limits) (h : List Entry) (e : Entry) → IsLegal limits (h ++ e ∷ []) → refusal_of limits h e ≡ None
 last_follows limits h e l =

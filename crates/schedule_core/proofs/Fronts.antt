@@ -86,6 +86,7 @@ step_reports : (limits : Limits) (r : ℕ) (m : Machine) → Fits limits m → (
 step_reports limits r m fits = on_step m (λ s t. Reports r m.readers t.machine.readers (front_for r s t.outcome)) (record {
   silent = λ s o quiet. reports_none r m.readers _ (unreported (is_of r s) (front_in o) quiet.front);
   put = λ seat batch last e. reports_none r m.readers [] refl;
+  limited = λ seat n last e. reports_none r m.readers [] refl;
   taken = λ job rest e room. reports_none r m.readers [] refl;
   dropped = λ job rest e. reports_none r m.readers [] refl;
   shown = reports_none r m.readers [] refl;

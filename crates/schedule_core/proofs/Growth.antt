@@ -20,6 +20,7 @@ pub step_grows : (m : Machine) (s : Step) → IsPrefix m.history (step m s).mach
 step_grows m = on_step m (λ s t. IsPrefix m.history t.machine.history) (record {
   silent = λ s o quiet. prefix_self m.history;
   put = λ seat batch last e. prefix_self m.history;
+  limited = λ seat n last e. prefix_self m.history;
   taken = λ job rest e room. prefix_self m.history;
   dropped = λ job rest e. prefix_self m.history;
   shown = prefix_append m.history m.pending;
@@ -64,6 +65,7 @@ step_answers : (limits : Limits) (m : Machine) (h : List Entry) → Fits limits 
 step_answers limits m h fits p = on_step m (λ s t. IsOf limits h s t.outcome) (record {
   silent = λ s o quiet. quiet.answer limits h;
   put = λ seat batch last e. tt;
+  limited = λ seat n last e. tt;
   taken = λ job rest e room. tt;
   dropped = λ job rest e. tt;
   shown = tt;

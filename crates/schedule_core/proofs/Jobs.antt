@@ -2,6 +2,7 @@
 use Rattle.std.proofs.Common.{◌≡◌, ℕ, ◌+◌, Bool, true, false, List, [], ◌∷◌, ◌++◌, length, drop, refl, sym, ap, ◌∙◌, subst, append_assoc}
 use Rattle.std.proofs.lemmas.List.{append-nil}
 use Rattle.std.proofs.lemmas.List.Elements.{All-nil}
+use Rattle.trace_model.specs.declared.entry.Work.TheVariants as brings
 use Rattle.trace_model.specs.declared.entry.Entry.{Entry}
 use Rattle.trace_model.specs.declared.limits.Limits.{Limits}
 use Rattle.trace_model.specs.Histories.{RisesAfter}
@@ -56,7 +57,8 @@ passes_shown m n a w = record {
 step_passes : (m : Machine) (s : Step) → Passes m (step m s).machine (job_of s (step m s).outcome) (verdict_of s (step m s).outcome)
 step_passes m = on_step m (λ s t. Passes m t.machine (job_of s t.outcome) (verdict_of s t.outcome)) (record {
   silent = λ s o quiet. passes_silent m (job_of s o) (verdict_of s o) quiet.job quiet.verdict;
-  put = λ seat batch last e. passes_put m _ (record { seat = seat; number = last + 1; batch = batch }) refl refl;
+  put = λ seat batch last e. passes_put m _ (record { seat = seat; number = last + 1; work = brings.Batch batch }) refl refl;
+  limited = λ seat n last e. passes_put m _ (record { seat = seat; number = last + 1; work = brings.TraceLimit n }) refl refl;
   taken = λ job rest e room. passes_taken m _ job e (sym (append_assoc m.history m.pending (job ∷ [])));
   dropped = λ job rest e. passes_dropped m _ job e refl;
   shown = passes_shown m _ (append-nil (accepted m)) refl;
@@ -112,7 +114,8 @@ step_numbers : (m : Machine) (before : List Entry) → IsNumbered before [] m.nu
     → IsNumbered before (job_of s (step m s).outcome) (step m s).machine.numbers
 step_numbers m before numbered = on_step m (λ s t. IsNumbered before (job_of s t.outcome) t.machine.numbers) (record {
   silent = λ s o quiet. subst (λ js. IsNumbered before js m.numbers) (sym quiet.job) numbered;
-  put = λ seat batch last e. numbered_put before [] m.numbers (record { seat = seat; number = last + 1; batch = batch }) last numbered e refl;
+  put = λ seat batch last e. numbered_put before [] m.numbers (record { seat = seat; number = last + 1; work = brings.Batch batch }) last numbered e refl;
+  limited = λ seat n last e. numbered_put before [] m.numbers (record { seat = seat; number = last + 1; work = brings.TraceLimit n }) last numbered e refl;
   taken = λ job rest e room. numbered;
   dropped = λ job rest e. numbered;
   shown = numbered;

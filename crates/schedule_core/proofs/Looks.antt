@@ -45,6 +45,7 @@ step_of_other : (reader : ℕ) (m : Machine) (s : Step) → is_of reader s ≡ f
 step_of_other reader m = on_step m (λ s t. is_of reader s ≡ false → StandsAlike reader m t.machine) (record {
   silent = λ s o quiet other. record { bounds = refl; place = refl };
   put = λ seat batch last e other. record { bounds = refl; place = refl };
+  limited = λ seat n last e other. record { bounds = refl; place = refl };
   taken = λ job rest e room other. record { bounds = refl; place = refl };
   dropped = λ job rest e other. record { bounds = refl; place = refl };
   shown = λ other. record { bounds = refl; place = refl };

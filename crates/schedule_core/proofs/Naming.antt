@@ -5,6 +5,7 @@ use Rattle.std.specs.List.{range_with_len}
 use Rattle.std.proofs.lemmas.Bool.{cases_eq, eq-eqb, ne_eqb}
 use Rattle.std.proofs.lemmas.List.{append-nil, get_or-set_same, get_or-set_other}
 use Rattle.std.proofs.lemmas.Option.{slice_get_within, get_or_from_slice_get}
+use Rattle.trace_model.specs.declared.entry.Work.TheVariants as brings
 use Rattle.trace_model.specs.declared.entry.Entry.{Entry}
 use Rattle.trace_model.specs.declared.limits.Limits.{Limits}
 use Rattle.schedule_core.specs.declared.step.Step.{Step}
@@ -34,6 +35,7 @@ step_names : (m : Machine) (s : Step) → Names m (step m s).machine (reported_b
 step_names m = on_step m (λ s t. Names m t.machine (reported_by s t.outcome)) (record {
   silent = λ s o quiet. subst (Names m m) (sym quiet.name) (names_same m m refl);
   put = λ seat batch last e. names_same m _ refl;
+  limited = λ seat n last e. names_same m _ refl;
   taken = λ job rest e room. names_more m _ job (sym (append_assoc m.history m.pending (job ∷ [])));
   dropped = λ job rest e. names_same m _ refl;
   shown = names_same m _ (append-nil (accepted m));
@@ -95,7 +97,8 @@ counts_put k ns job last has next =
 step_counts : (m : Machine) (k : ℕ) (s : Step) → Counts k m.numbers (step m s).machine.numbers (job_of s (step m s).outcome)
 step_counts m k = on_step m (λ s t. Counts k m.numbers t.machine.numbers (job_of s t.outcome)) (record {
   silent = λ s o quiet. counts_none k m.numbers (job_of s o) quiet.job;
-  put = λ seat batch last e. counts_put k m.numbers (record { seat = seat; number = last + 1; batch = batch }) last e refl;
+  put = λ seat batch last e. counts_put k m.numbers (record { seat = seat; number = last + 1; work = brings.Batch batch }) last e refl;
+  limited = λ seat n last e. counts_put k m.numbers (record { seat = seat; number = last + 1; work = brings.TraceLimit n }) last e refl;
   taken = λ job rest e room. counts_none k m.numbers [] refl;
   dropped = λ job rest e. counts_none k m.numbers [] refl;
   shown = counts_none k m.numbers [] refl;

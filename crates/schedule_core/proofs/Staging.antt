@@ -8,8 +8,8 @@ use Rattle.std.proofs.lemmas.List.{take-append-le, length-append, length-map, ma
 use Rattle.std.proofs.lemmas.List.Elements.{All-nil, All-replicate, All-cons, All-head, All-tail, All-push, All-set, All-weaker, All-from_get_or}
 use Rattle.std.proofs.lemmas.List.Sums.{fails_before_first}
 use Rattle.std.proofs.lemmas.List.Recursion.{is_position_or_len}
-use Rattle.jaeger_model.specs.declared.batch.Batch.{Batch}
 use Rattle.trace_model.specs.declared.entry.Entry.{Entry}
+use Rattle.trace_model.specs.declared.entry.Work.{Work}
 use Rattle.trace_model.specs.declared.limits.Limits.{Limits}
 use Rattle.trace_model.specs.Histories.{last_number}
 use Rattle.trace_model.specs.Refusals.{has_room}
@@ -36,11 +36,11 @@ follows_last (Some k) n e =
       | false ↦ λ e. absurd cc
     ] e
 
-pub staged_put : (c : Copied) (q : Queued) (fronts : List ℕ) (places : List Place) (seat : ℕ) (batch : Batch) (number : ℕ)
-    → IsStaged c q fronts places → next_number q.numbers seat ≡ Some number → IsStaged c (queued q seat batch (Some number)) fronts places
-staged_put c q fronts places seat batch number s e =
+pub staged_put : (c : Copied) (q : Queued) (fronts : List ℕ) (places : List Place) (seat : ℕ) (work : Work) (number : ℕ)
+    → IsStaged c q fronts places → next_number q.numbers seat ≡ Some number → IsStaged c (queued q seat work (Some number)) fronts places
+staged_put c q fronts places seat work number s e =
     let last = follows_last (slice_get q.numbers seat) number e in
-    let job : Entry = record { seat = seat; number = number; batch = batch } in
+    let job : Entry = record { seat = seat; number = number; work = work } in
     record {
       numbered = subst (λ n. IsNumbered (c.history ++ c.pending) (q.waiting ++ job ∷ []) (slice_set q.numbers seat n)) (sym last.2)
           (numbered_put (c.history ++ c.pending) q.waiting q.numbers job last.0 s.numbered last.1 last.2);
@@ -48,11 +48,11 @@ staged_put c q fronts places seat batch number s e =
       standing = s.standing;
     }
 
-pub staged_handed : (c : Copied) (q : Queued) (fronts : List ℕ) (places : List Place) (seat : ℕ) (batch : Batch) (n : Option ℕ) (now : Queued)
-    → IsStaged c q fronts places → n ≡ next_number q.numbers seat → now ≡ queued q seat batch n → IsStaged c now fronts places
-staged_handed c q fronts places seat batch None now s e is = subst (λ x. IsStaged c x fronts places) (sym is) s
-staged_handed c q fronts places seat batch (Some n) now s e is =
-    subst (λ x. IsStaged c x fronts places) (sym is) (staged_put c q fronts places seat batch n s (sym e))
+pub staged_handed : (c : Copied) (q : Queued) (fronts : List ℕ) (places : List Place) (seat : ℕ) (work : Work) (n : Option ℕ) (now : Queued)
+    → IsStaged c q fronts places → n ≡ next_number q.numbers seat → now ≡ queued q seat work n → IsStaged c now fronts places
+staged_handed c q fronts places seat work None now s e is = subst (λ x. IsStaged c x fronts places) (sym is) s
+staged_handed c q fronts places seat work (Some n) now s e is =
+    subst (λ x. IsStaged c x fronts places) (sym is) (staged_put c q fronts places seat work n s (sym e))
 
 pub staged_taken : (c : Copied) (q : Queued) (fronts : List ℕ) (places : List Place) (e : Entry)
     → IsStaged c (record q { waiting = e ∷ q.waiting }) fronts places → IsStaged (with_pending c e) q fronts places

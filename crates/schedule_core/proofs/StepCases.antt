@@ -1,10 +1,11 @@
 -- What a step can do: what holds in each of these cases holds of every step.
 use Rattle.std.proofs.Common.{◌≡◌, ℕ, ◌+◌, Bool, true, false, List, [], ◌∷◌, length, take, Option, Some, None, refl}
-use Rattle.std.specs.Prelude.{slice_get, nat_lt, if◌then◌else◌}
+use Rattle.std.specs.Prelude.{slice_get, nat_lt, if◌then◌else◌, nat_le}
 use Rattle.std.specs.Option.{option_map_or}
 use Rattle.std.specs.List.{position}
 use Rattle.jaeger_model.specs.declared.batch.Batch.{Batch}
 use Rattle.trace_model.specs.declared.entry.Entry.{Entry}
+use Rattle.trace_model.specs.declared.entry.Work.TheVariants as brings
 use Rattle.trace_model.specs.declared.limits.Limits.{Limits}
 use Rattle.trace_model.specs.declared.query.Query.{Query}
 use Rattle.trace_model.specs.Refusals.{has_room}
@@ -26,7 +27,9 @@ pub record Silent (s : Step) (o : Outcome) : Type 0 where
 pub record StepCases (m : Machine) (P : Step → Stepped → Type 0) : Type 0 where
   pub silent : (s : Step) (o : Outcome) → Silent s o → P s (stays m o)
   pub put : (seat : ℕ) (batch : Batch) (last : ℕ) → slice_get m.numbers seat ≡ Some last
-      → P (ask.Put seat batch) (handed_in m seat batch (last + 1))
+      → P (ask.Put seat batch) (handed_in m seat (brings.Batch batch) (last + 1))
+  pub limited : (seat n : ℕ) (last : ℕ) → slice_get m.numbers seat ≡ Some last
+      → P (ask.Limit seat n) (handed_in m seat (brings.TraceLimit n) (last + 1))
   pub taken : (job : Entry) (rest : List Entry) → m.waiting ≡ job ∷ rest → has_room m.limits (accepted m) job ≡ true
       → P ask.Take (judged m job rest true)
   pub dropped : (job : Entry) (rest : List Entry) → m.waiting ≡ job ∷ rest → P ask.Take (judged m job rest false)
@@ -47,12 +50,22 @@ module _ (m : Machine) (P : Step → Stepped → Type 0) (c : StepCases m P) whe
       c.silent s o (record { job = job; verdict = verdict; name = name; front = front; answer = answer })
 
   -- ---- jobs
-  on_put : (seat : ℕ) (batch : Batch) (o : Option ℕ) → slice_get m.numbers seat ≡ o → P (ask.Put seat batch) (puts m seat batch o)
+  on_put : (seat : ℕ) (batch : Batch) (o : Option ℕ) → slice_get m.numbers seat ≡ o → P (ask.Put seat batch) (puts m seat (brings.Batch batch) o)
   on_put seat batch None e = quiet (ask.Put seat batch) Unknown refl refl refl refl (λ l h. tt)
   on_put seat batch (Some last) e =
-      elim (nat_lt last 18446744073709551615) as (λ b. P (ask.Put seat batch) (if b then handed_in m seat batch (last + 1) else stays m Unknown)) [
+      elim (nat_lt last 18446744073709551615) as (λ b. P (ask.Put seat batch) (if b then handed_in m seat (brings.Batch batch) (last + 1) else stays m Unknown)) [
         | true ↦ c.put seat batch last e
         | false ↦ quiet (ask.Put seat batch) Unknown refl refl refl refl (λ l h. tt)
+      ]
+
+  on_limit : (seat n : ℕ) (b : Bool) (o : Option ℕ) → slice_get m.numbers seat ≡ o
+      → P (ask.Limit seat n) (if b then puts m seat (brings.TraceLimit n) o else stays m Unknown)
+  on_limit seat n false o e = quiet (ask.Limit seat n) Unknown refl refl refl refl (λ l h. tt)
+  on_limit seat n true None e = quiet (ask.Limit seat n) Unknown refl refl refl refl (λ l h. tt)
+  on_limit seat n true (Some last) e =
+      elim (nat_lt last 18446744073709551615) as (λ b. P (ask.Limit seat n) (if b then handed_in m seat (brings.TraceLimit n) (last + 1) else stays m Unknown)) [
+        | true ↦ c.limited seat n last e
+        | false ↦ quiet (ask.Limit seat n) Unknown refl refl refl refl (λ l h. tt)
       ]
 
   on_verdict : (job : Entry) (rest : List Entry) (b : Bool) → m.waiting ≡ job ∷ rest → has_room m.limits (accepted m) job ≡ b
@@ -116,6 +129,7 @@ module _ (m : Machine) (P : Step → Stepped → Type 0) (c : StepCases m P) whe
   -- ---- every step
   pub on_step : (s : Step) → P s (step m s)
   on_step (ask.Put seat batch) = on_put seat batch (slice_get m.numbers seat) refl
+  on_step (ask.Limit seat n) = on_limit seat n (nat_le n 1000000) (slice_get m.numbers seat) refl
   on_step ask.Take = on_take m.waiting refl
   on_step ask.Publish = on_publish (position (holds (length m.fronts)) m.readers)
   on_step (ask.Enter r) = on_enter r (slice_get m.readers r) refl

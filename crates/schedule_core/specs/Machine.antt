@@ -2,8 +2,9 @@
 use Rattle.std.specs.Prelude.{ℕ, ◌+◌, ◌-◌, Bool, true, false, List, [], ◌∷◌, ◌++◌, length, take, Option, Some, None, slice_set, replicate, if◌then◌else◌, nat_lt, nat_le, slice_get}
 use Rattle.std.specs.List.{position}
 use Rattle.std.specs.Option.{option_map_or}
-use Rattle.jaeger_model.specs.declared.batch.Batch.{Batch}
 use Rattle.trace_model.specs.declared.entry.Entry.{Entry}
+use Rattle.trace_model.specs.declared.entry.Work.{Work}
+use Rattle.trace_model.specs.declared.entry.Work.TheVariants as brings
 use Rattle.trace_model.specs.declared.limits.Limits.{Limits}
 use Rattle.trace_model.specs.declared.query.Query.{Query}
 use Rattle.trace_model.specs.declared.refusal.Refusal.{Refusal}
@@ -62,16 +63,20 @@ accepted m = m.history ++ m.pending
 
 -- ---- jobs
 
-abbrev pub handed_in : Machine → ℕ → Batch → ℕ → Stepped
-handed_in m seat batch number = record {
+abbrev pub handed_in : Machine → ℕ → Work → ℕ → Stepped
+handed_in m seat work number = record {
   outcome = Put number;
-  machine = record m { waiting = m.waiting ++ record { seat = seat; number = number; batch = batch } ∷ []; numbers = slice_set m.numbers seat number };
+  machine = record m { waiting = m.waiting ++ record { seat = seat; number = number; work = work } ∷ []; numbers = slice_set m.numbers seat number };
 }
 
 -- by the seat's last number, if there is such a seat
-abbrev pub puts : Machine → ℕ → Batch → Option ℕ → Stepped
-puts m seat batch None = stays m Unknown
-puts m seat batch (Some last) = if nat_lt last 18446744073709551615 then handed_in m seat batch (last + 1) else stays m Unknown
+abbrev pub puts : Machine → ℕ → Work → Option ℕ → Stepped
+puts m seat work None = stays m Unknown
+puts m seat work (Some last) = if nat_lt last 18446744073709551615 then handed_in m seat work (last + 1) else stays m Unknown
+
+-- a limit above 1,000,000 is none
+abbrev pub limits_by : Machine → ℕ → ℕ → Option ℕ → Stepped
+limits_by m seat n last = if nat_le n 1000000 then puts m seat (brings.TraceLimit n) last else stays m Unknown
 
 abbrev pub full : Machine → Refusal
 full m = JournalFull (length (accepted m)) (span_count (accepted m))
@@ -142,7 +147,8 @@ front_of m k = if nat_lt 0 k then slice_get m.fronts (k - 1) else None
 -- ---- steps
 
 abbrev pub step : Machine → Step → Stepped
-step m (ask.Put seat batch) = puts m seat batch (slice_get m.numbers seat)
+step m (ask.Put seat batch) = puts m seat (brings.Batch batch) (slice_get m.numbers seat)
+step m (ask.Limit seat n) = limits_by m seat n (slice_get m.numbers seat)
 step m ask.Take = takes m m.waiting
 step m ask.Publish = publishes m
 step m (ask.Enter r) = by_reader m r (λ reader. enters m r reader.inside)

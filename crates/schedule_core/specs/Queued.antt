@@ -1,7 +1,7 @@
 -- Jobs that wait, and the last number of each seat.
 use Rattle.std.specs.Prelude.{ℕ, ◌+◌, List, [], ◌∷◌, ◌++◌, Option, Some, None, if◌then◌else◌, nat_lt, slice_get, slice_set}
-use Rattle.jaeger_model.specs.declared.batch.Batch.{Batch}
 use Rattle.trace_model.specs.declared.entry.Entry.{Entry}
+use Rattle.trace_model.specs.declared.entry.Work.{Work}
 
 pub record Queued : Type 0 where
   pub waiting : List Entry
@@ -16,9 +16,9 @@ abbrev pub next_number : List ℕ → ℕ → Option ℕ
 next_number numbers seat = number_after (slice_get numbers seat)
 
 -- the job waits behind the others, where it has a number
-abbrev pub queued : Queued → ℕ → Batch → Option ℕ → Queued
-queued q seat batch None = q
-queued q seat batch (Some number) = record {
-  waiting = q.waiting ++ record { seat = seat; number = number; batch = batch } ∷ [];
+abbrev pub queued : Queued → ℕ → Work → Option ℕ → Queued
+queued q seat work None = q
+queued q seat work (Some number) = record {
+  waiting = q.waiting ++ record { seat = seat; number = number; work = work } ∷ [];
   numbers = slice_set q.numbers seat number;
 }

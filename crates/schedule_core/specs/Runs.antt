@@ -2,6 +2,7 @@
 use Rattle.std.specs.Prelude.{◌≡◌, ℕ, ◌≤◌, Bool, true, false, List, [], ◌∷◌, ◌++◌, length, take, if◌then◌else◌, ◌==◌}
 use Rattle.std.specs.List.{All}
 use Rattle.trace_model.specs.declared.entry.Entry.{Entry}
+use Rattle.trace_model.specs.declared.entry.Work.TheVariants as brings
 use Rattle.trace_model.specs.declared.limits.Limits.{Limits}
 use Rattle.trace_model.specs.declared.refusal.Refusal.TheVariants.{JournalFull}
 use Rattle.trace_model.specs.Answers.{answer}
@@ -26,7 +27,8 @@ AllAlong P (s ∷ ss) (o ∷ os) = P s o × AllAlong P ss os
 
 -- the job that was handed in
 abbrev pub job_of : Step → Outcome → List Entry
-job_of (ask.Put seat batch) (Put number) = record { seat = seat; number = number; batch = batch } ∷ []
+job_of (ask.Put seat batch) (Put number) = record { seat = seat; number = number; work = brings.Batch batch } ∷ []
+job_of (ask.Limit seat n) (Put number) = record { seat = seat; number = number; work = brings.TraceLimit n } ∷ []
 job_of s o = []
 
 -- a job was taken and accepted, or refused

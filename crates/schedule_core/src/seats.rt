@@ -4,12 +4,11 @@ ghost use Rattle.std.specs.Prelude.{◌≡◌, [], ◌∷◌, ◌++◌, IfOk, Ma
 ghost use Rattle.std.specs.Arc.{arc_value};
 ghost use Rattle.schedule_core.specs.Queued.{next_number, queued};
 
-use jaeger_model::Batch;
 use std::alloc::{AllocError, Global};
 use std::collections::VecDeque;
 use std::marker::Model;
 use std::sync::Arc;
-use trace_model::Entry;
+use trace_model::{Entry, Work};
 
 /// How many seats there are.
 const SEATS: usize = 64;
@@ -59,15 +58,15 @@ impl Seats {
         last.checked_add(1)
     }
 
-    /// Puts the batch, as the seat's next job, behind those that wait, and gives its number; `None` where
+    /// Puts the work, as the seat's next job, behind those that wait, and gives its number; `None` where
     /// there is no such seat or its numbers are used up.
     ///
     /// # Errors
     ///
     /// Out of memory, and nothing else. Nothing has changed then.
-    pub fn hand_in(&mut self, seat: u32, batch: Batch) -> Result<Option<u64>, AllocError>
+    pub fn hand_in(&mut self, seat: u32, work: Work) -> Result<Option<u64>, AllocError>
         ensures number { IfOk result (λ number. number ≡ next_number self.old.numbers seat) }
-        ensures queued { IfOk result (λ number. self.new ≡ queued self.old seat batch number) }
+        ensures queued { IfOk result (λ number. self.new ≡ queued self.old seat work number) }
         ensures unchanged { OnErr result (self.new ≡ self.old) }
     {
         let Some(number) = self.next_number(seat) else {
@@ -76,7 +75,7 @@ impl Seats {
         let job = Entry {
             seat: seat as u16,
             number,
-            batch,
+            work,
         };
         self.waiting.push_back(Arc::new(self.alloc, job)?)?;
         self.numbers[seat as usize] = number;

@@ -10,19 +10,21 @@ ghost use Rattle.schedule_core.specs.Copied.{all_of};
 ghost use Rattle.schedule_core.specs.Staged.{verdict};
 ghost use Rattle.schedule_core.specs.Standing.{Visits};
 ghost use Rattle.schedule_core.specs.declared.step.Step.TheVariants.{Enter, Leave, Learn, Read};
-ghost use Rattle.schedule_core.specs.Machine.{by_reader, enters, front_of, leaves, learns, new_machine, publishes, puts, reads, stays, step as stepped, takes};
+ghost use Rattle.schedule_core.specs.Machine.{by_reader, enters, front_of, leaves, learns, new_machine, publishes, limits_by, puts, reads, stays, step as stepped, takes};
 
 use crate::copies::Copies;
 use crate::outcome::Outcome;
 use crate::readers::{Inside, Place, Readers};
 use crate::seats::Seats;
 use crate::step::Step;
-use jaeger_model::Batch;
 use std::alloc::{AllocError, Global};
 use std::hash::RandomState;
 use std::marker::Model;
 use std::sync::Arc;
-use trace_model::{Answer, Entry, Limits, Query};
+use trace_model::{Answer, Entry, Limits, Query, Work};
+
+/// A limit on the traces that are shown is no greater.
+const MOST_TRACES: u32 = 1_000_000;
 
 /// The machine with the two copies that it keeps.
 #[derive(Drop)]
@@ -65,14 +67,24 @@ impl Stage {
         })
     }
 
-    fn put(&mut self, seat: u32, batch: Batch) -> Result<Outcome, AllocError>
+    fn put(&mut self, seat: u32, work: Work) -> Result<Outcome, AllocError>
         ensures { IfOk result (λ o. record { outcome = o; machine = self.new } ≡
-            puts self.old seat batch (slice_get self.old.numbers seat)) }
+            puts self.old seat work (slice_get self.old.numbers seat)) }
     {
-        match self.seats.hand_in(seat, batch)? {
+        match self.seats.hand_in(seat, work)? {
             Some(number) => Ok(Outcome::Put { number }),
             None => Ok(Outcome::Unknown),
         }
+    }
+
+    fn limit(&mut self, seat: u32, limit: u32) -> Result<Outcome, AllocError>
+        ensures { IfOk result (λ o. record { outcome = o; machine = self.new } ≡
+            limits_by self.old seat limit (slice_get self.old.numbers seat)) }
+    {
+        if limit > MOST_TRACES {
+            return Ok(Outcome::Unknown);
+        }
+        self.put(seat, Work::TraceLimit(limit))
     }
 
     fn take(&mut self) -> Result<Outcome, AllocError>
@@ -204,7 +216,8 @@ impl Stage {
             stepped self.old step) }
     {
         match step {
-            Step::Put { seat, batch } => self.put(seat, batch),
+            Step::Put { seat, batch } => self.put(seat, Work::Batch(batch)),
+            Step::Limit { seat, limit } => self.limit(seat, limit),
             Step::Take => self.take(),
             Step::Publish => self.publish(),
             Step::Enter { reader } => Ok(self.enter(reader)),

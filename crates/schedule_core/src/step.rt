@@ -6,6 +6,8 @@ use trace_model::Query;
 pub enum Step {
     /// A seat hands in a batch.
     Put { seat: u32, batch: Batch },
+    /// A seat hands in a limit on the traces that are shown, at most 1,000,000; 0 shows all.
+    Limit { seat: u32, limit: u32 },
     /// The clerk takes the job that waits longest.
     Take,
     /// What was accepted is published: those who enter from here on see it.

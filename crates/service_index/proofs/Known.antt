@@ -11,7 +11,7 @@ use Rattle.trace_model.specs.declared.answer.Operation.{Operation}
 use Rattle.trace_model.specs.Names.{operation_cmp, same_operation}
 use Rattle.trace_model.proofs.Rising.{rises_same, rises_insert, any_insert}
 use Rattle.service_index.specs.Listing.{Listed, listed_cmp, same_listed}
-use Rattle.service_index.proofs.Tree.{listed_total, listed_exact}
+use Rattle.service_index.proofs.Sets.{listed_total, listed_exact}
 
 pub any_agree : {X : Type 0} (p q : X → Bool) → ((x : X) → p x ≡ q x) → (xs : List X) → list_any p xs ≡ list_any q xs
 any_agree p q h [] = refl

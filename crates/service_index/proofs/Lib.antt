@@ -1,6 +1,4 @@
-pub mod Tree
-pub mod Asked
-pub mod Runs
+pub mod Sets
 pub mod Arrivals
 pub mod Known
 pub mod Probing

@@ -1,28 +1,25 @@
 -- How the operations of a service lead to one another, and what the index answers from them.
 use Rattle.std.proofs.Common.{◌≡◌, ℕ, suc, zero, ◌+◌, ◌-◌, ◌<◌, ◌≤◌, Bool, true, false, ◌||◌, ◌&&◌, not, cond, nat_lt, List, [], ◌∷◌, ◌++◌, map, length, get_or, drop, refl, sym, ap, subst, ◌∙◌, inl, inr, arith, length-append}
-use Rattle.std.specs.Prelude.{filter}
+use Rattle.std.specs.Prelude.{◌==◌, filter, Some, None}
 use Rattle.std.specs.List.{list_any, position_or_len}
-use Rattle.std.specs.Ordering.{is_eq}
-use Rattle.std.specs.Cmp.{tied_itself}
-use Rattle.std.specs.Cmp.Lexicographic.{texts_ties}
 use Rattle.std.proofs.Math.ListN.{set}
 use Rattle.std.proofs.Math.Seq.{drop-cons}
 use Rattle.std.proofs.lemmas.Bool.{false≢true, ltb-true, lt-ltb, cases_eq, cases_lt}
 use Rattle.std.proofs.lemmas.List.{length-set, length-map, map_push, drop_all, get_or-map, get_or-set_same, get_or-set_other, get_or_append_left, get_or_push}
-use Rattle.std.proofs.lemmas.List.Sums.{fold_push, passes_at_first, fails_before_first, prefix_len-le-length}
+use Rattle.std.proofs.lemmas.List.Sums.{fold_push, passes_at_first, fails_before_first, position_or_len_is, prefix_len-le-length}
 use Rattle.std.proofs.lemmas.List.Folds.{list_any-append, list_any_at}
 use Rattle.jaeger_model.specs.Texts.{same_text, text_cmp, sorted_set, insert_once}
 use Rattle.trace_model.specs.declared.answer.Operation.{Operation}
-use Rattle.trace_model.specs.Names.{operation_cmp}
+use Rattle.trace_model.specs.Names.{operation_cmp, same_operation}
 use Rattle.trace_model.proofs.Rising.{any_set, sorted_set-rises}
 use Rattle.trace_model.proofs.NameLaws.{text_total, text_exact, operation_total, operation_exact, any_map, any_filter}
 use Rattle.service_index.specs.Listing.{Listed, listed_cmp, same_listed, services_in, operations_of, names_of}
-use Rattle.service_index.specs.Naming.{Names, service_alone, services_of}
-use Rattle.service_index.specs.Probes.{Table, name_at, IsNamed, row_of, with_number}
+use Rattle.service_index.specs.Naming.{Names, IsGrouped, IsGroupOf, service_alone, LabelValue, same_label, Labelling, group_alone, operation_labels, group_labels}
+use Rattle.service_index.specs.Probes.{Table, no_label, label_at, AreNumbers, IsNamed, row_of, with_number}
 use Rattle.service_index.specs.Indexes.{Index, listing_by, service_row, has_service, owners, IsNewest, IsChain, IsLinked, IsIndexed}
-use Rattle.service_index.proofs.Known.{any_agree, known_again}
-use Rattle.service_index.proofs.Tree.{same_set, set_more, listed_total, listed_exact}
-use Rattle.service_index.proofs.Probing.{same_is, is_equal}
+use Rattle.service_index.proofs.Known.{known_again}
+use Rattle.service_index.proofs.Sets.{same_set, set_more, listed_total, listed_exact}
+use Rattle.service_index.proofs.Probing.{same_is, text_is, text_self, label_of}
 
 -- ---- rows and tests
 pub not_lt : (a n : ℕ) → n ≤ a → nat_lt a n ≡ false
@@ -36,66 +33,92 @@ none_is p [] d none = refl
 none_is p (x ∷ xs) d none = ap (λ b. b || list_any p xs) (none 0 (omega arith)) ∙ none_is p xs d (λ k below. none (suc k) (omega arith))
 
 -- the first place that passes is one of the places where one passes
-is_position : {X : Type 0} (p : X → Bool) (xs : List X) (d : X) → nat_lt (position_or_len p xs) (length xs) ≡ list_any p xs
+pub is_position : {X : Type 0} (p : X → Bool) (xs : List X) (d : X) → nat_lt (position_or_len p xs) (length xs) ≡ list_any p xs
 is_position p xs d = elim (cases_lt (position_or_len p xs) (length xs)) [
   | inl below ↦ lt-ltb (position_or_len p xs) (length xs) below ∙ sym (list_any_at p xs (position_or_len p xs) d below (passes_at_first p xs d below))
   | inr past ↦ not_lt (position_or_len p xs) (length xs) past ∙ sym (none_is p xs d (λ k within. fails_before_first p xs k d (omega arith)))
 ]
 
-pub is_row : (names : Names) (numbers : List ℕ) (name : Listed) → nat_lt (row_of names numbers name) (length numbers) ≡ list_any (same_listed name) (map names.at numbers)
-is_row names numbers name =
-    ap (nat_lt (row_of names numbers name)) (sym (length-map numbers names.at)) ∙ is_position (same_listed name) (map names.at numbers) (service_alone [])
+-- a test of what is told of numbers passes where the label is the sought one
+abbrev pub Tells : {X : Type 0} → Labelling → LabelValue → (ℕ → X) → (X → Bool) → Type 0
+Tells labels l told test = (n : ℕ) → n < labels.count → same_label l (labels.at n) ≡ test (told n)
 
-pub row_own : (names : Names) (numbers : List ℕ) (name : Listed) → row_of names numbers name < length numbers → name ≡ name_at (map names.at numbers) (row_of names numbers name)
-row_own names numbers name below =
-    let l = length-map numbers names.at in
-    same_is name (name_at (map names.at numbers) (row_of names numbers name)) (passes_at_first (same_listed name) (map names.at numbers) (service_alone []) (omega arith))
+-- the row of a label is that of what is told
+pub row_told : {X : Type 0} (labels : Labelling) (l : LabelValue) (told : ℕ → X) (test : X → Bool) (numbers : List ℕ) (d : X) → Tells labels l told test → AreNumbers labels.count numbers
+    → row_of labels numbers l ≡ position_or_len test (map told numbers)
+row_told labels l told test numbers d tells held =
+    let known = map labels.at numbers in
+    let r = row_of labels numbers l in
+    let m = length-map numbers labels.at in
+    let o = length-map numbers told in
+    let w = prefix_len-le-length (λ x. not (same_label l x)) known in
+    let at : (k : ℕ) → k < length numbers → same_label l (label_at known k) ≡ test (get_or (map told numbers) k d) = λ k below.
+    ap (same_label l) (label_of labels numbers k below) ∙ tells (get_or numbers k 0) (held.held k below) ∙ ap test (sym (get_or-map told numbers k 0 d below)) in
+    sym (position_or_len_is test (map told numbers) r d (omega arith) (λ k below. sym (at k (omega arith)) ∙ fails_before_first (same_label l) known k no_label below)
+    (λ below. sym (at r (omega arith)) ∙ passes_at_first (same_label l) known no_label (omega arith)))
 
--- a number of a known name is not kept, another is
-pub number_known : (names : Names) (numbers : List ℕ) (n : ℕ) → row_of names numbers (names.at n) < length numbers → with_number names numbers n ≡ numbers
-number_known names numbers n below = ap (λ b. cond b numbers (numbers ++ n ∷ [])) (lt-ltb (row_of names numbers (names.at n)) (length numbers) below)
+pub told_known : {X : Type 0} (labels : Labelling) (l : LabelValue) (told : ℕ → X) (test : X → Bool) (numbers : List ℕ) (d : X) → Tells labels l told test → AreNumbers labels.count numbers
+    → nat_lt (row_of labels numbers l) (length numbers) ≡ list_any test (map told numbers)
+told_known labels l told test numbers d tells held =
+    ap (λ r. nat_lt r (length numbers)) (row_told labels l told test numbers d tells held)
+    ∙ ap (nat_lt (position_or_len test (map told numbers))) (sym (length-map numbers told)) ∙ is_position test (map told numbers) d
 
-pub number_new : (names : Names) (numbers : List ℕ) (n : ℕ) → length numbers ≤ row_of names numbers (names.at n) → with_number names numbers n ≡ numbers ++ n ∷ []
-number_new names numbers n past = elim (nat_lt (row_of names numbers (names.at n)) (length numbers)) as (λ b. nat_lt (row_of names numbers (names.at n)) (length numbers) ≡ b → cond b numbers (numbers ++ n ∷ []) ≡ numbers ++ n ∷ []) [
-  | true ↦ λ t. let below = ltb-true (row_of names numbers (names.at n)) (length numbers) t in absurd (omega arith)
+-- a number of a known label is not kept, another is
+pub number_known : (labels : Labelling) (numbers : List ℕ) (n : ℕ) → row_of labels numbers (labels.at n) < length numbers → with_number labels numbers n ≡ numbers
+number_known labels numbers n below = ap (λ b. cond b numbers (numbers ++ n ∷ [])) (lt-ltb (row_of labels numbers (labels.at n)) (length numbers) below)
+
+pub number_new : (labels : Labelling) (numbers : List ℕ) (n : ℕ) → length numbers ≤ row_of labels numbers (labels.at n) → with_number labels numbers n ≡ numbers ++ n ∷ []
+number_new labels numbers n past = elim (nat_lt (row_of labels numbers (labels.at n)) (length numbers)) as (λ b. nat_lt (row_of labels numbers (labels.at n)) (length numbers) ≡ b → cond b numbers (numbers ++ n ∷ []) ≡ numbers ++ n ∷ []) [
+  | true ↦ λ t. let below = ltb-true (row_of labels numbers (labels.at n)) (length numbers) t in absurd (omega arith)
   | false ↦ λ _. refl
 ] refl
 
 -- ---- services
-same_self : (s : List ℕ) → same_text s s ≡ true
-same_self s = texts_ties s s ∙ ap is_eq (tied_itself text_total s)
-
-and_true : (b : Bool) → (b && true) ≡ b
+pub and_true : (b : Bool) → (b && true) ≡ b
 and_true true = refl
 and_true false = refl
 
-same_alone : (names : Names) (numbers : List ℕ) (s : List ℕ) → list_any (same_listed (service_alone s)) (map (services_of names).at numbers) ≡ list_any (same_text s) (owners names numbers)
-same_alone names numbers s =
-    any_map (same_listed (service_alone s)) (services_of names).at numbers
-    ∙ any_agree (λ n. same_listed (service_alone s) (service_alone (names.at n).service)) (λ n. same_text s (names.at n).service) (λ n. and_true (same_text s (names.at n).service)) numbers
-    ∙ sym (any_map (same_text s) (λ n. (names.at n).service) numbers)
+pub service_own : (services : List (List ℕ)) (s : List ℕ) (r : ℕ) → r ≡ position_or_len (same_text s) services → r < length services → get_or services r [] ≡ s
+service_own services s r is below = ap (λ k. get_or services k []) is ∙ sym (text_is s (get_or services (position_or_len (same_text s) services) []) (passes_at_first (same_text s) services [] (omega arith)))
 
-alone_at : (names : Names) (numbers : List ℕ) (r : ℕ) → r < length numbers → name_at (map (services_of names).at numbers) r ≡ service_alone (get_or (owners names numbers) r [])
-alone_at names numbers r below =
-    get_or-map (services_of names).at numbers r 0 (service_alone []) below ∙ sym (ap service_alone (get_or-map (λ n. (names.at n).service) numbers r 0 [] below))
-
-pub service_own : (names : Names) (numbers : List ℕ) (s : List ℕ) (r : ℕ) → r ≡ row_of (services_of names) numbers (service_alone s) → r < length numbers → get_or (owners names numbers) r [] ≡ s
-service_own names numbers s r is below =
-    let own = row_own (services_of names) numbers (service_alone s) (omega arith) in
-    sym (ap (λ (l : Listed). l.service) (own ∙ ap (name_at (map (services_of names).at numbers)) (sym is) ∙ alone_at names numbers r below))
-
-pub service_new : (names : Names) (numbers : List ℕ) (s : List ℕ) (r : ℕ) → r ≡ row_of (services_of names) numbers (service_alone s) → length numbers ≤ r → list_any (same_text s) (owners names numbers) ≡ false
-service_new names numbers s r is past =
-    sym (same_alone names numbers s) ∙ sym (is_row (services_of names) numbers (service_alone s)) ∙ not_lt (row_of (services_of names) numbers (service_alone s)) (length numbers) (omega arith)
+pub service_new : (services : List (List ℕ)) (s : List ℕ) (r : ℕ) → r ≡ position_or_len (same_text s) services → length services ≤ r → list_any (same_text s) services ≡ false
+service_new services s r is past = sym (is_position (same_text s) services []) ∙ not_lt (position_or_len (same_text s) services) (length services) (omega arith)
 
 abbrev pub Distinct : List (List ℕ) → Type 0
 Distinct services = (i j : ℕ) → i < j → j < length services → get_or services i [] ≡ get_or services j [] → ⊥
 
-pub distinct : (names : Names) (t : Table) → IsNamed (services_of names) t → Distinct (owners names t.numbers)
-distinct names t h i j below within same =
-    let l = length-map t.numbers (services_of names).at in
-    let m = length-map t.numbers (λ n. (names.at n).service) in
-    h.once i j below (omega arith) (alone_at names t.numbers i (omega arith) ∙ ap service_alone same ∙ sym (alone_at names t.numbers j (omega arith)))
+-- numbers have one label exactly where the same is told of them
+abbrev pub AreTold : Labelling → (ℕ → List ℕ) → Type 0
+AreTold labels told = (m : ℕ) → m < labels.count → Tells labels (labels.at m) told (same_text (told m))
+
+pub distinct : (labels : Labelling) (told : ℕ → List ℕ) (t : Table) → AreTold labels told → IsNamed labels t → Distinct (map told t.numbers)
+distinct labels told t are h i j below within same =
+    let l = length-map t.numbers labels.at in
+    let m = length-map t.numbers told in
+    let a = get_or t.numbers i 0 in
+    let b = get_or t.numbers j 0 in
+    let held = h.numbers.held in
+    let texts : told a ≡ told b = sym (get_or-map told t.numbers i 0 [] (omega arith)) ∙ same ∙ get_or-map told t.numbers j 0 [] (omega arith) in
+    let tied : same_label (labels.at a) (labels.at b) ≡ true = are a (held i (omega arith)) b (held j (omega arith)) ∙ ap (same_text (told a)) (sym texts) ∙ text_self (told a) in
+    h.once i j below (omega arith) (label_of labels t.numbers i (omega arith) ∙ same_is (labels.at a) (labels.at b) tied ∙ sym (label_of labels t.numbers j (omega arith)))
+
+-- ---- the labels of an index
+abbrev alone : Names → ℕ → List ℕ
+alone names n = (names.at n).service
+
+pub groups_told : (names : Names) → IsGrouped names → AreTold (group_labels names) (λ n. (names.at n).service)
+groups_told names g m below n within = and_true (names.group m == names.group n) ∙ g.same m n below within
+
+operations_told : (names : Names) → IsGrouped names → (m : ℕ) → m < names.count → Tells (operation_labels names) ((operation_labels names).at m) names.at (same_listed (names.at m))
+operations_told names g m below n within = ap (λ b. b && same_operation (names.at m).operation (names.at n).operation) (g.same m n below within)
+
+-- what is asked for
+group_asked : (names : Names) (s : List ℕ) (group : ℕ) → IsGroupOf names s (Some group) → Tells (group_labels names) (group_alone group) (alone names) (same_text s)
+group_asked names s group is n within = and_true (group == names.group n) ∙ is n within
+
+operation_asked : (names : Names) (l : Listed) (group : ℕ) → IsGroupOf names l.service (Some group)
+    → Tells (operation_labels names) (record { group = group; name = l.operation.name; kind = l.operation.kind }) names.at (same_listed l)
+operation_asked names l group is n within = ap (λ b. b && same_operation l.operation (names.at n).operation) (is n within)
 
 -- ---- one more row
 newest_more : (rows : List (List ℕ)) (new service : List ℕ) (at below : ℕ) → below ≤ length rows → IsNewest rows service at below → IsNewest (rows ++ new ∷ []) service at below
@@ -179,7 +202,7 @@ linked_known rows services newest earlier s new h apart within own =
     ]
 
 pub none_of : (xs : List (List ℕ)) (s : List ℕ) → list_any (same_text s) xs ≡ false → (k : ℕ) → k < length xs → s ≡ get_or xs k [] → ⊥
-none_of xs s none k below is = false≢true (sym none ∙ list_any_at (same_text s) xs k [] below (ap (same_text s) (sym is) ∙ same_self s))
+none_of xs s none k below is = false≢true (sym none ∙ list_any_at (same_text s) xs k [] below (ap (same_text s) (sym is) ∙ text_self s))
 
 pub linked_new : (rows services : List (List ℕ)) (newest earlier : List ℕ) (new : List ℕ) → IsLinked rows services newest earlier → list_any (same_text new) services ≡ false
     → IsLinked (rows ++ new ∷ []) (services ++ new ∷ []) (newest ++ (length rows + 1) ∷ []) (earlier ++ 0 ∷ [])
@@ -216,37 +239,38 @@ linked_empty = record {
 }
 
 -- ---- one more number
-abbrev alone : Names → ℕ → List ℕ
-alone names n = (names.at n).service
+pub row_within : (labels : Labelling) (numbers : List ℕ) (label : LabelValue) → row_of labels numbers label ≤ length numbers
+row_within labels numbers label = let l = length-map numbers labels.at in let w = prefix_len-le-length (λ x. not (same_label label x)) (map labels.at numbers) in omega arith
 
-pub row_within : (names : Names) (numbers : List ℕ) (name : Listed) → row_of names numbers name ≤ length numbers
-row_within names numbers name = let l = length-map numbers names.at in let w = prefix_len-le-length (λ x. not (same_listed name x)) (map names.at numbers) in omega arith
-
-pub listed_again : (names : Names) (numbers : List ℕ) (n : ℕ) → row_of names numbers (names.at n) < length numbers
+pub listed_again : (names : Names) (numbers : List ℕ) (n : ℕ) → IsGrouped names → AreNumbers names.count numbers → n < names.count → row_of (operation_labels names) numbers ((operation_labels names).at n) < length numbers
     → sorted_set listed_cmp (map names.at numbers) ≡ insert_once listed_cmp (sorted_set listed_cmp (map names.at numbers)) (names.at n)
-listed_again names numbers n below =
+listed_again names numbers n g held below known =
+    let labels = operation_labels names in
     sym (known_again (sorted_set listed_cmp (map names.at numbers)) (names.at n) (sorted_set-rises listed_total (map names.at numbers))
-    (any_set listed_exact (same_listed (names.at n)) (map names.at numbers) ∙ sym (is_row names numbers (names.at n)) ∙ lt-ltb (row_of names numbers (names.at n)) (length numbers) below))
+    (any_set listed_exact (same_listed (names.at n)) (map names.at numbers)
+    ∙ sym (told_known labels (labels.at n) names.at (same_listed (names.at n)) numbers (service_alone []) (operations_told names g n below) (record { held = held.held }))
+    ∙ lt-ltb (row_of labels numbers (labels.at n)) (length numbers) known))
 
 pub listed_new : (names : Names) (numbers : List ℕ) (n : ℕ) → sorted_set listed_cmp (map names.at (numbers ++ n ∷ [])) ≡ insert_once listed_cmp (sorted_set listed_cmp (map names.at numbers)) (names.at n)
 listed_new names numbers n = ap (sorted_set listed_cmp) (map_push names.at numbers n) ∙ fold_push (insert_once listed_cmp) [] (map names.at numbers) (names.at n)
 
-pub indexed_own : (names : Names) (old : Index) (operations services : Table) (newest earlier : List ℕ) (n s row used room : ℕ) → IsIndexed names old → IsNamed names operations → IsNamed (services_of names) services
-    → operations.numbers ≡ with_number names old.operations.numbers n → row ≡ row_of names old.operations.numbers (names.at n) → length old.operations.numbers ≤ row
-    → services.numbers ≡ with_number (services_of names) old.services.numbers n → s ≡ row_of (services_of names) old.services.numbers (service_alone (alone names n)) → s < length old.services.numbers
+pub indexed_own : (names : Names) (g : IsGrouped names) (old : Index) (operations services : Table) (newest earlier : List ℕ) (n s row used room : ℕ) → n < names.count → IsIndexed names old → IsNamed (operation_labels names) operations → IsNamed (group_labels names) services
+    → operations.numbers ≡ with_number (operation_labels names) old.operations.numbers n → row ≡ row_of (operation_labels names) old.operations.numbers ((operation_labels names).at n) → length old.operations.numbers ≤ row
+    → services.numbers ≡ with_number (group_labels names) old.services.numbers n → s ≡ row_of (group_labels names) old.services.numbers (group_alone (names.group n)) → s < length old.services.numbers
     → newest ≡ set old.newest s (row + 1) → earlier ≡ old.earlier ++ get_or old.newest s 0 ∷ []
     → IsIndexed names (record { operations = operations; services = services; newest = newest; earlier = earlier; used = used; room = room })
-indexed_own names old operations services newest earlier n s row used room h named alone_named more is past less at below e f =
+indexed_own names g old operations services newest earlier n s row used room held h named alone_named more is past less at below e f =
     let numbers = old.operations.numbers in
     let others = old.services.numbers in
     let l = length-map numbers (λ k. (names.at k).service) in
     let m = length-map others (λ k. (names.at k).service) in
-    let w = row_within names numbers (names.at n) in
+    let w = row_within (operation_labels names) numbers ((operation_labels names).at n) in
     let new : row ≡ length (owners names numbers) = omega arith in
-    let own = service_own names others (alone names n) s at below in
-    let linked = linked_known (owners names numbers) (owners names others) old.newest old.earlier s (alone names n) h.linked (distinct names old.services h.services) (omega arith) own in
-    let rows : operations.numbers ≡ numbers ++ n ∷ [] = more ∙ number_new names numbers n (omega arith) in
-    let same : services.numbers ≡ others = less ∙ number_known (services_of names) others n (omega arith) in
+    let found : s ≡ position_or_len (same_text (alone names n)) (owners names others) = at ∙ row_told (group_labels names) (group_alone (names.group n)) (alone names) (same_text (alone names n)) others [] (groups_told names g n held) h.services.numbers in
+    let own = service_own (owners names others) (alone names n) s found (omega arith) in
+    let linked = linked_known (owners names numbers) (owners names others) old.newest old.earlier s (alone names n) h.linked (distinct (group_labels names) (alone names) old.services (groups_told names g) h.services) (omega arith) own in
+    let rows : operations.numbers ≡ numbers ++ n ∷ [] = more ∙ number_new (operation_labels names) numbers n (omega arith) in
+    let same : services.numbers ≡ others = less ∙ number_known (group_labels names) others n (omega arith) in
     record {
       operations = named;
       services = alone_named;
@@ -258,21 +282,23 @@ indexed_own names old operations services newest earlier n s row used room h nam
           (subst (λ (x : List ℕ). IsLinked (owners names numbers ++ alone names n ∷ []) (owners names others) (set old.newest s (length (owners names numbers) + 1)) x) (sym f) linked))));
     }
 
-pub indexed_new : (names : Names) (old : Index) (operations services : Table) (newest earlier : List ℕ) (n s row used room : ℕ) → IsIndexed names old → IsNamed names operations → IsNamed (services_of names) services
-    → operations.numbers ≡ with_number names old.operations.numbers n → row ≡ row_of names old.operations.numbers (names.at n) → length old.operations.numbers ≤ row
-    → services.numbers ≡ with_number (services_of names) old.services.numbers n → s ≡ row_of (services_of names) old.services.numbers (service_alone (alone names n)) → length old.services.numbers ≤ s
+pub indexed_new : (names : Names) (g : IsGrouped names) (old : Index) (operations services : Table) (newest earlier : List ℕ) (n s row used room : ℕ) → n < names.count → IsIndexed names old → IsNamed (operation_labels names) operations → IsNamed (group_labels names) services
+    → operations.numbers ≡ with_number (operation_labels names) old.operations.numbers n → row ≡ row_of (operation_labels names) old.operations.numbers ((operation_labels names).at n) → length old.operations.numbers ≤ row
+    → services.numbers ≡ with_number (group_labels names) old.services.numbers n → s ≡ row_of (group_labels names) old.services.numbers (group_alone (names.group n)) → length old.services.numbers ≤ s
     → newest ≡ old.newest ++ (row + 1) ∷ [] → earlier ≡ old.earlier ++ 0 ∷ []
     → IsIndexed names (record { operations = operations; services = services; newest = newest; earlier = earlier; used = used; room = room })
-indexed_new names old operations services newest earlier n s row used room h named alone_named more is past less at beyond e f =
+indexed_new names g old operations services newest earlier n s row used room held h named alone_named more is past less at beyond e f =
     let numbers = old.operations.numbers in
     let others = old.services.numbers in
     let l = length-map numbers (λ k. (names.at k).service) in
-    let w = row_within names numbers (names.at n) in
+    let w = row_within (operation_labels names) numbers ((operation_labels names).at n) in
     let new : row ≡ length (owners names numbers) = omega arith in
-    let absent = service_new names others (alone names n) s at beyond in
+    let m = length-map others (λ k. (names.at k).service) in
+    let found : s ≡ position_or_len (same_text (alone names n)) (owners names others) = at ∙ row_told (group_labels names) (group_alone (names.group n)) (alone names) (same_text (alone names n)) others [] (groups_told names g n held) h.services.numbers in
+    let absent = service_new (owners names others) (alone names n) s found (omega arith) in
     let linked = linked_new (owners names numbers) (owners names others) old.newest old.earlier (alone names n) h.linked absent in
-    let rows : operations.numbers ≡ numbers ++ n ∷ [] = more ∙ number_new names numbers n (omega arith) in
-    let fresh : services.numbers ≡ others ++ n ∷ [] = less ∙ number_new (services_of names) others n (omega arith) in
+    let rows : operations.numbers ≡ numbers ++ n ∷ [] = more ∙ number_new (operation_labels names) numbers n (omega arith) in
+    let fresh : services.numbers ≡ others ++ n ∷ [] = less ∙ number_new (group_labels names) others n (omega arith) in
     record {
       operations = named;
       services = alone_named;
@@ -286,13 +312,38 @@ indexed_new names old operations services newest earlier n s row used room h nam
     }
 
 -- ---- answers
-pub name_known : (names : Names) (index : Index) (name : Listed) → nat_lt (row_of names index.operations.numbers name) (length index.operations.numbers) ≡ list_any (same_listed name) (listing_by names index)
-name_known names index name = is_row names index.operations.numbers name ∙ sym (any_set listed_exact (same_listed name) (map names.at index.operations.numbers))
+pub name_known : (names : Names) (index : Index) (l : Listed) (group : ℕ) → IsIndexed names index → IsGroupOf names l.service (Some group)
+    → nat_lt (row_of (operation_labels names) index.operations.numbers (record { group = group; name = l.operation.name; kind = l.operation.kind })) (length index.operations.numbers) ≡ list_any (same_listed l) (listing_by names index)
+name_known names index l group h is =
+    told_known (operation_labels names) (record { group = group; name = l.operation.name; kind = l.operation.kind }) names.at (same_listed l) index.operations.numbers (service_alone []) (operation_asked names l group is) h.operations.numbers
+    ∙ sym (any_set listed_exact (same_listed l) (map names.at index.operations.numbers))
+
+-- where no number has the service, none has its operation
+pub name_unknown : (names : Names) (index : Index) (l : Listed) → IsIndexed names index → IsGroupOf names l.service None → false ≡ list_any (same_listed l) (listing_by names index)
+name_unknown names index l h none =
+    let numbers = index.operations.numbers in
+    let m = length-map numbers names.at in
+    sym (any_set listed_exact (same_listed l) (map names.at numbers) ∙ none_is (same_listed l) (map names.at numbers) (service_alone []) (λ k below.
+    ap (same_listed l) (get_or-map names.at numbers k 0 (service_alone []) (omega arith))
+    ∙ ap (λ b. b && same_operation l.operation (names.at (get_or numbers k 0)).operation) (none (get_or numbers k 0) (h.operations.numbers.held k (omega arith)))))
+
+-- the row of a service, found by its group
+pub service_found : (names : Names) (index : Index) (s : List ℕ) (group : ℕ) → IsIndexed names index → IsGroupOf names s (Some group)
+    → row_of (group_labels names) index.services.numbers (group_alone group) ≡ service_row names index s
+service_found names index s group h is = row_told (group_labels names) (group_alone group) (alone names) (same_text s) index.services.numbers [] (group_asked names s group is) h.services.numbers
+
+pub service_missing : (names : Names) (index : Index) (s : List ℕ) → IsIndexed names index → IsGroupOf names s None → length index.services.numbers ≡ service_row names index s
+service_missing names index s h none =
+    let numbers = index.services.numbers in
+    let m = length-map numbers (alone names) in
+    sym (position_or_len_is (same_text s) (owners names numbers) (length numbers) [] (omega arith) (λ k below.
+    ap (same_text s) (get_or-map (alone names) numbers k 0 [] below) ∙ none (get_or numbers k 0) (h.services.numbers.held k below)) (λ below. absurd (omega arith)))
 
 pub service_known : (names : Names) (index : Index) (s : List ℕ) → IsIndexed names index → nat_lt (service_row names index s) (length index.services.numbers) ≡ has_service s (listing_by names index)
 service_known names index s h =
     let numbers = index.operations.numbers in
-    is_row (services_of names) index.services.numbers (service_alone s) ∙ same_alone names index.services.numbers s ∙ h.linked.same (same_text s)
+    ap (nat_lt (service_row names index s)) (sym (length-map index.services.numbers (alone names)))
+    ∙ is_position (same_text s) (owners names index.services.numbers) [] ∙ h.linked.same (same_text s)
     ∙ any_map (same_text s) (λ n. (names.at n).service) numbers
     ∙ sym (any_set listed_exact (λ (l : Listed). same_text s l.service) (map names.at numbers) ∙ any_map (λ (l : Listed). same_text s l.service) names.at numbers)
 
@@ -332,7 +383,7 @@ pub newest_of : (names : Names) (index : Index) (s : List ℕ) (r at : ℕ) (num
     → numbers ≡ index.operations.numbers → at ≡ get_or index.newest r 0 → IsNewest (owners names numbers) s at (length numbers)
 newest_of names index s r at numbers h is below same e =
     let l = length-map index.services.numbers (λ n. (names.at n).service) in
-    let own = service_own names index.services.numbers s r is below in
+    let own = service_own (owners names index.services.numbers) s r is (omega arith) in
     subst (λ (x : List ℕ). IsNewest (owners names x) s at (length x)) (sym same)
     (subst (λ (x : ℕ). IsNewest (owners names index.operations.numbers) s x (length index.operations.numbers)) (sym e)
     (subst (λ (x : ℕ). IsNewest (owners names index.operations.numbers) s (get_or index.newest r 0) x) (length-map index.operations.numbers (λ n. (names.at n).service))
@@ -349,7 +400,7 @@ from_other names numbers s k below other =
   where
     differ : (a b : List ℕ) → (a ≡ b → ⊥) → same_text a b ≡ false
     differ a b other = elim (same_text a b) as (λ t. same_text a b ≡ t → t ≡ false) [
-      | true ↦ λ e. absurd (other (text_exact a b (is_equal (text_cmp a b) (sym (texts_ties a b) ∙ e))))
+      | true ↦ λ e. absurd (other (text_is a b e))
       | false ↦ λ _. refl
     ] refl
 
@@ -358,7 +409,7 @@ from_own : (names : Names) (numbers : List ℕ) (s : List ℕ) (k : ℕ) → k <
 from_own names numbers s k below own =
     let n = get_or numbers k 0 in
     let rest = map names.at (drop (suc k) numbers) in
-    let same : same_text s (names.at n).service ≡ true = ap (same_text s) (sym (get_or-map (λ j. (names.at j).service) numbers k 0 [] below) ∙ own) ∙ same_self s in
+    let same : same_text s (names.at n).service ≡ true = ap (same_text s) (sym (get_or-map (λ j. (names.at j).service) numbers k 0 [] below) ∙ own) ∙ text_self s in
     ap (λ x. operations_of s (map names.at x)) (drop-cons numbers k 0 below)
     ∙ ap (λ b. map (λ (x : Listed). x.operation) (cond b (names.at n ∷ filter (λ (x : Listed). same_text s x.service) rest) (filter (λ (x : Listed). same_text s x.service) rest))) same
 

@@ -12,7 +12,7 @@ use Rattle.std.proofs.lemmas.List.Filters.{dedup_is}
 use Rattle.std.proofs.lemmas.List.Sorted.{list_any-IsPermutation}
 use Rattle.jaeger_model.specs.Texts.{sorted_set}
 use Rattle.service_index.proofs.Probing.{is_equal}
-use Rattle.service_index.proofs.Tree.{is_set}
+use Rattle.service_index.proofs.Sets.{is_set}
 
 or_again : (a c : Bool) → (a || c) ≡ (a || (a || c))
 or_again true c = refl

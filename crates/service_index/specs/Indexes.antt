@@ -1,13 +1,13 @@
 -- An index of names that stand elsewhere: what it lists, and how the operations of a service lead to one
 -- another.
 use Rattle.std.specs.Prelude.{◌≡◌, ℕ, ◌-◌, ◌^◌, ◌<◌, ◌≤◌, Bool, List, [], map, length, get_or}
-use Rattle.std.specs.List.{list_any}
+use Rattle.std.specs.List.{list_any, position_or_len}
 use Rattle.trace_model.specs.declared.answer.Operation.{Operation}
 use Rattle.trace_model.specs.Names.{operation_cmp}
 use Rattle.jaeger_model.specs.Texts.{same_text, sorted_set, insert_once}
 use Rattle.service_index.specs.Listing.{Listed, listed_cmp, same_listed, operations_of}
-use Rattle.service_index.specs.Naming.{Names, service_alone, services_of}
-use Rattle.service_index.specs.Probes.{Table, IsNamed, row_of}
+use Rattle.service_index.specs.Naming.{Names, operation_labels, group_labels}
+use Rattle.service_index.specs.Probes.{Table, IsNamed}
 
 -- what is seen of an index: a number for each operation of a service with its kind, a number for each
 -- service; for each service the row of its newest operation and one more, for each operation the row of
@@ -28,10 +28,6 @@ listing_by names index = sorted_set listed_cmp (map names.at index.operations.nu
 abbrev pub listing_with : Names → Index → ℕ → List Listed
 listing_with names index n = insert_once listed_cmp (listing_by names index) (names.at n)
 
--- the row of a service, or how many rows there are
-abbrev pub service_row : Names → Index → List ℕ → ℕ
-service_row names index service = row_of (services_of names) index.services.numbers (service_alone service)
-
 -- some of these is of the service
 abbrev pub has_service : List ℕ → List Listed → Bool
 has_service service ls = list_any (λ (l : Listed). same_text service l.service) ls
@@ -48,6 +44,10 @@ own_operations service ls = sorted_set operation_cmp (operations_of service ls)
 -- the services of numbers
 abbrev pub owners : Names → List ℕ → List (List ℕ)
 owners names numbers = map (λ n. (names.at n).service) numbers
+
+-- the row of a service, or how many rows there are
+abbrev pub service_row : Names → Index → List ℕ → ℕ
+service_row names index service = position_or_len (same_text service) (owners names index.services.numbers)
 
 -- the newest row of the service below a row, given with one more; 0 where there is none
 pub record IsNewest (rows : List (List ℕ)) (service : List ℕ) (at below : ℕ) : Type 0 where
@@ -84,11 +84,6 @@ pub record IsSized (used room : ℕ) (operations services : Table) (newest earli
 
 -- the index leads to its numbers by these names
 pub record IsIndexed (names : Names) (index : Index) : Type 0 where
-  pub operations : IsNamed names index.operations
-  pub services : IsNamed (services_of names) index.services
+  pub operations : IsNamed (operation_labels names) index.operations
+  pub services : IsNamed (group_labels names) index.services
   pub linked : IsLinked (owners names index.operations.numbers) (owners names index.services.numbers) index.newest index.earlier
-
--- more names, and the old ones as they were
-pub record Extends (names more : Names) : Type 0 where
-  pub count : names.count ≤ more.count
-  pub same : (n : ℕ) → n < names.count → more.at n ≡ names.at n

@@ -1,11 +1,7 @@
 -- What was reported, as a set in order, and what it answers.
-use Rattle.std.specs.Prelude.{ℕ, ◌<◌, Bool, ◌&&◌, false, List, [], ◌∷◌, map, filter, flat_map, length}
+use Rattle.std.specs.Prelude.{ℕ, Bool, ◌&&◌, List, map, filter}
 use Rattle.std.specs.declared.cmp.Ordering.{Ordering}
 use Rattle.std.specs.Ordering.{ordering_then}
-use Rattle.std.specs.List.{All}
-use Rattle.std.specs.List.Sorted.{IsStrictlySortedBy}
-use Rattle.std.specs.BTreeSet.{BTreeSet}
-use Rattle.std.specs.Map.{keys_of, values_of}
 use Rattle.jaeger_model.specs.declared.placed.Placed.{Placed}
 use Rattle.jaeger_model.specs.Texts.{same_text, text_cmp, sorted_set}
 use Rattle.trace_model.specs.declared.answer.Operation.{Operation}
@@ -47,28 +43,3 @@ names_in service ls = names_of (operations_of service ls)
 -- an empty kind asks for all
 abbrev pub operations_in : List ℕ → List ℕ → List Listed → List Operation
 operations_in service kind ls = filter (is_asked_kind kind) (sorted_set operation_cmp (operations_of service ls))
-
--- ---- the tree that holds them
-abbrev pub Tree : Type 0
-Tree = List (List ℕ × BTreeSet Operation)
-
--- what one service has
-abbrev pub listed_at : List ℕ → List Operation → List Listed
-listed_at service os = map (λ (o : Operation). record { service = service; operation = o }) os
-
-abbrev pub listed_along : Tree → List Listed
-listed_along es = flat_map (λ (e : List ℕ × BTreeSet Operation). listed_at e.0 e.1.keys) es
-
-abbrev pub listing : Tree → List Listed
-listing es = sorted_set listed_cmp (listed_along es)
-
--- the services rise, and each has an operation
-pub record IsTree (es : Tree) : Type 0 where
-  pub services : IsStrictlySortedBy text_cmp (keys_of es)
-  pub operations : All (λ (s : BTreeSet Operation). 0 < length s.keys) (values_of es)
-
--- the last of the names is this one
-abbrev pub ends_in : List ℕ → List (List ℕ) → Bool
-ends_in name [] = false
-ends_in name (x ∷ []) = same_text x name
-ends_in name (x ∷ y ∷ ys) = ends_in name (y ∷ ys)

@@ -1,105 +1,160 @@
-ghost use Rattle.std.specs.Prelude.{◌≡◌, IfOk, OnOk, OnErr, List, [], filter};
-ghost use Rattle.std.specs.List.Sorted.{IsStrictlySortedBy};
-ghost use Rattle.jaeger_model.specs.Texts.{insert_once};
-ghost use Rattle.trace_model.specs.Names.{is_asked_kind, operation_cmp};
-ghost use Rattle.std.specs.Prelude.{fold};
-ghost use Rattle.std.specs.List.{list_any};
-ghost use Rattle.service_index.specs.Listing.{Listed, listed_cmp, listed_at, listing, IsTree, same_listed, services_in, names_in, names_of, ends_in, operations_in};
+ghost use Rattle.std.specs.Prelude.{◌≡◌, ℕ, ◌+◌, ◌<◌, ◌≤◌, ◌↔◌, List, [], length, Some, IfOk, IsTrue};
+ghost use Rattle.jaeger_model.specs.Texts.{sorted_set};
+ghost use Rattle.trace_model.specs.Names.{operation_cmp};
+ghost use Rattle.service_index.specs.Listing.{services_in, names_in, operations_in};
+ghost use Rattle.service_index.specs.Naming.{Names, IsGroupOf, label_value, group_alone};
+ghost use Rattle.service_index.specs.Probes.{AreNumbers};
+ghost use Rattle.service_index.specs.Indexes.{listing_by, listing_with, service_row, has_service, has_operation, own_operations};
+ghost use Rattle.service_index.specs.Indexes.{owners, AreFrom, IsChain, IsIndexed};
 
-use crate::operation_sets::{distinct_names, of_kind};
+use crate::labels::Label;
+use crate::name_table::NameTable;
+use crate::operation_sets::{names_alone, operations_in_order, texts_in_order, with_kind};
+use crate::texts::{GroupLabels, OperationLabels, Texts};
 use jaeger_model::Text;
 use std::alloc::{AllocError, Global};
-use std::collections::{BTreeMap, BTreeSet};
+use std::hash::RandomState;
 use std::marker::Model;
 use trace_model::Operation;
 
-/// The services that were reported, each with its operations and their kinds.
+/// The services that the spans of some numbers reported, each with its operations and their kinds, in
+/// room that is taken once.
+///
+/// The names stand with the spans, and each call is given them as [`Texts`]: what they say of the
+/// numbers that were added stays as it was. An operation is found by the number of its service, its name
+/// and its kind: adding a number looks at no text of a service.
 #[derive(Drop)]
 pub struct ServiceIndex {
     alloc: Global,
-    services: BTreeMap<Text, BTreeSet<Operation>>,
+    room: u32,
+    used: u32,
+    /// A number for each operation of a service with its kind.
+    operations: NameTable,
+    /// A number for each service, found by its group.
+    services: NameTable,
+    /// For each service the row of its newest operation and one more.
+    newest: Vec<u32>,
+    /// For each operation the row of the one of its service that was added before it and one more, 0
+    /// where it is the first.
+    earlier: Vec<u32>,
 }
 
 impl Model for ServiceIndex {
-    ghost Value = { List Listed };
+    ghost use Rattle.std.specs.Prelude.{vec_capacity, ◌≤◌};
+    ghost use Rattle.service_index.specs.Indexes.{Index, IsSized};
 
-    ghost view = { λ index. listing index.services.entries };
+    ghost Value = { Index };
 
-    ghost invariant = { λ index. IsTree index.services.entries };
-}
+    ghost view = { λ i. record { operations = i.operations; services = i.services; newest = i.newest.items; earlier = i.earlier.items; used = i.used; room = i.room } };
 
-impl Clone for ServiceIndex {
-    ghost is_clone = { λ s t. t ≡ s };
-
-    fn clone(&self) -> Result<Self, AllocError> {
-        let mut copy = ServiceIndex::new(self.alloc);
-        for (service, known) in self.services.iter() {
-            add_known(&mut copy, service, known)?;
-        }
-        Ok(copy)
-    }
+    ghost invariant = { λ i. (i.room ≤ vec_capacity i.newest) × (i.room ≤ vec_capacity i.earlier)
+        × IsSized i.used i.room i.operations i.services i.newest.items i.earlier.items };
 }
 
 impl ServiceIndex {
-    /// An index that lists nothing.
-    pub fn new(alloc: Global) -> Self
-        ensures { result ≡ [] }
-    {
-        ServiceIndex {
-            alloc,
-            services: BTreeMap::new(alloc),
-        }
-    }
-
-    /// Lists an operation of a service with its kind, which is empty where it has none.
-    ///
-    /// # Errors
-    ///
-    /// Out of memory; the index then is what it was.
-    pub fn add(&mut self, service: &Text, operation: &Text, kind: &str) -> Result<(), AllocError>
-        ensures ok { OnOk result (self.new ≡
-            insert_once listed_cmp self.old
-            (record {
-              service = service.now;
-              operation = record
-                  { name = operation.now; kind = kind.now };
-            })) }
-        ensures err { OnErr result (self.new ≡ self.old) }
-    {
-        let operation = Operation {
-            name: operation.clone()?,
-            kind: Text::from_str(self.alloc, kind)?,
-        };
-        if let Some(known) = self.services.get_mut(service) {
-            known.insert(operation)?;
-            return Ok(());
-        }
-        let mut known = BTreeSet::new(self.alloc);
-        known.insert(operation)?;
-        self.services.insert(service.clone()?, known)?;
-        Ok(())
-    }
-
-    /// Whether it lists this operation of the service with this kind.
+    /// An index that lists nothing, with room for so many numbers. The keys decide where names stand
+    /// in its tables.
     ///
     /// # Errors
     ///
     /// Out of memory, and nothing else.
-    pub fn lists(&self, service: &Text, operation: &Text, kind: &str) -> Result<bool, AllocError>
-        ensures listed { IfOk result (λ known.
-            known ≡ list_any (same_listed
-            (record {
-              service = service.now;
-              operation = record
-                  { name = operation.now; kind = kind.now };
-            })) self.now) }
-        ensures ordered { OnOk result (IsStrictlySortedBy listed_cmp self.now) }
+    pub fn with_room(alloc: Global, keys: RandomState, room: u32) -> Result<Self, AllocError>
+        ensures empty { IfOk result (λ index. (names : Names) → listing_by names index ≡ []) }
+        ensures used { IfOk result (λ index. index.used ≡ 0) }
+        ensures room { IfOk result (λ index. index.room ≡ room) }
+        ensures indexed { IfOk result (λ index. (names : Names) → IsIndexed names index) }
     {
-        let asked = named(self.alloc, operation, kind)?;
-        match self.services.get(service) {
-            Some(known) => Ok(known.contains(&asked)),
-            None => Ok(false),
+        let operations = NameTable::with_room(alloc, keys, room)?;
+        let services = NameTable::with_room(alloc, keys, room)?;
+        let newest = Vec::with_capacity(alloc, room as usize)?;
+        let earlier = Vec::with_capacity(alloc, room as usize)?;
+        Ok(ServiceIndex {
+            alloc,
+            room,
+            used: 0,
+            operations,
+            services,
+            newest,
+            earlier,
+        })
+    }
+
+    /// How many numbers were added.
+    pub fn used(&self) -> u32
+        ensures used { result ≡ self.now.used }
+        ensures within { result ≤ self.now.room }
+    {
+        self.used
+    }
+
+    /// One more number may be added.
+    pub fn has_room(&self) -> bool
+        ensures { IsTrue result ↔ (self.now.used < self.now.room) }
+    {
+        self.used < self.room
+    }
+
+    /// Adds a number: what its span reports is listed from now on. It takes no memory.
+    pub fn add_at<T: Texts>(&mut self, n: u32, texts: &T)
+        requires indexed { IsIndexed (T.names texts.now) self.old }
+        requires held { n < (T.names texts.now).count }
+        requires room { self.old.used < self.old.room }
+
+        ensures listed { listing_by (T.names texts.now) self.new ≡
+            listing_with (T.names texts.now) self.old n }
+        ensures used { self.new.used ≡ self.old.used + 1 }
+        ensures room { self.new.room ≡ self.old.room }
+        ensures indexed { IsIndexed (T.names texts.now) self.new }
+    {
+        self.used += 1;
+        let row = self.operations.add(&OperationLabels { texts }, n);
+        if (row as usize) < self.earlier.len() {
+            return;
         }
+        let service = self.services.add(&GroupLabels { texts }, n) as usize;
+        if service < self.newest.len() {
+            self.earlier.push_reserved(self.newest[service]);
+            self.newest[service] = row + 1;
+        } else {
+            self.earlier.push_reserved(0);
+            self.newest.push_reserved(row + 1);
+        }
+    }
+
+    /// Whether a span of the service was added.
+    pub fn knows_service<T: Texts>(&self, texts: &T, service: &str) -> bool
+        requires { IsIndexed (T.names texts.now) self.now }
+        ensures { result ≡ has_service service.now (listing_by (T.names texts.now) self.now) }
+    {
+        (self.service_row(texts, service) as usize) < self.newest.len()
+    }
+
+    /// Whether a span of the service with this operation and kind was added.
+    pub fn knows<T: Texts>(&self, texts: &T, service: &str, operation: &str, kind: &str) -> bool
+        requires { IsIndexed (T.names texts.now) self.now }
+        ensures { result ≡ has_operation service.now operation.now kind.now
+            (listing_by (T.names texts.now) self.now) }
+    {
+        match texts.group_of(service) {
+            Some(group) => self.knows_in(texts, group, operation, kind),
+            None => false,
+        }
+    }
+
+    /// Whether a span of the service of this group with this operation and kind was added.
+    pub fn knows_in<T: Texts>(&self, texts: &T, group: u32, operation: &str, kind: &str) -> bool
+        requires { IsIndexed (T.names texts.now) self.now }
+        ensures { (service : List ℕ) → IsGroupOf (T.names texts.now) service (Some group) →
+            result ≡ has_operation service operation.now kind.now
+            (listing_by (T.names texts.now) self.now) }
+    {
+        let label = Label {
+            group,
+            name: operation,
+            kind,
+        };
+        let row = self.operations.row_of(&OperationLabels { texts }, label);
+        (row as usize) < self.earlier.len()
     }
 
     /// The services, each once, in the order of their bytes.
@@ -107,14 +162,13 @@ impl ServiceIndex {
     /// # Errors
     ///
     /// Out of memory, and nothing else.
-    pub fn services(&self) -> Result<Vec<Text>, AllocError>
-        ensures { IfOk result (λ names. names.items ≡ services_in self.now) }
+    pub fn services_in<T: Texts>(&self, texts: &T) -> Result<Vec<Text>, AllocError>
+        requires { IsIndexed (T.names texts.now) self.now }
+        ensures { IfOk result (λ names. names.items ≡
+            services_in (listing_by (T.names texts.now) self.now)) }
     {
-        let mut names = Vec::new(self.alloc);
-        for service in self.services.keys() {
-            names.push(service.clone()?)?;
-        }
-        Ok(names)
+        let names = services_along(self.alloc, texts, self.services.numbers())?;
+        texts_in_order(names)
     }
 
     /// The pairs of operation and kind of a service, each once, in order of operation and then of
@@ -123,13 +177,19 @@ impl ServiceIndex {
     /// # Errors
     ///
     /// Out of memory, and nothing else.
-    pub fn operations(&self, service: &Text, kind: &Text) -> Result<Vec<Operation>, AllocError>
-        ensures { IfOk result (λ found. found.items ≡ operations_in service.now kind.now self.now) }
+    pub fn operations_in<T: Texts>(
+        &self,
+        texts: &T,
+        service: &Text,
+        kind: &Text,
+    ) -> Result<Vec<Operation>, AllocError>
+        requires { IsIndexed (T.names texts.now) self.now }
+        ensures { IfOk result (λ found. found.items ≡
+            operations_in service.now kind.now (listing_by (T.names texts.now) self.now)) }
     {
-        match self.services.get(service) {
-            Some(known) => of_kind(self.alloc, known, kind),
-            None => Ok(Vec::new(self.alloc)),
-        }
+        let operations = self.operations_of(texts, service.as_str())?;
+        let known = operations_in_order(operations)?;
+        with_kind(self.alloc, known, kind)
     }
 
     /// The operations of a service, each once, in the order of their bytes.
@@ -137,38 +197,108 @@ impl ServiceIndex {
     /// # Errors
     ///
     /// Out of memory, and nothing else.
-    pub fn names(&self, service: &Text) -> Result<Vec<Text>, AllocError>
-        ensures { IfOk result (λ names. names.items ≡ names_in service.now self.now) }
+    pub fn names_in<T: Texts>(&self, texts: &T, service: &Text) -> Result<Vec<Text>, AllocError>
+        requires { IsIndexed (T.names texts.now) self.now }
+        ensures { IfOk result (λ names. names.items ≡
+            names_in service.now (listing_by (T.names texts.now) self.now)) }
     {
-        match self.services.get(service) {
-            Some(known) => distinct_names(self.alloc, known),
-            None => Ok(Vec::new(self.alloc)),
+        let operations = self.operations_of(texts, service.as_str())?;
+        let names = names_alone(self.alloc, operations)?;
+        texts_in_order(names)
+    }
+
+    /// The row of a service, or how many services there are where it is not known.
+    fn service_row<T: Texts>(&self, texts: &T, service: &str) -> u32
+        requires { IsIndexed (T.names texts.now) self.now }
+        ensures { result ≡ service_row (T.names texts.now) self.now service.now }
+    {
+        match texts.group_of(service) {
+            Some(group) => self
+                .services
+                .row_of(&GroupLabels { texts }, group_label(group)),
+            None => self.newest.len() as u32,
         }
+    }
+
+    /// The operations of a service, the newest first.
+    fn operations_of<T: Texts>(
+        &self,
+        texts: &T,
+        service: &str,
+    ) -> Result<Vec<Operation>, AllocError>
+        requires { IsIndexed (T.names texts.now) self.now }
+        ensures { IfOk result (λ v. sorted_set operation_cmp v.items ≡
+            own_operations service.now (listing_by (T.names texts.now) self.now)) }
+    {
+        let row = self.service_row(texts, service) as usize;
+        if row >= self.newest.len() {
+            return Ok(Vec::new(self.alloc));
+        }
+        let numbers = self.operations.numbers();
+        operations_along(self.alloc, texts, numbers, &self.earlier, self.newest[row])
     }
 }
 
-/// The operation with this name and kind.
-fn named(alloc: Global, name: &Text, kind: &str) -> Result<Operation, AllocError>
-    ensures { IfOk result (λ o. o ≡ record { name = name.now; kind = kind.now }) }
+/// The label of a group itself.
+fn group_label(group: u32) -> Label<'static>
+    ensures { label_value result ≡ group_alone group }
 {
-    let kind = Text::from_str(alloc, kind)?;
+    Label {
+        group,
+        name: "",
+        kind: "",
+    }
+}
+
+/// The services of some numbers.
+fn services_along<T: Texts>(
+    alloc: Global,
+    texts: &T,
+    numbers: &[u32],
+) -> Result<Vec<Text>, AllocError>
+    requires { AreNumbers (T.names texts.now).count numbers.now }
+    ensures { IfOk result (λ names. names.items ≡ owners (T.names texts.now) numbers.now) }
+{
+    let mut names = Vec::new(alloc);
+    for n in numbers {
+        let (service, _, _) = texts.name_at(*n);
+        names.push(Text::from_str(alloc, service)?)?;
+    }
+    Ok(names)
+}
+
+/// The operation of a number, with its kind.
+fn operation_at<T: Texts>(alloc: Global, texts: &T, n: u32) -> Result<Operation, AllocError>
+    requires { n < (T.names texts.now).count }
+    ensures { IfOk result (λ operation. operation ≡ ((T.names texts.now).at n).operation) }
+{
+    let (_, operation, kind) = texts.name_at(n);
     Ok(Operation {
-        name: name.clone()?,
-        kind,
+        name: Text::from_str(alloc, operation)?,
+        kind: Text::from_str(alloc, kind)?,
     })
 }
 
-/// Lists the operations of a service.
-fn add_known(
-    index: &mut ServiceIndex,
-    service: &Text,
-    known: &BTreeSet<Operation>,
-) -> Result<(), AllocError>
-    ensures { OnOk result (index.new ≡ fold (insert_once listed_cmp) index.old
-        (listed_at service.now known.now.keys)) }
+/// The operations of a service: that of its newest row, which is given with one more, and of those
+/// before it.
+fn operations_along<T: Texts>(
+    alloc: Global,
+    texts: &T,
+    numbers: &[u32],
+    earlier: &[u32],
+    newest: u32,
+) -> Result<Vec<Operation>, AllocError>
+    requires numbers { AreNumbers (T.names texts.now).count numbers.now }
+    requires chain { IsChain (owners (T.names texts.now) numbers.now) earlier.now }
+    requires within { newest ≤ length numbers.now }
+    ensures { IfOk result (λ known. AreFrom (T.names texts.now) numbers.now newest known.items) }
 {
-    for operation in known.iter() {
-        index.add(service, &operation.name, operation.kind.as_str())?;
+    let mut known = Vec::new(alloc);
+    let mut at = newest;
+    while at > 0 {
+        let row = (at - 1) as usize;
+        known.push(operation_at(alloc, texts, numbers[row])?)?;
+        at = earlier[row];
     }
-    Ok(())
+    Ok(known)
 }

@@ -6,8 +6,8 @@ ghost use Rattle.std.specs.Prelude.{◌≡◌, true, ℕ, List, [], ◌∷◌, �
 ghost use Rattle.jaeger_model.specs.declared.placed.Placed.{Placed as PlacedValue};
 ghost use Rattle.jaeger_model.specs.Texts.{insert_once};
 ghost use Rattle.trace_model.specs.Names.{services, operation_names, operations};
-ghost use Rattle.service_index.specs.Naming.{Names};
-ghost use Rattle.service_index.specs.Indexes.{Index, listing_by, IsIndexed, Extends};
+ghost use Rattle.service_index.specs.Naming.{Names, Extends};
+ghost use Rattle.service_index.specs.Indexes.{Index, listing_by, IsIndexed};
 ghost use Rattle.service_index.specs.Listing.{Listed, same_listed, listed, listed_cmp, listed_in, services_in, names_in, operations_in};
 
 /// What is listed of all arrivals answers as the plain store does.

@@ -1,22 +1,22 @@
-//! Numbers by names that stand elsewhere.
+//! Numbers by labels that stand elsewhere.
 
 ghost use Rattle.std.specs.Prelude.{◌≡◌, ◌<◌, [], length, IfOk};
-ghost use Rattle.service_index.specs.Naming.{Names, named};
+ghost use Rattle.service_index.specs.Naming.{Labelling, label_value};
 ghost use Rattle.service_index.specs.Probes.{IsNamed, row_of, with_number};
 
-use crate::sought_name::{SoughtName, name_hash};
-use crate::texts::{Name, Texts, name_of};
+use crate::labels::{Label, Labels};
+use crate::sought_label::{SoughtLabel, label_hash};
 use row_places::RowPlaces;
 use std::alloc::{AllocError, Global};
 use std::hash::RandomState;
 use std::marker::Model;
 
-/// Numbers of different names, in the order of adding. The row of a number is how many were added
+/// Numbers of different labels, in the order of adding. The row of a number is how many were added
 /// before it.
 #[derive(Drop)]
 pub struct NameTable {
     keys: RandomState,
-    /// Lead to the rows of the numbers by the hashes of their names.
+    /// Lead to the rows of the numbers by the hashes of their labels.
     places: RowPlaces,
     numbers: Vec<u32>,
 }
@@ -41,7 +41,7 @@ impl NameTable {
     pub fn with_room(alloc: Global, keys: RandomState, room: u32) -> Result<Self, AllocError>
         ensures numbers { IfOk result (λ table. table.numbers ≡ []) }
         ensures room { IfOk result (λ table. table.room ≡ room) }
-        ensures leads { IfOk result (λ table. (names : Names) → IsNamed names table) }
+        ensures leads { IfOk result (λ table. (labels : Labelling) → IsNamed labels table) }
     {
         let places = RowPlaces::with_room(alloc, room)?;
         let numbers = Vec::with_capacity(alloc, room as usize)?;
@@ -59,41 +59,42 @@ impl NameTable {
         &self.numbers
     }
 
-    /// The row of a name, or how many rows there are where the name is not known.
-    pub fn row_of<T: Texts>(&self, texts: &T, name: Name<'_>) -> u32
-        requires { IsNamed (T.names texts.now) self.now }
-        ensures { result ≡ row_of (T.names texts.now) self.now.numbers (named name.entry) }
+    /// The row of a label, or how many rows there are where the label is not known.
+    pub fn row_of<L: Labels>(&self, labels: &L, label: Label<'_>) -> u32
+        requires { IsNamed (L.labels labels.now) self.now }
+        ensures { result ≡ row_of (L.labels labels.now) self.now.numbers (label_value label.entry) }
     {
-        let sought = SoughtName {
+        let sought = SoughtLabel {
             keys: self.keys,
-            texts,
+            labels,
             numbers: &self.numbers,
-            name,
+            label,
         };
-        match self.places.find(name_hash(self.keys, name), &sought) {
+        match self.places.find(label_hash(self.keys, label), &sought) {
             Some(row) => row,
             None => self.numbers.len() as u32,
         }
     }
 
-    /// Adds a number unless a number of its name is there, and gives the row of the name.
-    pub fn add<T: Texts>(&mut self, texts: &T, n: u32) -> u32
-        requires leads { IsNamed (T.names texts.now) self.old }
-        requires held { n < (T.names texts.now).count }
+    /// Adds a number unless a number of its label is there, and gives the row of the label. It takes no
+    /// memory.
+    pub fn add<L: Labels>(&mut self, labels: &L, n: u32) -> u32
+        requires leads { IsNamed (L.labels labels.now) self.old }
+        requires held { n < (L.labels labels.now).count }
         requires room { length self.old.numbers < self.old.room }
-        ensures row { result ≡ row_of (T.names texts.now) self.old.numbers
-            ((T.names texts.now).at n) }
-        ensures numbers { self.new.numbers ≡ with_number (T.names texts.now) self.old.numbers n }
+        ensures row { result ≡ row_of (L.labels labels.now) self.old.numbers
+            ((L.labels labels.now).at n) }
+        ensures numbers { self.new.numbers ≡ with_number (L.labels labels.now) self.old.numbers n }
         ensures room { self.new.room ≡ self.old.room }
-        ensures leads { IsNamed (T.names texts.now) self.new }
+        ensures leads { IsNamed (L.labels labels.now) self.new }
     {
-        let name = name_of(texts, n);
-        let hash = name_hash(self.keys, name);
-        let sought = SoughtName {
+        let label = labels.label_at(n);
+        let hash = label_hash(self.keys, label);
+        let sought = SoughtLabel {
             keys: self.keys,
-            texts,
+            labels,
             numbers: &self.numbers,
-            name,
+            label,
         };
         match self.places.find(hash, &sought) {
             Some(row) => return row,

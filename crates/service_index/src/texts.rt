@@ -1,12 +1,16 @@
+//! Where the names of numbers stand.
+
 ghost use Rattle.std.specs.Prelude.{◌≡◌, ◌<◌};
-ghost use Rattle.service_index.specs.Listing.{same_listed};
-ghost use Rattle.service_index.specs.Naming.{named};
+ghost use Rattle.service_index.specs.Naming.{IsGroupOf};
 
-/// Where the names of numbers stand: what each number's span reported.
+use crate::labels::{Label, Labels};
+
+/// Where the names of numbers stand: what each number's span reported. Services have numbers of their
+/// own, their groups, so that no call compares the service of one span with that of another.
 pub trait Texts {
-    ghost use Rattle.service_index.specs.Naming.{Names};
+    ghost use Rattle.service_index.specs.Naming.{Names, IsGrouped};
 
-    /// How many numbers have a name, and the name of each.
+    /// How many numbers have a name, the name of each, and the group of each.
     ghost names: { Self → Names };
 
     /// The service, the operation and the kind of the span with this number, the kind empty where it
@@ -16,51 +20,57 @@ pub trait Texts {
         ensures service { result.0.now ≡ ((names self.now).at n).service }
         ensures operation { result.1.now ≡ ((names self.now).at n).operation.name }
         ensures kind { result.2.now ≡ ((names self.now).at n).operation.kind };
+
+    /// The group of the span with this number: the number of its service.
+    fn group_at(&self, n: u32) -> u32
+        requires { n < (names self.now).count }
+        ensures { result ≡ (names self.now).group n };
+
+    /// The group of a service; none where no span has the service.
+    fn group_of(&self, service: &str) -> Option<u32>
+        ensures { IsGroupOf (names self.now) service.now result };
+
+    /// Spans have one group exactly where they have one service.
+    ghost grouped: { (texts : Self) → IsGrouped (names texts) };
 }
 
-/// An operation of a service with its kind.
-#[derive(Clone, Copy)]
-pub struct Name<'a> {
-    pub service: &'a str,
-    pub operation: &'a str,
-    pub kind: &'a str,
-}
-
-/// The name of a number.
-pub(crate) fn name_of<T: Texts>(texts: &T, n: u32) -> Name<'_>
-    requires { n < (T.names texts.now).count }
-    ensures { named result ≡ (T.names texts.now).at n }
-{
-    let (service, operation, kind) = texts.name_at(n);
-    Name {
-        service,
-        operation,
-        kind,
-    }
-}
-
-/// Whether the number has this name.
-pub(crate) fn is_named<T: Texts>(texts: &T, n: u32, name: Name<'_>) -> bool
-    requires { n < (T.names texts.now).count }
-    ensures { result ≡ same_listed ((T.names texts.now).at n) (named name.entry) }
-{
-    let (service, operation, kind) = texts.name_at(n);
-    service == name.service && operation == name.operation && kind == name.kind
-}
-
-/// The services of the names, each without its operation.
+/// The operations of the names with their kinds, each in the group of its service.
 #[derive(Drop)]
-pub(crate) struct ServiceTexts<'a, T> {
+pub(crate) struct OperationLabels<'a, T> {
     pub(crate) texts: &'a T,
 }
 
-impl<'a, T: Texts> Texts for ServiceTexts<'a, T> {
-    ghost use Rattle.service_index.specs.Naming.{services_of};
+impl<'a, T: Texts> Labels for OperationLabels<'a, T> {
+    ghost use Rattle.service_index.specs.Naming.{operation_labels};
 
-    ghost names = { λ s. services_of (T.names s.texts.now) };
+    ghost labels = { λ s. operation_labels (T.names s.texts.now) };
 
-    fn name_at(&self, n: u32) -> (&str, &str, &str) {
-        let (service, _, _) = self.texts.name_at(n);
-        (service, "", "")
+    fn label_at(&self, n: u32) -> Label<'_> {
+        let (_, name, kind) = self.texts.name_at(n);
+        Label {
+            group: self.texts.group_at(n),
+            name,
+            kind,
+        }
+    }
+}
+
+/// The groups of the names, each without an operation.
+#[derive(Drop)]
+pub(crate) struct GroupLabels<'a, T> {
+    pub(crate) texts: &'a T,
+}
+
+impl<'a, T: Texts> Labels for GroupLabels<'a, T> {
+    ghost use Rattle.service_index.specs.Naming.{group_labels};
+
+    ghost labels = { λ s. group_labels (T.names s.texts.now) };
+
+    fn label_at(&self, n: u32) -> Label<'_> {
+        Label {
+            group: self.texts.group_at(n),
+            name: "",
+            kind: "",
+        }
     }
 }

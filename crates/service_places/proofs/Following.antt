@@ -1,16 +1,19 @@
 -- One more entry.
-use Rattle.std.proofs.Common.{◌≡◌, ℕ, false, ◌+◌, ◌-◌, ◌<◌, ◌≤◌, List, [], ◌∷◌, ◌++◌, length, get_or, sym, ap, subst, ◌∙◌, arith, length-append}
+use Rattle.std.proofs.Common.{◌≡◌, ℕ, false, ◌+◌, ◌-◌, ◌<◌, ◌≤◌, cond, List, [], ◌∷◌, ◌++◌, map, length, get_or, Some, None, sym, ap, subst, ◌∙◌, inl, inr, arith, length-append}
 use Rattle.std.proofs.Math.ListN.{set}
-use Rattle.std.proofs.lemmas.List.{length-map, map_push, get_or_append_left, get_or_push}
-use Rattle.std.specs.List.{list_any}
+use Rattle.std.proofs.lemmas.Bool.{false≢true, lt-ltb, cases_eq, cases_lt}
+use Rattle.std.proofs.lemmas.List.{length-map, map_push, get_or-map, get_or_append_left, get_or_push}
+use Rattle.std.proofs.lemmas.List.Sums.{passes_at_first}
+use Rattle.std.proofs.lemmas.List.Folds.{list_any_at}
+use Rattle.std.specs.List.{list_any, position_or_len}
 use Rattle.jaeger_model.specs.Texts.{same_text}
 use Rattle.trace_model.specs.declared.entry.Entry.{Entry}
-use Rattle.service_index.specs.Naming.{service_alone}
-use Rattle.service_index.specs.Probes.{Table, IsNamed, row_of, with_number}
-use Rattle.service_index.specs.Indexes.{owners, IsNewest, IsLinked, Extends}
-use Rattle.service_index.proofs.Extending.{named_extends, owners_extend}
-use Rattle.service_index.proofs.Linking.{distinct, linked_known, linked_new, number_known, number_new, service_own, service_new, none_of}
-use Rattle.service_places.specs.Reported.{Reported, reporters, names_of, IsKept}
+use Rattle.service_index.specs.Probes.{Table, AreNumbers, IsNamed, row_of, with_number}
+use Rattle.service_index.specs.Indexes.{IsNewest, IsLinked}
+use Rattle.service_index.proofs.Extending.{Grows, map_agree, named_extends}
+use Rattle.service_index.proofs.Linking.{Tells, AreTold, distinct, linked_known, linked_new, row_told, row_within, number_known, number_new, service_own, service_new, none_of, and_true, is_position}
+use Rattle.service_places.specs.Reported.{Reported, service_brought, reporters, service_at, service_label, service_labels, group_in, group_of, AreGroups, IsKept}
+use Rattle.service_places.proofs.Grouping.{reporters_push, as_many_reporters, service_old, service_last, group_old, group_new, groups_more}
 
 -- how many entries stand before the last one
 pub last_number : (h0 h : List Entry) (e : Entry) (count : ℕ) → h0 ++ e ∷ [] ≡ h → length h ≡ count → count - 1 ≡ length h0
@@ -19,114 +22,188 @@ last_number h0 h e count is counted =
     let all : length (h0 ++ e ∷ []) ≡ length h = ap length is in
     omega arith
 
-reporters_push : (h0 h : List Entry) (e : Entry) → h0 ++ e ∷ [] ≡ h → reporters h ≡ reporters h0 ++ e.batch.process.service ∷ []
-reporters_push h0 h e is = ap reporters (sym is) ∙ map_push (λ (e : Entry). e.batch.process.service) h0 e
-
-pub extends_one : (h0 h : List Entry) (e : Entry) → h0 ++ e ∷ [] ≡ h → Extends (names_of h0) (names_of h)
+pub extends_one : (h0 h : List Entry) (e : Entry) → h0 ++ e ∷ [] ≡ h → Grows (service_labels h0) (service_labels h)
 extends_one h0 h e is =
     let l = length-append h0 (e ∷ []) in
     let k : length h ≡ length (h0 ++ e ∷ []) = ap length (sym is) in
-    let m = length-map h0 (λ (e : Entry). e.batch.process.service) in
-    record {
-      count = omega arith;
-      same = λ n below. ap (λ rs. service_alone (get_or rs n [])) (reporters_push h0 h e is) ∙ ap service_alone (get_or_append_left (reporters h0) (e.batch.process.service ∷ []) [] n (omega arith));
-    }
+    record { count = omega arith; same = λ n below. ap service_label (service_old h0 h e n is below) }
 
--- the service of the last entry
-last_service : (h0 h : List Entry) (e : Entry) (n : ℕ) → h0 ++ e ∷ [] ≡ h → n ≡ length h0 → get_or (reporters h) n [] ≡ e.batch.process.service
-last_service h0 h e n is at =
-    let m = length-map h0 (λ (e : Entry). e.batch.process.service) in
-    ap (λ rs. get_or rs n []) (reporters_push h0 h e is) ∙ get_or_push (reporters h0) e.batch.process.service [] n (omega arith)
+-- ---- labels tell services
+services_told : (h : List Entry) → AreTold (service_labels h) (service_at h)
+services_told h m below n within = and_true (same_text (service_at h m) (service_at h n))
 
-linked_still : (h0 h : List Entry) (e : Entry) (old : Reported) → h0 ++ e ∷ [] ≡ h → IsKept h0 old → IsLinked (reporters h0) (owners (names_of h) old.services.numbers) old.newest old.earlier
+service_asked : (h : List Entry) (s : List ℕ) → Tells (service_labels h) (service_label s) (service_at h) (same_text s)
+service_asked h s n within = and_true (same_text s (service_at h n))
+
+-- the row of a service
+pub row_is : (h : List Entry) (numbers : List ℕ) (s : List ℕ) → AreNumbers (length h) numbers → row_of (service_labels h) numbers (service_label s) ≡ position_or_len (same_text s) (map (service_at h) numbers)
+row_is h numbers s held = row_told (service_labels h) (service_label s) (service_at h) (same_text s) numbers [] (service_asked h s) held
+
+linked_still : (h0 h : List Entry) (e : Entry) (old : Reported) → h0 ++ e ∷ [] ≡ h → IsKept h0 old → IsLinked (reporters h0) (map (service_at h) old.services.numbers) old.newest old.earlier
 linked_still h0 h e old is k =
-    subst (λ (x : List (List ℕ)). IsLinked (reporters h0) x old.newest old.earlier) (sym (owners_extend (names_of h0) (names_of h) old.services.numbers (extends_one h0 h e is) k.named.numbers)) k.linked
+    subst (λ (x : List (List ℕ)). IsLinked (reporters h0) x old.newest old.earlier)
+    (sym (map_agree (length h0) (service_at h) (service_at h0) (λ n below. service_old h0 h e n is below) old.services.numbers k.named.numbers.held)) k.linked
 
-pub kept_own : (h0 h : List Entry) (e : Entry) (old : Reported) (services : Table) (newest earlier : List ℕ) (s n : ℕ) → h0 ++ e ∷ [] ≡ h → n ≡ length h0 → IsKept h0 old
-    → IsNamed (names_of h) services → services.numbers ≡ with_number (names_of h) old.services.numbers n → s ≡ row_of (names_of h) old.services.numbers ((names_of h).at n) → services.room ≡ old.services.room
+-- the first entries of services stay the first
+first_old : (h0 h : List Entry) (e : Entry) (numbers : List ℕ) (r : ℕ) → h0 ++ e ∷ [] ≡ h → AreNumbers (length h0) numbers → ((r : ℕ) → r < length numbers → group_in h0 (service_at h0 (get_or numbers r 0)) ≡ get_or numbers r 0)
+    → r < length numbers → group_in h (service_at h (get_or numbers r 0)) ≡ get_or numbers r 0
+first_old h0 h e numbers r is held first below = group_old h0 h e (get_or numbers r 0) is (held.held r below) ∙ first r below
+
+-- the row of a number that was added
+pub row_added : (h : List Entry) (numbers now : List ℕ) (n r : ℕ) → now ≡ with_number (service_labels h) numbers n → r ≡ row_of (service_labels h) numbers ((service_labels h).at n) → r < length now
+row_added h numbers now n r more row =
+    let labels = service_labels h in
+    let w = row_within labels numbers (labels.at n) in
+    let one = length-append numbers (n ∷ []) in
+    subst (λ (x : List ℕ). r < length x) (sym more) (elim (cases_lt (row_of labels numbers (labels.at n)) (length numbers)) [
+      | inl below ↦ subst (λ (x : List ℕ). r < length x) (sym (number_known labels numbers n below)) (omega arith)
+      | inr past ↦ subst (λ (x : List ℕ). r < length x) (sym (number_new labels numbers n (omega arith))) (omega arith)
+    ])
+
+pub kept_own : (h0 h : List Entry) (e : Entry) (old : Reported) (services : Table) (newest earlier groups : List ℕ) (s n group : ℕ) → h0 ++ e ∷ [] ≡ h → n ≡ length h0 → IsKept h0 old
+    → IsNamed (service_labels h) services → services.numbers ≡ with_number (service_labels h) old.services.numbers n → s ≡ row_of (service_labels h) old.services.numbers ((service_labels h).at n) → services.room ≡ old.services.room
+    → group ≡ get_or services.numbers s 0 → groups ≡ old.groups ++ group ∷ []
     → s < length old.services.numbers → newest ≡ set old.newest s (n + 1) → earlier ≡ old.earlier ++ get_or old.newest s 0 ∷ []
-    → IsKept h (record { services = services; newest = newest; earlier = earlier; batches = old.batches })
-kept_own h0 h e old services newest earlier s n is at k named more row room below to f =
-    let names = names_of h in
+    → IsKept h (record { services = services; newest = newest; earlier = earlier; groups = groups; batches = old.batches })
+kept_own h0 h e old services newest earlier groups s n group is at k named more row room g gs below to f =
+    let labels = service_labels h in
     let numbers = old.services.numbers in
-    let new = e.batch.process.service in
+    let new = service_brought e.work in
     let l = length-append h0 (e ∷ []) in
     let j : length h ≡ length (h0 ++ e ∷ []) = ap length (sym is) in
-    let m = length-map h0 (λ (e : Entry). e.batch.process.service) in
-    let o = length-map numbers (λ q. (names.at q).service) in
+    let m = as_many_reporters h0 in
+    let o = length-map numbers (service_at h) in
     let few = k.few in
-    let last : get_or (reporters h) n [] ≡ new = last_service h0 h e n is at in
-    let still : IsNamed names old.services = named_extends (names_of h0) names old.services (extends_one h0 h e is) k.named in
-    let own : get_or (owners names numbers) s [] ≡ new = service_own names numbers (get_or (reporters h) n []) s row below ∙ last in
-    let linked = linked_known (reporters h0) (owners names numbers) old.newest old.earlier s new (linked_still h0 h e old is k) (distinct names old.services still) (omega arith) own in
-    let same : services.numbers ≡ numbers = more ∙ number_known names numbers n (omega arith) in
+    let last : service_at h n ≡ new = service_last h0 h e n is at in
+    let still : IsNamed labels old.services = named_extends (service_labels h0) labels old.services (extends_one h0 h e is) k.named in
+    let found : s ≡ position_or_len (same_text (service_at h n)) (map (service_at h) numbers) = row ∙ row_is h numbers (service_at h n) still.numbers in
+    let own : get_or (map (service_at h) numbers) s [] ≡ new = service_own (map (service_at h) numbers) (service_at h n) s found (omega arith) ∙ last in
+    let linked = linked_known (reporters h0) (map (service_at h) numbers) old.newest old.earlier s new (linked_still h0 h e old is k) (distinct labels (service_at h) old.services (services_told h) still) (omega arith) own in
+    let same : services.numbers ≡ numbers = more ∙ number_known labels numbers n (omega arith) in
     let count : length (reporters h0) + 1 ≡ n + 1 = omega arith in
     let fewer : length services.numbers ≤ length h = subst (λ (x : List ℕ). length x ≤ length h) (sym same) (omega arith) in
+    let q = get_or numbers s 0 in
+    let there : service_at h q ≡ new = sym (get_or-map (service_at h) numbers s 0 [] below) ∙ own in
+    let one : group ≡ group_in h new =
+    g ∙ ap (λ (x : List ℕ). get_or x s 0) same ∙ sym (first_old h0 h e numbers s is (record { held = k.named.numbers.held }) k.first below) ∙ ap (group_in h) there in
     record {
       fits = k.fits;
       room = room ∙ k.room;
       few = fewer;
       named = named;
       linked =
-          subst (λ (x : List ℕ). IsLinked (reporters h) (owners names x) newest earlier) (sym same)
-          (subst (λ (x : List (List ℕ)). IsLinked x (owners names numbers) newest earlier) (sym (reporters_push h0 h e is))
-          (subst (λ (x : List ℕ). IsLinked (reporters h0 ++ new ∷ []) (owners names numbers) x earlier) (sym (to ∙ ap (set old.newest s) (sym count)))
-          (subst (λ (x : List ℕ). IsLinked (reporters h0 ++ new ∷ []) (owners names numbers) (set old.newest s (length (reporters h0) + 1)) x) (sym f) linked)));
+          subst (λ (x : List ℕ). IsLinked (reporters h) (map (service_at h) x) newest earlier) (sym same)
+          (subst (λ (x : List (List ℕ)). IsLinked x (map (service_at h) numbers) newest earlier) (sym (reporters_push h0 h e is))
+          (subst (λ (x : List ℕ). IsLinked (reporters h0 ++ new ∷ []) (map (service_at h) numbers) x earlier) (sym (to ∙ ap (set old.newest s) (sym count)))
+          (subst (λ (x : List ℕ). IsLinked (reporters h0 ++ new ∷ []) (map (service_at h) numbers) (set old.newest s (length (reporters h0) + 1)) x) (sym f) linked)));
+      first =
+          subst (λ (x : List ℕ). (r : ℕ) → r < length x → group_in h (service_at h (get_or x r 0)) ≡ get_or x r 0) (sym same)
+          (λ r low. first_old h0 h e numbers r is (record { held = k.named.numbers.held }) k.first low);
+      grouped = subst (λ (x : List ℕ). AreGroups h x) (sym gs) (groups_more h0 h e old.groups group is k.grouped one);
     }
 
-pub kept_new : (h0 h : List Entry) (e : Entry) (old : Reported) (services : Table) (newest earlier : List ℕ) (s n : ℕ) → h0 ++ e ∷ [] ≡ h → n ≡ length h0 → IsKept h0 old
-    → IsNamed (names_of h) services → services.numbers ≡ with_number (names_of h) old.services.numbers n → s ≡ row_of (names_of h) old.services.numbers ((names_of h).at n) → services.room ≡ old.services.room
+pub kept_new : (h0 h : List Entry) (e : Entry) (old : Reported) (services : Table) (newest earlier groups : List ℕ) (s n group : ℕ) → h0 ++ e ∷ [] ≡ h → n ≡ length h0 → IsKept h0 old
+    → IsNamed (service_labels h) services → services.numbers ≡ with_number (service_labels h) old.services.numbers n → s ≡ row_of (service_labels h) old.services.numbers ((service_labels h).at n) → services.room ≡ old.services.room
+    → group ≡ get_or services.numbers s 0 → groups ≡ old.groups ++ group ∷ []
     → length old.services.numbers ≤ s → newest ≡ old.newest ++ (n + 1) ∷ [] → earlier ≡ old.earlier ++ 0 ∷ []
-    → IsKept h (record { services = services; newest = newest; earlier = earlier; batches = old.batches })
-kept_new h0 h e old services newest earlier s n is at k named more row room beyond to f =
-    let names = names_of h in
+    → IsKept h (record { services = services; newest = newest; earlier = earlier; groups = groups; batches = old.batches })
+kept_new h0 h e old services newest earlier groups s n group is at k named more row room g gs beyond to f =
+    let labels = service_labels h in
     let numbers = old.services.numbers in
-    let new = e.batch.process.service in
+    let new = service_brought e.work in
     let l = length-append h0 (e ∷ []) in
     let j : length h ≡ length (h0 ++ e ∷ []) = ap length (sym is) in
-    let m = length-map h0 (λ (e : Entry). e.batch.process.service) in
+    let m = as_many_reporters h0 in
+    let o = length-map numbers (service_at h) in
     let few = k.few in
-    let last : get_or (reporters h) n [] ≡ new = last_service h0 h e n is at in
-    let absent = ap (λ (x : List ℕ). list_any (same_text x) (owners names numbers)) (sym last) ∙ service_new names numbers (get_or (reporters h) n []) s row beyond in
-    let linked = linked_new (reporters h0) (owners names numbers) old.newest old.earlier new (linked_still h0 h e old is k) absent in
-    let fresh : services.numbers ≡ numbers ++ n ∷ [] = more ∙ number_new names numbers n (omega arith) in
+    let w = row_within labels numbers (labels.at n) in
+    let last : service_at h n ≡ new = service_last h0 h e n is at in
+    let still : IsNamed labels old.services = named_extends (service_labels h0) labels old.services (extends_one h0 h e is) k.named in
+    let found : s ≡ position_or_len (same_text (service_at h n)) (map (service_at h) numbers) = row ∙ row_is h numbers (service_at h n) still.numbers in
+    let absent : list_any (same_text new) (map (service_at h) numbers) ≡ false = ap (λ (x : List ℕ). list_any (same_text x) (map (service_at h) numbers)) (sym last) ∙ service_new (map (service_at h) numbers) (service_at h n) s found (omega arith) in
+    let before = linked_still h0 h e old is k in
+    let linked = linked_new (reporters h0) (map (service_at h) numbers) old.newest old.earlier new before absent in
+    let fresh : services.numbers ≡ numbers ++ n ∷ [] = more ∙ number_new labels numbers n (omega arith) in
     let count : length (reporters h0) + 1 ≡ n + 1 = omega arith in
     let one = length-append numbers (n ∷ []) in
     let fewer : length services.numbers ≤ length h = subst (λ (x : List ℕ). length x ≤ length h) (sym fresh) (omega arith) in
+    let none : length h0 ≤ group_in h0 new = subst (λ (x : ℕ). x ≤ group_in h0 new) m (none_first (reporters h0) new (sym (before.same (same_text new)) ∙ absent)) in
+    let number : group_in h new ≡ n = group_new h0 h e is none ∙ sym at in
+    let row_last : length numbers ≡ s = omega arith in
+    let added : group ≡ group_in h new = g ∙ ap (λ (x : List ℕ). get_or x s 0) fresh ∙ get_or_push numbers n 0 s row_last ∙ sym number in
     record {
       fits = k.fits;
       room = room ∙ k.room;
       few = fewer;
       named = named;
       linked =
-          subst (λ (x : List ℕ). IsLinked (reporters h) (owners names x) newest earlier) (sym fresh)
-          (subst (λ (x : List (List ℕ)). IsLinked (reporters h) x newest earlier) (sym (map_push (λ q. (names.at q).service) numbers n ∙ ap (λ (x : List ℕ). owners names numbers ++ x ∷ []) last))
-          (subst (λ (x : List (List ℕ)). IsLinked x (owners names numbers ++ new ∷ []) newest earlier) (sym (reporters_push h0 h e is))
-          (subst (λ (x : List ℕ). IsLinked (reporters h0 ++ new ∷ []) (owners names numbers ++ new ∷ []) x earlier) (sym (to ∙ ap (λ (q : ℕ). old.newest ++ q ∷ []) (sym count)))
-          (subst (λ (x : List ℕ). IsLinked (reporters h0 ++ new ∷ []) (owners names numbers ++ new ∷ []) (old.newest ++ (length (reporters h0) + 1) ∷ []) x) (sym f) linked))));
+          subst (λ (x : List ℕ). IsLinked (reporters h) (map (service_at h) x) newest earlier) (sym fresh)
+          (subst (λ (x : List (List ℕ)). IsLinked (reporters h) x newest earlier) (sym (map_push (service_at h) numbers n ∙ ap (λ (x : List ℕ). map (service_at h) numbers ++ x ∷ []) last))
+          (subst (λ (x : List (List ℕ)). IsLinked x (map (service_at h) numbers ++ new ∷ []) newest earlier) (sym (reporters_push h0 h e is))
+          (subst (λ (x : List ℕ). IsLinked (reporters h0 ++ new ∷ []) (map (service_at h) numbers ++ new ∷ []) x earlier) (sym (to ∙ ap (λ (q : ℕ). old.newest ++ q ∷ []) (sym count)))
+          (subst (λ (x : List ℕ). IsLinked (reporters h0 ++ new ∷ []) (map (service_at h) numbers ++ new ∷ []) (old.newest ++ (length (reporters h0) + 1) ∷ []) x) (sym f) linked))));
+      first =
+          subst (λ (x : List ℕ). (r : ℕ) → r < length x → group_in h (service_at h (get_or x r 0)) ≡ get_or x r 0) (sym fresh)
+          (λ r low. elim (cases_eq r (length numbers)) [
+            | inl e ↦ let here = get_or_push numbers n 0 r (sym e) in ap (λ (x : ℕ). group_in h (service_at h x)) here ∙ ap (group_in h) last ∙ number ∙ sym here
+            | inr other ↦
+                let below : r < length numbers = omega arith in
+                let here = get_or_append_left numbers (n ∷ []) 0 r below in
+                ap (λ (x : ℕ). group_in h (service_at h x)) here ∙ first_old h0 h e numbers r is (record { held = k.named.numbers.held }) k.first below ∙ sym here
+          ]);
+      grouped = subst (λ (x : List ℕ). AreGroups h x) (sym gs) (groups_more h0 h e old.groups group is k.grouped added);
     }
+  where
+    none_first : (rows : List (List ℕ)) (s : List ℕ) → list_any (same_text s) rows ≡ false → length rows ≤ position_or_len (same_text s) rows
+    none_first rows s none = elim (cases_lt (position_or_len (same_text s) rows) (length rows)) [
+      | inl below ↦ absurd (false≢true (sym none ∙ list_any_at (same_text s) rows (position_or_len (same_text s) rows) [] below (passes_at_first (same_text s) rows [] below)))
+      | inr past ↦ omega arith
+    ]
 
 -- ---- the newest place of a service
-pub newest_own : (h : List Entry) (kept : Reported) (s : List ℕ) (r at : ℕ) → IsKept h kept → r ≡ row_of (names_of h) kept.services.numbers (service_alone s) → r < length kept.services.numbers → at ≡ get_or kept.newest r 0
+pub newest_own : (h : List Entry) (kept : Reported) (s : List ℕ) (r at : ℕ) → IsKept h kept → r ≡ row_of (service_labels h) kept.services.numbers (service_label s) → r < length kept.services.numbers → at ≡ get_or kept.newest r 0
     → IsNewest (reporters h) s at (length (reporters h))
 newest_own h kept s r at k is below e =
-    let names = names_of h in
-    let o = length-map kept.services.numbers (λ q. (names.at q).service) in
-    let own = service_own names kept.services.numbers s r is below in
+    let services = map (service_at h) kept.services.numbers in
+    let o = length-map kept.services.numbers (service_at h) in
+    let own = service_own services s r (is ∙ row_is h kept.services.numbers s k.named.numbers) (omega arith) in
     subst (λ (x : ℕ). IsNewest (reporters h) s x (length (reporters h))) (sym e)
     (subst (λ (x : List ℕ). IsNewest (reporters h) x (get_or kept.newest r 0) (length (reporters h))) own (k.linked.last r (omega arith)))
 
-pub newest_none : (h : List Entry) (kept : Reported) (s : List ℕ) (r at : ℕ) → IsKept h kept → r ≡ row_of (names_of h) kept.services.numbers (service_alone s) → length kept.services.numbers ≤ r → at ≡ 0
+-- a service with no row has no entry
+none_reported : (h : List Entry) (kept : Reported) (s : List ℕ) (r : ℕ) → IsKept h kept → r ≡ row_of (service_labels h) kept.services.numbers (service_label s) → length kept.services.numbers ≤ r → list_any (same_text s) (reporters h) ≡ false
+none_reported h kept s r k is past =
+    let o = length-map kept.services.numbers (service_at h) in
+    sym (k.linked.same (same_text s)) ∙ service_new (map (service_at h) kept.services.numbers) s r (is ∙ row_is h kept.services.numbers s k.named.numbers) (omega arith)
+
+pub newest_none : (h : List Entry) (kept : Reported) (s : List ℕ) (r at : ℕ) → IsKept h kept → r ≡ row_of (service_labels h) kept.services.numbers (service_label s) → length kept.services.numbers ≤ r → at ≡ 0
     → IsNewest (reporters h) s at (length (reporters h))
 newest_none h kept s r at k is past e =
-    let names = names_of h in
-    let absent : list_any (same_text s) (reporters h) ≡ false = sym (k.linked.same (same_text s)) ∙ service_new names kept.services.numbers s r is past in
+    let absent = none_reported h kept s r k is past in
     record {
       within = omega arith;
       own = λ pos. absurd (omega arith);
       none = λ j low below is. none_of (reporters h) s absent j below (sym is);
     }
 
+-- ---- the number of a service that is asked for
+pub group_own : (h : List Entry) (kept : Reported) (s : List ℕ) (r : ℕ) → IsKept h kept → r ≡ row_of (service_labels h) kept.services.numbers (service_label s) → r < length kept.services.numbers
+    → Some (get_or kept.services.numbers r 0) ≡ group_of h s
+group_own h kept s r k is below =
+    let numbers = kept.services.numbers in
+    let o = length-map numbers (service_at h) in
+    let m = as_many_reporters h in
+    let q = get_or numbers r 0 in
+    let own : service_at h q ≡ s = sym (get_or-map (service_at h) numbers r 0 [] below) ∙ service_own (map (service_at h) numbers) s r (is ∙ row_is h numbers s k.named.numbers) (omega arith) in
+    let number : q ≡ group_in h s = sym (k.first r below) ∙ ap (group_in h) own in
+    let held = k.named.numbers.held r below in
+    let low : group_in h s < length (reporters h) = omega arith in
+    ap Some number ∙ sym (ap (λ b. cond b (Some (group_in h s)) None) (lt-ltb (group_in h s) (length (reporters h)) low))
+
+pub group_none : (h : List Entry) (kept : Reported) (s : List ℕ) (r : ℕ) → IsKept h kept → r ≡ row_of (service_labels h) kept.services.numbers (service_label s) → length kept.services.numbers ≤ r → None ≡ group_of h s
+group_none h kept s r k is past =
+    sym (ap (λ b. cond b (Some (group_in h s)) None) (is_position (same_text s) (reporters h) [] ∙ none_reported h kept s r k is past))
+
 -- as many services as are newest places
 pub newest_rows : (h : List Entry) (kept : Reported) → IsKept h kept → length kept.newest ≡ length kept.services.numbers
-newest_rows h kept k = k.linked.as_many ∙ length-map kept.services.numbers (λ q. ((names_of h).at q).service)
+newest_rows h kept k = k.linked.as_many ∙ length-map kept.services.numbers (service_at h)

@@ -1,2 +1,4 @@
+pub mod Entries
+pub mod Grouping
 pub mod Walking
 pub mod Following

@@ -1,18 +1,38 @@
--- The places of each service's entries.
-use Rattle.std.specs.Prelude.{◌≡◌, ℕ, zero, suc, ◌^◌, ◌<◌, ◌≤◌, List, [], ◌∷◌, map, length, get_or, if◌then◌else◌}
+-- The places of each service's entries, and the numbers of services.
+use Rattle.std.specs.Prelude.{◌≡◌, ℕ, zero, suc, ◌-◌, ◌^◌, ◌<◌, ◌≤◌, List, [], ◌∷◌, Option, map, length, get_or, take, if◌then◌else◌}
+use Rattle.std.specs.List.{position, position_or_len}
 use Rattle.jaeger_model.specs.Texts.{same_text}
 use Rattle.trace_model.specs.declared.entry.Entry.{Entry}
-use Rattle.service_index.specs.Naming.{Names, service_alone}
+use Rattle.trace_model.specs.declared.entry.Work.{Work}
+use Rattle.trace_model.specs.declared.entry.Work.TheVariants as brings
+use Rattle.service_index.specs.Naming.{LabelValue, Labelling}
 use Rattle.service_index.specs.Probes.{Table, IsNamed}
-use Rattle.service_index.specs.Indexes.{owners, IsLinked}
+use Rattle.service_index.specs.Indexes.{IsLinked}
+
+-- all entries but the last
+abbrev pub before_last : List Entry → List Entry
+before_last h = take (length h - 1) h
+
+-- the service of the batch that it brings; a limit has none
+abbrev pub service_brought : Work → List ℕ
+service_brought (brings.Batch b) = b.process.service
+service_brought (brings.TraceLimit n) = []
 
 -- the services of entries
 abbrev pub reporters : List Entry → List (List ℕ)
-reporters h = map (λ (e : Entry). e.batch.process.service) h
+reporters h = map (λ (e : Entry). service_brought e.work) h
 
--- the same as names, each under how many entries stand before its own
-abbrev pub names_of : List Entry → Names
-names_of h = record { count = length h; at = λ n. service_alone (get_or (reporters h) n []) }
+-- the service of the entry with so many before it
+abbrev pub service_at : List Entry → ℕ → List ℕ
+service_at h n = get_or (reporters h) n []
+
+-- a service as a label, in the group of all services
+abbrev pub service_label : List ℕ → LabelValue
+service_label service = record { group = 0; name = service; kind = [] }
+
+-- the services of entries as labels, each under how many entries stand before its own
+abbrev pub service_labels : List Entry → Labelling
+service_labels h = record { count = length h; at = λ n. service_label (service_at h n) }
 
 -- the places of the service up to a place, the newest first; the first of all places is 1
 abbrev pub places_upto : List ℕ → List (List ℕ) → ℕ → List ℕ
@@ -23,11 +43,27 @@ places_upto service rows (suc n) = if same_text (get_or rows n []) service then 
 abbrev pub places_of : List Entry → List ℕ → List ℕ
 places_of h service = places_upto service (reporters h) (length h)
 
--- what is seen of the places that are kept: a number for each service, for each service the place of its newest entry, for each entry the place of the one of its service before it, and how many entries there is room for
+-- ---- the numbers of services
+-- the number of a service: how many entries stand before the first one of it, or how many there are
+abbrev pub group_in : List Entry → List ℕ → ℕ
+group_in h service = position_or_len (same_text service) (reporters h)
+
+-- the number of a service; none where no entry is of it
+abbrev pub group_of : List Entry → List ℕ → Option ℕ
+group_of h service = position (same_text service) (reporters h)
+
+-- the number of the service of each entry
+pub record AreGroups (h : List Entry) (groups : List ℕ) : Type 0 where
+  pub as_many : length groups ≡ length h
+  pub each : (n : ℕ) → n < length h → get_or groups n 0 ≡ group_in h (service_at h n)
+
+-- ---- what is kept
+-- what is seen of the places that are kept: a number for each service, for each service the place of its newest entry, for each entry the place of the one of its service before it and the number of its service, and how many entries there is room for
 pub record Reported : Type 0 where
   pub services : Table
   pub newest : List ℕ
   pub earlier : List ℕ
+  pub groups : List ℕ
   pub batches : ℕ
 
 -- they are those of these entries
@@ -35,5 +71,7 @@ pub record IsKept (h : List Entry) (kept : Reported) : Type 0 where
   pub fits : kept.batches < 2 ^ 32
   pub room : kept.services.room ≡ kept.batches
   pub few : length kept.services.numbers ≤ length h
-  pub named : IsNamed (names_of h) kept.services
-  pub linked : IsLinked (reporters h) (owners (names_of h) kept.services.numbers) kept.newest kept.earlier
+  pub named : IsNamed (service_labels h) kept.services
+  pub linked : IsLinked (reporters h) (map (service_at h) kept.services.numbers) kept.newest kept.earlier
+  pub first : (r : ℕ) → r < length kept.services.numbers → group_in h (service_at h (get_or kept.services.numbers r 0)) ≡ get_or kept.services.numbers r 0
+  pub grouped : AreGroups h kept.groups

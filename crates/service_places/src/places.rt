@@ -1,18 +1,20 @@
-ghost use Rattle.std.specs.Prelude.{◌≡◌, ◌<◌, ◌≤◌, [], map, length, IfOk};
+ghost use Rattle.std.specs.Prelude.{◌≡◌, ◌<◌, ◌≤◌, [], map, length, get_or, IfOk};
 ghost use Rattle.std.specs.Arc.{arc_value};
-ghost use Rattle.arrival_names.specs.Numbers.{before_last};
-ghost use Rattle.service_places.specs.Reported.{IsKept, places_of};
+ghost use Rattle.service_index.specs.Probes.{row_of};
+ghost use Rattle.service_places.specs.Reported.{IsKept, before_last, places_of, group_of};
+ghost use Rattle.service_places.specs.Reported.{service_label, service_labels};
 
 use crate::along::Places;
-use crate::reporters::Reporters;
-use service_index::{Name, NameTable};
+use crate::reporters::{Reporters, service_label};
+use service_index::NameTable;
 use std::alloc::{AllocError, Global};
 use std::hash::RandomState;
 use std::marker::Model;
 use std::sync::Arc;
 use trace_model::Entry;
 
-/// The places of the entries of each service of a list of entries that grows at its end.
+/// The places of the entries of each service of a list of entries that grows at its end, and a number for
+/// each service: how many entries stand before the first one of it.
 #[derive(Drop)]
 pub struct ServicePlaces {
     batches: u32,
@@ -22,6 +24,8 @@ pub struct ServicePlaces {
     newest: Vec<u32>,
     /// For each entry the place of the one of its service before it, 0 where it is the first.
     earlier: Vec<u32>,
+    /// For each entry the number of its service.
+    groups: Vec<u32>,
 }
 
 impl Model for ServicePlaces {
@@ -30,10 +34,10 @@ impl Model for ServicePlaces {
 
     ghost Value = { Reported };
 
-    ghost view = { λ p. record { services = p.services; newest = p.newest.items; earlier = p.earlier.items; batches = p.batches } };
+    ghost view = { λ p. record { services = p.services; newest = p.newest.items; earlier = p.earlier.items; groups = p.groups.items; batches = p.batches } };
 
     ghost invariant = { λ p. (p.batches ≤ vec_capacity p.newest)
-        × (p.batches ≤ vec_capacity p.earlier) };
+        × (p.batches ≤ vec_capacity p.earlier) × (p.batches ≤ vec_capacity p.groups) };
 }
 
 impl ServicePlaces {
@@ -50,11 +54,13 @@ impl ServicePlaces {
         let services = NameTable::with_room(alloc, keys, batches)?;
         let newest = Vec::with_capacity(alloc, batches as usize)?;
         let earlier = Vec::with_capacity(alloc, batches as usize)?;
+        let groups = Vec::with_capacity(alloc, batches as usize)?;
         Ok(ServicePlaces {
             batches,
             services,
             newest,
             earlier,
+            groups,
         })
     }
 
@@ -68,6 +74,7 @@ impl ServicePlaces {
     {
         let before = (entries.len() - 1) as u32;
         let service = self.services.add(&Reporters { entries }, before) as usize;
+        self.groups.push_reserved(self.services.numbers()[service]);
         if service < self.newest.len() {
             self.earlier.push_reserved(self.newest[service]);
             self.newest[service] = before + 1;
@@ -82,12 +89,7 @@ impl ServicePlaces {
         requires { IsKept (map arc_value entries.now) self.now }
         ensures { result ≡ places_of (map arc_value entries.now) service.now }
     {
-        let name = Name {
-            service,
-            operation: "",
-            kind: "",
-        };
-        let row = self.services.row_of(&Reporters { entries }, name) as usize;
+        let row = self.row_of(entries, service);
         let at = if row < self.newest.len() {
             self.newest[row]
         } else {
@@ -97,5 +99,37 @@ impl ServicePlaces {
             earlier: &self.earlier,
             at,
         }
+    }
+
+    /// The number of the service of the entry with so many before it.
+    pub fn group_at(&self, before: u32) -> u32
+        requires { before < length self.now.groups }
+        ensures { result ≡ get_or self.now.groups before 0 }
+    {
+        self.groups[before as usize]
+    }
+
+    /// The number of a service; none where no entry is of it.
+    pub fn group_of(&self, entries: &[Arc<Entry>], service: &str) -> Option<u32>
+        requires { IsKept (map arc_value entries.now) self.now }
+        ensures { result ≡ group_of (map arc_value entries.now) service.now }
+    {
+        let numbers = self.services.numbers();
+        let row = self.row_of(entries, service);
+        if row < numbers.len() {
+            Some(numbers[row])
+        } else {
+            None
+        }
+    }
+
+    /// The row of a service, or how many services there are where no entry is of it.
+    fn row_of(&self, entries: &[Arc<Entry>], service: &str) -> usize
+        requires { IsKept (map arc_value entries.now) self.now }
+        ensures { result ≡ row_of (service_labels (map arc_value entries.now))
+            self.now.services.numbers (service_label service.now) }
+    {
+        self.services
+            .row_of(&Reporters { entries }, service_label(service)) as usize
     }
 }

@@ -1,22 +1,47 @@
-use service_index::Texts;
-use std::sync::Arc;
-use trace_model::Entry;
+ghost use Rattle.std.specs.Prelude.{◌≡◌};
+ghost use Rattle.service_index.specs.Naming.{label_value};
+ghost use Rattle.service_places.specs.Reported.{service_brought, service_label};
 
-/// The services of entries, each under how many entries stand before its own.
+use service_index::{Label, Labels};
+use std::sync::Arc;
+use trace_model::{Entry, Work};
+
+/// The service of the batch that it brings; a limit has none.
+fn service_brought(work: &Work) -> &str
+    ensures { result.now ≡ service_brought work.now }
+{
+    match work {
+        Work::Batch(batch) => batch.process.get().service.as_str(),
+        Work::TraceLimit(_) => "",
+    }
+}
+
+/// A service as a label: all services stand in one group.
+pub(crate) fn service_label(service: &str) -> Label<'_>
+    ensures { label_value result ≡ service_label service.now }
+{
+    Label {
+        group: 0,
+        name: service,
+        kind: "",
+    }
+}
+
+/// The services of entries as labels, each under how many entries stand before its own.
 #[derive(Drop)]
 pub(crate) struct Reporters<'a> {
     pub(crate) entries: &'a [Arc<Entry>],
 }
 
-impl<'a> Texts for Reporters<'a> {
+impl<'a> Labels for Reporters<'a> {
     ghost use Rattle.std.specs.Prelude.{map};
     ghost use Rattle.std.specs.Arc.{arc_value};
-    ghost use Rattle.service_places.specs.Reported.{names_of};
+    ghost use Rattle.service_places.specs.Reported.{service_labels};
 
-    ghost names = { λ r. names_of (map arc_value r.entries.now) };
+    ghost labels = { λ r. service_labels (map arc_value r.entries.now) };
 
-    fn name_at(&self, n: u32) -> (&str, &str, &str) {
+    fn label_at(&self, n: u32) -> Label<'_> {
         let entry = &self.entries[n as usize];
-        (entry.batch.process.service.as_str(), "", "")
+        service_label(service_brought(&entry.work))
     }
 }

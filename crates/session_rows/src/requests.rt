@@ -1,25 +1,8 @@
-use http_requests::{
-    BodyLength, Breach, Interrupted, Method, Next, Received, Sink, next_head, read_body,
-};
+use http_requests::{Breach, Interrupted, Next, Received, Sink, next_head, read_body};
 use session_devices::MemoryInput;
 use std::alloc::Global;
 use std::process::Abort;
 use std::test::*;
-
-/// A head with so many fields and a target of so many bytes.
-fn head(alloc: Global, fields: usize, target: usize) -> Result<Vec<u8>, Fail> {
-    let mut bytes = Vec::new(alloc);
-    bytes.extend_from_slice(b"GET /")?;
-    for _ in 1..target {
-        bytes.push(b'a')?;
-    }
-    bytes.extend_from_slice(b" HTTP/1.1\r\n")?;
-    for _ in 0..fields {
-        bytes.extend_from_slice(b"a:\r\n")?;
-    }
-    bytes.extend_from_slice(b"\r\n")?;
-    Ok(bytes)
-}
 
 /// A body, put together again.
 #[derive(Drop)]
@@ -107,27 +90,9 @@ pub(crate) fn is_broken(front: Result<Front, Interrupted>, breach: Breach) -> bo
 }
 
 #[test]
-fn heads_at_their_limits(rt: HostRuntime) -> Result<(), Fail> {
-    let alloc = rt.alloc();
-    assert!(rt; is_one(look(alloc, head(alloc, 64, 1)?.as_slice(), 100)));
-    assert!(rt;
-        is_broken(
-            look(alloc, head(alloc, 65, 1)?.as_slice(), 100),
-            Breach::Head
-        )
-    );
-    let whole = head(alloc, 0, 8192 - 17)?;
-    assert_eq!(rt; whole.len(), 8192);
-    assert!(rt; is_one(look(alloc, whole.as_slice(), 10_000)));
-    let longer = head(alloc, 0, 8192 - 16)?;
-    assert!(rt; is_broken(look(alloc, longer.as_slice(), 10_000), Breach::Head));
-    Ok(())
-}
-
-#[test]
 fn each_end(rt: HostRuntime) -> Result<(), Fail> {
     let alloc = rt.alloc();
-    let rows: [(&[u8], Option<Breach>); 8] = [
+    let rows: [(&[u8], Option<Breach>); 18] = [
         (b"GET / HTTP/1.1\nContent-Length: 3\n\nabc", None),
         (
             b"\r\n\r\nGET / HTTP/1.0\r\nconnection: x, Close\r\n\r\n",
@@ -151,6 +116,28 @@ fn each_end(rt: HostRuntime) -> Result<(), Fail> {
         ),
         (b"GET / HTTP/1.1\r\nContent-Len", Some(Breach::Head)),
         (b"\r\n", Some(Breach::Head)),
+        (
+            b"GET / HTTP/1.1\r\nContent-Length:\r\n\r\n",
+            Some(Breach::Body),
+        ),
+        (
+            b"GET / HTTP/1.1\r\nContent-Length: +0\r\n\r\n",
+            Some(Breach::Body),
+        ),
+        (
+            b"GET / HTTP/1.1\r\nContent-Length: 0, 0\r\n\r\n",
+            Some(Breach::Body),
+        ),
+        (
+            b"GET / HTTP/1.1\r\nContent-Length: 00000000000000000000\r\n\r\n",
+            Some(Breach::Body),
+        ),
+        (b"GET / HTTP/1.2\r\n\r\n", Some(Breach::Head)),
+        (b"GET / HTTP/2.0\r\n\r\n", Some(Breach::Head)),
+        (b"GET / HTTP/1.1\r\na: \x01\r\n\r\n", Some(Breach::Head)),
+        (b"GET / HTTP/1.1\r\n: b\r\n\r\n", Some(Breach::Head)),
+        (b"GET / HTTP/1.1\r\nA : b\r\n\r\n", Some(Breach::Head)),
+        (b"GET  / HTTP/1.1\r\n\r\n", Some(Breach::Head)),
     ];
     for (bytes, breach) in &rows {
         for step in [1, 10_000] {
@@ -163,26 +150,6 @@ fn each_end(rt: HostRuntime) -> Result<(), Fail> {
         }
     }
     assert!(rt; matches!(look(alloc, b"", 1), Ok(Front::Clean)));
-    Ok(())
-}
-
-#[test]
-fn what_a_head_asks(rt: HostRuntime) -> Result<(), Fail> {
-    let bytes =
-        b"POST /x HTTP/1.1\r\nCONTENT-TYPE: \tApplication/X-Thrift ; a=b\r\nConnection: keep-alive , close\r\ncontent-length: 0\r\n\r\n";
-    let mut input = MemoryInput::new(bytes, 3, 0);
-    let mut received = Received::new(rt.alloc());
-    let mut head = Vec::new(rt.alloc());
-    let next = next_head(&mut input, &mut received, &mut head);
-    let Ok(Next::One(request, size)) = next else {
-        return Err(std::alloc::AllocError.into());
-    };
-    assert!(rt; request.method == Method::Post);
-    assert!(rt; request.has_batch_type && request.closes);
-    assert!(rt; size == BodyLength::Bytes(0));
-    assert!(rt; head.as_slice() == bytes.as_slice());
-    assert!(rt; request.target.of(head.as_slice()) == b"/x".as_slice());
-    assert!(rt; received.as_slice().is_empty() && !received.has_ended());
     Ok(())
 }
 
@@ -231,40 +198,6 @@ fn no_read_too_many(rt: HostRuntime) -> Result<(), Fail> {
     ];
     for (bytes, breach) in &rows {
         assert!(rt; is_decided(rt.alloc(), bytes, *breach), "{bytes:?}");
-    }
-    Ok(())
-}
-
-/// Whether a request with this field beside the type of a batch may be one.
-fn may_be_a_batch(alloc: Global, field: &[u8]) -> Result<bool, Fail> {
-    let mut bytes = Vec::new(alloc);
-    bytes.extend_from_slice(b"POST / HTTP/1.1\r\nContent-Type: application/x-thrift\r\n")?;
-    bytes.extend_from_slice(field)?;
-    bytes.extend_from_slice(b"\r\n")?;
-    let mut input = MemoryInput::new(bytes.as_slice(), 10_000, 0);
-    let mut received = Received::new(alloc);
-    let mut head = Vec::new(alloc);
-    match next_head(&mut input, &mut received, &mut head) {
-        Ok(Next::One(request, _)) => Ok(request.has_batch_type),
-        _ => Err(std::alloc::AllocError.into()),
-    }
-}
-
-#[test]
-fn content_codings(rt: HostRuntime) -> Result<(), Fail> {
-    let rows: [(&[u8], bool); 6] = [
-        (b"", true),
-        (b"Content-Encoding: identity\r\n", true),
-        (b"content-encoding: Identity\r\n", true),
-        (b"Content-Encoding: gzip\r\n", false),
-        (b"Content-Encoding:\r\n", false),
-        (
-            b"Content-Encoding: identity\r\ncontent-encoding: gzip\r\n",
-            false,
-        ),
-    ];
-    for (field, expected) in &rows {
-        assert_eq!(rt; may_be_a_batch(rt.alloc(), field)?, *expected);
     }
     Ok(())
 }

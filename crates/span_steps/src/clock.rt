@@ -6,17 +6,21 @@ ghost use Rattle.jaeger_model.specs.declared.span.Log.{Log as LogValue};
 ghost use Rattle.jaeger_model.specs.Texts.{same_text};
 ghost use Rattle.trace_model.specs.Adjusting.{host_of, fits, all_fit, is_applied, start_at, new_delta, clock_at, is_elsewhere, clock_below, moved, move_log, said_after, warned, past_limit, past_times, adjusted_by, shifted, unadjusted};
 
-use crate::skew::{can_move, delta, is_within, moved_by};
+use crate::skew::{can_move, delta_between, is_within, moved_by};
 use jaeger_model::{Log, Placed, Seq, Span, Text, first_text};
 use std::alloc::{AllocError, Global};
 use std::mem;
 use trace_model::{Clock, Shown};
 
-/// The text of the process's first tag `ip`, or an empty one.
-fn host_of(alloc: Global, placed: &Placed) -> Result<Text, AllocError>
+/// The host of a span: the text of its process's first tag `ip`, or an empty one.
+///
+/// # Errors
+///
+/// Out of memory, and nothing else.
+pub fn host_of(alloc: Global, placed: &Placed) -> Result<Text, AllocError>
     ensures { IfOk result (λ t. t ≡ host_of placed.now) }
 {
-    let host = first_text(alloc, placed.process.tags.as_slice(), "ip")?;
+    let host = first_text(alloc, placed.process.get().tags.as_slice(), "ip")?;
     Ok(Text::from_string(host))
 }
 
@@ -41,8 +45,10 @@ fn is_applied(max_skew: u64, delta: i128, span: &Span) -> bool
     is_within(delta, max_skew) && all_fit(delta, span)
 }
 
-/// The start of a span as it is shown.
-fn start_at(max_skew: u64, delta: i128, span: &Span) -> i64
+/// The start of a span as it is shown, in microseconds since 1970: moved by the delta of its clock,
+/// where that is within the limit and each time of the span stays one. `max_skew` and `delta` are
+/// microseconds.
+pub fn start_at(max_skew: u64, delta: i128, span: &Span) -> i64
     ensures { result ≡ start_at max_skew delta span.now }
 {
     if is_applied(max_skew, delta, span) {
@@ -87,7 +93,7 @@ fn is_elsewhere(above: &Clock, host: &Text) -> bool
 fn new_delta(above: &Clock, span: &Span) -> i128
     ensures { result ≡ new_delta above.now span.now }
 {
-    delta(above.start, above.duration, span.start, span.duration)
+    delta_between(above.start, above.duration, span.start, span.duration)
 }
 
 /// The clock of a span whose parent has this one: the parent's where the span is of the same host,

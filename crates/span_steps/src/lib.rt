@@ -13,7 +13,10 @@ mod references;
 mod skew;
 mod window;
 
-pub use clock::{all_unadjusted, clock_below, root_clock, shift, shifted, unadjusted};
+pub use clock::{
+    all_unadjusted, clock_below, host_of, root_clock, shift, shifted, start_at, unadjusted,
+};
 pub use conditions::{duration_bound, is_at_least, is_at_most, is_named, is_timed};
 pub use references::parent_place;
+pub use skew::delta_between;
 pub use window::{is_in_window, may_be_in_window};

@@ -1,73 +1,94 @@
--- Ring and spots follow the arrivals.
-use Rattle.std.proofs.Common.{◌≡◌, ℕ, ◌+◌, ◌<◌, ◌≤◌, false, List, [], ◌∷◌, ◌++◌, map, length, take, get_or, Some, None, refl, sym, ap, ◌∙◌, arith, append_assoc}
-use Rattle.std.proofs.lemmas.List.{map_push, map_more, length-take-le, length-map, take_all}
-use Rattle.std.specs.Prelude.{Option, option_map, IfSome, option_to_list}
+-- Ring and spots follow the events.
+use Rattle.std.proofs.Common.{◌≡◌, ℕ, ◌+◌, ◌<◌, ◌≤◌, true, false, List, [], ◌∷◌, ◌++◌, map, length, take, Some, None, refl, sym, ap, subst, ◌∙◌, arith}
+use Rattle.std.proofs.lemmas.List.{map_push, take_all}
+use Rattle.std.specs.Prelude.{Option, option_map, IfSome, option_to_list, if◌then◌else◌}
 use Rattle.jaeger_model.specs.declared.ids.TraceId.{TraceId}
 use Rattle.jaeger_model.specs.declared.placed.Placed.{Placed}
-use Rattle.jaeger_model.specs.declared.span.Span.{Span}
 use Rattle.jaeger_model.specs.declared.batch.Batch.{Batch}
-use Rattle.jaeger_model.specs.Parents.{domain, with_parent}
+use Rattle.jaeger_model.specs.Parents.{placed}
 use Rattle.trace_model.specs.declared.entry.Entry.{Entry}
-use Rattle.trace_model.specs.Rings.{holds, arrive}
-use Rattle.trace_model.specs.Showing.{trace_of, ring, spans_of_trace, if_any}
-use Rattle.trace_model.specs.Histories.{arrivals}
+use Rattle.trace_model.specs.declared.entry.Work.TheVariants as brings
+use Rattle.trace_model.specs.Events.{Event, came, limited, event_map}
+use Rattle.trace_model.specs.Rings.{holds, newest, arrive}
+use Rattle.trace_model.specs.Showing.{trace_of, ring, limit_after, spans_of_trace, if_any}
+use Rattle.trace_model.specs.Histories.{events}
 use Rattle.trace_model.specs.declared.answer.Shown.{Shown}
-use Rattle.trace_model.proofs.Shows.{ring_push}
-use Rattle.trace_ring.specs.Windows.{opened_by}
+use Rattle.trace_model.proofs.Shows.{ring_more, ring_fewer, limit_came, limit_limited}
+use Rattle.trace_model.proofs.Traces.{ring_within, newest_short}
+use Rattle.trace_ring.specs.Windows.{Window, opened_by}
 use Rattle.trace_assembly.specs.declared.spot.Spot.{Spot}
 use Rattle.trace_assembly.specs.Rows.{with_spot}
-use Rattle.trace_assembly.specs.Located.{span_at, located, located_in, spans_in, shown_spots, after_leaving}
-use Rattle.trace_assembly.proofs.Feeding.{after_arrival_law, spans_at_shown_law}
-use Rattle.trace_assembly.proofs.Places.{located_push_law, located_in-push}
+use Rattle.trace_assembly.specs.Located.{span_at, located, located_in, located_by, located_upto, events_in, shown_spots, after_leaving, without_left}
+use Rattle.trace_assembly.proofs.Feeding.{after_arrival_law, after_limit_law, spans_at_shown_law}
+use Rattle.trace_assembly.proofs.Places.{located_push_law, upto_none, upto_all}
 use Rattle.journal_traces.specs.Standing.{spans_named, trace_named}
 use Rattle.journal_traces.proofs.Spots.{named_is}
-use Rattle.span_store.specs.Kept.{Follows}
+use Rattle.span_store.specs.Kept.{Follows, IsWithin}
 
-spans-push : (ls : List (Spot × Placed)) (l : Spot × Placed) → spans_in (ls ++ l ∷ []) ≡ spans_in ls ++ l.1 ∷ []
-spans-push ls l = map_push (λ (k : Spot × Placed). k.1) ls l
+events-push : (es : List (Event (Spot × Placed))) (e : Event (Spot × Placed)) → events_in (es ++ e ∷ []) ≡ events_in es ++ event_map (λ (l : Spot × Placed). l.1) e ∷ []
+events-push es e = map_push (event_map (λ (l : Spot × Placed). l.1)) es e
+
+-- the ring of any events is within its limit
+pub follows_within : (n : ℕ) (es : List (Event (Spot × Placed))) (newest : Window) (spots : TraceId → List Spot) → Follows n es newest spots → IsWithin newest
+follows_within n es newest spots f some =
+    let least = ring_within n (events_in es) (subst (λ k. 0 < k) f.limit some) in
+    subst (λ k. length newest.ids ≤ k) (sym f.limit) (subst (λ (r : List TraceId). length r ≤ limit_after n (events_in es)) (sym f.ring) least)
+
+-- and so is one that a trace was let into
+arrive_within : (m : ℕ) (r : List TraceId) (t : TraceId) → (0 < m → length r ≤ m) → 0 < m → length (arrive m r t) ≤ m
+arrive_within m r t short some = elim (holds r t) as (λ b. length (if b then r else newest m (r ++ t ∷ [])) ≤ m) [ true ↦ short some | false ↦ newest_short m (r ++ t ∷ []) some ]
+
+pub arrived_within : (old new : Window) (t : TraceId) → IsWithin old → new.limit ≡ old.limit → new.ids ≡ arrive old.limit old.ids t → IsWithin new
+arrived_within old new t short same is some =
+    let most = arrive_within old.limit old.ids t short (subst (λ k. 0 < k) same some) in
+    subst (λ k. length new.ids ≤ k) (sym same) (subst (λ (r : List TraceId). length r ≤ old.limit) (sym is) most)
 
 -- one more arrival: its trace is let in, the trace that leaves is hidden, the spot is added
-pub follows_more : (n : ℕ) (ls : List (Spot × Placed)) (spot : Spot) (p : Placed) (own : TraceId) (left : Option TraceId) (old new : List TraceId) (spots spots' : TraceId → List Spot)
-    → Follows n ls old spots → trace_of p ≡ own → new ≡ arrive n old own → opened_by old own ≡ option_to_list left ++ new → IfSome left (λ gone. holds new gone ≡ false)
+pub follows_more : (n : ℕ) (es : List (Event (Spot × Placed))) (spot : Spot) (p : Placed) (own : TraceId) (left : Option TraceId) (old new : Window) (spots spots' : TraceId → List Spot)
+    → Follows n es old spots → trace_of p ≡ own → new.limit ≡ old.limit → new.ids ≡ arrive old.limit old.ids own → opened_by old.ids own ≡ option_to_list left ++ new.ids → IfSome left (λ gone. holds new.ids gone ≡ false)
     → ((t : TraceId) → spots' t ≡ with_spot own spot (after_leaving left spots) t)
-    → Follows n (ls ++ (spot, p) ∷ []) new spots'
-follows_more n ls spot p own left old new spots spots' f same is opened gone changed =
-    let is' : new ≡ arrive n old (trace_of p) = is ∙ ap (arrive n old) (sym same) in
+    → Follows n (es ++ came (spot, p) ∷ []) new spots'
+follows_more n es spot p own left old new spots spots' f same steady is opened gone changed =
+    let is' : new.ids ≡ arrive old.limit old.ids (trace_of p) = is ∙ ap (arrive old.limit old.ids) (sym same) in
+    let push = sym (events-push es (came (spot, p))) in
     record {
-      ring = is' ∙ ap (λ r. arrive n r (trace_of p)) f.ring ∙ sym (ring_push n (spans_in ls) p) ∙ ap (ring n) (sym (spans-push ls (spot, p)));
+      limit = steady ∙ f.limit ∙ sym (limit_came n (events_in es) p) ∙ ap (limit_after n) push;
+      ring = ring_more n (events_in es) p old.ids new.ids f.ring (is' ∙ ap (λ k. arrive k old.ids (trace_of p)) f.limit) ∙ ap (ring n) push;
       spots = λ t.
           changed t ∙ ap (λ o. with_spot o spot (after_leaving left spots) t) (sym same)
-          ∙ after_arrival_law n ls (spot, p) left old new spots f.ring is' (ap (opened_by old) same ∙ opened) gone f.spots t;
+          ∙ after_arrival_law n old.limit es (spot, p) left old.ids new.ids spots f.limit f.ring is' (ap (opened_by old.ids) same ∙ opened) gone f.spots t;
     }
 
 -- ---- the spans of one batch, one by one
--- the batch with so many of its spans
-abbrev pub first_spans : ℕ → Batch → Batch
-first_spans i b = record b { spans = take i b.spans }
+pub follows_none : (n : ℕ) (h : List Entry) (b : Batch) (newest : Window) (spots : TraceId → List Spot) → Follows n (located h) newest spots → Follows n (located_upto h b 0) newest spots
+follows_none n h b newest spots f = subst (λ es. Follows n es newest spots) (sym (upto_none h b)) f
 
-abbrev pub placed_from : Batch → Span → Placed
-placed_from b s = record { process = b.process; span = with_parent s }
+pub upto_end : (h : List Entry) (b : Batch) (i : ℕ) → length b.spans ≤ i → located_upto h b i ≡ located_upto h b (length b.spans)
+upto_end h b i past =
+    ap (λ ss. located h ++ map came (located_in (length h + 1) 0 (map (placed b) ss))) (take_all i b.spans past ∙ sym (take_all (length b.spans) b.spans (omega arith)))
 
--- one more span of the batch stands at the next index
-pub one_more_span : (before : List (Spot × Placed)) (place : ℕ) (b : Batch) (i : ℕ) (s : Span) → i < length b.spans → s ≡ get_or b.spans i s
-    → (before ++ located_in place 0 (domain (first_spans i b))) ++ (record { place = place; index = i }, placed_from b s) ∷ [] ≡ before ++ located_in place 0 (domain (first_spans (i + 1) b))
-one_more_span before place b i s le is =
-    let long : i ≡ 0 + length (domain (first_spans i b)) = omega (arith, length-map (take i b.spans) (placed_from b), length-take-le i b.spans (let l : i ≤ length b.spans = omega arith in l)) in
-    let more : domain (first_spans (i + 1) b) ≡ domain (first_spans i b) ++ placed_from b s ∷ [] = map_more (placed_from b) b.spans i s le ∙ ap (λ x. domain (first_spans i b) ++ placed_from b x ∷ []) (sym is) in
-    append_assoc before (located_in place 0 (domain (first_spans i b))) ((record { place = place; index = i }, placed_from b s) ∷ [])
-    ∙ ap (λ l. before ++ l) (sym (located_in-push place 0 i (domain (first_spans i b)) (placed_from b s) long) ∙ ap (located_in place 0) (sym more))
+pub follows_batch : (n : ℕ) (h : List Entry) (e : Entry) (b : Batch) → e.work ≡ brings.Batch b → (newest : Window) (spots : TraceId → List Spot)
+    → Follows n (located_upto h b (length b.spans)) newest spots → Follows n (located (h ++ e ∷ [])) newest spots
+follows_batch n h e b is newest spots f = subst (λ es. Follows n es newest spots) (upto_all h e b is) f
 
--- after the last span of the newest entry
-pub all_spans : (h : List Entry) (e : Entry) (place i : ℕ) → place ≡ length h + 1 → length e.batch.spans ≤ i → located h ++ located_in place 0 (domain (first_spans i e.batch)) ≡ located (h ++ e ∷ [])
-all_spans h e place i at le =
-    ap (λ b. located h ++ located_in place 0 (map (placed_from e.batch) b)) (take_all i e.batch.spans le)
-    ∙ ap (λ k. located h ++ located_in k 0 (domain e.batch)) at ∙ sym (located_push_law h e)
+-- ---- a limit
+pub follows_limit : (n : ℕ) (h : List Entry) (e : Entry) (m : ℕ) → e.work ≡ brings.TraceLimit m → (old new : Window) (spots spots' : TraceId → List Spot)
+    → Follows n (located h) old spots → new.limit ≡ m → new.ids ≡ newest m old.ids → ((t : TraceId) → spots' t ≡ without_left old.ids new.ids spots t)
+    → Follows n (located (h ++ e ∷ [])) new spots'
+follows_limit n h e m set old new spots spots' f limit_is is changed =
+    let es = located h in
+    let push = sym (events-push es (limited m)) in
+    let all : located (h ++ e ∷ []) ≡ es ++ limited m ∷ [] = located_push_law h e ∙ ap (λ w. es ++ located_by (length h + 1) w) set in
+    subst (λ xs. Follows n xs new spots') (sym all) (record {
+      limit = limit_is ∙ sym (limit_limited n (events_in es) m) ∙ ap (limit_after n) push;
+      ring = ring_fewer n (events_in es) m old.ids new.ids f.ring is ∙ ap (ring n) push;
+      spots = λ t. changed t ∙ after_limit_law n m es old.ids new.ids spots f.ring is f.spots t;
+    })
 
 -- ---- what the spots of a trace name
-pub spots_name : (limit n : ℕ) (h : List Entry) (ids : List TraceId) (spots : TraceId → List Spot) (t : TraceId) (found : List Spot)
-    → Follows limit (located h) ids spots → limit ≡ n → found ≡ spots t → map (span_at h) found ≡ map Some (spans_of_trace n (arrivals h) t)
-spots_name limit n h ids spots t found f same is =
-    ap (map (span_at h)) (is ∙ f.spots t) ∙ spans_at_shown_law limit h t ∙ ap (λ m. map Some (spans_of_trace m (arrivals h) t)) same
+pub spots_name : (n : ℕ) (h : List Entry) (newest : Window) (spots : TraceId → List Spot) (t : TraceId) (found : List Spot)
+    → Follows n (located h) newest spots → found ≡ spots t → map (span_at h) found ≡ map Some (spans_of_trace n (events h) t)
+spots_name n h newest spots t found f is = ap (map (span_at h)) (is ∙ f.spots t) ∙ spans_at_shown_law n h t
 
 pub none_found : (f : List Placed → List Shown) (h : List Entry) (found : List Spot) (spans : List Placed) → map (span_at h) found ≡ map Some spans → length found ≡ 0 → None ≡ option_map f (if_any spans)
 none_found f h [] [] same none = refl
@@ -81,5 +102,5 @@ some_found f h (s ∷ found) [] items shown same got some is = absurd cc
 some_found f h (s ∷ found) (p ∷ spans) items shown same got some is = ap Some (is ∙ ap f (got ∙ named_is h (s ∷ found) (p ∷ spans) same))
 
 -- ---- the spans of a trace where they stand
-pub trace_stands : (n : ℕ) (h : List Entry) (spots : TraceId → List Spot) → ((t : TraceId) → spots t ≡ shown_spots n (located h) t) → (t : TraceId) → trace_named h spots t ≡ spans_of_trace n (arrivals h) t
-trace_stands n h spots all t = named_is h (spots t) (spans_of_trace n (arrivals h) t) (ap (map (span_at h)) (all t) ∙ spans_at_shown_law n h t)
+pub trace_stands : (n : ℕ) (h : List Entry) (spots : TraceId → List Spot) → ((t : TraceId) → spots t ≡ shown_spots n (located h) t) → (t : TraceId) → trace_named h spots t ≡ spans_of_trace n (events h) t
+trace_stands n h spots all t = named_is h (spots t) (spans_of_trace n (events h) t) (ap (map (span_at h)) (all t) ∙ spans_at_shown_law n h t)

@@ -1,3 +1,5 @@
 pub mod Following
+pub mod Leaving
 pub mod Keeping
 pub mod Picking
+pub mod Sharing

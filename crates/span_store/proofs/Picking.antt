@@ -2,6 +2,7 @@
 use Rattle.std.proofs.Common.{◌≡◌, ℕ, suc, Bool, true, false, ◌||◌, ◌&&◌, cond, List, [], ◌∷◌, ◌++◌, map, length, get_or, zero, ◌+◌, ◌<◌, ◌≤◌, refl, sym, ap, ◌∙◌, arith}
 use Rattle.std.specs.Prelude.{filter, flat_map, if◌then◌else◌, take, ◌==◌}
 use Rattle.std.specs.List.{list_any, list_all}
+use Rattle.std.specs.Option.{option_and_then}
 use Rattle.std.specs.Cmp.Lexicographic.{lists_equiv}
 use Rattle.std.specs.Cmp.{nat_eq_equiv}
 use Rattle.std.proofs.Math.Seq.{take-nil}
@@ -17,7 +18,12 @@ use Rattle.jaeger_model.specs.Parents.{domain, placed, same_trace}
 use Rattle.jaeger_model.specs.Texts.{same_text}
 use Rattle.trace_model.specs.declared.entry.Entry.{Entry}
 use Rattle.trace_model.specs.declared.query.Find.{Find}
-use Rattle.trace_model.specs.Histories.{arrivals}
+use Rattle.trace_model.specs.declared.entry.Work.{Work}
+use Rattle.trace_model.specs.declared.entry.Work.TheVariants as brings
+use Rattle.trace_model.specs.Works.{batch_brought, placed_brought}
+use Rattle.trace_model.specs.Events.{Event, came, limited, without_limits}
+use Rattle.trace_model.specs.Histories.{arrivals, events}
+use Rattle.trace_model.proofs.Arriving.{came_of}
 use Rattle.trace_model.specs.Searching.{matches, matching, found_in, ranked, first_start, cut, is_named, is_timed, has_tag, traces}
 use Rattle.trace_model.specs.Showing.{ring, shown, spans_of_trace, lasting_after, longer_beginnings, stands, trace_of}
 use Rattle.trace_model.proofs.NameLaws.{any_filter}
@@ -25,7 +31,7 @@ use Rattle.trace_model.proofs.Parents.{with_parent-trace}
 use Rattle.trace_assembly.specs.Rows.{is_of}
 use Rattle.arrival_names.proofs.Numbering.{arrivals_push}
 use Rattle.arrival_names.specs.Kept.{reports_service, reports_operation}
-use Rattle.service_places.specs.Reported.{reporters, places_upto, places_of}
+use Rattle.service_places.specs.Reported.{service_brought, reporters, places_upto, places_of}
 use Rattle.journal_traces.specs.Picked.{reaches, meets, met, met_or_none, met_at, met_along}
 use Rattle.journal_traces.proofs.Adopting.{matches-adopted}
 
@@ -52,12 +58,17 @@ or_cases : {P : Type 0} (a b : Bool) → (a || b) ≡ true → (a ≡ true → P
 or_cases true b e f g = f refl
 or_cases false b e f g = g e
 
-any_lasting : {X : Type 0} (q : X → Bool) (keeps : List X → X → Bool) (before rest : List X) → list_any q (lasting_after keeps before rest) ≡ true → list_any q rest ≡ true
+any_lasting : {X : Type 0} (q : X → Bool) (keeps : List (Event X) → Event X → Bool) (before rest : List (Event X)) → list_any q (without_limits (lasting_after keeps before rest)) ≡ true → list_any q (without_limits rest) ≡ true
 any_lasting q keeps before [] h = h
-any_lasting q keeps before (x ∷ rest) h =
-    elim (list_all (λ xs. keeps xs x) (longer_beginnings before (x ∷ rest))) as (λ b. list_any q (if b then x ∷ lasting_after keeps (before ++ x ∷ []) rest else lasting_after keeps (before ++ x ∷ []) rest) ≡ true → (q x || list_any q rest) ≡ true) [
-      | true ↦ or_more (q x) (list_any q (lasting_after keeps (before ++ x ∷ []) rest)) (list_any q rest) (any_lasting q keeps (before ++ x ∷ []) rest)
-      | false ↦ λ k. or_right (q x) (list_any q rest) (any_lasting q keeps (before ++ x ∷ []) rest k)
+any_lasting q keeps before (came x ∷ rest) h =
+    elim (list_all (λ xs. keeps xs (came x)) (longer_beginnings before (came x ∷ rest))) as (λ b. list_any q (without_limits (if b then came x ∷ lasting_after keeps (before ++ came x ∷ []) rest else lasting_after keeps (before ++ came x ∷ []) rest)) ≡ true → (q x || list_any q (without_limits rest)) ≡ true) [
+      | true ↦ or_more (q x) (list_any q (without_limits (lasting_after keeps (before ++ came x ∷ []) rest))) (list_any q (without_limits rest)) (any_lasting q keeps (before ++ came x ∷ []) rest)
+      | false ↦ λ k. or_right (q x) (list_any q (without_limits rest)) (any_lasting q keeps (before ++ came x ∷ []) rest k)
+    ] h
+any_lasting q keeps before (limited m ∷ rest) h =
+    elim (list_all (λ xs. keeps xs (limited m)) (longer_beginnings before (limited m ∷ rest))) as (λ b. list_any q (without_limits (if b then limited m ∷ lasting_after keeps (before ++ limited m ∷ []) rest else lasting_after keeps (before ++ limited m ∷ []) rest)) ≡ true → list_any q (without_limits rest) ≡ true) [
+      | true ↦ any_lasting q keeps (before ++ limited m ∷ []) rest
+      | false ↦ any_lasting q keeps (before ++ limited m ∷ []) rest
     ] h
 
 any_weaker : {X : Type 0} (p q : X → Bool) → ((x : X) → p x ≡ true → q x ≡ true) → (xs : List X) → list_any p xs ≡ true → list_any q xs ≡ true
@@ -104,6 +115,11 @@ own_spans q t b (x ∷ xs) h =
           )
     ] refl h
 
+own_brought : (q : Find) (t : TraceId) (w : Work) → list_any (is_hit q t) (placed_brought w) ≡ true
+    → (same_text (service_brought w) q.service ≡ true) × (reaches (met_or_none q (batch_brought w)) t ≡ true)
+own_brought q t (brings.Batch b) k = own_spans q t b b.spans k
+own_brought q t (brings.TraceLimit n) k = absurd (false≢true k)
+
 reported : (q : Find) (t : TraceId) (h : List Entry) (d : Entry) (n : ℕ) → n ≤ length h → list_any (is_hit q t) (arrivals (take n h)) ≡ true
     → list_any (is_of t) (flat_map (met_at q h) (places_upto q.service (reporters h) n)) ≡ true
 reported q t h d zero le e = e
@@ -112,39 +128,39 @@ reported q t h d (suc n) le e =
     let x = get_or h n d in
     let below : n < length h = omega arith in
     let own : Bool = same_text (get_or (reporters h) n []) s in
-    let is : get_or (reporters h) n [] ≡ x.batch.process.service = get_or-map (λ (y : Entry). y.batch.process.service) h n d [] below in
+    let is : get_or (reporters h) n [] ≡ service_brought x.work = get_or-map (λ (y : Entry). service_brought y.work) h n d [] below in
     let rest : List ℕ = places_upto s (reporters h) n in
-    let met_here : List Span = met q x.batch.process x.batch.spans in
+    let met_here : List Span = met_or_none q (batch_brought x.work) in
     let before : Bool = list_any (is_hit q t) (arrivals (take n h)) in
-    let here : Bool = list_any (is_hit q t) (domain x.batch) in
+    let here : Bool = list_any (is_hit q t) (placed_brought x.work) in
     let later : before ≡ true → list_any (is_of t) (flat_map (met_at q h) rest) ≡ true = reported q t h d n (omega arith) in
     let one : suc n ≡ n + 1 = omega arith in
-    let all : arrivals (take (suc n) h) ≡ arrivals (take n h) ++ domain x.batch = ap (λ k. arrivals (take k h)) one ∙ ap arrivals (take_more h n d below) ∙ arrivals_push (take n h) x in
-    let split : (before || here) ≡ true = sym (ap (list_any (is_hit q t)) all ∙ list_any-append (is_hit q t) (arrivals (take n h)) (domain x.batch)) ∙ e in
-    let spans : met_at q h (suc n) ≡ met_here = ap (met_or_none q) (slice_get-get_or h n d below) in
+    let all : arrivals (take (suc n) h) ≡ arrivals (take n h) ++ placed_brought x.work = ap (λ k. arrivals (take k h)) one ∙ ap arrivals (take_more h n d below) ∙ arrivals_push (take n h) x in
+    let split : (before || here) ≡ true = sym (ap (list_any (is_hit q t)) all ∙ list_any-append (is_hit q t) (arrivals (take n h)) (placed_brought x.work)) ∙ e in
+    let spans : met_at q h (suc n) ≡ met_here = ap (λ o. met_or_none q (option_and_then (λ (y : Entry). batch_brought y.work) o)) (slice_get-get_or h n d below) in
     elim own as (λ b. own ≡ b → list_any (is_of t) (flat_map (met_at q h) (if b then suc n ∷ rest else rest)) ≡ true) [
       | true ↦ λ _.
           list_any-append (is_of t) (met_at q h (suc n)) (flat_map (met_at q h) rest)
           ∙ ap (λ l. list_any (is_of t) l || list_any (is_of t) (flat_map (met_at q h) rest)) spans
           ∙ or_cases before here split
           (λ k. or_right (list_any (is_of t) met_here) (list_any (is_of t) (flat_map (met_at q h) rest)) (later k))
-          (λ k. ap (λ b. b || list_any (is_of t) (flat_map (met_at q h) rest)) (own_spans q t x.batch x.batch.spans k).1)
+          (λ k. ap (λ b. b || list_any (is_of t) (flat_map (met_at q h) rest)) (own_brought q t x.work k).1)
       | false ↦ λ none.
           or_cases before here split later
-          (λ k. absurd (false≢true (sym none ∙ ap (λ (y : List ℕ). same_text y s) is ∙ (own_spans q t x.batch x.batch.spans k).0)))
+          (λ k. absurd (false≢true (sym none ∙ ap (λ (y : List ℕ). same_text y s) is ∙ (own_brought q t x.work k).0)))
     ] refl
 
 -- a span of a shown trace that matches is an arrival
-matched_arrival : (q : Find) (n : ℕ) (ps : List Placed) (t : TraceId) → list_any (matches q) (spans_of_trace n ps t) ≡ true → list_any (is_hit q t) ps ≡ true
-matched_arrival q n ps t e =
+matched_arrival : (q : Find) (n : ℕ) (es : List (Event Placed)) (t : TraceId) → list_any (matches q) (spans_of_trace n es t) ≡ true → list_any (is_hit q t) (without_limits es) ≡ true
+matched_arrival q n es t e =
     let own : Placed → Bool = λ p. same_trace t (trace_of p) in
-    any_lasting (λ p. own p && matches q p) (stands n) [] ps (sym (any_filter (matches q) own (shown n ps)) ∙ e)
+    any_lasting (λ p. own p && matches q p) (stands trace_of n) [] es (sym (any_filter (matches q) own (shown n es)) ∙ e)
 
-covered : (q : Find) (n : ℕ) (h : List Entry) (t : TraceId) → list_any (matches q) (spans_of_trace n (arrivals h) t) ≡ true → reaches (met_along q h (places_of h q.service)) t ≡ true
+covered : (q : Find) (n : ℕ) (h : List Entry) (t : TraceId) → list_any (matches q) (spans_of_trace n (events h) t) ≡ true → reaches (met_along q h (places_of h q.service)) t ≡ true
 covered q n [] t e = absurd (false≢true (matched_arrival q n [] t e))
 covered q n (x ∷ xs) t e =
     let h : List Entry = x ∷ xs in
-    reported q t h x (length h) (omega arith) (ap (λ l. list_any (is_hit q t) (arrivals l)) (take_all (length h) h (omega arith)) ∙ matched_arrival q n (arrivals h) t e)
+    reported q t h x (length h) (omega arith) (ap (λ l. list_any (is_hit q t) (arrivals l)) (take_all (length h) h (omega arith)) ∙ ap (list_any (is_hit q t)) (sym (came_of h)) ∙ matched_arrival q n (events h) t e)
 
 match_among : (q : Find) (f : TraceId → List Placed) (p : TraceId → Bool) → ((t : TraceId) → list_any (matches q) (f t) ≡ true → p t ≡ true) → (r : List TraceId) → matching q (map f (filter p r)) ≡ matching q (map f r)
 match_among q f p h [] = refl
@@ -161,10 +177,10 @@ match_among q f p h (x ∷ xs) =
 
 -- a search finds the same among the traces of the service as among all
 pub found_among : (q : Find) (n : ℕ) (h : List Entry) (service : List ℕ) (r : List TraceId) → q.service ≡ service
-    → found_in q (map (spans_of_trace n (arrivals h)) (filter (reaches (met_along q h (places_of h service))) r)) ≡ found_in q (map (spans_of_trace n (arrivals h)) r)
+    → found_in q (map (spans_of_trace n (events h)) (filter (reaches (met_along q h (places_of h service))) r)) ≡ found_in q (map (spans_of_trace n (events h)) r)
 found_among q n h service r same =
-    ap (λ s. found_in q (map (spans_of_trace n (arrivals h)) (filter (reaches (met_along q h (places_of h s))) r))) (sym same)
-    ∙ ap (λ l. cut q.limit (ranked first_start l)) (match_among q (spans_of_trace n (arrivals h)) (reaches (met_along q h (places_of h q.service))) (covered q n h) r)
+    ap (λ s. found_in q (map (spans_of_trace n (events h)) (filter (reaches (met_along q h (places_of h s))) r))) (sym same)
+    ∙ ap (λ l. cut q.limit (ranked first_start l)) (match_among q (spans_of_trace n (events h)) (reaches (met_along q h (places_of h q.service))) (covered q n h) r)
 
 -- ---- where no arrival has the service, or the operation of the service, nothing is found
 pub nothing_found : (q : Find) → found_in q [] ≡ []
@@ -180,19 +196,19 @@ none_matches q f h [] = refl
 none_matches q f h (x ∷ xs) = ap (λ b. cond b (f x ∷ matching q (map f xs)) (matching q (map f xs))) (h x) ∙ none_matches q f h xs
 
 -- of no arrival the search has the name
-unnamed : (q : Find) (n : ℕ) (ps : List Placed) → list_any (is_named q) ps ≡ false → found_in q (traces n ps) ≡ []
-unnamed q n ps e =
-    ap (λ l. cut q.limit (ranked first_start l)) (none_matches q (spans_of_trace n ps) (λ t. denied (list_any (matches q) (spans_of_trace n ps t)) (list_any (is_named q) ps) (λ m. any_weaker (λ p. same_trace t (trace_of p) && matches q p) (is_named q) (λ p own. name_of p (and_true (same_trace t (trace_of p)) (matches q p) own).1) ps (matched_arrival q n ps t m)) e) (ring n ps))
+unnamed : (q : Find) (n : ℕ) (es : List (Event Placed)) → list_any (is_named q) (without_limits es) ≡ false → found_in q (traces n es) ≡ []
+unnamed q n es e =
+    ap (λ l. cut q.limit (ranked first_start l)) (none_matches q (spans_of_trace n es) (λ t. denied (list_any (matches q) (spans_of_trace n es t)) (list_any (is_named q) (without_limits es)) (λ m. any_weaker (λ p. same_trace t (trace_of p) && matches q p) (is_named q) (λ p own. name_of p (and_true (same_trace t (trace_of p)) (matches q p) own).1) (without_limits es) (matched_arrival q n es t m)) e) (ring n es))
     ∙ nothing_found q
   where
     name_of : (p : Placed) → matches q p ≡ true → is_named q p ≡ true
     name_of p m = first_true (is_named q p) (is_timed q p) (list_all (has_tag p) q.tags) m
 
-pub unknown_service : (q : Find) (n : ℕ) (ps : List Placed) → reports_service q.service ps ≡ false → found_in q (traces n ps) ≡ []
-unknown_service q n ps e = unnamed q n ps (denied (list_any (is_named q) ps) (reports_service q.service ps) (any_weaker (is_named q) (λ p. same_text q.service p.process.service)
-    (λ p m. (and_true (same_text q.service p.process.service) (same_text q.operation [] || same_text q.operation p.span.operation) m).0) ps) e)
+pub unknown_service : (q : Find) (n : ℕ) (es : List (Event Placed)) → reports_service q.service (without_limits es) ≡ false → found_in q (traces n es) ≡ []
+unknown_service q n es e = unnamed q n es (denied (list_any (is_named q) (without_limits es)) (reports_service q.service (without_limits es)) (any_weaker (is_named q) (λ p. same_text q.service p.process.service)
+    (λ p m. (and_true (same_text q.service p.process.service) (same_text q.operation [] || same_text q.operation p.span.operation) m).0) (without_limits es)) e)
 
-pub unknown_operation : (q : Find) (n : ℕ) (ps : List Placed) → same_text q.operation [] ≡ false → reports_operation q.service q.operation ps ≡ false → found_in q (traces n ps) ≡ []
-unknown_operation q n ps asked e = unnamed q n ps (denied (list_any (is_named q) ps) (reports_operation q.service q.operation ps)
+pub unknown_operation : (q : Find) (n : ℕ) (es : List (Event Placed)) → same_text q.operation [] ≡ false → reports_operation q.service q.operation (without_limits es) ≡ false → found_in q (traces n es) ≡ []
+unknown_operation q n es asked e = unnamed q n es (denied (list_any (is_named q) (without_limits es)) (reports_operation q.service q.operation (without_limits es))
     (any_weaker (is_named q) (λ p. same_text q.service p.process.service && same_text q.operation p.span.operation)
-    (λ p m. ap (λ b. same_text q.service p.process.service && (b || same_text q.operation p.span.operation)) (sym asked) ∙ m) ps) e)
+    (λ p m. ap (λ b. same_text q.service p.process.service && (b || same_text q.operation p.span.operation)) (sym asked) ∙ m) (without_limits es)) e)

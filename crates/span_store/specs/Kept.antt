@@ -1,21 +1,27 @@
 -- What a store keeps beside its list of entries.
-use Rattle.std.specs.Prelude.{◌≡◌, ◌≤◌, ℕ, List, length}
+use Rattle.std.specs.Prelude.{◌≡◌, ◌<◌, ◌≤◌, ℕ, List, length}
 use Rattle.jaeger_model.specs.declared.ids.TraceId.{TraceId}
 use Rattle.jaeger_model.specs.declared.placed.Placed.{Placed}
 use Rattle.trace_model.specs.Histories.{span_count}
 use Rattle.trace_model.specs.Held.{Held}
-use Rattle.trace_model.specs.Showing.{ring}
+use Rattle.trace_model.specs.Events.{Event}
+use Rattle.trace_model.specs.Showing.{ring, limit_after}
 use Rattle.trace_ring.specs.Windows.{Window}
 use Rattle.trace_assembly.specs.declared.spot.Spot.{Spot}
 use Rattle.trace_assembly.specs.Rows.{Assembled, spots_of}
-use Rattle.trace_assembly.specs.Located.{located, spans_in, shown_spots}
+use Rattle.trace_assembly.specs.Located.{located, events_in, shown_spots}
 use Rattle.service_places.specs.Reported.{Reported, IsKept as PlacesKept}
 use Rattle.arrival_names.specs.Kept.{Kept as Names, IsKept as NamesKept}
 
--- the ring is that of these arrivals, and each trace has the spots of its shown spans
-pub record Follows (n : ℕ) (ls : List (Spot × Placed)) (ids : List TraceId) (spots_at : TraceId → List Spot) : Type 0 where
-  pub ring : ids ≡ ring n (spans_in ls)
-  pub spots : (t : TraceId) → spots_at t ≡ shown_spots n ls t
+-- the ring and its limit are those of these events, where the limit was n before them, and each trace has the spots of its shown spans
+pub record Follows (n : ℕ) (es : List (Event (Spot × Placed))) (newest : Window) (spots_at : TraceId → List Spot) : Type 0 where
+  pub limit : newest.limit ≡ limit_after n (events_in es)
+  pub ring : newest.ids ≡ ring n (events_in es)
+  pub spots : (t : TraceId) → spots_at t ≡ shown_spots n es t
+
+-- no more traces are in the ring than its limit lets stay
+abbrev pub IsWithin : Window → Type 0
+IsWithin newest = 0 < newest.limit → length newest.ids ≤ newest.limit
 
 -- the names of the entries are kept, with room for all that may come
 pub record IsNamed (held : Held) (names : Names) : Type 0 where
@@ -31,11 +37,10 @@ pub record IsPlaced (held : Held) (reported : Reported) : Type 0 where
 
 -- ring, spots, names and the places of services are those of the entries, and there is room for all spans that may come and for their traces
 pub record IsKept (held : Held) (newest : Window) (spots : Assembled) (names : Names) (reported : Reported) : Type 0 where
-  pub limit : newest.limit ≡ held.limits.traces
   pub room : newest.room ≡ held.limits.spans
   pub few : length newest.seen ≤ span_count held.entries
   pub spots_room : spots.room ≡ held.limits.spans
   pub spots_used : spots.used ≡ span_count held.entries
-  pub follows : Follows newest.limit (located held.entries) newest.ids (spots_of spots)
+  pub follows : Follows held.limits.traces (located held.entries) newest (spots_of spots)
   pub named : IsNamed held names
   pub placed : IsPlaced held reported

@@ -5,13 +5,13 @@ ghost use Rattle.trace_model.specs.Adjusting.{adjusted};
 ghost use Rattle.trace_model.specs.Linking.{links};
 ghost use Rattle.trace_model.specs.Searching.{found_in, ids_of};
 ghost use Rattle.journal_traces.specs.Given.{given_traces};
-ghost use Rattle.journal_traces.specs.Looked.{traces_of};
+ghost use Rattle.journal_traces.specs.Looked.{traces_of, query_of};
 
 use jaeger_model::{Seen, Seq, TraceId};
 use journal_traces::{Candidates, gather};
 use std::alloc::{AllocError, Global};
 use trace_adjust::adjusted;
-use trace_model::{Find, Link, Shown};
+use trace_model::{Link, Shown};
 
 /// The trace at a place as it is shown, without spans where there is none.
 fn adjusted_at(
@@ -26,8 +26,8 @@ fn adjusted_at(
     let Some(spots) = traces.spots.get(place) else {
         return Ok(Seq::new(alloc));
     };
-    let spans = gather(alloc, traces.journal, spots.again())?;
-    let shown = adjusted(alloc, spans, max_skew)?;
+    let gathered = gather(alloc, traces.journal, spots.again())?;
+    let shown = adjusted(alloc, gathered.spans, &gathered.places, max_skew)?;
     Ok(Seq::from_vec(shown))
 }
 
@@ -53,26 +53,22 @@ fn adjusted_traces(
 pub(crate) fn find(
     alloc: Global,
     traces: &Candidates<'_>,
-    query: &Find,
     max_skew: u64,
 ) -> Result<Vec<Seq<Shown>>, AllocError>
     ensures { IfOk result (λ v. v.items ≡
-        map (adjusted max_skew) (found_in query.now (traces_of traces.now))) }
+        map (adjusted max_skew) (found_in (query_of traces.now) (traces_of traces.now))) }
 {
-    let places = find_traces::find(alloc, traces, query)?;
+    let places = find_traces::find(alloc, traces)?;
     let shown = adjusted_traces(alloc, traces, &places, max_skew)?;
     Ok(shown)
 }
 
 /// The ids of the traces that a search finds.
-pub(crate) fn find_ids(
-    alloc: Global,
-    traces: &Candidates<'_>,
-    query: &Find,
-) -> Result<Vec<TraceId>, AllocError>
-    ensures { IfOk result (λ v. v.items ≡ ids_of (found_in query.now (traces_of traces.now))) }
+pub(crate) fn find_ids(alloc: Global, traces: &Candidates<'_>) -> Result<Vec<TraceId>, AllocError>
+    ensures { IfOk result (λ v. v.items ≡
+        ids_of (found_in (query_of traces.now) (traces_of traces.now))) }
 {
-    let ids = find_traces::find_ids(alloc, traces, query)?;
+    let ids = find_traces::find_ids(alloc, traces)?;
     Ok(ids)
 }
 

@@ -5,20 +5,22 @@ ghost use Rattle.std.specs.Result.{result_err};
 ghost use Rattle.trace_model.specs.declared.query.Query.TheVariants as ask;
 ghost use Rattle.trace_model.specs.declared.refusal.Refusal.TheVariants.{NoMemory};
 ghost use Rattle.trace_model.specs.Answers.{answer, shown_as};
-ghost use Rattle.trace_model.specs.Histories.{IsLegal, arrivals};
+ghost use Rattle.trace_model.specs.Histories.{IsLegal, events};
 ghost use Rattle.trace_model.specs.Linking.{links};
 ghost use Rattle.trace_model.specs.Searching.{traces, found_in};
 ghost use Rattle.trace_model.specs.Showing.{ring};
 ghost use Rattle.trace_model.specs.Refusals.{followed_by};
 ghost use Rattle.arrival_journal.specs.Journals.{refusal_by};
 ghost use Rattle.trace_assembly.specs.Located.{located, shown_spots};
+ghost use Rattle.trace_adjust.specs.Hosts.{ShareProcesses};
 ghost use Rattle.journal_traces.specs.Given.{given_traces};
 ghost use Rattle.journal_traces.specs.Standing.{traces_named};
 
-use crate::arrange::arrange;
+use crate::arrange::follow;
 use crate::finding;
 use arrival_journal::Journal;
 use arrival_names::ArrivalNames;
+use find_traces::Wanted;
 use jaeger_model::{Placed, Seen, Seq, Text, TraceId};
 use journal_traces::{Candidates, gather, ring_ids, see_within, spots_along};
 use service_places::ServicePlaces;
@@ -137,11 +139,13 @@ impl SpanStore {
         ensures legal { IsLegal self.new.limits self.new.entries }
     {
         self.journal.judge(&entry)?;
-        arrange(&self.journal, &mut self.ring, &mut self.assembly, &entry);
+        let place = self.journal.len() + 1;
+        follow(&entry, place, &mut self.ring, &mut self.assembly);
         self.journal.append(entry);
-        self.names.add(self.journal.entries());
-        self.reported.add(self.journal.entries());
-        Ok(self.journal.len())
+        let entries = self.journal.entries();
+        self.reported.add(entries);
+        self.names.add(entries, &self.reported);
+        Ok(place)
     }
 
     /// The traces that are shown, the one opened longest ago first.
@@ -151,7 +155,7 @@ impl SpanStore {
     /// Out of memory, and nothing else.
     pub fn trace_ids(&self) -> Result<Vec<TraceId>, AllocError>
         ensures { IfOk result (λ v. v.items ≡
-            ring self.now.limits.traces (arrivals self.now.entries)) }
+            ring self.now.limits.traces (events self.now.entries)) }
     {
         ring_ids(self.alloc, &self.ring)
     }
@@ -191,7 +195,7 @@ impl SpanStore {
     fn services(&self) -> Result<Answer, AllocError>
         ensures { IfOk result (λ a. a ≡ answer self.now.limits self.now.entries ask.Services) }
     {
-        let names = self.names.services(self.journal.entries())?;
+        let names = self.names.services(self.journal.entries(), &self.reported)?;
         Ok(Answer::Names(Seq::from_vec(names)))
     }
 
@@ -200,7 +204,9 @@ impl SpanStore {
         ensures { IfOk result (λ a. a ≡ answer self.now.limits self.now.entries
             (ask.OperationNames service.now)) }
     {
-        let names = self.names.operation_names(self.journal.entries(), service)?;
+        let names = self
+            .names
+            .operation_names(self.journal.entries(), &self.reported, service)?;
         Ok(Answer::Names(Seq::from_vec(names)))
     }
 
@@ -211,7 +217,7 @@ impl SpanStore {
     {
         let found = self
             .names
-            .operations(self.journal.entries(), service, kind)?;
+            .operations(self.journal.entries(), &self.reported, service, kind)?;
         Ok(Answer::Operations(Seq::from_vec(found)))
     }
 
@@ -219,24 +225,26 @@ impl SpanStore {
     /// for one. Where none is, nothing is found.
     fn may_find(&self, query: &Find) -> bool
         ensures { OnFalse result
-            (found_in query.now (traces self.now.limits.traces (arrivals self.now.entries)) ≡ []) }
+            (found_in query.now (traces self.now.limits.traces (events self.now.entries)) ≡ []) }
     {
         let entries = self.journal.entries();
         let service = query.service.as_str();
-        if query.operation.as_str() == "" {
-            return self.names.knows_service(entries, service);
+        let operation = query.operation.as_str();
+        if operation == "" {
+            return self.names.knows_service(entries, &self.reported, service);
         }
         self.names
-            .knows_operation(entries, service, query.operation.as_str())
+            .knows_operation(entries, &self.reported, service, operation)
     }
 
     /// The spots of the shown traces of which entries of the search's service have a span that meets the
     /// search, those of the one opened longest ago first: the search finds the same among these traces as
     /// among all.
-    fn candidates(&self, query: &Find) -> Result<Vec<Spots<'_>>, AllocError>
-        ensures { IfOk result (λ v. found_in query.now (traces_named self.now.entries v.items) ≡
-            found_in query.now (traces self.now.limits.traces (arrivals self.now.entries))) }
+    fn candidates(&self, wanted: &Wanted<'_>) -> Result<Vec<Spots<'_>>, AllocError>
+        ensures { IfOk result (λ v. found_in wanted.now (traces_named self.now.entries v.items) ≡
+            found_in wanted.now (traces self.now.limits.traces (events self.now.entries))) }
     {
+        let query = wanted.query();
         if !self.may_find(query) {
             return Ok(Vec::new(self.alloc));
         }
@@ -249,7 +257,7 @@ impl SpanStore {
             &self.assembly,
             &self.journal,
             places,
-            query,
+            wanted,
         )?;
         Ok(spots)
     }
@@ -259,12 +267,14 @@ impl SpanStore {
         ensures { IfOk result (λ a. a ≡ answer self.now.limits self.now.entries
             (ask.Find query.now)) }
     {
-        let spots = self.candidates(query)?;
+        let wanted = Wanted::new(self.alloc, query)?;
+        let spots = self.candidates(&wanted)?;
         let traces = Candidates {
             journal: &self.journal,
+            wanted: &wanted,
             spots: &spots,
         };
-        let found = finding::find(self.alloc, &traces, query, self.limits().max_skew)?;
+        let found = finding::find(self.alloc, &traces, self.limits().max_skew)?;
         Ok(Answer::Traces(Seq::from_vec(found)))
     }
 
@@ -273,12 +283,14 @@ impl SpanStore {
         ensures { IfOk result (λ a. a ≡ answer self.now.limits self.now.entries
             (ask.FindIds query.now)) }
     {
-        let spots = self.candidates(query)?;
+        let wanted = Wanted::new(self.alloc, query)?;
+        let spots = self.candidates(&wanted)?;
         let traces = Candidates {
             journal: &self.journal,
+            wanted: &wanted,
             spots: &spots,
         };
-        let ids = finding::find_ids(self.alloc, &traces, query)?;
+        let ids = finding::find_ids(self.alloc, &traces)?;
         Ok(Answer::Ids(Seq::from_vec(ids)))
     }
 
@@ -286,7 +298,7 @@ impl SpanStore {
     /// from whose calls services are seen to call one another there.
     fn traces_within(&self, end_ms: i64, lookback_ms: i64) -> Result<Vec<Vec<Seen<'_>>>, AllocError>
         ensures { IfOk result (λ v. links end_ms lookback_ms (given_traces v.items) ≡
-            links end_ms lookback_ms (traces self.now.limits.traces (arrivals self.now.entries))) }
+            links end_ms lookback_ms (traces self.now.limits.traces (events self.now.entries))) }
     {
         let ids = ring_ids(self.alloc, &self.ring)?;
         let traces = see_within(
@@ -319,23 +331,33 @@ impl SpanStore {
         if spots.is_empty() {
             return Ok(Answer::Trace(None));
         }
-        let spans = gather(self.alloc, &self.journal, spots)?;
-        let shown = shown_as(self.alloc, spans, self.limits(), raw)?;
+        let gathered = gather(self.alloc, &self.journal, spots)?;
+        let shown = shown_as(
+            self.alloc,
+            gathered.spans,
+            &gathered.places,
+            self.limits(),
+            raw,
+        )?;
         Ok(Answer::Trace(Some(shown)))
     }
 }
 
-/// The spans of a trace as they are shown: as they arrived where `raw` is asked, else adjusted.
+/// The spans of a trace, which the entries at these places brought, as they are shown: as they arrived
+/// where `raw` is asked, else adjusted.
 fn shown_as(
     alloc: Global,
     spans: Vec<Placed>,
+    places: &[u64],
     limits: Limits,
     raw: bool,
 ) -> Result<Seq<Shown>, AllocError>
+    requires { ShareProcesses spans.items places.now }
     ensures { IfOk result (λ s. s ≡ shown_as limits raw spans.items) }
 {
     if raw {
         return all_unadjusted(alloc, spans);
     }
-    Ok(Seq::from_vec(adjusted(alloc, spans, limits.max_skew)?))
+    let shown = adjusted(alloc, spans, places, limits.max_skew)?;
+    Ok(Seq::from_vec(shown))
 }

@@ -4,7 +4,7 @@ use Rattle.std.specs.List.{concat}
 use Rattle.std.specs.Str.{is_utf8}
 use Rattle.jaeger_model.specs.Texts.{same_text}
 use Rattle.schedule_core.specs.declared.step.Step.{Step}
-use Rattle.schedule_core.specs.declared.step.Step.TheVariants.{Put, Take, Publish, Enter, Read, Learn, Leave}
+use Rattle.schedule_core.specs.declared.step.Step.TheVariants.{Put, Limit, Take, Publish, Enter, Read, Learn, Leave}
 use Rattle.step_lines.specs.declared.fault.StepFault.{StepFault}
 use Rattle.step_lines.specs.declared.fault.StepFault.TheVariants.{BadStep}
 use Rattle.step_lines.specs.declared.verb.Verb.{Verb}
@@ -71,6 +71,14 @@ learn_of words = do
   k ← number_in both.1
   Ok (Learn r k)
 
+-- a seat and a limit
+unfoldable pub limit_of : List (List ℕ) → Result Step StepFault
+limit_of words = do
+  both ← two_words words
+  s ← number_in both.0
+  n ← number_in both.1
+  Ok (Limit s n)
+
 -- the step of a number
 abbrev pub with_number : (ℕ → Step) → Result ℕ StepFault → Result Step StepFault
 with_number step number = number >>= λ n. Ok (step n)
@@ -79,6 +87,7 @@ with_number step number = number >>= λ n. Ok (step n)
 abbrev pub verb_in : List ℕ → Result Verb StepFault
 verb_in word =
     if same_text word (codes "put") then Ok verb.Put
+    else if same_text word (codes "limit") then Ok verb.Limit
     else if same_text word (codes "take") then Ok verb.Take
     else if same_text word (codes "publish") then Ok verb.Publish
     else if same_text word (codes "enter") then Ok verb.Enter
@@ -90,6 +99,7 @@ verb_in word =
 -- the step of a first word and the words behind it
 abbrev pub step_by : Verb → List (List ℕ) → Result Step StepFault
 step_by verb.Put words = put_of words
+step_by verb.Limit words = limit_of words
 step_by verb.Take words = alone Take words
 step_by verb.Publish words = alone Publish words
 step_by verb.Enter words = with_number Enter (one_number words)

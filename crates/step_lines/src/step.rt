@@ -2,7 +2,7 @@
 ghost use Rattle.std.specs.Prelude.{◌≡◌, IfOk, map};
 ghost use Rattle.std.specs.List.{concat};
 ghost use Rattle.query_http.specs.Paths.{endpoint_rows};
-ghost use Rattle.step_lines.specs.Steps.{alone, if_any, put_of, one_number, read_of, learn_of, step_by, step_of, step_in, two_words};
+ghost use Rattle.step_lines.specs.Steps.{alone, if_any, limit_of, put_of, one_number, read_of, learn_of, step_by, step_of, step_in, two_words};
 ghost use Rattle.step_lines.specs.Reading.{Reads};
 ghost use Rattle.step_lines.specs.Words.{words_of as words_in};
 
@@ -40,6 +40,17 @@ fn read_put(alloc: Global, words: &[&[u8]]) -> Result<Step, Stop>
     let text = joined(alloc, hex)?;
     let batch = read_batch(alloc, text.as_slice())?;
     Ok(Step::Put { seat, batch })
+}
+
+/// A limit that a seat hands in.
+#[tactic(auto, unfolding(crate::specs::Steps::limit_of))]
+fn read_limit(words: &[&[u8]]) -> Result<Step, Stop>
+    ensures { Reads (λ s. s) result (limit_of (map (λ w. w.now) words.now)) }
+{
+    let (seat, limit) = two_words(words)?;
+    let seat = read_number(seat)?;
+    let limit = read_number(limit)?;
+    Ok(Step::Limit { seat, limit })
 }
 
 /// A step of one word, with no word behind it.
@@ -109,6 +120,7 @@ fn read_by(
 {
     match verb {
         Verb::Put => read_put(alloc, words),
+        Verb::Limit => read_limit(words),
         Verb::Take => Ok(read_alone(Step::Take, words)?),
         Verb::Publish => Ok(read_alone(Step::Publish, words)?),
         Verb::Enter => {

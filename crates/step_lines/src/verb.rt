@@ -8,6 +8,7 @@ use crate::fault::StepFault;
 #[derive(Clone, Copy)]
 pub(crate) enum Verb {
     Put,
+    Limit,
     Take,
     Publish,
     Enter,
@@ -21,6 +22,7 @@ pub(crate) fn read_verb(word: &[u8]) -> Result<Verb, StepFault>
 {
     match word {
         b"put" => Ok(Verb::Put),
+        b"limit" => Ok(Verb::Limit),
         b"take" => Ok(Verb::Take),
         b"publish" => Ok(Verb::Publish),
         b"enter" => Ok(Verb::Enter),

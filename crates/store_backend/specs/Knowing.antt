@@ -2,6 +2,7 @@
 use Rattle.std.specs.Prelude.{◌≡◌, ℕ, ◌+◌, List, ◌∷◌, ◌++◌, length, Result, Ok, Err}
 use Rattle.jaeger_model.specs.declared.batch.Batch.{Batch}
 use Rattle.trace_model.specs.declared.entry.Entry.{Entry}
+use Rattle.trace_model.specs.declared.entry.Work.TheVariants as brings
 use Rattle.trace_model.specs.declared.limits.Limits.{Limits}
 use Rattle.trace_model.specs.declared.query.Query.{Query}
 use Rattle.trace_model.specs.declared.answer.Answer.{Answer}
@@ -22,7 +23,7 @@ pub record HasAt (h : History) (place : ℕ) (batch : Batch) : Type 0 where
   pub entry : Entry
   pub after : History
   pub whole : h ≡ before ++ entry ∷ after
-  pub batch_is : entry.batch ≡ batch
+  pub work_is : entry.work ≡ brings.Batch batch
   pub place_is : place ≡ length before + 1
 
 -- what is known stays known, under the same limits

@@ -8,6 +8,7 @@ use Rattle.trace_model.specs.declared.limits.Limits.{Limits}
 use Rattle.trace_model.specs.declared.refusal.Refusal.{Refusal}
 use Rattle.trace_model.specs.declared.refusal.Refusal.TheVariants.{JournalFull, Stale}
 use Rattle.trace_model.specs.Refusals.{refusal_of, has_room}
+use Rattle.trace_model.specs.Works.{spans_brought}
 use Rattle.trace_model.specs.Histories.{last_number, span_count, IsLegal, AboveEach, RisesAfter}
 use Rattle.trace_model.proofs.Legality.{rises_pushed, above_last, above_each, span_count_push, legal_push, rises_front, legal_front}
 use Rattle.store_laws.specs.Splits.{RisesBySplits}
@@ -40,25 +41,25 @@ refused_none false false x y e = absurd cc
 refused_none true b x y e = absurd cc
 
 -- an entry above its seat's last number, for which there is room, is refused by nothing
-pub taken : (limits : Limits) (h : List Entry) (e : Entry) → last_number e.seat h < e.number → length h < limits.batches → span_count h + length e.batch.spans ≤ limits.spans → refusal_of limits h e ≡ None
+pub taken : (limits : Limits) (h : List Entry) (e : Entry) → last_number e.seat h < e.number → length h < limits.batches → span_count h + length (spans_brought e.work) ≤ limits.spans → refusal_of limits h e ≡ None
 taken limits h e n b s =
     none_refused (nat_le e.number (last_number e.seat h)) (has_room limits h e) _ _ (lt-leb e.number (last_number e.seat h) n)
-    (both_is (nat_le (length h + 1) limits.batches) _ (le-leb (length h + 1) limits.batches (omega arith)) (le-leb (span_count h + length e.batch.spans) limits.spans s))
+    (both_is (nat_le (length h + 1) limits.batches) _ (le-leb (length h + 1) limits.batches (omega arith)) (le-leb (span_count h + length (spans_brought e.work)) limits.spans s))
 
 pub record MayFollow (limits : Limits) (h : List Entry) (e : Entry) : Type 0 where
   pub number : last_number e.seat h < e.number
   pub batches : length h < limits.batches
-  pub spans : span_count h + length e.batch.spans ≤ limits.spans
+  pub spans : span_count h + length (spans_brought e.work) ≤ limits.spans
 
 -- what it says that nothing refuses an entry
 pub may_follow : (limits : Limits) (h : List Entry) (e : Entry) → refusal_of limits h e ≡ None → MayFollow limits h e
 may_follow limits h e none =
     let tests = refused_none (nat_le e.number (last_number e.seat h)) (has_room limits h e) (Stale (last_number e.seat h)) (JournalFull (length h) (span_count h)) none in
-    let room = both_true (nat_le (length h + 1) limits.batches) (nat_le (span_count h + length e.batch.spans) limits.spans) tests.1 in
+    let room = both_true (nat_le (length h + 1) limits.batches) (nat_le (span_count h + length (spans_brought e.work)) limits.spans) tests.1 in
     record {
       number = leb-false e.number (last_number e.seat h) tests.0;
       batches = let b = leb-true (length h + 1) limits.batches room.0 in omega arith;
-      spans = leb-true (span_count h + length e.batch.spans) limits.spans room.1;
+      spans = leb-true (span_count h + length (spans_brought e.work)) limits.spans room.1;
     }
 
 -- a legal list stays legal with an entry that nothing refuses

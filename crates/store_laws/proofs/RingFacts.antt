@@ -1,6 +1,6 @@
 -- What holds of every ring, and of what is found.
-use Rattle.std.proofs.Common.{◌≡◌, ℕ, suc, zero, ◌-◌, ◌<◌, ◌≤◌, Bool, true, false, cond, List, [], ◌∷◌, ◌++◌, length, drop, Some, None, inl, inr, refl, sym, ap, subst, arith, length-append}
-use Rattle.std.specs.Prelude.{filter, if◌then◌else◌}
+use Rattle.std.proofs.Common.{◌≡◌, ℕ, suc, zero, ◌-◌, ◌<◌, ◌≤◌, Bool, true, false, cond, List, [], ◌∷◌, ◌++◌, length, drop, map, Some, None, inl, inr, refl, sym, ap, subst, ◌∙◌, arith, length-append}
+use Rattle.std.specs.Prelude.{filter, fold, if◌then◌else◌}
 use Rattle.std.specs.List.{All, IsDistinct, list_all}
 use Rattle.std.specs.Bool.{Decides}
 use Rattle.std.specs.Cmp.{decided}
@@ -10,11 +10,12 @@ use Rattle.std.proofs.lemmas.Map.Keys.{IsDistinct-push, IsDistinct-tail}
 use Rattle.jaeger_model.specs.declared.ids.TraceId.{TraceId}
 use Rattle.jaeger_model.specs.declared.placed.Placed.{Placed}
 use Rattle.jaeger_model.specs.Parents.{same_trace}
-use Rattle.trace_model.specs.Rings.{holds, newest, arrive}
+use Rattle.trace_model.specs.Rings.{holds, newest, arrive, LimitedRing, ring_step}
 use Rattle.store_laws.specs.Subsequences.{IsSubsequence}
-use Rattle.trace_model.specs.Showing.{trace_of, ring, longer_beginnings, lasting_after, stands, shown, spans_of_trace, if_any, trace_found}
-use Rattle.trace_model.proofs.Shows.{by_pushes, ring_push}
-use Rattle.trace_model.proofs.Traces.{same_is, same_self, spans_gone, has_spans}
+use Rattle.trace_model.specs.Events.{Event, came, limited, without_limits}
+use Rattle.trace_model.specs.Showing.{trace_of, ring, limit_after, longer_beginnings, lasting_after, stands, shown, spans_of_trace, if_any, trace_found}
+use Rattle.trace_model.proofs.Shows.{by_pushes, ring_came, ring_limited}
+use Rattle.trace_model.proofs.Traces.{same_is, same_self, spans_gone, spans_limited, has_spans}
 
 pub same_trace-decides : (a b : TraceId) → Decides (same_trace a b) (a ≡ b)
 same_trace-decides a b = (same_is a b, λ e. subst (λ x. same_trace a x ≡ true) e (same_self a))
@@ -40,34 +41,33 @@ none_distinct : IsDistinct same_trace []
 unfolding IsDistinct
 none_distinct = tt
 
-pub ring_distinct : (n : ℕ) (ps : List Placed) → IsDistinct same_trace (ring n ps)
-ring_distinct n = by_pushes (λ ps. IsDistinct same_trace (ring n ps)) none_distinct (λ ps p d. subst (IsDistinct same_trace) (sym (ring_push n ps p)) (distinct_arrive n (ring n ps) (trace_of p) d))
-
-pub short_arrive : (n : ℕ) (r : List TraceId) (t : TraceId) → length r ≤ suc n → length (arrive (suc n) r t) ≤ suc n
-short_arrive n r t l = elim (holds r t) as (λ b. length (if b then r else newest (suc n) (r ++ t ∷ [])) ≤ suc n) [
-  | true ↦ l
-  | false ↦ omega (arith, length-drop (length (r ++ t ∷ []) - suc n) (r ++ t ∷ []), length-append r (t ∷ []))
-]
-
--- under a limit the ring is no longer than the limit
-ring_short_suc : (n : ℕ) (ps : List Placed) → length (ring (suc n) ps) ≤ suc n
-ring_short_suc n = by_pushes (λ ps. length (ring (suc n) ps) ≤ suc n) (omega arith) (λ ps p l. subst (λ (r : List TraceId). length r ≤ suc n) (sym (ring_push (suc n) ps p)) (short_arrive n (ring (suc n) ps) (trace_of p) l))
-
-pub ring_short : (n : ℕ) (ps : List Placed) → 0 < n → length (ring n ps) ≤ n
-ring_short zero ps z = absurd (omega arith)
-ring_short (suc n) ps z = ring_short_suc n ps
+pub ring_distinct : (n : ℕ) (es : List (Event Placed)) → IsDistinct same_trace (ring n es)
+ring_distinct n = by_pushes (λ es. IsDistinct same_trace (ring n es)) none_distinct go
+  where
+    go : (es : List (Event Placed)) (e : Event Placed) → IsDistinct same_trace (ring n es) → IsDistinct same_trace (ring n (es ++ e ∷ []))
+    go es (came p) d = subst (IsDistinct same_trace) (sym (ring_came n es p)) (distinct_arrive (limit_after n es) (ring n es) (trace_of p) d)
+    go es (limited m) d = subst (IsDistinct same_trace) (sym (ring_limited n es m)) (distinct_newest m (ring n es) d)
 
 -- ---- what is found
 subsequence_skip : {X : Type 0} (xs ys : List X) (y : X) → IsSubsequence xs ys → IsSubsequence xs (y ∷ ys)
 subsequence_skip [] ys y s = tt
 subsequence_skip (x ∷ xs) ys y s = inr s
 
-lasting_subsequence : {X : Type 0} (keeps : List X → X → Bool) (before rest : List X) → IsSubsequence (lasting_after keeps before rest) rest
+subsequence_came : {A : Type 0} (xs : List A) (es : List (Event A)) (e : Event A) → IsSubsequence xs (without_limits es) → IsSubsequence xs (without_limits (e ∷ es))
+subsequence_came xs es (came x) s = subsequence_skip xs (without_limits es) x s
+subsequence_came xs es (limited m) s = s
+
+subsequence_own : {A : Type 0} (xs es : List (Event A)) (e : Event A) → IsSubsequence (without_limits xs) (without_limits es) → IsSubsequence (without_limits (e ∷ xs)) (without_limits (e ∷ es))
+subsequence_own xs es (came x) s = inl (refl, s)
+subsequence_own xs es (limited m) s = s
+
+lasting_subsequence : {A : Type 0} (keeps : List (Event A) → Event A → Bool) (before rest : List (Event A)) → IsSubsequence (without_limits (lasting_after keeps before rest)) (without_limits rest)
 lasting_subsequence keeps before [] = tt
-lasting_subsequence keeps before (x ∷ rest) =
-    elim (list_all (λ xs. keeps xs x) (longer_beginnings before (x ∷ rest))) as (λ b. IsSubsequence (if b then x ∷ lasting_after keeps (before ++ x ∷ []) rest else lasting_after keeps (before ++ x ∷ []) rest) (x ∷ rest)) [
-      | true ↦ inl (refl, lasting_subsequence keeps (before ++ x ∷ []) rest)
-      | false ↦ subsequence_skip (lasting_after keeps (before ++ x ∷ []) rest) rest x (lasting_subsequence keeps (before ++ x ∷ []) rest)
+lasting_subsequence keeps before (e ∷ rest) =
+    let later = lasting_after keeps (before ++ e ∷ []) rest in
+    elim (list_all (λ xs. keeps xs e) (longer_beginnings before (e ∷ rest))) as (λ b. IsSubsequence (without_limits (if b then e ∷ later else later)) (without_limits (e ∷ rest))) [
+      | true ↦ subsequence_own later rest e (lasting_subsequence keeps (before ++ e ∷ []) rest)
+      | false ↦ subsequence_came (without_limits later) rest e (lasting_subsequence keeps (before ++ e ∷ []) rest)
     ]
 
 subsequence_filter : {X : Type 0} (f : X → Bool) (xs ys : List X) → IsSubsequence xs ys → IsSubsequence (filter f xs) ys
@@ -79,32 +79,60 @@ subsequence_filter f (x ∷ xs) (y ∷ ys) (inl s) = elim (f x) as (λ b. IsSubs
 ]
 subsequence_filter f (x ∷ xs) (y ∷ ys) (inr s) = subsequence_skip (filter f (x ∷ xs)) ys y (subsequence_filter f (x ∷ xs) ys s)
 
-pub shown_subsequence : (n : ℕ) (ps : List Placed) → IsSubsequence (shown n ps) ps
-shown_subsequence n ps = lasting_subsequence (stands n) [] ps
+pub shown_subsequence : (n : ℕ) (es : List (Event Placed)) → IsSubsequence (shown n es) (without_limits es)
+shown_subsequence n es = lasting_subsequence (stands trace_of n) [] es
 
 found_is : {X : Type 0} (xs spans : List X) → if_any xs ≡ Some spans → (xs ≡ spans) × (0 < length spans)
 found_is [] spans e = absurd cc
 found_is (x ∷ xs) spans e = let same : x ∷ xs ≡ spans = cc e in (same, subst (λ l. 0 < length l) same (omega arith))
 
 -- the spans found are some of the arrivals, in their order
-pub found_subsequence : (n : ℕ) (ps : List Placed) (t : TraceId) (spans : List Placed) → trace_found n ps t ≡ Some spans → IsSubsequence spans ps
-found_subsequence n ps t spans e =
-    subst (λ l. IsSubsequence l ps) (found_is (spans_of_trace n ps t) spans e).0 (subsequence_filter (λ p. same_trace t (trace_of p)) (shown n ps) ps (shown_subsequence n ps))
+pub found_subsequence : (n : ℕ) (es : List (Event Placed)) (t : TraceId) (spans : List Placed) → trace_found n es t ≡ Some spans → IsSubsequence spans (without_limits es)
+found_subsequence n es t spans e =
+    subst (λ l. IsSubsequence l (without_limits es)) (found_is (spans_of_trace n es t) spans e).0 (subsequence_filter (λ p. same_trace t (trace_of p)) (shown n es) (without_limits es) (shown_subsequence n es))
 
-pub found_own : (n : ℕ) (ps : List Placed) (t : TraceId) (spans : List Placed) → trace_found n ps t ≡ Some spans → All (λ p. trace_of p ≡ t) spans
-found_own n ps t spans e =
-    subst (All (λ p. trace_of p ≡ t)) (found_is (spans_of_trace n ps t) spans e).0
-    (λ k d l. sym (same_is t _ (filter_passes (λ p. same_trace t (trace_of p)) (shown n ps) k d l)))
+pub found_own : (n : ℕ) (es : List (Event Placed)) (t : TraceId) (spans : List Placed) → trace_found n es t ≡ Some spans → All (λ p. trace_of p ≡ t) spans
+found_own n es t spans e =
+    subst (All (λ p. trace_of p ≡ t)) (found_is (spans_of_trace n es t) spans e).0
+    (λ k d l. sym (same_is t _ (filter_passes (λ p. same_trace t (trace_of p)) (shown n es) k d l)))
 
-pub found_some : (n : ℕ) (ps : List Placed) (t : TraceId) (spans : List Placed) → trace_found n ps t ≡ Some spans → 0 < length spans
-found_some n ps t spans e = (found_is (spans_of_trace n ps t) spans e).1
+pub found_some : (n : ℕ) (es : List (Event Placed)) (t : TraceId) (spans : List Placed) → trace_found n es t ≡ Some spans → 0 < length spans
+found_some n es t spans e = (found_is (spans_of_trace n es t) spans e).1
 
-pub not_found : (n : ℕ) (ps : List Placed) (t : TraceId) → holds (ring n ps) t ≡ false → trace_found n ps t ≡ None
-not_found n ps t e = ap if_any (spans_gone n ps t e)
+pub not_found : (n : ℕ) (es : List (Event Placed)) (t : TraceId) → holds (ring n es) t ≡ false → trace_found n es t ≡ None
+not_found n es t e = ap if_any (spans_gone n es t e)
 
 any_found : {X : Type 0} (xs : List X) → 0 < length xs → if_any xs ≡ Some xs
 any_found [] l = absurd (omega arith)
 any_found (x ∷ xs) l = refl
 
-pub found : (n : ℕ) (ps : List Placed) (t : TraceId) → holds (ring n ps) t ≡ true → trace_found n ps t ≡ Some (spans_of_trace n ps t)
-found n ps t e = any_found (spans_of_trace n ps t) (has_spans n t ps e)
+pub found : (n : ℕ) (es : List (Event Placed)) (t : TraceId) → holds (ring n es) t ≡ true → trace_found n es t ≡ Some (spans_of_trace n es t)
+found n es t e = any_found (spans_of_trace n es t) (has_spans n t es e)
+
+-- ---- limits that change nothing, and no limits
+drop_none : (k : ℕ) (r : List TraceId) → k ≡ 0 → drop k r ≡ r
+drop_none zero r e = refl
+drop_none (suc k) r e = absurd (omega arith)
+
+newest_all : (m : ℕ) (r : List TraceId) → (0 < m → length r ≤ m) → newest m r ≡ r
+newest_all zero r short = refl
+newest_all (suc m) r short = let fits : length r ≤ suc m = short (omega arith) in drop_none (length r - suc m) r (omega arith)
+
+pub raised_ring : (n : ℕ) (es : List (Event Placed)) (m : ℕ) → (0 < m → length (ring n es) ≤ m) → ring n (es ++ limited m ∷ []) ≡ ring n es
+raised_ring n es m short = ring_limited n es m ∙ newest_all m (ring n es) short
+
+held_or_gone : (n : ℕ) (es : List (Event Placed)) (t : TraceId) (b : Bool) → holds (ring n es) t ≡ b → (if b then spans_of_trace n es t else []) ≡ spans_of_trace n es t
+held_or_gone n es t true e = refl
+held_or_gone n es t false e = sym (spans_gone n es t e)
+
+pub raised_spans : (n : ℕ) (es : List (Event Placed)) (m : ℕ) (t : TraceId) → (0 < m → length (ring n es) ≤ m) → spans_of_trace n (es ++ limited m ∷ []) t ≡ spans_of_trace n es t
+raised_spans n es m t short =
+    spans_limited n es m t ∙ ap (λ r. if holds r t then spans_of_trace n es t else []) (newest_all m (ring n es) short)
+    ∙ held_or_gone n es t (holds (ring n es) t) refl
+
+steps_alone : (r : LimitedRing) (ps : List Placed) → fold (ring_step trace_of) r (map came ps) ≡ record { limit = r.limit; ids = fold (arrive r.limit) r.ids (map trace_of ps) }
+steps_alone r [] = refl
+steps_alone r (p ∷ ps) = steps_alone (record r { ids = arrive r.limit r.ids (trace_of p) }) ps
+
+pub arrivals_alone : (n : ℕ) (ps : List Placed) → ring n (map came ps) ≡ fold (arrive n) [] (map trace_of ps)
+arrivals_alone n ps = ap (λ (r : LimitedRing). r.ids) (steps_alone (record { limit = n; ids = [] }) ps)

@@ -3,7 +3,7 @@
 use jaeger_model::{Span, TraceId};
 use std::alloc::{AllocError, Global};
 use std::sync::Arc;
-use trace_model::Entry;
+use trace_model::{Entry, Work};
 use trace_samples::batch;
 
 /// The trace with this low half of an id, and 0 above it.
@@ -23,7 +23,17 @@ pub(crate) fn entry(
     let entry = Entry {
         seat,
         number,
-        batch,
+        work: Work::Batch(batch),
+    };
+    Ok(Arc::new(alloc, entry)?)
+}
+
+/// The limit of traces that seat 0 handed in under the number.
+pub(crate) fn limit(alloc: Global, number: u64, traces: u32) -> Result<Arc<Entry>, AllocError> {
+    let entry = Entry {
+        seat: 0,
+        number,
+        work: Work::TraceLimit(traces),
     };
     Ok(Arc::new(alloc, entry)?)
 }

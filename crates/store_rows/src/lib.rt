@@ -4,7 +4,7 @@
 //! * `journals`: `arrival_journal`.
 //! * `tables`: `id_table`.
 //! * `rings`: `trace_ring`, `trace_assembly`, and which spans the plain store shows.
-//! * `names`: `service_index`, and the names of the plain store.
+//! * `names`: what a store names, beside the plain store.
 //! * `stores`: `span_store`, put the same questions as the plain store of its entries.
 //! * `collisions`: ids and names that a key doesn't spread.
 //! * `large`: a store of many entries.

@@ -1,16 +1,15 @@
 ghost use Rattle.std.specs.Prelude.{◌<◌};
 
 use crate::entries::entry;
-use jaeger_model::{Placed, Text, kind_of};
+use jaeger_model::{Placed, Span, Text};
 use plain_store::{operation_names, operations, plain_answer, services};
-use service_index::ServiceIndex;
 use span_store::replayed_answer;
 use std::alloc::{AllocError, Global};
 use std::hash::RandomState;
 use std::process::Abort;
 use std::sync::Arc;
 use std::test::*;
-use trace_model::{Answer, Entry, Limits, Query};
+use trace_model::{Answer, Entry, Limits, Operation, Query};
 use trace_samples::{list_of, placed, span, text_tag};
 
 fn texts(alloc: Global, words: &[&str]) -> Result<Vec<Text>, AllocError> {
@@ -30,26 +29,90 @@ const ADDED: [(&str, &str, &str); 5] = [
     ("c", "add", ""),
 ];
 
-fn index_of(alloc: Global, added: &[(&str, &str, &str)]) -> Result<ServiceIndex, AllocError> {
-    let mut index = ServiceIndex::new(alloc);
-    for (service, operation, kind) in added {
-        let service = Text::from_str(alloc, service)?;
-        let operation = Text::from_str(alloc, operation)?;
-        index.add(&service, &operation, kind)?;
+/// A span of the operation, with a tag for its kind.
+fn named_span(alloc: Global, id: u64, operation: &str, kind: &str) -> Result<Span, AllocError> {
+    let mut span = span(alloc, 1, id)?;
+    span.operation = Text::from_str(alloc, operation)?;
+    span.tags = list_of(alloc, text_tag(alloc, "span.kind", kind)?)?;
+    Ok(span)
+}
+
+/// A history of one entry for each of these: service, operation and kind.
+fn told(alloc: Global, added: &[(&str, &str, &str)]) -> Result<Vec<Arc<Entry>>, AllocError> {
+    let mut entries = Vec::new(alloc);
+    for (place, (service, operation, kind)) in added.iter().enumerate() {
+        let number = place as u64 + 1;
+        let mut spans = Vec::new(alloc);
+        spans.push(named_span(alloc, number, operation, kind)?)?;
+        entries.push(entry(alloc, 0, number, service, spans)?)?;
     }
-    Ok(index)
+    Ok(entries)
+}
+
+/// The services that the store of these entries names.
+fn services_of(
+    alloc: Global,
+    keys: RandomState,
+    entries: &[Arc<Entry>],
+) -> Result<Vec<Text>, Fail> {
+    names_in(store_answer(alloc, keys, entries, &Query::Services)?)
+}
+
+/// The operations of a service that the store of these entries names.
+fn names_of(
+    alloc: Global,
+    keys: RandomState,
+    entries: &[Arc<Entry>],
+    service: &str,
+) -> Result<Vec<Text>, Fail> {
+    let service = Text::from_str(alloc, service)?;
+    let query = Query::OperationNames { service };
+    names_in(store_answer(alloc, keys, entries, &query)?)
+}
+
+/// The operations of a service with a kind that the store of these entries lists.
+fn operations_of(
+    alloc: Global,
+    keys: RandomState,
+    entries: &[Arc<Entry>],
+    service: &str,
+    kind: &str,
+) -> Result<Vec<Operation>, Fail> {
+    let service = Text::from_str(alloc, service)?;
+    let kind = Text::from_str(alloc, kind)?;
+    match store_answer(alloc, keys, entries, &Query::Operations { service, kind })? {
+        Answer::Operations(found) => Ok(found.into_vec()),
+        _ => Err("another answer")?,
+    }
 }
 
 #[test]
 fn names_once_in_order(rt: HostRuntime) -> Result<(), Fail> {
     let alloc = rt.alloc();
-    assert!(rt; index_of(alloc, &[])?.services()?.is_empty());
-    let index = index_of(alloc, &ADDED)?;
-    assert!(rt; index.services()? == texts(alloc, &["b", "c"])?);
-    let c = Text::from_str(alloc, "c")?;
-    assert!(rt; index.names(&c)? == texts(alloc, &["add", "get"])?);
-    let other = Text::from_str(alloc, "get")?;
-    assert!(rt; index.names(&other)?.is_empty());
+    let keys = RandomState::new(&rt)?;
+    assert!(rt; services_of(alloc, keys, &[])?.is_empty());
+    let entries = told(alloc, &ADDED)?;
+    assert!(rt; services_of(alloc, keys, &entries)? == texts(alloc, &["b", "c"])?);
+    assert!(rt; names_of(alloc, keys, &entries, "c")? == texts(alloc, &["add", "get"])?);
+    assert!(rt; names_of(alloc, keys, &entries, "get")?.is_empty());
+    Ok(())
+}
+
+/// A batch without spans has a service, but no arrival has it: it is named nowhere.
+#[test]
+fn service_without_spans(rt: HostRuntime) -> Result<(), Fail> {
+    let alloc = rt.alloc();
+    let keys = RandomState::new(&rt)?;
+    let mut entries = Vec::new(alloc);
+    entries.push(entry(alloc, 0, 1, "a", Vec::new(alloc))?)?;
+    let mut spans = Vec::new(alloc);
+    spans.push(named_span(alloc, 1, "get", "client")?)?;
+    entries.push(entry(alloc, 0, 2, "b", spans)?)?;
+    entries.push(entry(alloc, 0, 3, "a", Vec::new(alloc))?)?;
+    assert!(rt; services_of(alloc, keys, &entries)? == texts(alloc, &["b"])?);
+    assert!(rt; names_of(alloc, keys, &entries, "a")?.is_empty());
+    assert!(rt; names_of(alloc, keys, &entries, "b")? == texts(alloc, &["get"])?);
+    assert!(rt; operations_of(alloc, keys, &entries, "a", "")?.is_empty());
     Ok(())
 }
 
@@ -63,11 +126,10 @@ const ASKED: [(&str, &[(&str, &str)]); 3] = [
 #[test]
 fn operations_by_kind(rt: HostRuntime) -> Result<(), Fail> {
     let alloc = rt.alloc();
-    let index = index_of(alloc, &ADDED)?;
-    let service = Text::from_str(alloc, "c")?;
+    let keys = RandomState::new(&rt)?;
+    let entries = told(alloc, &ADDED)?;
     for (kind, wanted) in ASKED {
-        let kind = Text::from_str(alloc, kind)?;
-        let found = index.operations(&service, &kind)?;
+        let found = operations_of(alloc, keys, &entries, "c", kind)?;
         assert_eq!(rt; found.len(), wanted.len());
         for (operation, (name, kind)) in found.iter().zip(wanted) {
             assert_eq!(rt; operation.name.as_str(), *name);
@@ -99,55 +161,60 @@ const WORDS: [&str; 4] = ["", "a", "ab", "b"];
 
 const KINDS: [&str; 4] = ["client", "server", "unheard of", ""];
 
-fn any_span(alloc: Global, dice: &mut Dice) -> Result<Placed, AllocError> {
-    let kind = text_tag(alloc, "span.kind", KINDS[dice.roll(4) as usize])?;
-    let service = WORDS[dice.roll(4) as usize];
-    let mut span = span(alloc, 1, 1)?;
-    span.operation = Text::from_str(alloc, WORDS[dice.roll(4) as usize])?;
-    span.tags = list_of(alloc, kind)?;
-    placed(alloc, service, span)
+/// A span of any operation and kind.
+fn any_span(alloc: Global, dice: &mut Dice) -> Result<Span, AllocError> {
+    let operation = WORDS[dice.roll(4) as usize];
+    let kind = KINDS[dice.roll(4) as usize];
+    named_span(alloc, 1, operation, kind)
 }
 
-/// The same questions to the index of the spans and to the plain store.
+/// The same questions to the store of the entries and to the plain store of their spans.
 fn expect_same(
     rt: &impl Abort,
     alloc: Global,
-    index: &ServiceIndex,
+    keys: RandomState,
+    entries: &[Arc<Entry>],
     spans: &[Placed],
 ) -> Result<(), Fail> {
-    assert!(rt; index.services()? == services(alloc, spans)?);
+    assert!(rt; services_of(alloc, keys, entries)? == services(alloc, spans)?);
     for word in WORDS {
         let service = Text::from_str(alloc, word)?;
-        assert!(rt; index.names(&service)? == operation_names(alloc, spans, &service)?);
+        let names = operation_names(alloc, spans, &service)?;
+        assert!(rt; names_of(alloc, keys, entries, word)? == names);
         for kind in KINDS {
-            let kind = Text::from_str(alloc, kind)?;
-            let plain = operations(alloc, spans, &service, &kind)?;
-            assert!(rt; index.operations(&service, &kind)? == plain);
+            let asked = Text::from_str(alloc, kind)?;
+            let plain = operations(alloc, spans, &service, &asked)?;
+            assert!(rt; operations_of(alloc, keys, entries, word, kind)? == plain);
         }
     }
     Ok(())
 }
 
-/// Up to eight spans, and the index of them.
-fn reported(alloc: Global, dice: &mut Dice) -> Result<(ServiceIndex, Vec<Placed>), AllocError> {
-    let mut index = ServiceIndex::new(alloc);
+/// Up to eight entries of up to two spans each, and these spans.
+fn reported(alloc: Global, dice: &mut Dice) -> Result<(Vec<Arc<Entry>>, Vec<Placed>), AllocError> {
+    let mut entries = Vec::new(alloc);
     let mut spans = Vec::new(alloc);
-    for _ in 0..dice.roll(9) {
-        let placed = any_span(alloc, dice)?;
-        let kind = kind_of(&placed.span);
-        index.add(&placed.process.service, &placed.span.operation, kind)?;
-        spans.push(placed)?;
+    for number in 0..dice.roll(9) {
+        let service = WORDS[dice.roll(4) as usize];
+        let mut brought = Vec::new(alloc);
+        for _ in 0..dice.roll(3) {
+            let span = any_span(alloc, dice)?;
+            spans.push(placed(alloc, service, span.clone()?)?)?;
+            brought.push(span)?;
+        }
+        entries.push(entry(alloc, 0, number + 1, service, brought)?)?;
     }
-    Ok((index, spans))
+    Ok((entries, spans))
 }
 
 #[test]
 fn plain_store_agrees(rt: HostRuntime) -> Result<(), Fail> {
     let alloc = rt.alloc();
+    let keys = RandomState::new(&rt)?;
     let mut dice = Dice { state: 5 };
     for _ in 0..100 {
-        let (index, spans) = reported(alloc, &mut dice)?;
-        expect_same(&rt, alloc, &index, &spans)?;
+        let (entries, spans) = reported(alloc, &mut dice)?;
+        expect_same(&rt, alloc, keys, &entries, &spans)?;
     }
     Ok(())
 }
@@ -165,20 +232,32 @@ fn served(alloc: Global) -> Result<Vec<Arc<Entry>>, AllocError> {
 
 /// Limits by which one trace is shown, so that the first two of that history have left.
 fn one_trace() -> Result<Limits, Fail> {
-    Ok(Limits::new(10, 10, 1, 0).ok_or("limits")?)
+    Ok(Limits::new(20, 20, 1, 0).ok_or("limits")?)
+}
+
+/// What the store of these entries answers.
+fn store_answer(
+    alloc: Global,
+    keys: RandomState,
+    entries: &[Arc<Entry>],
+    query: &Query,
+) -> Result<Answer, Fail> {
+    let answer = replayed_answer(alloc, keys, one_trace()?, entries, query);
+    Ok(answer.ok().ok_or("refused")?)
+}
+
+/// The names of an answer that is made of names.
+fn names_in(answer: Answer) -> Result<Vec<Text>, Fail> {
+    match answer {
+        Answer::Names(names) => Ok(names.into_vec()),
+        _ => Err("another answer")?,
+    }
 }
 
 /// What the plain store answers of that history.
 fn answer_of(alloc: Global, query: &Query) -> Result<Answer, Fail> {
     let entries = served(alloc)?;
     Ok(plain_answer(alloc, &entries, one_trace()?, query)?)
-}
-
-/// What the store answers of it.
-fn store_answer_of(alloc: Global, keys: RandomState, query: &Query) -> Result<Answer, Fail> {
-    let entries = served(alloc)?;
-    let answer = replayed_answer(alloc, keys, one_trace()?, &entries, query);
-    Ok(answer.ok().ok_or("refused")?)
 }
 
 fn expect_names(rt: &impl Abort, answer: &Answer, wanted: &[&str]) {
@@ -202,19 +281,6 @@ fn names_plainly(rt: HostRuntime) -> Result<(), Fail> {
     Ok(())
 }
 
-/// Names stay, though their traces leave.
-#[test]
-fn names_in_the_store(rt: HostRuntime) -> Result<(), Fail> {
-    let alloc = rt.alloc();
-    let keys = RandomState::new(&rt)?;
-    let answer = store_answer_of(alloc, keys, &Query::Services)?;
-    expect_names(&rt, &answer, &["b", "c"]);
-    let service = Text::from_str(alloc, "b")?;
-    let query = Query::OperationNames { service };
-    expect_names(&rt, &store_answer_of(alloc, keys, &query)?, &["op"]);
-    Ok(())
-}
-
 /// The operation `op` without a kind, and no other.
 fn expect_one_operation(rt: &impl Abort, answer: &Answer) {
     let found = match answer {
@@ -231,17 +297,6 @@ fn one_operation_plainly(rt: HostRuntime) -> Result<(), Fail> {
     let service = Text::from_str(alloc, "b")?;
     let kind = Text::new(alloc);
     let answer = answer_of(alloc, &Query::Operations { service, kind })?;
-    expect_one_operation(&rt, &answer);
-    Ok(())
-}
-
-#[test]
-fn one_operation_in_the_store(rt: HostRuntime) -> Result<(), Fail> {
-    let alloc = rt.alloc();
-    let keys = RandomState::new(&rt)?;
-    let service = Text::from_str(alloc, "b")?;
-    let kind = Text::new(alloc);
-    let answer = store_answer_of(alloc, keys, &Query::Operations { service, kind })?;
     expect_one_operation(&rt, &answer);
     Ok(())
 }

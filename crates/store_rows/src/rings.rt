@@ -11,9 +11,10 @@ use trace_model::{Answer, Entry, Limits, Query};
 use trace_ring::{Arrived, Ring};
 use trace_samples::span;
 
-/// What the arrival did, for which there must be room.
+/// What the arrival did, for which there must be room in a ring that keeps its limit.
 fn arrive(rt: &impl Abort, ring: &mut Ring, trace: TraceId) -> Arrived {
     assert!(rt; ring.has_room());
+    assert!(rt; ring.limit() == 0 || ring.len() <= ring.limit() as usize);
     ring.arrive(trace)
 }
 

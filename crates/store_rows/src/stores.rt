@@ -1,4 +1,4 @@
-use crate::entries::{entry, id};
+use crate::entries::{entry, id, limit};
 use jaeger_model::{Seq, Span, SpanId, Tag, Text};
 use plain_store::plain_answer;
 use span_store::{SpanStore, replay, replayed_answer};
@@ -150,33 +150,62 @@ fn three_traces(alloc: Global, seed: u64) -> Result<(Vec<u64>, u64), AllocError>
     Ok((traces, seed))
 }
 
-/// Applies an entry with spans of three traces and asks the store everything. Gives the seed behind
-/// that.
+/// Applies an entry and asks the store everything.
 fn grow(
     rt: &impl Abort,
     alloc: Global,
     store: &mut SpanStore,
-    number: u64,
+    entry: Arc<Entry>,
     seed: u64,
-) -> Result<u64, Fail> {
-    let (traces, seed) = three_traces(alloc, seed)?;
-    let place = store.apply(entry_of(alloc, number, &traces)?);
-    assert_eq!(rt; place, Ok(number));
-    same_answers(rt, alloc, store, seed)?;
-    Ok(seed)
+) -> Result<(), Fail> {
+    let place = store.apply(entry);
+    assert_eq!(rt; place, Ok(store.len()));
+    same_answers(rt, alloc, store, seed)
 }
 
 #[test]
 fn as_the_plain_store(rt: HostRuntime) -> Result<(), Fail> {
     let alloc = rt.alloc();
     let mut seed: u64 = 1;
-    for limit in [0, 1, 2, 3] {
-        let limits = Limits::new(20, 40, limit, 300).expect(&rt, "limits");
+    for traces in [0, 1, 2, 3] {
+        let limits = Limits::new(20, 40, traces, 300).expect(&rt, "limits");
         let mut store = SpanStore::open(alloc, RandomState::new(&rt)?, limits)?;
         assert!(rt; store.is_empty());
         same_answers(&rt, alloc, &store, seed)?;
         for number in 1..9 {
-            seed = grow(&rt, alloc, &mut store, number, seed)?;
+            let (traces, next) = three_traces(alloc, seed)?;
+            seed = next;
+            let entry = entry_of(alloc, number, &traces)?;
+            grow(&rt, alloc, &mut store, entry, seed)?;
+        }
+    }
+    Ok(())
+}
+
+/// An entry by the seed, and the seed behind it. One in three is a limit of at most three traces, the
+/// others hold spans of three.
+fn any_entry(alloc: Global, number: u64, seed: u64) -> Result<(Arc<Entry>, u64), AllocError> {
+    let seed = after(seed);
+    if (seed >> 32) % 3 == 0 {
+        let traces = ((seed >> 40) % 4) as u32;
+        return Ok((limit(alloc, number, traces)?, seed));
+    }
+    let (traces, seed) = three_traces(alloc, seed)?;
+    Ok((entry_of(alloc, number, &traces)?, seed))
+}
+
+/// Limits among the batches, in stores that open with a limit and without one.
+#[test]
+fn limits_as_the_plain_store(rt: HostRuntime) -> Result<(), Fail> {
+    let alloc = rt.alloc();
+    let mut seed: u64 = 2;
+    for traces in [0, 2, 0, 3] {
+        let limits = Limits::new(20, 40, traces, 300).expect(&rt, "limits");
+        let mut store = SpanStore::open(alloc, RandomState::new(&rt)?, limits)?;
+        for number in 1..13 {
+            let (entry, next) = any_entry(alloc, number, seed)?;
+            seed = next;
+            grow(&rt, alloc, &mut store, entry, seed)?;
         }
     }
     Ok(())

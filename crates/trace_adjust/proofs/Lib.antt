@@ -1,3 +1,4 @@
+pub mod Hosting
 pub mod Places
 pub mod Settled
 pub mod Shifting

@@ -1,16 +1,19 @@
 -- Clocks that are set from above are the spans' clocks, and where none can be set any more all are known.
 use Rattle.std.proofs.Common.{◌≡◌, ℕ, zero, suc, ◌+◌, ◌<◌, ◌⊎◌, inl, inr, ⊎_elim, Bool, true, false, ◌&&◌, cond, List, [], ◌∷◌, ◌++◌, map, length, get_or, set, refl, sym, ap, ◌∙◌, arith, subst, length-set, get_or-set_same, get_or-set_other}
-use Rattle.std.proofs.lemmas.List.{get_or_default, set-get_or, get_or-map}
+use Rattle.std.proofs.lemmas.List.{length-map, get_or_default, set-get_or, get_or-map}
 use Rattle.std.specs.Prelude.{Option, Some, None, option_map, is_some, if◌then◌else◌}
 use Rattle.std.proofs.lemmas.Bool.{false≢true, cases_eq}
 use Rattle.std.proofs.lemmas.List.Sums.{sum_by-set}
 use Rattle.jaeger_model.specs.declared.placed.Placed.{Placed}
 use Rattle.trace_model.specs.declared.clock.Clock.{Clock}
 use Rattle.trace_model.specs.Linking.{parent_in}
-use Rattle.trace_model.specs.Adjusting.{clock_below, clock_within, clock_of}
+use Rattle.trace_model.specs.Adjusting.{host_of, clock_below, clock_within, clock_of}
 use Rattle.trace_model.specs.Steadiness.{clock_by}
 use Rattle.trace_model.proofs.Chains.{Each, clocks, within_step, within_none}
-use Rattle.trace_adjust.specs.Settling.{place_in, near, settle, sets, is_unset, AreRight, IsClosed, AreClosed, AreClocks, unset_count}
+use Rattle.trace_adjust.specs.Settling.{place_in, near, is_unset, written, writes, AreRight, IsClosed, AreClosed, AreClocks, unset_count}
+use Rattle.trace_adjust.specs.declared.clock.HostClock.{HostClock}
+use Rattle.trace_adjust.specs.Hosts.{hosts_of, number_in, hosted, all_hosted, near_by, IsNumbered, AreNumbered, AreSet}
+use Rattle.trace_adjust.proofs.Hosting.{hosted_at, hosted_none, written_hosted, written_numbered, near_hosted, near_numbered}
 use Rattle.trace_adjust.proofs.Places.{parent_there, place_below}
 
 each_at : {X : Type 0} (P : X → Type 0) (xs : List X) (k : ℕ) (d : X) → k < length xs → Each P xs → P (get_or xs k d)
@@ -35,7 +38,7 @@ module _ (max_skew : ℕ) (trace : List Placed) where
           (right.1 j d (place_below trace p j e))
 
   -- a step keeps what is right
-  pub settle_right : (cs : List (Option Clock)) (i : ℕ) (p : Placed) → i < length trace → p ≡ get_or trace i p → AreRight max_skew trace cs → AreRight max_skew trace (settle max_skew cs i p (place_in trace p))
+  pub settle_right : (cs : List (Option Clock)) (i : ℕ) (p : Placed) → i < length trace → p ≡ get_or trace i p → AreRight max_skew trace cs → AreRight max_skew trace (written cs i (near max_skew cs p (place_in trace p)))
   settle_right cs i p l e right = elim (is_unset (get_or cs i None)) as (λ b. AreRight max_skew trace (if b then set cs i (near max_skew cs p (place_in trace p)) else cs)) [
     | true ↦ (
       length-set cs i (near max_skew cs p (place_in trace p)) ∙ right.0,
@@ -77,46 +80,52 @@ module _ (max_skew : ℕ) (trace : List Placed) where
   all_known cs right closed = (right.0, λ k d l. ⊎_elim (λ z. z ∙ sym (none_within cs d closed (length trace) k l z)) (λ r. r) (right.1 k d l))
 
 -- ---- one step of a pass
-pub settle_same : (m : ℕ) (cs : List (Option Clock)) (i : ℕ) (p : Placed) (o : Option ℕ) → sets m cs i p o ≡ false → (settle m cs i p o ≡ cs) × (get_or cs i None ≡ None → near m cs p o ≡ None)
-settle_same m cs i p o e = by_now (get_or cs i None) refl e
+pub written_same : {X : Type 0} (cs : List (Option X)) (i : ℕ) (n : Option X) → writes cs i n ≡ false → (written cs i n ≡ cs) × (get_or cs i None ≡ None → n ≡ None)
+written_same {X} cs i n e = by_now (get_or cs i None) refl e
   where
-    none_is : (n : Option Clock) → is_some n ≡ false → n ≡ None
+    none_is : (n : Option X) → is_some n ≡ false → n ≡ None
     none_is None h = refl
     none_is (Some c) h = absurd (false≢true (sym h))
 
-    by_now : (c : Option Clock) → get_or cs i None ≡ c → (is_unset c && is_some (near m cs p o)) ≡ false → ((if is_unset c then set cs i (near m cs p o) else cs) ≡ cs) × (c ≡ None → near m cs p o ≡ None)
-    by_now None q h = let n : near m cs p o ≡ None = none_is (near m cs p o) h in (ap (set cs i) (n ∙ sym q) ∙ set-get_or cs i None, λ _. n)
+    by_now : (c : Option X) → get_or cs i None ≡ c → (is_unset c && is_some n) ≡ false → ((if is_unset c then set cs i n else cs) ≡ cs) × (c ≡ None → n ≡ None)
+    by_now None q h = let none : n ≡ None = none_is n h in (ap (set cs i) (none ∙ sym q) ∙ set-get_or cs i None, λ _. none)
     by_now (Some c) q h = (refl, λ z. absurd (false≢true (sym (ap is_some z))))
 
-pub settle_fewer : (m : ℕ) (cs : List (Option Clock)) (i : ℕ) (p : Placed) (o : Option ℕ) → i < length cs → unset_count (settle m cs i p o) + cond (sets m cs i p o) 1 0 ≡ unset_count cs
-settle_fewer m cs i p o l = by_now (get_or cs i None) refl
+pub written_fewer : {X : Type 0} (cs : List (Option X)) (i : ℕ) (n : Option X) → i < length cs → unset_count (written cs i n) + cond (writes cs i n) 1 0 ≡ unset_count cs
+written_fewer {X} cs i n l = by_now (get_or cs i None) refl
   where
-    written : (n : Option Clock) → get_or cs i None ≡ None → unset_count (set cs i n) + cond (is_some n) 1 0 ≡ unset_count cs
-    written n q =
+    set_there : (n : Option X) → get_or cs i None ≡ None → unset_count (set cs i n) + cond (is_some n) 1 0 ≡ unset_count cs
+    set_there n q =
         let s : unset_count (set cs i n) + cond (is_unset (get_or cs i None)) 1 0 ≡ unset_count cs + cond (is_unset n) 1 0 = sum_by-set (λ c. cond (is_unset c) 1 0) cs i n None l in
         elim n as (λ n. unset_count (set cs i n) + cond (is_unset (get_or cs i None)) 1 0 ≡ unset_count cs + cond (is_unset n) 1 0 → unset_count (set cs i n) + cond (is_some n) 1 0 ≡ unset_count cs) [
           | None ↦ λ s. let one : unset_count (set cs i None) + 1 ≡ unset_count cs + 1 = ap (λ c. unset_count (set cs i None) + cond (is_unset c) 1 0) (sym q) ∙ s in omega arith
           | Some c ↦ λ s. let one : unset_count (set cs i (Some c)) + 1 ≡ unset_count cs + 0 = ap (λ x. unset_count (set cs i (Some c)) + cond (is_unset x) 1 0) (sym q) ∙ s in omega arith
         ] s
 
-    by_now : (c : Option Clock) → get_or cs i None ≡ c → unset_count (if is_unset c then set cs i (near m cs p o) else cs) + cond (is_unset c && is_some (near m cs p o)) 1 0 ≡ unset_count cs
-    by_now None q = written (near m cs p o) q
+    by_now : (c : Option X) → get_or cs i None ≡ c → unset_count (if is_unset c then set cs i n else cs) + cond (is_unset c && is_some n) 1 0 ≡ unset_count cs
+    by_now None q = set_there n q
     by_now (Some c) q = omega arith
 
 -- ---- before any
-pub none_right : (m : ℕ) (trace : List Placed) (cs : List (Option Clock)) → length cs ≡ length trace → ((k : ℕ) → get_or cs k None ≡ None) → AreRight m trace cs
-none_right m trace cs len none = (len, λ k d l. inl (none k))
+pub none_set : (m : ℕ) (trace : List Placed) (cs : List (Option HostClock)) → length cs ≡ length trace → ((k : ℕ) → get_or cs k None ≡ None) → AreSet m trace cs
+none_set m trace cs len none = (
+  (
+    length-map cs (option_map (hosted (hosts_of trace))) ∙ len,
+    λ k d l. inl (hosted_at (hosted (hosts_of trace)) cs k ∙ ap (option_map (hosted (hosts_of trace))) (none k)),
+  ),
+  λ k. subst (IsNumbered (hosts_of trace)) (sym (none k)) tt,
+)
 
-pub none_push : (cs : List (Option Clock)) → ((k : ℕ) → get_or cs k None ≡ None) → (k : ℕ) → get_or (cs ++ None ∷ []) k None ≡ None
+pub none_push : (cs : List (Option HostClock)) → ((k : ℕ) → get_or cs k None ≡ None) → (k : ℕ) → get_or (cs ++ None ∷ []) k None ≡ None
 none_push [] h zero = refl
 none_push [] h (suc k) = refl
 none_push (c ∷ cs) h zero = h zero
 none_push (c ∷ cs) h (suc k) = none_push cs (λ j. h (suc j)) k
 
-pub closed_more : (m : ℕ) (trace : List Placed) (i : ℕ) (cs new : List (Option Clock)) → new ≡ cs → AreClosed m trace i cs → IsClosed m trace i new → AreClosed m trace (i + 1) new
+pub closed_more : (m : ℕ) (trace : List Placed) (i : ℕ) (cs new : List (Option HostClock)) → new ≡ cs → AreClosed m trace i (all_hosted (hosts_of trace) cs) → IsClosed m trace i (all_hosted (hosts_of trace) new) → AreClosed m trace (i + 1) (all_hosted (hosts_of trace) new)
 closed_more m trace i cs new e before here k l = ⊎_elim
-    (λ (same : k ≡ i). subst (λ j. IsClosed m trace j new) (sym same) here)
-    (λ (other : k ≡ i → ⊥). subst (IsClosed m trace k) (sym e) (before k (omega arith)))
+    (λ (same : k ≡ i). subst (λ j. IsClosed m trace j (all_hosted (hosts_of trace) new)) (sym same) here)
+    (λ (other : k ≡ i → ⊥). subst (IsClosed m trace k) (sym (ap (all_hosted (hosts_of trace)) e)) (before k (omega arith)))
     (cases_eq k i)
 
 -- the step at a place of the trace, whose parent's place stands in the list of those
@@ -124,23 +133,39 @@ pub parent_read : (trace : List Placed) (parents : List (Option ℕ)) (i : ℕ) 
 parent_read trace parents i d l e = ap (λ ps. get_or ps i None) e ∙ get_or-map (place_in trace) trace i d None l
 
 -- ---- the step at one place
-module _ (m : ℕ) (trace : List Placed) (old new : List (Option Clock)) (i : ℕ) (p : Placed) (o : Option ℕ) (l : i < length trace) (here : p ≡ get_or trace i p) (parent : o ≡ place_in trace (get_or trace i p)) (after : new ≡ settle m old i p o) where
+module _ (m : ℕ) (trace : List Placed) (old new : List (Option HostClock)) (i n : ℕ) (p : Placed) (o : Option ℕ) (l : i < length trace) (here : p ≡ get_or trace i p) (parent : o ≡ place_in trace (get_or trace i p))
+    (number : number_in (hosts_of trace) (host_of p) ≡ Some n) (after : new ≡ written old i (near_by m old n p.span o)) (is_set : AreSet m trace old) where
+  abbrev known : List (Option HostClock) → List (Option Clock)
+  known cs = all_hosted (hosts_of trace) cs
+
   own_parent : o ≡ place_in trace p
   own_parent = parent ∙ ap (place_in trace) (sym here)
 
-  pub step_right : AreRight m trace old → AreRight m trace new
-  step_right right = subst (AreRight m trace) (sym (after ∙ ap (settle m old i p) own_parent)) (settle_right m trace old i p l here right)
+  as_known : known new ≡ written (known old) i (near m (known old) p (place_in trace p))
+  as_known =
+      ap known after ∙ written_hosted (hosted (hosts_of trace)) old i (near_by m old n p.span o)
+      ∙ ap (written (known old) i) (near_hosted m trace old n p o is_set.1 number ∙ ap (near m (known old) p) own_parent)
 
-  pub step_closed : sets m old i p o ≡ false → (new ≡ old) × IsClosed m trace i new
+  pub step_set : AreSet m trace new
+  step_set = (
+    subst (AreRight m trace) (sym as_known) (settle_right m trace (known old) i p l here is_set.0),
+    subst (AreNumbered (hosts_of trace)) (sym after) (written_numbered (hosts_of trace) old i (near_by m old n p.span o) is_set.1 (near_numbered m trace old n p o is_set.1 number)),
+  )
+
+  pub step_closed : writes old i (near_by m old n p.span o) ≡ false → (new ≡ old) × IsClosed m trace i (known new)
   step_closed e =
-      let s = settle_same m old i p o e in
+      let s = written_same old i (near_by m old n p.span o) e in
       let same : new ≡ old = after ∙ s.0 in (
         same,
         λ d z.
             let q : p ≡ get_or trace i d = here ∙ get_or_default trace i p d l in
-            let none : near m old p o ≡ None = s.1 (ap (λ c. get_or c i None) (sym same) ∙ z) in
-            ap (λ c. near m c (get_or trace i d) (place_in trace (get_or trace i d))) same ∙ ap (λ x. near m old x (place_in trace x)) (sym q) ∙ ap (near m old p) (sym own_parent) ∙ none,
+            let unset : get_or old i None ≡ None = hosted_none (hosted (hosts_of trace)) (get_or old i None) (sym (hosted_at (hosted (hosts_of trace)) old i) ∙ ap (λ c. get_or (known c) i None) (sym same) ∙ z) in
+            let none : near m (known old) p o ≡ None = sym (near_hosted m trace old n p o is_set.1 number) ∙ ap (option_map (hosted (hosts_of trace))) (s.1 unset) in
+            ap (λ c. near m (known c) (get_or trace i d) (place_in trace (get_or trace i d))) same ∙ ap (λ x. near m (known old) x (place_in trace x)) (sym q) ∙ ap (near m (known old) p) (sym own_parent) ∙ none,
       )
 
-  pub step_fewer : (b : Bool) → b ≡ sets m old i p o → length old ≡ length trace → unset_count new + cond b 1 0 ≡ unset_count old
-  step_fewer b e len = (λ i. unset_count (after i) + cond (e i) 1 0) ∙ settle_fewer m old i p o (omega (arith, len, l))
+  pub step_fewer : (b : Bool) → b ≡ writes old i (near_by m old n p.span o) → unset_count new + cond b 1 0 ≡ unset_count old
+  step_fewer b e =
+      let many = is_set.0.0 in
+      let as_many = length-map old (option_map (hosted (hosts_of trace))) in
+      (λ i. unset_count (after i) + cond (e i) 1 0) ∙ written_fewer old i (near_by m old n p.span o) (omega (arith, many, as_many, l))

@@ -19,14 +19,16 @@ abbrev pub near : ℕ → List (Option Clock) → Placed → Option ℕ → Opti
 near max_skew cs p None = Some (clock_at max_skew (host_of p) (pos 0) p.span)
 near max_skew cs p (Some j) = option_map (λ above. clock_below max_skew above p) (get_or cs j None)
 
-abbrev pub is_unset : Option Clock → Bool
+abbrev pub is_unset : {X : Type 0} → Option X → Bool
 is_unset o = not (is_some o)
 
-abbrev pub settle : ℕ → List (Option Clock) → ℕ → Placed → Option ℕ → List (Option Clock)
-settle max_skew cs i p o = if is_unset (get_or cs i None) then set cs i (near max_skew cs p o) else cs
+-- what is known is put at a place where nothing is set
+abbrev pub written : {X : Type 0} → List (Option X) → ℕ → Option X → List (Option X)
+written cs i o = if is_unset (get_or cs i None) then set cs i o else cs
 
-abbrev pub sets : ℕ → List (Option Clock) → ℕ → Placed → Option ℕ → Bool
-sets max_skew cs i p o = is_unset (get_or cs i None) && is_some (near max_skew cs p o)
+-- which sets one more
+abbrev pub writes : {X : Type 0} → List (Option X) → ℕ → Option X → Bool
+writes cs i o = is_unset (get_or cs i None) && is_some o
 
 -- each clock that is set is the span's
 abbrev pub AreRight : ℕ → List Placed → List (Option Clock) → Type 0
@@ -44,7 +46,7 @@ AreClosed max_skew trace n cs = (k : ℕ) → k < n → IsClosed max_skew trace 
 abbrev pub AreClocks : ℕ → List Placed → List (Option Clock) → Type 0
 AreClocks max_skew trace cs = (length cs ≡ length trace) × ((k : ℕ) (d : Placed) → k < length trace → get_or cs k None ≡ clock_of max_skew trace (get_or trace k d))
 
-abbrev pub unset_count : List (Option Clock) → ℕ
+abbrev pub unset_count : {X : Type 0} → List (Option X) → ℕ
 unset_count cs = count_by is_unset cs
 
 -- the same by a table of first places

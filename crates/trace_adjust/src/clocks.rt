@@ -1,13 +1,14 @@
 //! The clock of each span of a trace.
 
-ghost use Rattle.std.specs.Prelude.{◌≡◌, ◌<◌, ◌+◌, ℕ, false, true, IfOk, OnOk, None, map, length, get_or, cond};
+ghost use Rattle.std.specs.Prelude.{◌≡◌, ◌<◌, ◌+◌, ℕ, false, true, IfOk, None, map, length, get_or, cond};
 ghost use Rattle.trace_model.specs.Adjusting.{spans_of};
-ghost use Rattle.trace_adjust.specs.Settling.{near, settle, sets, place_in, AreRight, IsClosed, AreClosed, AreClocks, unset_count};
+ghost use Rattle.trace_adjust.specs.Settling.{place_in, written, writes, unset_count, IsClosed, AreClosed, AreClocks};
+ghost use Rattle.trace_adjust.specs.Hosts.{hosts_of, all_hosted, near_by, AreNumbers, AreSet};
 
-use jaeger_model::Placed;
-use span_steps::{clock_below, root_clock};
+use crate::clock::{HostClock, clock_below, root_clock};
+use jaeger_model::Span;
 use std::alloc::{AllocError, Global};
-use trace_model::{Clock, Shown};
+use trace_model::Shown;
 
 /// The places of the spans in an order in which parents stand in front of their children wherever
 /// no cycle forbids it: from each span on up to one that was reached before, and back. The order
@@ -46,106 +47,99 @@ fn climb(
 
 /// The clock of a span by that of its parent, where that is known.
 fn clock_near(
-    alloc: Global,
-    clocks: &[Option<Clock>],
-    placed: &Placed,
+    clocks: &[Option<HostClock>],
+    host: usize,
+    span: &Span,
     parent: Option<usize>,
     max_skew: u64,
-) -> Result<Option<Clock>, AllocError>
-    ensures { IfOk result (λ c. c ≡ near max_skew clocks.now placed.now parent) }
+) -> Option<HostClock>
+    ensures { result ≡ near_by max_skew clocks.now host span.now parent }
 {
     let Some(parent) = parent else {
-        return Ok(Some(root_clock(alloc, placed, max_skew)?));
+        return Some(root_clock(host, span, max_skew));
     };
     match clocks.get(parent) {
-        Some(Some(above)) => Ok(Some(clock_below(alloc, above, placed, max_skew)?)),
-        _ => Ok(None),
+        Some(Some(above)) => Some(clock_below(*above, host, span, max_skew)),
+        _ => None,
     }
 }
 
 /// Sets the clock of the span at the place, where it is not set and its parent's is known. Returns
 /// whether it is set now and was not before.
 fn settle(
-    alloc: Global,
-    clocks: &mut Vec<Option<Clock>>,
+    clocks: &mut Vec<Option<HostClock>>,
     place: usize,
-    placed: &Placed,
+    host: usize,
+    span: &Span,
     parent: Option<usize>,
     max_skew: u64,
-) -> Result<bool, AllocError>
+) -> bool
     requires { place < length clocks.old.items }
-    ensures after { OnOk result (clocks.new.items ≡
-        settle max_skew clocks.old.items place placed.now parent) }
-    ensures set { IfOk result (λ set. set ≡
-        sets max_skew clocks.old.items place placed.now parent) }
+    ensures after { clocks.new.items ≡ written clocks.old.items place
+        (near_by max_skew clocks.old.items host span.now parent) }
+    ensures set { result ≡ writes clocks.old.items place
+        (near_by max_skew clocks.old.items host span.now parent) }
 {
     if clocks[place].is_some() {
-        return Ok(false);
+        return false;
     }
-    let clock = clock_near(alloc, clocks, placed, parent, max_skew)?;
-    let is_known = clock.is_some();
+    let clock = clock_near(clocks, host, span, parent, max_skew);
     clocks[place] = clock;
-    Ok(is_known)
+    clock.is_some()
 }
 
 /// The same for the span at the place, where there is one.
 fn settle_at(
-    alloc: Global,
     trace: &[Shown],
     parents: &[Option<usize>],
-    clocks: &mut Vec<Option<Clock>>,
+    hosts: &[usize],
+    clocks: &mut Vec<Option<HostClock>>,
     place: usize,
     max_skew: u64,
-) -> Result<bool, AllocError>
+) -> bool
     requires parents { parents.now ≡ map (place_in (spans_of trace.now)) (spans_of trace.now) }
-    requires right { AreRight max_skew (spans_of trace.now) clocks.old.items }
+    requires hosts { AreNumbers (hosts_of (spans_of trace.now)) (spans_of trace.now) hosts.now }
+    requires set { AreSet max_skew (spans_of trace.now) clocks.old.items }
     requires within { place < length trace.now }
-    ensures right { OnOk result (AreRight max_skew (spans_of trace.now) clocks.new.items) }
-    ensures closed { IfOk result (λ set. set ≡ false →
-        (clocks.new.items ≡ clocks.old.items)
-        × IsClosed max_skew (spans_of trace.now) place clocks.new.items) }
-    ensures fewer { IfOk result (λ set. unset_count clocks.new.items + cond set 1 0 ≡
-        unset_count clocks.old.items) }
+    ensures set { AreSet max_skew (spans_of trace.now) clocks.new.items }
+    ensures closed { result ≡ false → (clocks.new.items ≡ clocks.old.items)
+        × IsClosed max_skew (spans_of trace.now) place
+        (all_hosted (hosts_of (spans_of trace.now)) clocks.new.items) }
+    ensures fewer { unset_count clocks.new.items + cond result 1 0 ≡ unset_count clocks.old.items }
 {
-    let is_set = settle(
-        alloc,
-        clocks,
-        place,
-        &trace[place].placed,
-        parents[place],
-        max_skew,
-    )?;
-    Ok(is_set)
+    let span = &trace[place].placed.span;
+    settle(clocks, place, hosts[place], span, parents[place], max_skew)
 }
 
 /// Sets each clock that can be set, from the first span to the last, and returns whether there was
 /// one.
 fn settle_all(
-    alloc: Global,
     trace: &[Shown],
     parents: &[Option<usize>],
-    clocks: &mut Vec<Option<Clock>>,
+    hosts: &[usize],
+    clocks: &mut Vec<Option<HostClock>>,
     max_skew: u64,
-) -> Result<bool, AllocError>
+) -> bool
     requires parents { parents.now ≡ map (place_in (spans_of trace.now)) (spans_of trace.now) }
-    requires right { AreRight max_skew (spans_of trace.now) clocks.old.items }
-    ensures right { OnOk result (AreRight max_skew (spans_of trace.now) clocks.new.items) }
-    ensures closed { IfOk result (λ changed. changed ≡ false →
-        AreClosed max_skew (spans_of trace.now) (length trace.now) clocks.new.items) }
-    ensures fewer { IfOk result (λ changed. changed ≡ true →
-        unset_count clocks.new.items < unset_count clocks.old.items) }
+    requires hosts { AreNumbers (hosts_of (spans_of trace.now)) (spans_of trace.now) hosts.now }
+    requires set { AreSet max_skew (spans_of trace.now) clocks.old.items }
+    ensures set { AreSet max_skew (spans_of trace.now) clocks.new.items }
+    ensures closed { result ≡ false →
+        AreClosed max_skew (spans_of trace.now) (length trace.now)
+        (all_hosted (hosts_of (spans_of trace.now)) clocks.new.items) }
+    ensures fewer { result ≡ true → unset_count clocks.new.items < unset_count clocks.old.items }
 {
     let mut changed = false;
     for place in 0..trace.len() {
-        if settle_at(alloc, trace, parents, clocks, place, max_skew)? {
+        if settle_at(trace, parents, hosts, clocks, place, max_skew) {
             changed = true;
         }
     }
-    Ok(changed)
+    changed
 }
 
 /// So many clocks, none of them set.
-fn no_clocks(alloc: Global, count: usize) -> Result<Vec<Option<Clock>>, AllocError>
+fn no_clocks(alloc: Global, count: usize) -> Result<Vec<Option<HostClock>>, AllocError>
     ensures len { IfOk result (λ v. length v.items ≡ count) }
     ensures none { IfOk result (λ v. (k : ℕ) → get_or v.items k None ≡ None) }
 {
@@ -165,19 +159,22 @@ pub(crate) fn all_clocks(
     alloc: Global,
     trace: &[Shown],
     parents: &[Option<usize>],
+    hosts: &[usize],
     max_skew: u64,
-) -> Result<Vec<Option<Clock>>, AllocError>
-    requires { parents.now ≡ map (place_in (spans_of trace.now)) (spans_of trace.now) }
-    ensures { IfOk result (λ v. AreClocks max_skew (spans_of trace.now) v.items) }
+) -> Result<Vec<Option<HostClock>>, AllocError>
+    requires parents { parents.now ≡ map (place_in (spans_of trace.now)) (spans_of trace.now) }
+    requires hosts { AreNumbers (hosts_of (spans_of trace.now)) (spans_of trace.now) hosts.now }
+    ensures { IfOk result (λ v. AreClocks max_skew (spans_of trace.now)
+        (all_hosted (hosts_of (spans_of trace.now)) v.items)) }
 {
     let mut clocks = no_clocks(alloc, trace.len())?;
     for place in downward_order(alloc, parents)? {
         if place < trace.len() {
-            settle_at(alloc, trace, parents, &mut clocks, place, max_skew)?;
+            settle_at(trace, parents, hosts, &mut clocks, place, max_skew);
         }
     }
     loop {
-        if !settle_all(alloc, trace, parents, &mut clocks, max_skew)? {
+        if !settle_all(trace, parents, hosts, &mut clocks, max_skew) {
             return Ok(clocks);
         }
     }

@@ -4,11 +4,15 @@
 //! recursion, however deep the trace is.
 //!
 //! * `parents`: references to parents, and the places of parents in a trace.
+//! * `hosts`: the hosts of a trace by numbers.
+//! * `clock`: the clock of one span.
 //! * `clocks`: the clock of each span.
 //! * `skew`: the spans moved by their clocks.
 #![tactic(auto)]
 
+mod clock;
 mod clocks;
+mod hosts;
 mod parents;
 mod skew;
 

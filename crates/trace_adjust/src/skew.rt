@@ -4,21 +4,29 @@ ghost use Rattle.std.specs.Prelude.{◌≡◌, ℕ, IfOk, OnOk, OnErr, map};
 ghost use Rattle.std.specs.Ordering.{nat_cmp};
 ghost use Rattle.std.specs.BTreeMap.{get};
 ghost use Rattle.trace_model.specs.Adjusting.{with_parent_first, unadjusted, spans_of, shown_adjusted, adjusted};
-ghost use Rattle.trace_adjust.specs.Settling.{first_at, delta_at, AreClocks};
+ghost use Rattle.trace_adjust.specs.Settling.{first_at, AreClocks};
+ghost use Rattle.trace_adjust.specs.Hosts.{ShareProcesses, hosts_of, all_hosted, delta_by};
 ghost use Rattle.trace_adjust.specs.Partly.{IsPartlyAdjusted};
 
+use crate::clock::HostClock;
 use crate::clocks::all_clocks;
+use crate::hosts::host_numbers;
 use crate::parents::{first_places, parent_places, with_parent_first};
 use jaeger_model::Placed;
 use span_steps::{shift, unadjusted};
 use std::alloc::{AllocError, Global};
 use std::collections::BTreeMap;
-use trace_model::{Clock, Shown};
+use trace_model::Shown;
 
 /// The delta of the span at the place: 0 where it has no clock, or where a span in front of it has
 /// its id.
-fn delta_at(first: &BTreeMap<u64, usize>, clocks: &[Option<Clock>], place: usize, id: u64) -> i128
-    ensures { result ≡ delta_at (λ id. get nat_cmp first.now id) clocks.now place id }
+fn delta_at(
+    first: &BTreeMap<u64, usize>,
+    clocks: &[Option<HostClock>],
+    place: usize,
+    id: u64,
+) -> i128
+    ensures { result ≡ delta_by (λ id. get nat_cmp first.now id) clocks.now place id }
 {
     if first.get(&id).copied().unwrap_or(place) != place {
         return 0;
@@ -34,11 +42,12 @@ fn shift_all(
     alloc: Global,
     trace: &mut [Shown],
     first: &BTreeMap<u64, usize>,
-    clocks: &[Option<Clock>],
+    clocks: &[Option<HostClock>],
     max_skew: u64,
 ) -> Result<(), AllocError>
     requires first { (id : ℕ) → get nat_cmp first.now id ≡ first_at id (spans_of trace.old) }
-    requires clocks { AreClocks max_skew (spans_of trace.old) clocks.now }
+    requires clocks { AreClocks max_skew (spans_of trace.old)
+        (all_hosted (hosts_of (spans_of trace.old)) clocks.now) }
     ensures ok { OnOk result (trace.new ≡ shown_adjusted max_skew trace.old) }
     ensures err { OnErr result (IsPartlyAdjusted max_skew trace.old trace.new) }
 {
@@ -55,18 +64,27 @@ fn shift_all(
 /// cycle of parents or below one stays as it is, and so does each later one of several spans with
 /// one id.
 ///
-/// `max_skew` is the largest difference of clocks, in microseconds, that is taken away.
+/// `places` are those of the entries that brought the spans, as far as they are known: the process
+/// of spans that stand together and have one place is looked at once. `max_skew` is the largest
+/// difference of clocks, in microseconds, that is taken away.
 ///
 /// # Errors
 ///
 /// Running out of memory alone; some of the first spans are then adjusted, and the others as they were.
-pub fn adjust_skew(alloc: Global, trace: &mut [Shown], max_skew: u64) -> Result<(), AllocError>
+pub fn adjust_skew(
+    alloc: Global,
+    trace: &mut [Shown],
+    places: &[u64],
+    max_skew: u64,
+) -> Result<(), AllocError>
+    requires { ShareProcesses (spans_of trace.old) places.now }
     ensures ok { OnOk result (trace.new ≡ shown_adjusted max_skew trace.old) }
     ensures err { OnErr result (IsPartlyAdjusted max_skew trace.old trace.new) }
 {
     let first = first_places(alloc, trace)?;
     let parents = parent_places(alloc, trace, &first)?;
-    let clocks = all_clocks(alloc, trace, &parents, max_skew)?;
+    let hosts = host_numbers(alloc, trace, places)?;
+    let clocks = all_clocks(alloc, trace, &parents, &hosts, max_skew)?;
     shift_all(alloc, trace, &first, &clocks, max_skew)
 }
 
@@ -85,15 +103,21 @@ fn with_parents_first(alloc: Global, trace: Vec<Placed>) -> Result<Vec<Shown>, A
 /// The trace as it is shown: in each span the reference to its parent, which is made of its parent
 /// id where none is there yet, in front, and its clock skew taken away as by [`adjust_skew`].
 ///
-/// `max_skew` is in microseconds.
+/// `places` and `max_skew` are those of [`adjust_skew`].
 ///
 /// # Errors
 ///
 /// Out of memory, and nothing else.
-pub fn adjusted(alloc: Global, trace: Vec<Placed>, max_skew: u64) -> Result<Vec<Shown>, AllocError>
+pub fn adjusted(
+    alloc: Global,
+    trace: Vec<Placed>,
+    places: &[u64],
+    max_skew: u64,
+) -> Result<Vec<Shown>, AllocError>
+    requires { ShareProcesses trace.items places.now }
     ensures { IfOk result (λ v. v.items ≡ adjusted max_skew trace.items) }
 {
     let mut shown = with_parents_first(alloc, trace)?;
-    adjust_skew(alloc, &mut shown, max_skew)?;
+    adjust_skew(alloc, &mut shown, places, max_skew)?;
     Ok(shown)
 }

@@ -1,6 +1,6 @@
--- The spots of each trace as they change with one more arrival.
-use Rattle.std.proofs.Common.{◌≡◌, ℕ, Bool, true, false, ◌||◌, cond, List, [], ◌∷◌, ◌++◌, map, refl, sym, ap, ◌∙◌, Some, None}
-use Rattle.std.specs.Prelude.{Option, filter, IfSome, option_to_list, if◌then◌else◌}
+-- The spots of each trace as they change with one more event.
+use Rattle.std.proofs.Common.{◌≡◌, ℕ, Bool, true, false, ◌||◌, ◌&&◌, cond, List, [], ◌∷◌, ◌++◌, map, refl, sym, ap, ◌∙◌, Some, None}
+use Rattle.std.specs.Prelude.{Option, filter, not, IfSome, option_to_list, if◌then◌else◌}
 use Rattle.std.proofs.lemmas.Bool.{false≢true}
 use Rattle.std.proofs.lemmas.List.{append-nil, map-append, map_push}
 use Rattle.std.proofs.lemmas.List.Elements.{filter-append}
@@ -9,16 +9,17 @@ use Rattle.jaeger_model.specs.declared.ids.TraceId.{TraceId}
 use Rattle.jaeger_model.specs.declared.placed.Placed.{Placed}
 use Rattle.jaeger_model.specs.Parents.{same_trace}
 use Rattle.trace_model.specs.declared.entry.Entry.{Entry}
-use Rattle.trace_model.specs.Histories.{arrivals}
-use Rattle.trace_model.specs.Rings.{holds, arrive}
-use Rattle.trace_model.specs.Showing.{trace_of, ring, shown, of_trace, spans_of_trace}
-use Rattle.trace_model.proofs.Shows.{by_pushes, in_ring, ring_push, shown_push, lasting_after_push}
+use Rattle.trace_model.specs.Events.{Event, came, limited, event_map, without_limits}
+use Rattle.trace_model.specs.Histories.{events}
+use Rattle.trace_model.specs.Rings.{holds, newest, arrive, LimitedRing, limited_ring}
+use Rattle.trace_model.specs.Showing.{trace_of, ring, limit_after, shown, of_trace, spans_of_trace}
+use Rattle.trace_model.proofs.Shows.{by_pushes, in_ring, in_ring_by, ring_came, ring_limited, limited_ring-mapped, shown_push, shown_by_push}
 use Rattle.trace_model.proofs.Traces.{same_is, spans_gone, arrived}
 use Rattle.trace_assembly.specs.declared.spot.Spot.{Spot}
 use Rattle.trace_assembly.specs.Rows.{with_spot}
-use Rattle.trace_assembly.specs.Located.{spans_in, spots_in, stands_in, shown_in, own_of, shown_spots, located, span_at, after_leaving, after_arrival}
+use Rattle.trace_assembly.specs.Located.{spans_in, spots_in, located_trace, events_in, shown_in, own_of, shown_spots, with_event, without_left, located, span_at, after_leaving, after_arrival}
 use Rattle.trace_assembly.proofs.Lists.{filter_within, map_filter, map_nil}
-use Rattle.trace_assembly.proofs.Places.{at_spots, shown-lies, spans-located}
+use Rattle.trace_assembly.proofs.Places.{at_spots, shown-lies, events-located}
 
 abbrev span_of : Spot × Placed → Placed
 span_of l = l.1
@@ -26,8 +27,13 @@ span_of l = l.1
 abbrev spot_of : Spot × Placed → Spot
 spot_of l = l.0
 
-shown_in-push : (n : ℕ) (ls : List (Spot × Placed)) (l : Spot × Placed) → shown_in n (ls ++ l ∷ []) ≡ filter (stands_in n (ls ++ l ∷ [])) (shown_in n ls ++ l ∷ [])
-shown_in-push n ls l = lasting_after_push (stands_in n) [] ls l
+-- the ring is that of the spans alone
+ring_in : (n : ℕ) (es : List (Event (Spot × Placed))) → (limited_ring located_trace n es).ids ≡ ring n (events_in es)
+ring_in n es = sym (ap (λ (r : LimitedRing). r.ids) (limited_ring-mapped trace_of span_of n es))
+
+shown_in-push : (n : ℕ) (es : List (Event (Spot × Placed))) (e : Event (Spot × Placed))
+    → shown_in n (es ++ e ∷ []) ≡ in_ring_by located_trace (ring n (events_in (es ++ e ∷ []))) (shown_in n es ++ without_limits (e ∷ []))
+shown_in-push n es e = shown_by_push located_trace n es e ∙ ap (λ r. in_ring_by located_trace r (shown_in n es ++ without_limits (e ∷ []))) (ring_in n (es ++ e ∷ []))
 
 spots_of_own : (t : TraceId) (ls : List (Spot × Placed)) (l : Spot × Placed) → spots_in (own_of t (ls ++ l ∷ [])) ≡ (if same_trace t (trace_of l.1) then spots_in (own_of t ls) ++ l.0 ∷ [] else spots_in (own_of t ls))
 spots_of_own t ls l =
@@ -38,41 +44,52 @@ spots_of_own t ls l =
       | false ↦ append-nil (spots_in (own_of t ls))
     ]
 
--- a trace that stands in the ring keeps its spots and gains that of its own new span, and any other one has none
-pub shown_spots_push_law : (n : ℕ) (ls : List (Spot × Placed)) (l : Spot × Placed) (t : TraceId)
-    → shown_spots n (ls ++ l ∷ []) t ≡ (if holds (ring n (spans_in (ls ++ l ∷ []))) t then with_spot (trace_of l.1) l.0 (shown_spots n ls) t else [])
-shown_spots_push_law n ls l t =
-    let r = ring n (spans_in (ls ++ l ∷ [])) in
-    ap (λ k. spots_in (own_of t k)) (shown_in-push n ls l)
-    ∙ ap spots_in (filter_within (λ (k : Spot × Placed). same_trace t (trace_of k.1)) (stands_in n (ls ++ l ∷ [])) (holds r t) (λ k e. ap (holds r) (sym (same_is t (trace_of k.1) e))) (shown_in n ls ++ l ∷ []))
-    ∙ elim (holds r t) as (λ b. spots_in (if b then own_of t (shown_in n ls ++ l ∷ []) else []) ≡ (if b then with_spot (trace_of l.1) l.0 (shown_spots n ls) t else [])) [
-      | true ↦ spots_of_own t (shown_in n ls) l
+spots_of_event : (t : TraceId) (ls : List (Spot × Placed)) (e : Event (Spot × Placed)) → spots_in (own_of t (ls ++ without_limits (e ∷ []))) ≡ with_event e (λ u. spots_in (own_of u ls)) t
+spots_of_event t ls (came l) = spots_of_own t ls l
+spots_of_event t ls (limited m) = ap (λ k. spots_in (own_of t k)) (append-nil ls)
+
+-- after an event a trace that stands in the ring keeps its spots and gains that of its own new span, and any other one has none
+pub shown_spots_push_law : (n : ℕ) (es : List (Event (Spot × Placed))) (e : Event (Spot × Placed)) (t : TraceId)
+    → shown_spots n (es ++ e ∷ []) t ≡ (if holds (ring n (events_in (es ++ e ∷ []))) t then with_event e (shown_spots n es) t else [])
+shown_spots_push_law n es e t =
+    let r = ring n (events_in (es ++ e ∷ [])) in
+    ap (λ k. spots_in (own_of t k)) (shown_in-push n es e)
+    ∙ ap spots_in (filter_within (λ (k : Spot × Placed). same_trace t (trace_of k.1)) (λ (k : Spot × Placed). holds r (trace_of k.1)) (holds r t) (λ k e. ap (holds r) (sym (same_is t (trace_of k.1) e))) (shown_in n es ++ without_limits (e ∷ [])))
+    ∙ elim (holds r t) as (λ b. spots_in (if b then own_of t (shown_in n es ++ without_limits (e ∷ [])) else []) ≡ (if b then with_event e (shown_spots n es) t else [])) [
+      | true ↦ spots_of_event t (shown_in n es) e
       | false ↦ refl
     ]
 
-spans-push : (ls : List (Spot × Placed)) (l : Spot × Placed) → spans_in (ls ++ l ∷ []) ≡ spans_in ls ++ l.1 ∷ []
-spans-push ls l = map_push span_of ls l
+events-push : (es : List (Event (Spot × Placed))) (e : Event (Spot × Placed)) → events_in (es ++ e ∷ []) ≡ events_in es ++ event_map span_of e ∷ []
+events-push es e = map_push (event_map span_of) es e
+
+spans_of_event : (e : Event (Spot × Placed)) → spans_in (without_limits (e ∷ [])) ≡ without_limits (event_map span_of e ∷ [])
+spans_of_event (came l) = refl
+spans_of_event (limited m) = refl
 
 -- the located spans that are shown are the shown spans
-pub spans-shown_in : (n : ℕ) (ls : List (Spot × Placed)) → spans_in (shown_in n ls) ≡ shown n (spans_in ls)
-spans-shown_in n = by_pushes (λ ls. spans_in (shown_in n ls) ≡ shown n (spans_in ls)) refl (λ ls l old.
-    let stands : Placed → Bool = λ p. holds (ring n (spans_in (ls ++ l ∷ []))) (trace_of p) in
-    ap spans_in (shown_in-push n ls l)
-    ∙ map_filter span_of stands (shown_in n ls ++ l ∷ [])
-    ∙ ap (filter stands) (map_push span_of (shown_in n ls) l ∙ ap (λ ps. ps ++ l.1 ∷ []) old)
-    ∙ ap (λ ps. in_ring (ring n ps) (shown n (spans_in ls) ++ l.1 ∷ [])) (spans-push ls l)
-    ∙ sym (shown_push n (spans_in ls) l.1) ∙ ap (shown n) (sym (spans-push ls l)))
+pub spans-shown_in : (n : ℕ) (es : List (Event (Spot × Placed))) → spans_in (shown_in n es) ≡ shown n (events_in es)
+spans-shown_in n = by_pushes (λ es. spans_in (shown_in n es) ≡ shown n (events_in es)) refl (λ es e old.
+    let stands : Placed → Bool = λ p. holds (ring n (events_in (es ++ e ∷ []))) (trace_of p) in
+    let now = event_map span_of e in
+    ap spans_in (shown_in-push n es e)
+    ∙ map_filter span_of stands (shown_in n es ++ without_limits (e ∷ []))
+    ∙ ap (filter stands) (map-append span_of (shown_in n es) (without_limits (e ∷ [])) ∙ (λ i. old i ++ spans_of_event e i))
+    ∙ ap (λ ps. in_ring (ring n ps) (shown n (events_in es) ++ without_limits (now ∷ []))) (events-push es e)
+    ∙ sym (shown_push n (events_in es) now) ∙ ap (shown n) (sym (events-push es e)))
 
-spans-own : (n : ℕ) (ls : List (Spot × Placed)) (t : TraceId) → spans_in (own_of t (shown_in n ls)) ≡ spans_of_trace n (spans_in ls) t
-spans-own n ls t = map_filter span_of (λ p. same_trace t (trace_of p)) (shown_in n ls) ∙ ap (of_trace t) (spans-shown_in n ls)
+spans-own : (n : ℕ) (es : List (Event (Spot × Placed))) (t : TraceId) → spans_in (own_of t (shown_in n es)) ≡ spans_of_trace n (events_in es) t
+spans-own n es t = map_filter span_of (λ p. same_trace t (trace_of p)) (shown_in n es) ∙ ap (of_trace t) (spans-shown_in n es)
 
 -- the spans at a trace's shown spots are its shown spans
-pub spans_at_shown_law : (n : ℕ) (h : List Entry) (t : TraceId) → map (span_at h) (shown_spots n (located h) t) ≡ map (λ p. Some p) (spans_of_trace n (arrivals h) t)
-spans_at_shown_law n h t = at_spots h (own_of t (shown_in n (located h))) (shown-lies h n t) ∙ ap (map (λ p. Some p)) (spans-own n (located h) t ∙ ap (λ ps. spans_of_trace n ps t) (spans-located h))
+pub spans_at_shown_law : (n : ℕ) (h : List Entry) (t : TraceId) → map (span_at h) (shown_spots n (located h) t) ≡ map (λ p. Some p) (spans_of_trace n (events h) t)
+spans_at_shown_law n h t =
+    at_spots h (own_of t (shown_in n (located h))) (shown-lies h n t)
+    ∙ ap (map (λ p. Some p)) (spans-own n (located h) t ∙ ap (λ es. spans_of_trace n es t) (events-located h))
 
 -- a trace that isn't in the ring has no spots
-pub shown_spots-gone : (n : ℕ) (ls : List (Spot × Placed)) (t : TraceId) → holds (ring n (spans_in ls)) t ≡ false → shown_spots n ls t ≡ []
-shown_spots-gone n ls t gone = ap spots_in (map_nil span_of (own_of t (shown_in n ls)) (spans-own n ls t ∙ spans_gone n (spans_in ls) t gone))
+pub shown_spots-gone : (n : ℕ) (es : List (Event (Spot × Placed))) (t : TraceId) → holds (ring n (events_in es)) t ≡ false → shown_spots n es t ≡ []
+shown_spots-gone n es t gone = ap spots_in (map_nil span_of (own_of t (shown_in n es)) (spans-own n es t ∙ spans_gone n (events_in es) t gone))
 
 -- ---- spots added and hidden as the ring says are those of the shown spans
 or_false : (a b : Bool) → (a || b) ≡ false → a ≡ false
@@ -104,20 +121,33 @@ gone (Some g) old r spots t split out none = elim (same_trace t g) as (λ s. sam
   | false ↦ λ other. none (ap (λ x. holds x t) split ∙ ap (λ b. b || holds r t) other ∙ out)
 ] refl
 
-pub after_arrival_law : (n : ℕ) (ls : List (Spot × Placed)) (l : Spot × Placed) (left : Option TraceId) (old new : List TraceId) (spots : TraceId → List Spot)
-    → old ≡ ring n (spans_in ls) → new ≡ arrive n old (trace_of l.1) → with_trace old (trace_of l.1) ≡ option_to_list left ++ new → IfSome left (λ gone. holds new gone ≡ false)
-    → ((t : TraceId) → spots t ≡ shown_spots n ls t) → (t : TraceId) → after_arrival l left spots t ≡ shown_spots n (ls ++ l ∷ []) t
-after_arrival_law n ls l left old new spots was is split out same t =
-    let now : new ≡ ring n (spans_in (ls ++ l ∷ [])) = is ∙ ap (λ r. arrive n r (trace_of l.1)) was ∙ sym (ring_push n (spans_in ls) l.1) ∙ ap (ring n) (sym (spans-push ls l)) in
-    let own : holds new (trace_of l.1) ≡ true = ap (λ r. holds r (trace_of l.1)) is ∙ arrived n old (trace_of l.1) in
-    elim (holds new t) as (λ b. holds new t ≡ b → after_arrival l left spots t ≡ (if b then with_spot (trace_of l.1) l.0 (shown_spots n ls) t else [])) [
+pub after_arrival_law : (n limit : ℕ) (es : List (Event (Spot × Placed))) (l : Spot × Placed) (left : Option TraceId) (old new : List TraceId) (spots : TraceId → List Spot)
+    → limit ≡ limit_after n (events_in es) → old ≡ ring n (events_in es) → new ≡ arrive limit old (trace_of l.1) → with_trace old (trace_of l.1) ≡ option_to_list left ++ new → IfSome left (λ gone. holds new gone ≡ false)
+    → ((t : TraceId) → spots t ≡ shown_spots n es t) → (t : TraceId) → after_arrival l left spots t ≡ shown_spots n (es ++ came l ∷ []) t
+after_arrival_law n limit es l left old new spots now_limit was is split out same t =
+    let now : new ≡ ring n (events_in (es ++ came l ∷ [])) =
+    is ∙ (λ i. arrive (now_limit i) (was i) (trace_of l.1)) ∙ sym (ring_came n (events_in es) l.1) ∙ ap (ring n) (sym (events-push es (came l))) in
+    let own : holds new (trace_of l.1) ≡ true = ap (λ r. holds r (trace_of l.1)) is ∙ arrived limit old (trace_of l.1) in
+    elim (holds new t) as (λ b. holds new t ≡ b → after_arrival l left spots t ≡ (if b then with_spot (trace_of l.1) l.0 (shown_spots n es) t else [])) [
       | true ↦ λ held. ap (λ k. if same_trace t (trace_of l.1) then k ++ l.0 ∷ [] else k) (kept left new spots t out held ∙ same t)
       | false ↦ λ lost.
-          let none : after_leaving left spots t ≡ [] = gone left (with_trace old (trace_of l.1)) new spots t split lost (λ e. same t ∙ shown_spots-gone n ls t (ap (λ r. holds r t) (sym was) ∙ before_too old (trace_of l.1) t e)) in
+          let none : after_leaving left spots t ≡ [] = gone left (with_trace old (trace_of l.1)) new spots t split lost (λ e. same t ∙ shown_spots-gone n es t (ap (λ r. holds r t) (sym was) ∙ before_too old (trace_of l.1) t e)) in
           elim (same_trace t (trace_of l.1)) as (λ s. same_trace t (trace_of l.1) ≡ s → (if s then after_leaving left spots t ++ l.0 ∷ [] else after_leaving left spots t) ≡ []) [
             | true ↦ λ e. absurd (false≢true (sym lost ∙ ap (holds new) (same_is t (trace_of l.1) e) ∙ own))
             | false ↦ λ _. none
           ] refl
     ] refl
-    ∙ ap (λ r. if holds r t then with_spot (trace_of l.1) l.0 (shown_spots n ls) t else []) now
-    ∙ sym (shown_spots_push_law n ls l t)
+    ∙ ap (λ r. if holds r t then with_spot (trace_of l.1) l.0 (shown_spots n es) t else []) now
+    ∙ sym (shown_spots_push_law n es (came l) t)
+
+-- where the spots of each trace are those of its shown spans, hiding the traces that leave at a limit keeps them so
+pub after_limit_law : (n m : ℕ) (es : List (Event (Spot × Placed))) (old new : List TraceId) (spots : TraceId → List Spot)
+    → old ≡ ring n (events_in es) → new ≡ newest m old → ((t : TraceId) → spots t ≡ shown_spots n es t) → (t : TraceId) → without_left old new spots t ≡ shown_spots n (es ++ limited m ∷ []) t
+after_limit_law n m es old new spots was is same t =
+    let now : new ≡ ring n (events_in (es ++ limited m ∷ [])) = is ∙ ap (newest m) was ∙ sym (ring_limited n (events_in es) m) ∙ ap (ring n) (sym (events-push es (limited m))) in
+    elim (holds new t) as (λ b. (if holds old t && not b then [] else spots t) ≡ (if b then shown_spots n es t else [])) [
+      | true ↦ elim (holds old t) as (λ a. (if a && false then [] else spots t) ≡ shown_spots n es t) [ true ↦ same t | false ↦ same t ]
+      | false ↦ elim (holds old t) as (λ a. holds old t ≡ a → (if a && true then [] else spots t) ≡ []) [ true ↦ λ _. refl | false ↦ λ e. same t ∙ shown_spots-gone n es t (ap (λ r. holds r t) (sym was) ∙ e) ] refl
+    ]
+    ∙ ap (λ r. if holds r t then shown_spots n es t else []) now
+    ∙ sym (shown_spots_push_law n es (limited m) t)

@@ -1,14 +1,18 @@
 -- Where the spans of a history lie, and which spots are shown.
-use Rattle.std.specs.Prelude.{ℕ, suc, Bool, List, [], ◌∷◌, ◌++◌, map, filter, Option, Some, None, slice_get, ◌+◌, length, take}
+use Rattle.std.specs.Prelude.{ℕ, suc, Bool, List, [], ◌∷◌, ◌++◌, map, filter, Option, Some, None, slice_get, ◌+◌, length, take, ◌&&◌, not, if◌then◌else◌}
 use Rattle.std.specs.Option.{option_and_then}
 use Rattle.jaeger_model.specs.declared.ids.TraceId.{TraceId}
 use Rattle.jaeger_model.specs.declared.batch.Batch.{Batch}
 use Rattle.jaeger_model.specs.declared.placed.Placed.{Placed}
 use Rattle.jaeger_model.specs.Parents.{domain, placed, same_trace}
 use Rattle.trace_model.specs.declared.entry.Entry.{Entry}
+use Rattle.trace_model.specs.declared.entry.Work.{Work}
+use Rattle.trace_model.specs.declared.entry.Work.TheVariants as brings
+use Rattle.trace_model.specs.Works.{placed_brought}
 use Rattle.trace_model.specs.Places.{entry_at}
 use Rattle.trace_model.specs.Rings.{holds}
-use Rattle.trace_model.specs.Showing.{trace_of, ring, lasting_after}
+use Rattle.trace_model.specs.Events.{Event, came, limited, event_map}
+use Rattle.trace_model.specs.Showing.{trace_of, shown_by}
 use Rattle.trace_assembly.specs.declared.spot.Spot.{Spot}
 use Rattle.trace_assembly.specs.Rows.{with_spot, without_spots}
 
@@ -17,22 +21,27 @@ abbrev pub located_in : ℕ → ℕ → List Placed → List (Spot × Placed)
 located_in place index [] = []
 located_in place index (p ∷ ps) = (record { place = place; index = index }, p) ∷ located_in place (suc index) ps
 
--- those of the entries from this place on
-abbrev pub located_from : ℕ → List Entry → List (Spot × Placed)
-located_from place [] = []
-located_from place (e ∷ es) = located_in place 0 (domain e.batch) ++ located_from (suc place) es
+-- what the entry at this place is, each of its spans with its spot
+abbrev pub located_by : ℕ → Work → List (Event (Spot × Placed))
+located_by place (brings.Batch b) = map came (located_in place 0 (domain b))
+located_by place (brings.TraceLimit n) = limited n ∷ []
 
--- the arrivals of a history, each with its spot; the first entry stands at place 1
-abbrev pub located : List Entry → List (Spot × Placed)
+-- those of the entries from this place on
+abbrev pub located_from : ℕ → List Entry → List (Event (Spot × Placed))
+located_from place [] = []
+located_from place (e ∷ es) = located_by place e.work ++ located_from (suc place) es
+
+-- the events of a history, each span with its spot; the first entry stands at place 1
+abbrev pub located : List Entry → List (Event (Spot × Placed))
 located h = located_from 1 h
 
 -- those of a history and of the spans below this index of one more batch
-abbrev pub located_upto : List Entry → Batch → ℕ → List (Spot × Placed)
-located_upto h b index = located h ++ located_in (length h + 1) 0 (map (placed b) (take index b.spans))
+abbrev pub located_upto : List Entry → Batch → ℕ → List (Event (Spot × Placed))
+located_upto h b index = located h ++ map came (located_in (length h + 1) 0 (map (placed b) (take index b.spans)))
 
 -- the span at a spot
 abbrev pub span_at : List Entry → Spot → Option Placed
-span_at h s = option_and_then (λ (e : Entry). slice_get (domain e.batch) s.index) (entry_at h s.place)
+span_at h s = option_and_then (λ (e : Entry). slice_get (placed_brought e.work) s.index) (entry_at h s.place)
 
 abbrev pub spans_in : List (Spot × Placed) → List Placed
 spans_in ls = map (λ l. l.1) ls
@@ -40,20 +49,36 @@ spans_in ls = map (λ l. l.1) ls
 abbrev pub spots_in : List (Spot × Placed) → List Spot
 spots_in ls = map (λ l. l.0) ls
 
--- after these arrivals the span's trace stands in the ring
-abbrev pub stands_in : ℕ → List (Spot × Placed) → Spot × Placed → Bool
-stands_in n ls l = holds (ring n (spans_in ls)) (trace_of l.1)
+abbrev pub located_trace : Spot × Placed → TraceId
+located_trace l = trace_of l.1
+
+-- the same events of the spans alone
+abbrev pub events_in : List (Event (Spot × Placed)) → List (Event Placed)
+events_in es = map (event_map (λ l. l.1)) es
 
 -- the located spans that are shown: each one's trace stands in the ring of every beginning that holds the span
-abbrev pub shown_in : ℕ → List (Spot × Placed) → List (Spot × Placed)
-shown_in n ls = lasting_after (stands_in n) [] ls
+abbrev pub shown_in : ℕ → List (Event (Spot × Placed)) → List (Spot × Placed)
+shown_in n es = shown_by located_trace n es
 
 abbrev pub own_of : TraceId → List (Spot × Placed) → List (Spot × Placed)
 own_of t ls = filter (λ l. same_trace t (trace_of l.1)) ls
 
 -- the spots of a trace's shown spans, in the order of their arrival
-abbrev pub shown_spots : ℕ → List (Spot × Placed) → TraceId → List Spot
-shown_spots n ls t = spots_in (own_of t (shown_in n ls))
+abbrev pub shown_spots : ℕ → List (Event (Spot × Placed)) → TraceId → List Spot
+shown_spots n es t = spots_in (own_of t (shown_in n es))
+
+-- the spots of each trace with that which came
+abbrev pub with_event : Event (Spot × Placed) → (TraceId → List Spot) → TraceId → List Spot
+with_event (came l) spots t = with_spot (trace_of l.1) l.0 spots t
+with_event (limited m) spots t = spots t
+
+-- the trace stood in the ring and doesn't any more
+abbrev pub has_left : List TraceId → List TraceId → TraceId → Bool
+has_left old new t = holds old t && not (holds new t)
+
+-- the spots of each trace once those that left were hidden
+abbrev pub without_left : List TraceId → List TraceId → (TraceId → List Spot) → TraceId → List Spot
+without_left old new spots t = if has_left old new t then [] else spots t
 
 -- the spots of each trace once this trace has left, if one has
 abbrev pub after_leaving : Option TraceId → (TraceId → List Spot) → TraceId → List Spot

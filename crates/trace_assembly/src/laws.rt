@@ -3,51 +3,64 @@
 ghost use Rattle.std.specs.Prelude.{◌≡◌, ◌+◌, ℕ, List, [], ◌∷◌, ◌++◌, map, length, false, Some, Option, IfSome, option_to_list, if◌then◌else◌};
 ghost use Rattle.jaeger_model.specs.declared.placed.Placed.{Placed as PlacedValue};
 ghost use Rattle.jaeger_model.specs.declared.ids.TraceId.{TraceId as TraceIdValue};
-ghost use Rattle.jaeger_model.specs.Parents.{domain};
 ghost use Rattle.trace_model.specs.declared.entry.Entry.{Entry};
 ghost use Rattle.trace_model.specs.Histories.{arrivals};
-ghost use Rattle.trace_model.specs.Rings.{holds, arrive};
-ghost use Rattle.trace_model.specs.Showing.{trace_of, ring, spans_of_trace};
+ghost use Rattle.trace_model.specs.Rings.{holds, newest, arrive};
+ghost use Rattle.trace_model.specs.Showing.{trace_of, ring, limit_after, spans_of_trace};
+ghost use Rattle.trace_model.specs.Events.{Event, came, limited, without_limits};
+ghost use Rattle.trace_model.specs.Histories.{events};
 ghost use Rattle.trace_assembly.specs.declared.spot.Spot.{Spot as SpotValue};
-ghost use Rattle.trace_assembly.specs.Rows.{with_spot};
-ghost use Rattle.trace_assembly.specs.Located.{located_in, located, span_at, spans_in, spots_in, shown_spots, after_arrival};
+ghost use Rattle.trace_assembly.specs.Located.{located_by, located, events_in, span_at, spots_in, shown_spots, with_event, without_left, after_arrival};
 
 #[tactic(auto, using(crate::proofs::Places::spans_at_located_law))]
 /// The spans at the spots of a history, in order, are its arrivals.
 pub fn spots_name_the_arrivals()
-    ensures { (h : List Entry) → map (span_at h) (spots_in (located h)) ≡
+    ensures { (h : List Entry) → map (span_at h) (spots_in (without_limits (located h))) ≡
         map (λ p. Some p) (arrivals h) }
 {}
 
 #[tactic(auto, using(crate::proofs::Places::located_push_law))]
-/// One more entry adds the spans of its batch, each at the entry's place and its own index.
+/// One more entry adds what it is: the spans of a batch, each at the entry's place and its own index, or a
+/// limit.
 pub fn an_entry_adds_its_spans()
     ensures { (h : List Entry) (e : Entry) →
-        located (h ++ e ∷ []) ≡ located h ++ located_in (length h + 1) 0 (domain e.batch) }
+        located (h ++ e ∷ []) ≡ located h ++ located_by (length h + 1) e.work }
 {}
 
 #[tactic(auto, using(crate::proofs::Feeding::shown_spots_push_law))]
-/// A trace in the ring keeps its spots and gains its own new one. Any other trace has none.
+/// After an event a trace in the ring keeps its spots and gains its own new one. Any other trace has none.
 pub fn spots_since_opened()
-    ensures { (n : ℕ) (ls : List (SpotValue × PlacedValue)) (l : SpotValue × PlacedValue)
-        (t : TraceIdValue) →
-        shown_spots n (ls ++ l ∷ []) t ≡
-        (if holds (ring n (spans_in (ls ++ l ∷ []))) t then with_spot (trace_of l.1) l.0
-        (shown_spots n ls) t else []) }
+    ensures { (n : ℕ) (es : List (Event (SpotValue × PlacedValue)))
+        (e : Event (SpotValue × PlacedValue)) (t : TraceIdValue) →
+        shown_spots n (es ++ e ∷ []) t ≡
+        (if holds (ring n (events_in (es ++ e ∷ []))) t then with_event e
+        (shown_spots n es) t else []) }
 {}
 
 #[tactic(auto, using(crate::proofs::Feeding::after_arrival_law))]
 /// Where the spots of each trace are those of its shown spans, hiding the trace that leaves and then
 /// adding the spot of the newcomer keeps them so.
 pub fn fed_as_the_ring_says()
-    ensures { (n : ℕ) (ls : List (SpotValue × PlacedValue)) (l : SpotValue × PlacedValue)
-        (left : Option TraceIdValue) (old new : List TraceIdValue) (spots : TraceIdValue →
-        List SpotValue) →
-        old ≡ ring n (spans_in ls) → new ≡ arrive n old (trace_of l.1) →
+    ensures { (n limit : ℕ) (es : List (Event (SpotValue × PlacedValue)))
+        (l : SpotValue × PlacedValue) (left : Option TraceIdValue) (old new : List TraceIdValue)
+        (spots : TraceIdValue → List SpotValue) →
+        limit ≡ limit_after n (events_in es) → old ≡ ring n (events_in es) →
+        new ≡ arrive limit old (trace_of l.1) →
         (if holds old (trace_of l.1) then old else old ++ trace_of l.1 ∷ []) ≡
         option_to_list left ++ new → IfSome left (λ gone. holds new gone ≡ false) →
-        ((t : TraceIdValue) → spots t ≡ shown_spots n ls t) → (t : TraceIdValue) →
-        after_arrival l left spots t ≡ shown_spots n (ls ++ l ∷ []) t }
+        ((t : TraceIdValue) → spots t ≡ shown_spots n es t) → (t : TraceIdValue) →
+        after_arrival l left spots t ≡ shown_spots n (es ++ came l ∷ []) t }
+{}
+
+#[tactic(auto, using(crate::proofs::Feeding::after_limit_law))]
+/// Where the spots of each trace are those of its shown spans, hiding the traces that leave at a limit
+/// keeps them so.
+pub fn lowered_as_the_ring_says()
+    ensures { (n m : ℕ) (es : List (Event (SpotValue × PlacedValue)))
+        (old new : List TraceIdValue) (spots : TraceIdValue → List SpotValue) →
+        old ≡ ring n (events_in es) → new ≡ newest m old →
+        ((t : TraceIdValue) → spots t ≡ shown_spots n es t) → (t : TraceIdValue) →
+        without_left old new spots t ≡ shown_spots n (es ++ limited m ∷ []) t }
 {}
 
 #[tactic(auto, using(crate::proofs::Feeding::spans_at_shown_law))]
@@ -55,5 +68,5 @@ pub fn fed_as_the_ring_says()
 pub fn shown_spots_name_the_shown_spans()
     ensures { (n : ℕ) (h : List Entry) (t : TraceIdValue) →
         map (span_at h) (shown_spots n (located h) t) ≡
-        map (λ p. Some p) (spans_of_trace n (arrivals h) t) }
+        map (λ p. Some p) (spans_of_trace n (events h) t) }
 {}

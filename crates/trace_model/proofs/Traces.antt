@@ -1,17 +1,19 @@
--- The shown spans of one trace, as they change with one more arrival.
-use Rattle.std.proofs.Common.{◌≡◌, ℕ, suc, zero, ◌+◌, ◌-◌, ◌<◌, ◌≤◌, Bool, true, false, ◌&&◌, ◌||◌, cond, List, [], ◌∷◌, ◌++◌, length, drop, refl, sym, ap, ◌∙◌, arith, eqb-true, eq-eqb, length-append}
+-- The shown spans of one trace, as they change with one more event.
+use Rattle.std.proofs.Common.{◌≡◌, ℕ, suc, zero, ◌+◌, ◌-◌, ◌<◌, ◌≤◌, Bool, true, false, ◌&&◌, ◌||◌, cond, List, [], ◌∷◌, ◌++◌, length, drop, map, refl, sym, ap, subst, ◌∙◌, arith, eqb-true, eq-eqb, length-append, append_assoc}
 use Rattle.std.specs.Prelude.{filter, if◌then◌else◌, ◌==◌}
-use Rattle.std.specs.List.{list_any}
+use Rattle.std.specs.List.{list_any, list_all}
 use Rattle.std.proofs.lemmas.Bool.{false≢true}
-use Rattle.std.proofs.lemmas.List.{drop-append-le}
+use Rattle.std.proofs.lemmas.List.{drop-append-le, append-nil, length-drop}
 use Rattle.std.proofs.lemmas.List.Elements.{filter-append}
 use Rattle.std.proofs.lemmas.List.Folds.{list_any-append}
 use Rattle.jaeger_model.specs.declared.ids.TraceId.{TraceId}
 use Rattle.jaeger_model.specs.declared.placed.Placed.{Placed}
 use Rattle.jaeger_model.specs.Parents.{same_trace}
+use Rattle.trace_model.specs.Events.{Event, came, limited, without_limits}
+use Rattle.trace_model.specs.Limiting.{limits_none, comes_for}
 use Rattle.trace_model.specs.Rings.{holds, newest, arrive}
-use Rattle.trace_model.specs.Showing.{trace_of, ring, shown, of_trace, spans_of_trace}
-use Rattle.trace_model.proofs.Shows.{by_pushes, in_ring, ring_push, shown_push, shown_in_ring}
+use Rattle.trace_model.specs.Showing.{trace_of, ring, limit_after, shown, of_trace, spans_of_trace}
+use Rattle.trace_model.proofs.Shows.{by_pushes, all_push, in_ring, ring_came, ring_limited, limit_came, limit_limited, without_limits-append, without_limits-came, shown_push, shown_in_ring}
 
 -- the test decides equality
 pub same_is : (a b : TraceId) → same_trace a b ≡ true → a ≡ b
@@ -49,17 +51,17 @@ of_trace-in_ring t r (p ∷ ps) = elim (same_trace t (trace_of p)) as (λ s. sam
   | false ↦ λ e. left_other t r p ps e (of_trace-in_ring t r ps)
 ] refl
 
--- what a trace keeps after one more arrival: nothing if it isn't in the ring, else what it kept and the new span if that is its own
-pub spans_push : (n : ℕ) (ps : List Placed) (p : Placed) (t : TraceId)
-    → spans_of_trace n (ps ++ p ∷ []) t ≡ (if holds (ring n (ps ++ p ∷ [])) t then spans_of_trace n ps t ++ of_trace t (p ∷ []) else [])
-spans_push n ps p t =
-    ap (of_trace t) (shown_push n ps p) ∙ of_trace-in_ring t (ring n (ps ++ p ∷ [])) (shown n ps ++ p ∷ [])
-    ∙ ap (λ l. if holds (ring n (ps ++ p ∷ [])) t then l else []) (filter-append (λ q. same_trace t (trace_of q)) (shown n ps) (p ∷ []))
+-- what a trace keeps after one more event: nothing if it isn't in the ring, else what it kept and the new span if one came that is its own
+pub spans_push : (n : ℕ) (es : List (Event Placed)) (e : Event Placed) (t : TraceId)
+    → spans_of_trace n (es ++ e ∷ []) t ≡ (if holds (ring n (es ++ e ∷ [])) t then spans_of_trace n es t ++ of_trace t (without_limits (e ∷ [])) else [])
+spans_push n es e t =
+    ap (of_trace t) (shown_push n es e) ∙ of_trace-in_ring t (ring n (es ++ e ∷ [])) (shown n es ++ without_limits (e ∷ []))
+    ∙ ap (λ l. if holds (ring n (es ++ e ∷ [])) t then l else []) (filter-append (λ q. same_trace t (trace_of q)) (shown n es) (without_limits (e ∷ [])))
 
 -- a trace that isn't in the ring has no shown spans
-pub spans_gone : (n : ℕ) (ps : List Placed) (t : TraceId) → holds (ring n ps) t ≡ false → spans_of_trace n ps t ≡ []
-spans_gone n ps t e =
-    ap (of_trace t) (sym (shown_in_ring n ps)) ∙ of_trace-in_ring t (ring n ps) (shown n ps) ∙ ap (λ b. if b then of_trace t (shown n ps) else []) e
+pub spans_gone : (n : ℕ) (es : List (Event Placed)) (t : TraceId) → holds (ring n es) t ≡ false → spans_of_trace n es t ≡ []
+spans_gone n es t e =
+    ap (of_trace t) (sym (shown_in_ring n es)) ∙ of_trace-in_ring t (ring n es) (shown n es) ∙ ap (λ b. if b then of_trace t (shown n es) else []) e
 
 pub or_true : (a : Bool) → (a || true) ≡ true
 or_true true = refl
@@ -80,16 +82,16 @@ pub arrived : (n : ℕ) (r : List TraceId) (t : TraceId) → holds (arrive n r t
 arrived n r t = elim (holds r t) as (λ h. holds r t ≡ h → holds (if h then r else newest n (r ++ t ∷ [])) t ≡ true) [ true ↦ λ e. e | false ↦ λ e. holds-newest n r t ] refl
 
 -- a span of a trace that left, or that never was there, opens it with that span alone
-pub opened_alone : (n : ℕ) (ps : List Placed) (p : Placed) → holds (ring n ps) (trace_of p) ≡ false → spans_of_trace n (ps ++ p ∷ []) (trace_of p) ≡ p ∷ []
-opened_alone n ps p e =
-    spans_push n ps p (trace_of p)
-    ∙ ap (λ b. if b then spans_of_trace n ps (trace_of p) ++ of_trace (trace_of p) (p ∷ []) else []) (ap (λ r. holds r (trace_of p)) (ring_push n ps p) ∙ arrived n (ring n ps) (trace_of p))
-    ∙ ap (λ l. l ++ of_trace (trace_of p) (p ∷ [])) (spans_gone n ps (trace_of p) e)
+pub opened_alone : (n : ℕ) (es : List (Event Placed)) (p : Placed) → holds (ring n es) (trace_of p) ≡ false → spans_of_trace n (es ++ came p ∷ []) (trace_of p) ≡ p ∷ []
+opened_alone n es p e =
+    spans_push n es (came p) (trace_of p)
+    ∙ ap (λ b. if b then spans_of_trace n es (trace_of p) ++ of_trace (trace_of p) (p ∷ []) else []) (ap (λ r. holds r (trace_of p)) (ring_came n es p) ∙ arrived (limit_after n es) (ring n es) (trace_of p))
+    ∙ ap (λ l. l ++ of_trace (trace_of p) (p ∷ [])) (spans_gone n es (trace_of p) e)
     ∙ ap (λ b. cond b (p ∷ []) []) (same_self (trace_of p))
 
 -- a late span doesn't renew its trace
-pub not_renewed : (n : ℕ) (ps : List Placed) (p : Placed) → holds (ring n ps) (trace_of p) ≡ true → ring n (ps ++ p ∷ []) ≡ ring n ps
-not_renewed n ps p e = ring_push n ps p ∙ ap (λ b. if b then ring n ps else newest n (ring n ps ++ trace_of p ∷ [])) e
+pub not_renewed : (n : ℕ) (es : List (Event Placed)) (p : Placed) → holds (ring n es) (trace_of p) ≡ true → ring n (es ++ came p ∷ []) ≡ ring n es
+not_renewed n es p e = ring_came n es p ∙ ap (λ b. if b then ring n es else newest (limit_after n es) (ring n es ++ trace_of p ∷ [])) e
 
 -- with no limit the ring only grows
 holds-arrive : (r : List TraceId) (t s : TraceId) → holds r t ≡ true → holds (arrive 0 r s) t ≡ true
@@ -115,16 +117,50 @@ in_ring-more r t (p ∷ ps) e =
 filter_all : {X : Type 0} (f : X → Bool) (xs : List X) (x : X) → filter f xs ≡ xs → f x ≡ true → filter f (xs ++ x ∷ []) ≡ xs ++ x ∷ []
 filter_all f xs x a b = filter-append f xs (x ∷ []) ∙ (λ i. a i ++ cond (b i) (x ∷ []) [])
 
--- without a limit every arrival's trace stays
-pub all_in_ring : (ps : List Placed) → in_ring (ring 0 ps) ps ≡ ps
-all_in_ring = by_pushes (λ ps. in_ring (ring 0 ps) ps ≡ ps) refl (λ ps p e.
-    let r = ring 0 (ps ++ p ∷ []) in
-    let old : in_ring r ps ≡ ps = ap (λ x. in_ring x ps) (ring_push 0 ps p) ∙ in_ring-more (ring 0 ps) (trace_of p) ps e in
-    filter_all (λ q. holds r (trace_of q)) ps p old (ap (λ x. holds x (trace_of p)) (ring_push 0 ps p) ∙ arrived 0 (ring 0 ps) (trace_of p)))
+-- ---- without a limit all stay
+and_both : {P : Type 0} (a b : Bool) → (a && b) ≡ true → (a ≡ true → b ≡ true → P) → P
+and_both true b e f = f refl e
+and_both false b e f = absurd (false≢true e)
 
--- limit 0 keeps all
-pub shown_all : (ps : List Placed) → shown 0 ps ≡ ps
-shown_all = by_pushes (λ ps. shown 0 ps ≡ ps) refl (λ ps p e. shown_push 0 ps p ∙ ap (λ l. in_ring (ring 0 (ps ++ p ∷ [])) (l ++ p ∷ [])) e ∙ all_in_ring (ps ++ p ∷ []))
+one_none : (e : Event Placed) (es : List (Event Placed)) → limits_none e ≡ true → limit_after 0 es ≡ 0 → limit_after 0 (es ++ e ∷ []) ≡ 0
+one_none (came p) es none zeros = limit_came 0 es p ∙ zeros
+one_none (limited m) es none zeros = limit_limited 0 es m ∙ eqb-true m 0 none
+
+one_more : (e : Event Placed) (es : List (Event Placed)) → limits_none e ≡ true → limit_after 0 es ≡ 0 → in_ring (ring 0 es) (without_limits es) ≡ without_limits es
+    → in_ring (ring 0 (es ++ e ∷ [])) (without_limits (es ++ e ∷ [])) ≡ without_limits (es ++ e ∷ [])
+one_more (came p) es none zeros all =
+    let r = ring 0 (es ++ came p ∷ []) in
+    let is : r ≡ arrive 0 (ring 0 es) (trace_of p) = ring_came 0 es p ∙ ap (λ k. arrive k (ring 0 es) (trace_of p)) zeros in
+    let old : in_ring r (without_limits es) ≡ without_limits es = ap (λ x. in_ring x (without_limits es)) is ∙ in_ring-more (ring 0 es) (trace_of p) (without_limits es) all in
+    ap (in_ring r) (without_limits-append es (came p ∷ []))
+    ∙ filter_all (λ q. holds r (trace_of q)) (without_limits es) p old (ap (λ x. holds x (trace_of p)) is ∙ arrived 0 (ring 0 es) (trace_of p))
+    ∙ sym (without_limits-append es (came p ∷ []))
+one_more (limited m) es none zeros all =
+    let r = ring 0 (es ++ limited m ∷ []) in
+    let is : r ≡ ring 0 es = ring_limited 0 es m ∙ ap (λ k. newest k (ring 0 es)) (eqb-true m 0 none) in
+    let same : without_limits (es ++ limited m ∷ []) ≡ without_limits es = without_limits-append es (limited m ∷ []) ∙ append-nil (without_limits es) in
+    (λ i. in_ring (is i) (same i)) ∙ all ∙ sym same
+
+all_stay : (es : List (Event Placed)) → list_all limits_none es ≡ true → (limit_after 0 es ≡ 0) × (in_ring (ring 0 es) (without_limits es) ≡ without_limits es) × (shown 0 es ≡ without_limits es)
+all_stay = by_pushes (λ es. list_all limits_none es ≡ true → (limit_after 0 es ≡ 0) × (in_ring (ring 0 es) (without_limits es) ≡ without_limits es) × (shown 0 es ≡ without_limits es)) (λ _. (refl, refl, refl)) (λ es e before none.
+    and_both (list_all limits_none es) (limits_none e) (sym (all_push limits_none es e) ∙ none) (λ olds own.
+    let b = before olds in
+    let stay = one_more e es own b.0 b.1 in (
+      one_none e es own b.0,
+      stay,
+      shown_push 0 es e ∙ ap (λ l. in_ring (ring 0 (es ++ e ∷ [])) (l ++ without_limits (e ∷ []))) b.2 ∙ ap (in_ring (ring 0 (es ++ e ∷ []))) (sym (without_limits-append es (e ∷ []))) ∙ stay ∙ without_limits-append es (e ∷ []) ∙ sym (without_limits-append es (e ∷ [])),
+    )))
+
+-- where no event sets a limit, limit 0 keeps all that came
+pub shown_all : (es : List (Event Placed)) → list_all limits_none es ≡ true → shown 0 es ≡ without_limits es
+shown_all es none = (all_stay es none).2
+
+none_by_came : (ps : List Placed) → list_all limits_none (map came ps) ≡ true
+none_by_came [] = refl
+none_by_came (p ∷ ps) = none_by_came ps
+
+pub shown_all-came : (ps : List Placed) → shown 0 (map came ps) ≡ ps
+shown_all-came ps = shown_all (map came ps) (none_by_came ps) ∙ without_limits-came ps
 
 -- ---- each trace of the ring has a span
 or_cases : {P : Type 0} (a b : Bool) → (a || b) ≡ true → (a ≡ true → P) → (b ≡ true → P) → P
@@ -147,12 +183,75 @@ old_or_own {P} n r s t e old own = elim (holds r s) as (λ h. holds (if h then r
   | false ↦ λ e. or_cases (holds r t) (same_trace t s || false) (sym (list_any-append (same_trace t) r (s ∷ [])) ∙ holds-from_newest n (r ++ s ∷ []) t e) old (λ e. or_cases (same_trace t s) false e own (λ x. absurd (false≢true x)))
 ] e
 
-pub has_spans : (n : ℕ) (t : TraceId) (ps : List Placed) → holds (ring n ps) t ≡ true → 0 < length (spans_of_trace n ps t)
-has_spans n t = by_pushes (λ ps. holds (ring n ps) t ≡ true → 0 < length (spans_of_trace n ps t)) (λ e. absurd (false≢true e)) (λ ps p more e.
-    let spans : spans_of_trace n (ps ++ p ∷ []) t ≡ spans_of_trace n ps t ++ of_trace t (p ∷ []) =
-    spans_push n ps p t ∙ ap (λ b. if b then spans_of_trace n ps t ++ of_trace t (p ∷ []) else []) e in
-    let long : length (spans_of_trace n (ps ++ p ∷ []) t) ≡ length (spans_of_trace n ps t) + length (of_trace t (p ∷ [])) =
-    ap (λ (l : List Placed). length l) spans ∙ length-append (spans_of_trace n ps t) (of_trace t (p ∷ [])) in
-    old_or_own n (ring n ps) (trace_of p) t (ap (λ r. holds r t) (sym (ring_push n ps p)) ∙ e)
-    (λ old. let some : 0 < length (spans_of_trace n ps t) = more old in omega arith)
-    (λ own. let one : length (of_trace t (p ∷ [])) ≡ 1 = ap (λ b. length (cond b (p ∷ []) [])) own in omega arith))
+pub has_spans : (n : ℕ) (t : TraceId) (es : List (Event Placed)) → holds (ring n es) t ≡ true → 0 < length (spans_of_trace n es t)
+has_spans n t = by_pushes (λ es. holds (ring n es) t ≡ true → 0 < length (spans_of_trace n es t)) (λ e. absurd (false≢true e)) go
+  where
+    go : (es : List (Event Placed)) (e : Event Placed) → (holds (ring n es) t ≡ true → 0 < length (spans_of_trace n es t)) → holds (ring n (es ++ e ∷ [])) t ≡ true → 0 < length (spans_of_trace n (es ++ e ∷ []) t)
+    go es (came p) more e =
+        let spans : spans_of_trace n (es ++ came p ∷ []) t ≡ spans_of_trace n es t ++ of_trace t (p ∷ []) =
+        spans_push n es (came p) t ∙ ap (λ b. if b then spans_of_trace n es t ++ of_trace t (p ∷ []) else []) e in
+        let long : length (spans_of_trace n (es ++ came p ∷ []) t) ≡ length (spans_of_trace n es t) + length (of_trace t (p ∷ [])) =
+        ap (λ (l : List Placed). length l) spans ∙ length-append (spans_of_trace n es t) (of_trace t (p ∷ [])) in
+        old_or_own (limit_after n es) (ring n es) (trace_of p) t (ap (λ r. holds r t) (sym (ring_came n es p)) ∙ e)
+        (λ old. let some : 0 < length (spans_of_trace n es t) = more old in omega arith)
+        (λ own. let one : length (of_trace t (p ∷ [])) ≡ 1 = ap (λ b. length (cond b (p ∷ []) [])) own in omega arith)
+    go es (limited m) more e =
+        let old = holds-from_newest m (ring n es) t (ap (λ r. holds r t) (sym (ring_limited n es m)) ∙ e) in
+        let spans : spans_of_trace n (es ++ limited m ∷ []) t ≡ spans_of_trace n es t =
+        spans_push n es (limited m) t ∙ ap (λ b. if b then spans_of_trace n es t ++ [] else []) e ∙ append-nil (spans_of_trace n es t) in
+        subst (λ (l : List Placed). 0 < length l) (sym spans) (more old)
+
+-- ---- limits
+-- after a limit the traces among so many newest keep their shown spans, and the others have none
+pub spans_limited : (n : ℕ) (es : List (Event Placed)) (m : ℕ) (t : TraceId) → spans_of_trace n (es ++ limited m ∷ []) t ≡ (if holds (newest m (ring n es)) t then spans_of_trace n es t else [])
+spans_limited n es m t = spans_push n es (limited m) t ∙ (λ i. if holds (ring_limited n es m i) t then append-nil (spans_of_trace n es t) i else [])
+
+not_true : (a : Bool) → (a ≡ true → ⊥) → a ≡ false
+not_true true h = absurd (h refl)
+not_true false h = refl
+
+-- a trace that isn't in the ring stays out by an event that doesn't bring it, whatever limit is set
+out_one : (n : ℕ) (es : List (Event Placed)) (t : TraceId) (e : Event Placed) → comes_for t e ≡ false → holds (ring n es) t ≡ false → holds (ring n (es ++ e ∷ [])) t ≡ false
+out_one n es t (came p) other out = not_true _ (λ h.
+    old_or_own (limit_after n es) (ring n es) (trace_of p) t (ap (λ r. holds r t) (sym (ring_came n es p)) ∙ h) (λ old. false≢true (sym out ∙ old)) (λ own. false≢true (sym other ∙ own)))
+out_one n es t (limited m) other out = not_true _ (λ h.
+    false≢true (sym out ∙ holds-from_newest m (ring n es) t (ap (λ r. holds r t) (sym (ring_limited n es m)) ∙ h)))
+
+or_both : {P : Type 0} (a b : Bool) → (a || b) ≡ false → (a ≡ false → b ≡ false → P) → P
+or_both true b e f = absurd (false≢true (sym e))
+or_both false b e f = f refl e
+
+-- a trace that left doesn't come back before one of its spans comes
+pub stays_out : (n : ℕ) (es : List (Event Placed)) (t : TraceId) (more : List (Event Placed)) → list_any (comes_for t) more ≡ false → holds (ring n es) t ≡ false → holds (ring n (es ++ more)) t ≡ false
+stays_out n es t [] none out = ap (λ xs. holds (ring n xs) t) (append-nil es) ∙ out
+stays_out n es t (e ∷ more) none out =
+    or_both (comes_for t e) (list_any (comes_for t) more) none (λ own rest.
+    ap (λ xs. holds (ring n xs) t) (sym (append_assoc es (e ∷ []) more)) ∙ stays_out n (es ++ e ∷ []) t more rest (out_one n es t e own out))
+
+pub none_shown : (n : ℕ) (es : List (Event Placed)) (t : TraceId) (more : List (Event Placed)) → list_any (comes_for t) more ≡ false → holds (ring n es) t ≡ false → spans_of_trace n (es ++ more) t ≡ []
+none_shown n es t more none out = spans_gone n (es ++ more) t (stays_out n es t more none out)
+
+-- ---- lengths
+drop_short : (m : ℕ) (r : List TraceId) → length (newest (suc m) r) ≤ suc m
+drop_short m r = omega (arith, length-drop (length r - suc m) r)
+
+pub newest_short : (m : ℕ) (r : List TraceId) → 0 < m → length (newest m r) ≤ m
+newest_short zero r some = absurd (omega arith)
+newest_short (suc m) r some = drop_short m r
+
+arrive_short : (m : ℕ) (r : List TraceId) (t : TraceId) → (0 < m → length r ≤ m) → 0 < m → length (arrive m r t) ≤ m
+arrive_short m r t short some = elim (holds r t) as (λ b. length (if b then r else newest m (r ++ t ∷ [])) ≤ m) [ true ↦ short some | false ↦ newest_short m (r ++ t ∷ []) some ]
+
+-- under a limit the ring is no longer than the limit in force
+pub ring_within : (n : ℕ) (es : List (Event Placed)) → 0 < limit_after n es → length (ring n es) ≤ limit_after n es
+ring_within n = by_pushes (λ es. 0 < limit_after n es → length (ring n es) ≤ limit_after n es) (λ _. omega arith) go
+  where
+    go : (es : List (Event Placed)) (e : Event Placed) → (0 < limit_after n es → length (ring n es) ≤ limit_after n es) → 0 < limit_after n (es ++ e ∷ []) → length (ring n (es ++ e ∷ [])) ≤ limit_after n (es ++ e ∷ [])
+    go es (came p) short some =
+        let at : limit_after n (es ++ came p ∷ []) ≡ limit_after n es = limit_came n es p in
+        let fits = arrive_short (limit_after n es) (ring n es) (trace_of p) short (omega arith) in
+        omega (arith, ap (λ (r : List TraceId). length r) (ring_came n es p))
+    go es (limited m) short some =
+        let at : limit_after n (es ++ limited m ∷ []) ≡ m = limit_limited n es m in
+        let fits = newest_short m (ring n es) (omega arith) in
+        omega (arith, ap (λ (r : List TraceId). length r) (ring_limited n es m))

@@ -1,16 +1,21 @@
 -- Lists of entries, and which of them are legal.
 use Rattle.std.specs.Prelude.{◌≡◌, ℕ, ◌<◌, ◌≤◌, List, [], ◌∷◌, ◌++◌, flat_map, sum_by, length, ◌==◌, fold, max, if◌then◌else◌}
 use Rattle.jaeger_model.specs.declared.placed.Placed.{Placed}
-use Rattle.jaeger_model.specs.Parents.{domain}
 use Rattle.trace_model.specs.declared.entry.Entry.{Entry}
+use Rattle.trace_model.specs.Events.{Event}
+use Rattle.trace_model.specs.Works.{spans_brought, placed_brought, events_brought}
 use Rattle.trace_model.specs.declared.limits.Limits.{Limits}
 
 -- the spans of all entries, in order
 abbrev pub arrivals : List Entry → List Placed
-arrivals h = flat_map (λ (e : Entry). domain e.batch) h
+arrivals h = flat_map (λ (e : Entry). placed_brought e.work) h
+
+-- the arrivals with the limits that were set among them
+abbrev pub events : List Entry → List (Event Placed)
+events h = flat_map (λ (e : Entry). events_brought e.work) h
 
 abbrev pub span_count : List Entry → ℕ
-span_count h = sum_by (λ (e : Entry). length e.batch.spans) h
+span_count h = sum_by (λ (e : Entry). length (spans_brought e.work)) h
 
 -- the greatest number of the seat, 0 if it has none
 abbrev pub last_number : ℕ → List Entry → ℕ

@@ -1,7 +1,10 @@
 pub mod Limits
-pub mod Histories
+pub mod Events
+pub mod Works
 pub mod Rings
+pub mod Histories
 pub mod Showing
+pub mod Limiting
 pub mod Names
 pub mod Searching
 pub mod Linking

@@ -4,12 +4,13 @@ use Rattle.trace_model.specs.declared.entry.Entry.{Entry}
 use Rattle.trace_model.specs.declared.limits.Limits.{Limits}
 use Rattle.trace_model.specs.declared.refusal.Refusal.{Refusal}
 use Rattle.trace_model.specs.declared.refusal.Refusal.TheVariants.{JournalFull, Stale}
+use Rattle.trace_model.specs.Works.{spans_brought}
 use Rattle.trace_model.specs.Histories.{last_number, span_count}
 use Rattle.trace_model.specs.Held.{Held}
 
 -- one more entry, with its spans, passes no limit
 abbrev pub has_room : Limits → List Entry → Entry → Bool
-has_room limits h e = nat_le (length h + 1) limits.batches && nat_le (span_count h + length e.batch.spans) limits.spans
+has_room limits h e = nat_le (length h + 1) limits.batches && nat_le (span_count h + length (spans_brought e.work)) limits.spans
 
 -- the refusal of the entry by this history, first by its number and then by the limits; None where it is taken
 abbrev pub refusal_of : Limits → List Entry → Entry → Option Refusal

@@ -18,7 +18,7 @@ mod refusal;
 
 pub use answer::{Answer, Link, Operation, Shown};
 pub use clock::Clock;
-pub use entry::Entry;
+pub use entry::{Entry, Work};
 pub use limits::Limits;
 pub use query::{Find, Query};
 pub use refusal::Refusal;

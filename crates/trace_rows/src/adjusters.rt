@@ -1,16 +1,13 @@
-use crate::histories::{CYCLE, Row as Reported, answer_of, store_answer_of};
-use jaeger_model::{Log, Placed, Process, RefKind, Seq, Span, SpanId, SpanRef, Text, TraceId};
+use crate::histories::{CYCLE, Row as Reported, answer_of};
+use jaeger_model::{Log, Placed, Process, Seq, SharedProcess, SpanId, Text, TraceId};
 use std::alloc::{AllocError, Global};
-use std::hash::RandomState;
 use std::process::Abort;
 use std::test::*;
-use trace_adjust::{adjust_skew, adjusted, parent_first};
+use trace_adjust::{adjust_skew, adjusted};
 use trace_model::{Answer, Query, Shown};
 use trace_samples::{host_process, list_of, process, span};
 
 const OWN: TraceId = TraceId { high: 0, low: 1 };
-
-const OTHER: TraceId = TraceId { high: 1, low: 1 };
 
 const WIDEST: u64 = 18_446_744_073_709_551_615;
 
@@ -43,7 +40,7 @@ fn placed(alloc: Global, row: Row) -> Result<Placed, AllocError> {
     span.start = start;
     span.duration = duration;
     span.logs = logs_at(alloc, &[start])?;
-    let process = process_on(alloc, host)?;
+    let process = SharedProcess::new(alloc, process_on(alloc, host)?)?;
     Ok(Placed { process, span })
 }
 
@@ -81,7 +78,7 @@ fn expect_all(rt: &impl Abort, shown: &[Shown], wanted: &[(i64, &str)]) {
 
 fn shown_of(alloc: Global, rows: &[Row], limit: u64) -> Result<Vec<Shown>, AllocError> {
     let trace = trace_of(alloc, rows)?;
-    adjusted(alloc, trace, limit)
+    adjusted(alloc, trace, &[], limit)
 }
 
 /// Start and duration of the parent and of the child, the limit, and the child's start and warning.
@@ -185,58 +182,6 @@ const ROOT: Row = ("h1", 1, 0, 1000, 101);
 
 const CHILD: Row = ("h2", 2, 1, 900, 50);
 
-const GRANDCHILD: Row = ("h2", 3, 2, 905, 10);
-
-/// The spans of a trace, the limit, and the start and the warning of each span as shown.
-const FAMILIES: [(&[Row], u64, &[(i64, &str)]); 5] = [
-    (
-        &[GRANDCHILD, CHILD, ROOT],
-        200,
-        &[(1030, BY_125), (1025, BY_125), (1000, "")],
-    ),
-    (
-        &[GRANDCHILD, CHILD, ROOT],
-        100,
-        &[(905, OF_125), (900, OF_125), (1000, "")],
-    ),
-    // A host that is not known is nobody's host, not even its own.
-    (
-        &[ROOT, ("", 2, 1, 900, 50), ("", 3, 2, 1020, 10)],
-        200,
-        &[
-            (1000, ""),
-            (1025, BY_125),
-            (1045, "clock skew adjusted by 25 us"),
-        ],
-    ),
-    // The second span of an id is left alone, and is nobody's parent.
-    (
-        &[ROOT, CHILD, ("h3", 2, 1, 0, 50), GRANDCHILD],
-        200,
-        &[(1000, ""), (1025, BY_125), (0, ""), (1030, BY_125)],
-    ),
-    // Spans on a cycle and below one are left alone, and so is one that is its own parent.
-    (
-        &[
-            ("h1", 2, 3, 1000, 9),
-            ("h2", 3, 2, 10, 5),
-            ("h3", 4, 3, 0, 1),
-            ("h1", 5, 5, 7, 1),
-        ],
-        WIDEST,
-        &[(1000, ""), (10, ""), (0, ""), (7, "")],
-    ),
-];
-
-#[test]
-fn whole_families(rt: HostRuntime) -> Result<(), Fail> {
-    for (rows, limit, wanted) in FAMILIES {
-        let shown = shown_of(rt.alloc(), rows, limit)?;
-        expect_all(&rt, &shown, wanted);
-    }
-    Ok(())
-}
-
 /// The child, with a log so late that no time is 125 microseconds later.
 fn late_child(alloc: Global) -> Result<Placed, AllocError> {
     let mut child = placed(alloc, CHILD)?;
@@ -259,7 +204,7 @@ fn late_shown(alloc: Global) -> Result<Vec<Shown>, AllocError> {
     let mut trace = trace_of(alloc, &[ROOT])?;
     trace.push(late_child(alloc)?)?;
     let mut shown = warned(alloc, trace, "before")?;
-    adjust_skew(alloc, &mut shown, 200)?;
+    adjust_skew(alloc, &mut shown, &[], 200)?;
     Ok(shown)
 }
 
@@ -277,56 +222,6 @@ fn late_log(rt: HostRuntime) -> Result<(), Fail> {
     Ok(())
 }
 
-/// A parent id of a span without references becomes one where the trace is shown.
-#[test]
-fn parent_without_reference(rt: HostRuntime) -> Result<(), Fail> {
-    let shown = shown_of(rt.alloc(), &[ROOT, CHILD], 0)?;
-    assert_eq!(rt; shown.len(), 2);
-    assert!(rt; shown[0].placed.span.references.is_empty());
-    let references = shown[1].placed.span.references.as_slice();
-    assert_eq!(rt; references.len(), 1);
-    assert_eq!(rt; references[0], reference(RefKind::ChildOf, OWN, 1));
-    Ok(())
-}
-
-fn reference(kind: RefKind, trace: TraceId, id: u64) -> SpanRef {
-    SpanRef {
-        kind,
-        trace,
-        id: SpanId(id),
-    }
-}
-
-/// The ids of the span's references in their order.
-fn expect_references(rt: &impl Abort, span: &Span, wanted: [u64; 4]) {
-    let references = span.references.as_slice();
-    assert_eq!(rt; references.len(), 4);
-    for (reference, id) in references.iter().zip(wanted) {
-        assert_eq!(rt; reference.id.0, id);
-    }
-}
-
-/// A span with four references.
-fn referring(alloc: Global) -> Result<Span, AllocError> {
-    let references = [
-        reference(RefKind::FollowsFrom, OWN, 5),
-        reference(RefKind::ChildOf, OTHER, 6),
-        reference(RefKind::ChildOf, OWN, 7),
-        reference(RefKind::ChildOf, OWN, 8),
-    ];
-    let mut span = span(alloc, 1, 1)?;
-    span.references = Seq::from_vec(references.to_vec(alloc)?);
-    Ok(span)
-}
-
-#[test]
-fn parent_in_front(rt: HostRuntime) -> Result<(), Fail> {
-    let mut span = referring(rt.alloc())?;
-    parent_first(&mut span);
-    expect_references(&rt, &span, [7, 6, 5, 8]);
-    Ok(())
-}
-
 /// A chain of ten thousand spans, each in front of its parent.
 #[test]
 fn deep_chain(rt: HostRuntime) -> Result<(), Fail> {
@@ -337,7 +232,7 @@ fn deep_chain(rt: HostRuntime) -> Result<(), Fail> {
         trace.push(placed(alloc, ("h2", id, id - 1, 900, 50))?)?;
     }
     trace.push(placed(alloc, ROOT)?)?;
-    let shown = adjusted(alloc, trace, 200)?;
+    let shown = adjusted(alloc, trace, &[], 200)?;
     assert_eq!(rt; moved_among(&shown), (10_000, 9_999));
     Ok(())
 }
@@ -404,18 +299,6 @@ fn shown_plainly(rt: HostRuntime) -> Result<(), Fail> {
     let alloc = rt.alloc();
     for (rows, max_skew, raw, wanted) in SHOWN {
         let answer = answer_of(alloc, rows, max_skew, Query::Trace { id: OWN, raw })?;
-        expect_all(&rt, shown_in(&answer), wanted);
-    }
-    Ok(())
-}
-
-#[test]
-fn shown_in_the_store(rt: HostRuntime) -> Result<(), Fail> {
-    let alloc = rt.alloc();
-    let keys = RandomState::new(&rt)?;
-    for (rows, max_skew, raw, wanted) in SHOWN {
-        let query = Query::Trace { id: OWN, raw };
-        let answer = store_answer_of(alloc, keys, rows, max_skew, query)?;
         expect_all(&rt, shown_in(&answer), wanted);
     }
     Ok(())

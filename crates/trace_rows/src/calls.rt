@@ -1,8 +1,7 @@
-use crate::histories::{CYCLE, Row as Reported, answer_of, store_answer_of};
+use crate::histories::{CYCLE, Row as Reported, answer_of};
 use call_links::links;
 use jaeger_model::{Placed, Span, SpanId};
 use std::alloc::{AllocError, Global};
-use std::hash::RandomState;
 use std::process::Abort;
 use std::test::*;
 use trace_model::{Answer, Link, Query};
@@ -89,65 +88,6 @@ fn calls_in_a_window(rt: HostRuntime) -> Result<(), Fail> {
     Ok(())
 }
 
-#[test]
-fn each_the_parent_of_the_other(rt: HostRuntime) -> Result<(), Fail> {
-    let rows = [("a", 2, 3, 1000), ("b", 3, 2, 1010)];
-    let found = links_of(rt.alloc(), &[&rows], (10, 86_400_000))?;
-    expect_links(&rt, &found, &[("a", "b", 1), ("b", "a", 1)]);
-    Ok(())
-}
-
-/// Two calls of one trace; the second span of id 1 is nobody's parent, and itself a call of a; one
-/// within a service; one whose parent is of no trace; and a root that starts outside the window.
-const BUSY: [Row; 6] = [
-    ("a", 1, 0, 9_000_000),
-    ("c", 1, 1, 1000),
-    ("b", 2, 1, 1000),
-    ("b", 3, 1, 1000),
-    ("b", 4, 3, 1000),
-    ("b", 5, 9, 1000),
-];
-
-const QUIET: [Row; 2] = [("a", 1, 0, 1000), ("b", 2, 1, 1000)];
-
-const LATE: [Row; 2] = [("a", 1, 0, 3000), ("b", 2, 1, 3000)];
-
-#[test]
-fn calls_are_counted_by_span(rt: HostRuntime) -> Result<(), Fail> {
-    let found = links_of(rt.alloc(), &[&BUSY, &QUIET, &LATE], (3, 3))?;
-    expect_links(&rt, &found, &[("a", "b", 3), ("a", "c", 1)]);
-    Ok(())
-}
-
-/// A trace in which `a` calls so many services, each once.
-fn calls_of_one(alloc: Global, services: u32) -> Result<Vec<Placed>, AllocError> {
-    let mut trace = Vec::new(alloc);
-    trace.push(placed_at(alloc, ("a", 1, 0, 1000))?)?;
-    for number in 0..services {
-        let name = number.to_string(alloc)?;
-        let row = span_at(alloc, u64::from(number) + 2, 1, 1000)?;
-        trace.push(placed(alloc, name.as_str(), row)?)?;
-    }
-    Ok(trace)
-}
-
-/// How many calls are counted, and how many of them once.
-fn counted_once(found: &[Link]) -> (usize, usize) {
-    let once = found.iter().filter(|link| link.calls == 1).count();
-    (found.len(), once)
-}
-
-#[test]
-fn a_thousand_links(rt: HostRuntime) -> Result<(), Fail> {
-    let alloc = rt.alloc();
-    let mut traces = Vec::new(alloc);
-    traces.push(calls_of_one(alloc, 1_000)?)?;
-    let seen = seen_traces(alloc, &traces)?;
-    let found = links(alloc, &seen, 2, 2)?;
-    assert_eq!(rt; counted_once(&found), (1_000, 1_000));
-    Ok(())
-}
-
 const CALL: [Reported; 2] = [
     (["a", "h1"], [1, 1, 0], [1000, 50]),
     (["b", "h1"], [1, 2, 1], [1000, 50]),
@@ -177,21 +117,6 @@ fn calls_plainly(rt: HostRuntime) -> Result<(), Fail> {
             lookback_ms,
         };
         let answer = answer_of(alloc, rows, 0, query)?;
-        expect_links(&rt, links_in(&answer), wanted);
-    }
-    Ok(())
-}
-
-#[test]
-fn calls_in_the_store(rt: HostRuntime) -> Result<(), Fail> {
-    let alloc = rt.alloc();
-    let keys = RandomState::new(&rt)?;
-    for (rows, end_ms, lookback_ms, wanted) in PLAIN_LINKS {
-        let query = Query::Links {
-            end_ms,
-            lookback_ms,
-        };
-        let answer = store_answer_of(alloc, keys, rows, 0, query)?;
         expect_links(&rt, links_in(&answer), wanted);
     }
     Ok(())

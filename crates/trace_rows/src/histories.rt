@@ -1,13 +1,13 @@
 //! What the stores answer of a history of entries of one span each.
 
-use jaeger_model::{Batch, Span, SpanId};
+use jaeger_model::{Batch, Placed, SharedProcess, Span, SpanId};
 use plain_store::plain_answer;
 use span_store::replayed_answer;
 use std::alloc::{AllocError, Global};
 use std::hash::RandomState;
 use std::sync::Arc;
 use std::test::Fail;
-use trace_model::{Answer, Entry, Limits, Query};
+use trace_model::{Answer, Entry, Limits, Query, Work};
 use trace_samples::{host_process, list_of, span};
 
 /// A span: its service and its host; its trace, its id and its parent's; its start and its duration.
@@ -32,19 +32,18 @@ fn span_of(alloc: Global, ids: [u64; 3], times: [i64; 2]) -> Result<Span, AllocE
 fn batch_of(alloc: Global, row: Row) -> Result<Batch, AllocError> {
     let ([service, host], ids, times) = row;
     Ok(Batch {
-        process: host_process(alloc, service, host)?,
+        process: SharedProcess::new(alloc, host_process(alloc, service, host)?)?,
         spans: list_of(alloc, span_of(alloc, ids, times)?)?,
         seq_no: None,
     })
 }
 
-fn entry(alloc: Global, number: u64, row: Row) -> Result<Arc<Entry>, AllocError> {
-    let batch = batch_of(alloc, row)?;
+fn entry_of(alloc: Global, number: u64, batch: Batch) -> Result<Arc<Entry>, AllocError> {
     let seat = 0;
     let entry = Entry {
         seat,
         number,
-        batch,
+        work: Work::Batch(batch),
     };
     Ok(Arc::new(alloc, entry)?)
 }
@@ -53,9 +52,39 @@ fn entry(alloc: Global, number: u64, row: Row) -> Result<Arc<Entry>, AllocError>
 fn history(alloc: Global, rows: &[Row]) -> Result<Vec<Arc<Entry>>, AllocError> {
     let mut entries = Vec::new(alloc);
     for (place, row) in rows.iter().enumerate() {
-        entries.push(entry(alloc, place as u64 + 1, *row)?)?;
+        let batch = batch_of(alloc, *row)?;
+        entries.push(entry_of(alloc, place as u64 + 1, batch)?)?;
     }
     Ok(entries)
+}
+
+/// An entry for each of the spans, with its process.
+fn history_of(alloc: Global, spans: Vec<Placed>) -> Result<Vec<Arc<Entry>>, AllocError> {
+    let mut entries = Vec::new(alloc);
+    let mut number = 0u32;
+    for placed in spans {
+        number = number.saturating_add(1);
+        let batch = Batch {
+            process: placed.process,
+            spans: list_of(alloc, placed.span)?,
+            seq_no: None,
+        };
+        entries.push(entry_of(alloc, number as u64, batch)?)?;
+    }
+    Ok(entries)
+}
+
+/// What the store answers of a history of these spans, each in an entry with its process.
+pub(crate) fn store_answer_to(
+    alloc: Global,
+    keys: RandomState,
+    spans: Vec<Placed>,
+    query: Query,
+) -> Result<Answer, Fail> {
+    let limits = Limits::new(10, 10, 0, 0).ok_or("limits")?;
+    let entries = history_of(alloc, spans)?;
+    let answer = replayed_answer(alloc, keys, limits, &entries, &query);
+    Ok(answer.ok().ok_or("refused")?)
 }
 
 /// What the store answers of a history of these spans, with no limit of traces.

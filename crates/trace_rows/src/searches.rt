@@ -1,12 +1,12 @@
-use crate::histories::{Row, answer_of, store_answer_of};
-use find_traces::{Gathered, find, find_ids, is_found, is_match};
-use jaeger_model::{Log, Placed, Seen, Seq, Tag, Text, TraceId, Value};
+use crate::histories::{Row, answer_of, store_answer_of, store_answer_to};
+use find_traces::{Judged, Wanted};
+use jaeger_model::{Log, Placed, Process, Seq, SharedProcess, Tag, Text, Value};
 use std::alloc::{AllocError, Global};
 use std::hash::RandomState;
 use std::process::Abort;
 use std::test::*;
 use trace_model::{Answer, Find, Query};
-use trace_samples::{list_of, placed, seen_traces, span};
+use trace_samples::{list_of, placed, process, span};
 
 /// A span of service `a` of this trace.
 fn begun_once(alloc: Global, trace: u64, start: i64, duration: i64) -> Result<Placed, AllocError> {
@@ -52,11 +52,11 @@ fn limited(alloc: Global, limit: u64) -> Result<Find, AllocError> {
     Ok(find)
 }
 
-fn seen(placed: &Placed) -> Seen<'_> {
-    Seen {
-        process: &placed.process,
-        span: &placed.span,
-    }
+/// Whether the span meets every condition of the search.
+fn is_met(alloc: Global, placed: &Placed, query: &Find) -> Result<bool, AllocError> {
+    let wanted = Wanted::new(alloc, query)?;
+    let judged = Judged::new(alloc, &wanted, placed.process.get())?;
+    judged.is_match(alloc, &placed.span)
 }
 
 /// A span's start and duration, the bounds of durations, those of starts, and whether it is found.
@@ -99,7 +99,7 @@ fn is_within(
 ) -> Result<bool, AllocError> {
     let query = within(alloc, durations, starts)?;
     let one = begun_once(alloc, 1, start, duration)?;
-    Ok(is_found(&[seen(&one)], &query))
+    is_met(alloc, &one, &query)
 }
 
 #[test]
@@ -111,22 +111,19 @@ fn bounds(rt: HostRuntime) -> Result<(), Fail> {
     Ok(())
 }
 
-/// A trace of two spans that start so.
-fn begun_at(alloc: Global, id: u64, starts: [i64; 2]) -> Result<Vec<Placed>, AllocError> {
-    let mut trace = Vec::new(alloc);
-    for start in starts {
-        trace.push(begun_once(alloc, id, start, 50)?)?;
-    }
-    Ok(trace)
+/// A span of service `a` of the trace at a place, the first one's id being 1.
+fn row_at(place: usize, id: u64, start: i64) -> Row {
+    (["a", ""], [place as u64 % 1000 + 1, id, 0], [start, 50])
 }
 
-/// Traces of the starts of their two spans, each with its place as its id.
-fn begun(alloc: Global, starts: &[[i64; 2]]) -> Result<Vec<Vec<Placed>>, AllocError> {
-    let mut traces = Vec::new(alloc);
-    for (place, pair) in starts.iter().enumerate() {
-        traces.push(begun_at(alloc, place as u64, *pair)?)?;
+/// Traces of the starts of their two spans.
+fn begun(alloc: Global, starts: &[[i64; 2]]) -> Result<Vec<Row>, AllocError> {
+    let mut rows = Vec::new(alloc);
+    for (place, [first, second]) in starts.iter().enumerate() {
+        rows.push(row_at(place, 1, *first))?;
+        rows.push(row_at(place, 2, *second))?;
     }
-    Ok(traces)
+    Ok(rows)
 }
 
 /// The starts of traces, the limit, and the places of those found.
@@ -142,147 +139,146 @@ const ORDERS: [(&[[i64; 2]], u64, &[usize]); 9] = [
     (&[[i64::MIN, 0], [i64::MAX, 0]], 9, &[1, 0]),
 ];
 
-/// The ids are these places.
-fn expect_places(rt: &impl Abort, ids: &[TraceId], places: &[usize]) {
+/// The trace at this place.
+fn is_at(id: u64, place: usize) -> bool {
+    id == place as u64 % 1000 + 1
+}
+
+/// The ids are those of the traces at these places.
+fn expect_places(rt: &impl Abort, answer: &Answer, places: &[usize]) {
+    let ids = match answer {
+        Answer::Ids(ids) => ids.as_slice(),
+        _ => &[],
+    };
     assert_eq!(rt; ids.len(), places.len());
     for (id, place) in ids.iter().zip(places) {
-        assert_eq!(rt; id.low, *place as u64);
+        assert!(rt; is_at(id.low, *place));
     }
 }
 
-/// The places and the ids of the traces of these starts that are found.
-fn found_of(
-    alloc: Global,
-    starts: &[[i64; 2]],
-    limit: u64,
-) -> Result<(Vec<usize>, Vec<TraceId>), AllocError> {
-    let query = limited(alloc, limit)?;
-    let traces = begun(alloc, starts)?;
-    let traces = seen_traces(alloc, &traces)?;
-    let gathered = Gathered { traces: &traces };
-    let places = find(alloc, &gathered, &query)?;
-    Ok((places, find_ids(alloc, &gathered, &query)?))
+/// The same of the traces themselves.
+fn expect_traces(rt: &impl Abort, answer: &Answer, places: &[usize]) {
+    let traces = match answer {
+        Answer::Traces(traces) => traces.as_slice(),
+        _ => &[],
+    };
+    assert_eq!(rt; traces.len(), places.len());
+    for (trace, place) in traces.iter().zip(places) {
+        let id = trace
+            .as_slice()
+            .first()
+            .map(|shown| shown.placed.span.trace.low);
+        assert!(rt; is_at(id.unwrap_or(0), *place));
+    }
 }
 
 #[test]
 fn latest_first(rt: HostRuntime) -> Result<(), Fail> {
+    let alloc = rt.alloc();
+    let keys = RandomState::new(&rt)?;
     for (starts, limit, wanted) in ORDERS {
-        let (places, ids) = found_of(rt.alloc(), starts, limit)?;
-        assert!(rt; places.as_slice() == wanted);
-        expect_places(&rt, &ids, wanted);
+        let rows = begun(alloc, starts)?;
+        let ids = Query::FindIds(limited(alloc, limit)?);
+        expect_places(&rt, &store_answer_of(alloc, keys, &rows, 0, ids)?, wanted);
+        let traces = Query::Find(limited(alloc, limit)?);
+        expect_traces(
+            &rt,
+            &store_answer_of(alloc, keys, &rows, 0, traces)?,
+            wanted,
+        );
     }
     Ok(())
 }
 
-/// The tag with this value under `k`.
-fn tags(alloc: Global, value: Value) -> Result<Seq<Tag>, AllocError> {
-    let key = Text::from_str(alloc, "k")?;
+/// The flag `true` under this key.
+fn flag(alloc: Global, key: &str) -> Result<Seq<Tag>, AllocError> {
+    let key = Text::from_str(alloc, key)?;
+    let value = Value::Bool(true);
     list_of(alloc, Tag { key, value })
 }
 
-/// A log with that tag.
-fn logs(alloc: Global, value: Value) -> Result<Seq<Log>, AllocError> {
-    let fields = tags(alloc, value)?;
-    list_of(alloc, Log { at: 1000, fields })
+/// A process with the tag `p`.
+fn flagged_process(alloc: Global) -> Result<Process, AllocError> {
+    let mut process = process(alloc, "a")?;
+    process.tags = flag(alloc, "p")?;
+    Ok(process)
 }
 
-/// A search by service `a` and this tag.
-fn by_tag(alloc: Global, key: &str, text: &str) -> Result<Find, AllocError> {
-    let pair = (Text::from_str(alloc, key)?, Text::from_str(alloc, text)?);
+/// A span with the tag `s`, with `l` in its log and `p` in its process.
+fn flagged(alloc: Global) -> Result<Placed, AllocError> {
+    let mut flagged = begun_once(alloc, 1, 1000, 50)?;
+    flagged.span.tags = flag(alloc, "s")?;
+    let fields = flag(alloc, "l")?;
+    flagged.span.logs = list_of(alloc, Log { at: 1000, fields })?;
+    flagged.process = SharedProcess::new(alloc, flagged_process(alloc)?)?;
+    Ok(flagged)
+}
+
+/// A search by service `a` and the flag under each of these keys.
+fn by_flags(alloc: Global, asked: &[&str]) -> Result<Find, AllocError> {
+    let mut pairs = Vec::new(alloc);
+    for key in asked {
+        pairs.push((Text::from_str(alloc, *key)?, Text::from_str(alloc, "true")?))?;
+    }
     Ok(Find {
-        tags: list_of(alloc, pair)?,
+        tags: Seq::from_vec(pairs),
         ..by_service(alloc)?
     })
 }
 
-fn bytes(alloc: Global, bytes: &[u8]) -> Result<Value, AllocError> {
-    let mut all = Vec::new(alloc);
-    all.extend_from_slice(bytes)?;
-    Ok(Value::Bytes(Seq::from_vec(all)))
-}
-
-/// A value of each kind.
-fn value(alloc: Global, kind: u8) -> Result<Value, AllocError> {
-    match kind {
-        0 => Ok(Value::Text(Text::from_str(alloc, "v")?)),
-        1 => Ok(Value::Bool(true)),
-        2 => Ok(Value::Long(i64::MIN)),
-        3 => Ok(Value::Double([127, 248, 0, 0, 0, 0, 0, 1])),
-        _ => bytes(alloc, &[0, 255]),
-    }
-}
-
-/// The texts that these values have.
-const TEXTS: [&str; 5] = [
-    "v",
-    "true",
-    "-9223372036854775808",
-    "7ff8000000000001",
-    "00ff",
+/// The keys that are asked, and whether a span with `s`, `l` and `p` is found by them.
+const ASKED: [(&[&str], bool); 12] = [
+    (&[], true),
+    (&["p"], true),
+    (&["s"], true),
+    (&["l"], true),
+    (&["p", "s", "l"], true),
+    (&["l", "s", "p"], true),
+    (&["p", "p", "s", "s", "l"], true),
+    (&["x"], false),
+    (&["p", "x"], false),
+    (&["a", "p", "s", "l"], false),
+    (&["p", "s", "l", "x"], false),
+    (&["p", "p", "s", "x"], false),
 ];
 
-/// A span with the value under `k`.
-fn with_value(alloc: Global, kind: u8) -> Result<Placed, AllocError> {
-    let mut placed = begun_once(alloc, 1, 1000, 50)?;
-    placed.span.tags = tags(alloc, value(alloc, kind)?)?;
-    Ok(placed)
-}
-
-/// Whether such a span is found by this key and text.
-fn is_found_by(alloc: Global, kind: u8, key: &str, text: &str) -> Result<bool, AllocError> {
-    let placed = with_value(alloc, kind)?;
-    let query = by_tag(alloc, key, text)?;
-    Ok(is_match(seen(&placed), &query))
-}
-
+/// Each asked tag has to be told by the span, its log or its process, however often it is asked.
 #[test]
-fn tags_by_key_and_text(rt: HostRuntime) -> Result<(), Fail> {
+fn tags_told_together(rt: HostRuntime) -> Result<(), Fail> {
     let alloc = rt.alloc();
-    for kind in 0..5u8 {
-        for (place, text) in TEXTS.iter().enumerate() {
-            assert_eq!(rt;
-                is_found_by(alloc, kind, "k", text)?,
-                place == kind as usize
-            );
-        }
-        assert!(rt; !is_found_by(alloc, kind, "x", "v")?);
+    let flagged = flagged(alloc)?;
+    for (asked, wanted) in ASKED {
+        let query = by_flags(alloc, asked)?;
+        assert_eq!(rt; is_met(alloc, &flagged, &query)?, wanted);
     }
     Ok(())
 }
 
-/// A span with the tag, itself or in its process or log.
-fn tagged(alloc: Global, place: u8) -> Result<Placed, AllocError> {
-    let mut tagged = begun_once(alloc, 1, 1000, 50)?;
-    match place {
-        0 => tagged.span.tags = tags(alloc, Value::Bool(true))?,
-        1 => tagged.process.tags = tags(alloc, Value::Bool(true))?,
-        _ => tagged.span.logs = logs(alloc, Value::Bool(true))?,
+/// A span of this trace and its start, whose process has the tag `p` if this is so.
+fn with_process(alloc: Global, trace: u64, is_flagged: bool) -> Result<Placed, AllocError> {
+    let mut placed = begun_once(alloc, trace, 1000, 50)?;
+    if is_flagged {
+        placed.process = SharedProcess::new(alloc, flagged_process(alloc)?)?;
     }
-    Ok(tagged)
+    Ok(placed)
 }
 
-/// Whether a trace of a span without tags and of this one is found by the tag.
-fn is_found_beside(alloc: Global, other: &Placed) -> Result<bool, AllocError> {
-    let query = by_tag(alloc, "k", "true")?;
-    let plain = begun_once(alloc, 1, 1000, 50)?;
-    Ok(is_found(&[seen(&plain), seen(other)], &query))
-}
-
-/// The same of a span of this service with the tag.
-fn is_found_at(alloc: Global, place: u8, service: &str) -> Result<bool, AllocError> {
-    let service = Text::from_str(alloc, service)?;
-    let mut other = tagged(alloc, place)?;
-    other.process.service = service;
-    is_found_beside(alloc, &other)
-}
-
-/// A tag counts wherever it stands, but not beside a span of another service.
+/// A process tells of the spans of its own entry alone, wherever it comes.
 #[test]
-fn tags_of_one_span(rt: HostRuntime) -> Result<(), Fail> {
+fn a_process_tells_of_its_own_entry(rt: HostRuntime) -> Result<(), Fail> {
     let alloc = rt.alloc();
-    for place in 0..3u8 {
-        assert!(rt; is_found_at(alloc, place, "a")?);
-        assert!(rt; !is_found_at(alloc, place, "")?);
+    let keys = RandomState::new(&rt)?;
+    for flagged in 1..4u64 {
+        let mut spans = Vec::new(alloc);
+        for trace in 1..4u64 {
+            spans.push(with_process(alloc, trace, trace == flagged)?)?;
+        }
+        let query = Query::FindIds(by_flags(alloc, &["p"])?);
+        expect_ids(
+            &rt,
+            &store_answer_to(alloc, keys, spans, query)?,
+            &[flagged],
+        );
     }
     Ok(())
 }
@@ -394,18 +390,6 @@ fn latest_first_in_the_store(rt: HostRuntime) -> Result<(), Fail> {
         let query = Query::FindIds(limited(alloc, limit)?);
         let answer = store_answer_of(alloc, keys, rows, 0, query)?;
         expect_ids(&rt, &answer, wanted);
-    }
-    Ok(())
-}
-
-#[test]
-fn bounds_in_the_store(rt: HostRuntime) -> Result<(), Fail> {
-    let alloc = rt.alloc();
-    let keys = RandomState::new(&rt)?;
-    for (durations, starts, wanted) in PLAIN_BOUNDS {
-        let query = Query::Find(within(alloc, durations, starts)?);
-        let answer = store_answer_of(alloc, keys, &ONE, 0, query)?;
-        assert_eq!(rt; found_in(&answer), wanted);
     }
     Ok(())
 }

@@ -1,7 +1,9 @@
 ghost use Rattle.std.specs.Prelude.{◌≡◌, ◌∷◌, [], IfOk, None};
 ghost use Rattle.trace_samples.specs.Samples.{text_tag, plain_process, host_process, root_span};
 
-use jaeger_model::{Batch, Placed, Process, Seq, Span, SpanId, Tag, Text, TraceId, Value};
+use jaeger_model::{
+    Batch, Placed, Process, Seq, SharedProcess, Span, SpanId, Tag, Text, TraceId, Value,
+};
 use std::alloc::{AllocError, Global};
 
 /// A list of one item.
@@ -93,7 +95,7 @@ pub fn placed(alloc: Global, service: &str, span: Span) -> Result<Placed, AllocE
     ensures { IfOk result (λ placed.
         placed ≡ record { process = plain_process service.now; span = span }) }
 {
-    let process = process(alloc, service)?;
+    let process = SharedProcess::new(alloc, process(alloc, service)?)?;
     Ok(Placed { process, span })
 }
 
@@ -108,7 +110,7 @@ pub fn batch(alloc: Global, service: &str, spans: Vec<Span>) -> Result<Batch, Al
     ensures unnumbered { IfOk result (λ batch. batch.seq_no ≡ None) }
 {
     Ok(Batch {
-        process: process(alloc, service)?,
+        process: SharedProcess::new(alloc, process(alloc, service)?)?,
         spans: Seq::from_vec(spans),
         seq_no: None,
     })

@@ -15,6 +15,7 @@ pub fn seen_trace(alloc: Global, trace: &[Placed]) -> Result<Vec<Seen<'_>>, Allo
 {
     let mut all = Vec::new(alloc);
     for Placed { process, span } in trace {
+        let process = process.get();
         all.push(Seen { process, span })?;
     }
     Ok(all)

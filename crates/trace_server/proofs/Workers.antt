@@ -13,11 +13,11 @@ use Rattle.intake.specs.Seats.{SeatValue, IsNewSeat}
 use Rattle.intake.specs.Books.{AllTaken, HasEnded, MovesFor, StillEnded, StaysTaken, Balances}
 use Rattle.live_store.specs.Sharing.{GoesOn}
 use Rattle.trace_server.specs.Serving.{ClosesBooks}
-use Rattle.trace_server.specs.Staffing.{AreOpen, GoOn, Each, HasJudged, Moves, AreTaken}
+use Rattle.trace_server.specs.WorkerSeats.{AreOpen, GoOn, Each, HasJudged, Moves, AreTaken}
 
 -- ---- their work
 
--- each result is of the part at its place
+-- each result is of the argument at its place
 pub each_given : {J X : Type 0} (gives : J → X → Type 0) (js : List J) (xs : List X) → length xs ≡ length js
     → ((i : ℕ) (d : X) → i < length js → (j : J) × ((e : J) → get_or js i e ≡ j) × gives j (get_or xs i d)) → Each gives js xs
 each_given gives [] [] len each = tt
@@ -62,7 +62,7 @@ open_still desk (s ∷ ss) (t ∷ ts) g free =
 abbrev pub IsTakenIn : List EndedSeat → List Entry → SeatValue → Type 0
 IsTakenIn ended taken s = HasEnded ended s.seat s.jobs × AllTaken s.seat s.jobs taken
 
--- of these seats those that wait stand in front, and the others were taken in
+-- of these seats those that wait stand in open_desk, and the others were taken in
 pub record SomeTakenIn (seats waiting : List SeatValue) (ended : List EndedSeat) (taken : List Entry) : Type 0 where
   pub others : List SeatValue
   pub split : seats ≡ waiting ++ others

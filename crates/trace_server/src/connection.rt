@@ -37,7 +37,7 @@ fn prepare(stream: &TcpStream, idle: u32) -> io::Result<()> {
 
 /// Drops what still comes, for so long at most, so that the client has read the last response when the
 /// connection goes.
-fn part<R: Clock>(rt: &R, stream: &TcpStream) -> io::Result<()> {
+fn shut_down<R: Clock>(rt: &R, stream: &TcpStream) -> io::Result<()> {
     stream.shutdown(Shutdown::Write)?;
     let patience = Duration::from_secs(PARTING_SECONDS);
     stream.set_read_timeout(Some(patience))?;
@@ -70,7 +70,7 @@ pub(crate) fn attend<N: StoreName, G: Gate, R: Wait + Clock>(
     let mut output = Watched::new(stream);
     match session(rt, alloc, &mut input, &mut output, store) {
         Ok(ended) if !ended.clean => {
-            let _parted = part(rt, stream);
+            let _shut_down = shut_down(rt, stream);
         }
         Ok(_) => {}
         Err(_) => {}

@@ -4,9 +4,9 @@ ghost use Rattle.std.specs.Prelude.{◌≡◌, [], map, length, IfOk, OnOk};
 ghost use Rattle.std.specs.Arc.{arc_value};
 ghost use Rattle.intake.specs.Books.{Balances};
 ghost use Rattle.trace_server.specs.Serving.{ClosesBooks};
-ghost use Rattle.trace_server.specs.Staffing.{AreOpen, AreTaken, HasJudged, Moves};
+ghost use Rattle.trace_server.specs.WorkerSeats.{AreOpen, AreTaken, HasJudged, Moves};
 
-use crate::worker::Shift;
+use crate::worker::WorkerOutcome;
 use intake::Books;
 use live_store::Live;
 use read_side::StoreName;
@@ -26,7 +26,7 @@ pub(crate) struct Totals {
 fn take_all_in<N: StoreName, R: Wait>(
     rt: &R,
     books: &mut Books<N>,
-    workers: Vec<(Shift, Live<N>)>,
+    workers: Vec<(WorkerOutcome, Live<N>)>,
 ) -> Result<(), Refusal>
     requires open { AreOpen books.old.inbox.desk (map (λ w. w.1.seat) workers.items) }
     requires books { Balances books.old.inbox.taken books.old.accounts.items
@@ -71,7 +71,7 @@ pub(crate) fn close_store<N: StoreName, R: Wait>(rt: &R, books: Books<N>) -> u64
 pub(crate) fn close_books<N: StoreName, R: Wait>(
     rt: &R,
     books: Books<N>,
-    workers: Vec<(Shift, Live<N>)>,
+    workers: Vec<(WorkerOutcome, Live<N>)>,
 ) -> Result<Totals, Refusal>
     requires open { AreOpen books.inbox.desk (map (λ w. w.1.seat) workers.items) }
     requires judged { HasJudged N.limits books.inbox.taken books.accounts.items books.acknowledged

@@ -10,21 +10,21 @@
 //! * `gate`: what hears of each call that a worker makes of the store.
 //! * `gated`: a store of whose calls a gate hears.
 //! * `connection`: one connection, from its first byte to its last.
-//! * `worker`: a worker, who serves one connection after the other. `crew`: work among threads.
-//! * `house`: a store with its desk and its clerk.
+//! * `worker`: a worker, who serves one connection after the other. `threads`: work among threads.
+//! * `shared`: a store with its desk and its clerk, which all workers share.
 //! * `ending`: how every seat is taken in at the end. `reporting`: what it says of itself.
 //! * `serving`: [`serve_with`].
 #![tactic(auto)]
 
 mod connection;
-mod crew;
 mod ending;
 mod gate;
 mod gated;
-mod house;
 mod options;
 mod reporting;
 mod serving;
+mod shared;
+mod threads;
 mod worker;
 
 pub use gate::{Gate, NoGate};

@@ -6,7 +6,7 @@ ghost use Rattle.text_lines.specs.Halting.{Says};
 ghost use Rattle.trace_server.specs.Serving.{listening_line, served_line, books_line, last_lines, Ends, StopsIn};
 
 use crate::ending::Totals;
-use crate::worker::Shift;
+use crate::worker::WorkerOutcome;
 use live_store::Live;
 use read_side::StoreName;
 use session_devices::Output;
@@ -84,18 +84,18 @@ fn say_books<W: Output>(alloc: Global, output: &mut W, totals: Totals) -> Result
 }
 
 /// What all workers did together. A count that has come to its end stays there.
-pub(crate) fn together<N: StoreName>(workers: &[(Shift, Live<N>)]) -> Shift
+pub(crate) fn together<N: StoreName>(workers: &[(WorkerOutcome, Live<N>)]) -> WorkerOutcome
     ensures served { result.served ≡ min (sum_by (λ w. w.0.served) workers.now)
         18446744073709551615 }
     ensures failed { result.failed ≡ list_any (λ w. w.0.failed) workers.now }
 {
-    let mut all = Shift {
+    let mut all = WorkerOutcome {
         served: 0,
         failed: false,
     };
-    for (shift, _) in workers {
-        all.served = all.served.saturating_add(shift.served);
-        all.failed = all.failed || shift.failed;
+    for (outcome, _) in workers {
+        all.served = all.served.saturating_add(outcome.served);
+        all.failed = all.failed || outcome.failed;
     }
     all
 }
@@ -118,7 +118,12 @@ fn say_end<W: Output>(
 }
 
 /// Says how many connections were taken and what became of the batches, and gives the exit status.
-pub(crate) fn report<W: Output>(alloc: Global, output: &mut W, all: Shift, totals: Totals) -> u8
+pub(crate) fn report<W: Output>(
+    alloc: Global,
+    output: &mut W,
+    all: WorkerOutcome,
+    totals: Totals,
+) -> u8
     requires { W.has_failed output.old ≡ false }
     ensures { Ends (W.contents output.old) (W.contents output.new) (W.has_failed output.new)
         (last_lines all.served totals.acknowledged totals.refused totals.left) all.failed result }
@@ -131,7 +136,7 @@ pub(crate) fn report<W: Output>(alloc: Global, output: &mut W, all: Shift, total
 }
 
 /// Says how many connections were taken, where memory ran out to close the books.
-pub(crate) fn report_unclosed<W: Output>(alloc: Global, output: &mut W, all: Shift) -> u8
+pub(crate) fn report_unclosed<W: Output>(alloc: Global, output: &mut W, all: WorkerOutcome) -> u8
     requires { W.has_failed output.old ≡ false }
     ensures { StopsIn (W.contents output.old) (W.contents output.new) (W.has_failed output.new)
         (served_line all.served) result }

@@ -4,15 +4,15 @@ ghost use Rattle.std.specs.Prelude.{◌≡◌, ◌≤◌, [], false, map, IfOk, 
 ghost use Rattle.read_side.specs.Keepers.{no_entries};
 ghost use Rattle.intake.specs.Turns.{IsNewClerk};
 ghost use Rattle.trace_server.specs.Serving.{OneForEach, Reports, Serves};
-ghost use Rattle.trace_server.specs.Staffing.{AreOpen, GoOn, HasJudged};
+ghost use Rattle.trace_server.specs.WorkerSeats.{AreOpen, GoOn, HasJudged};
 
-use crate::crew::each_done;
 use crate::ending::{close_books, close_store};
 use crate::gate::Gate;
-use crate::house::House;
 use crate::options::Options;
 use crate::reporting::{report, report_unclosed, say_listening, together};
-use crate::worker::{Shift, Stage};
+use crate::shared::SharedStore;
+use crate::threads::each_done;
+use crate::worker::{Server, WorkerOutcome};
 use intake::{Books, Clerk, Ledger};
 use live_store::Live;
 use read_side::{Keeper, Opened, StoreName};
@@ -49,47 +49,50 @@ fn keep<N: StoreName, R: Wait>(
 }
 
 /// What the clerk leaves, and what the workers did, each with its ends of the store.
-type Left<N> = (Option<Books<N>>, Result<Vec<(Shift, Live<N>)>, AllocError>);
+type Left<N> = (
+    Option<Books<N>>,
+    Result<Vec<(WorkerOutcome, Live<N>)>, AllocError>,
+);
 
 /// Has each worker serve until all sessions are over.
 fn work_all<N: StoreName + Send + Sync, G: Gate + Sync, R: Threads + Wait + Clock + Sync>(
     rt: &R,
-    stage: &Stage<'_, N, G>,
+    server: &Server<'_, N, G>,
     lives: Vec<(u32, Live<N>)>,
-) -> Result<Vec<(Shift, Live<N>)>, AllocError>
+) -> Result<Vec<(WorkerOutcome, Live<N>)>, AllocError>
     ensures { IfOk result (λ v. GoOn (map (λ p. p.1.seat) lives.items)
         (map (λ w. w.1.seat) v.items)) }
 {
-    each_done(rt, stage, lives)
+    each_done(rt, server, lives)
 }
 
 /// Has the workers serve beside the clerk until all sessions are over.
-fn staff<N: StoreName + Send + Sync, G: Gate + Sync, R: Threads + Wait + Clock + Sync>(
+fn serve_sessions<N: StoreName + Send + Sync, G: Gate + Sync, R: Threads + Wait + Clock + Sync>(
     rt: &R,
     alloc: Global,
-    house: House<N>,
+    shared: SharedStore<N>,
     listener: &TcpListener,
     options: &Options,
     gate: &G,
 ) -> Left<N>
-    requires keeper { house.keeper ≡ no_entries }
-    requires clerk { IsNewClerk house.clerk }
+    requires keeper { shared.keeper ≡ no_entries }
+    requires clerk { IsNewClerk shared.clerk }
     ensures judged { IfSome result.0 (λ b.
         HasJudged N.limits b.inbox.taken b.accounts.items b.acknowledged b.refused) }
     ensures left { IfSome result.0 (λ b. b.left.items ≡ []) }
-    ensures desk { IfSome result.0 (λ b. b.inbox.desk ≡ house.clerk.desk) }
-    ensures seats { IfOk result.1 (λ v. GoOn (map (λ p. p.1.seat) house.lives.items)
+    ensures desk { IfSome result.0 (λ b. b.inbox.desk ≡ shared.clerk.desk) }
+    ensures seats { IfOk result.1 (λ v. GoOn (map (λ p. p.1.seat) shared.lives.items)
         (map (λ w. w.1.seat) v.items)) }
 {
-    let House {
+    let SharedStore {
         keeper,
         desk,
         clerk,
         lives,
-    } = house;
+    } = shared;
     let mut slot = Some(keeper);
     let claimed = AtomicU64::new(0);
-    let stage = Stage {
+    let server = Server {
         alloc,
         listener,
         desk: &desk,
@@ -102,7 +105,7 @@ fn staff<N: StoreName + Send + Sync, G: Gate + Sync, R: Threads + Wait + Clock +
         rt,
         || keep(rt, clerk, &mut slot),
         || {
-            let workers = work_all(rt, &stage, lives);
+            let workers = work_all(rt, &server, lives);
             desk.close(rt);
             workers
         },
@@ -120,7 +123,7 @@ fn staff<N: StoreName + Send + Sync, G: Gate + Sync, R: Threads + Wait + Clock +
 }
 
 /// Has the store served, closes its books and the store, reports, and gives the exit status.
-fn serve_house<
+fn serve_store<
     N: StoreName + Send + Sync,
     G: Gate + Sync,
     W: Output,
@@ -128,21 +131,21 @@ fn serve_house<
 >(
     rt: &R,
     alloc: Global,
-    house: House<N>,
+    shared: SharedStore<N>,
     listener: &TcpListener,
     options: &Options,
     gate: &G,
     output: &mut W,
 ) -> u8
-    requires keeper { house.keeper ≡ no_entries }
-    requires clerk { IsNewClerk house.clerk }
-    requires open { AreOpen house.clerk.desk (map (λ p. p.1.seat) house.lives.items) }
-    requires numbers { OneForEach options.now.workers (map (λ p. p.1.seat) house.lives.items) }
+    requires keeper { shared.keeper ≡ no_entries }
+    requires clerk { IsNewClerk shared.clerk }
+    requires open { AreOpen shared.clerk.desk (map (λ p. p.1.seat) shared.lives.items) }
+    requires numbers { OneForEach options.now.workers (map (λ p. p.1.seat) shared.lives.items) }
     requires output_works { W.has_failed output.old ≡ false }
     ensures { Reports N.limits options.now.workers (W.contents output.old) (W.contents output.new)
         (W.has_failed output.new) result }
 {
-    let (books, workers) = staff(rt, alloc, house, listener, options, gate);
+    let (books, workers) = serve_sessions(rt, alloc, shared, listener, options, gate);
     let Some(books) = books else {
         return 5;
     };
@@ -195,14 +198,14 @@ fn serve_named<
     let Ok(address) = listener.local_addr() else {
         return 4;
     };
-    let Ok(house) = House::<N>::open(rt, alloc, name, limits, options) else {
+    let Ok(shared) = SharedStore::<N>::open(rt, alloc, name, limits, options) else {
         return 5;
     };
     if let Err(halt) = say_listening(alloc, output, address.port()) {
-        house.close(rt);
+        shared.close(rt);
         return halt.status();
     }
-    serve_house(rt, alloc, house, listener, options, gate, output)
+    serve_store(rt, alloc, shared, listener, options, gate, output)
 }
 
 /// Serves the connections of a socket that listens on this machine's own address, over an empty store,

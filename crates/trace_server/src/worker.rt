@@ -3,9 +3,9 @@
 ghost use Rattle.live_store.specs.Sharing.{GoesOn};
 
 use crate::connection::attend;
-use crate::crew::Task;
 use crate::gate::Gate;
 use crate::gated::Gated;
+use crate::threads::Task;
 use intake::Desk;
 use live_store::Live;
 use read_side::StoreName;
@@ -18,7 +18,7 @@ use std::time::Clock;
 
 /// What all workers share.
 #[derive(Drop)]
-pub(crate) struct Stage<'a, N: StoreName, G> {
+pub(crate) struct Server<'a, N: StoreName, G> {
     pub(crate) alloc: Global,
     pub(crate) listener: &'a TcpListener,
     pub(crate) desk: &'a Desk<N>,
@@ -32,14 +32,14 @@ pub(crate) struct Stage<'a, N: StoreName, G> {
 
 /// What a worker did.
 #[derive(Clone, Copy, Debug)]
-pub(crate) struct Shift {
+pub(crate) struct WorkerOutcome {
     /// How many connections it accepted.
     pub(crate) served: u64,
     /// It ended since it could accept no more.
     pub(crate) failed: bool,
 }
 
-impl<'a, N: StoreName, G: Gate> Stage<'a, N, G> {
+impl<'a, N: StoreName, G: Gate> Server<'a, N, G> {
     /// Claims a session, so that no more are accepted than there are to serve.
     fn claim(&self) -> bool {
         self.sessions == 0 || self.claimed.fetch_add(1, Ordering::SeqCst) < self.sessions as u64
@@ -71,12 +71,12 @@ impl<'a, N: StoreName, G: Gate> Stage<'a, N, G> {
 
     /// Serves connections until all sessions are claimed or none can be accepted, as the worker with this
     /// number and by these ends of the store, and gives the ends back.
-    fn work<R: Wait + Clock>(&self, rt: &R, post: (u32, Live<N>)) -> (Shift, Live<N>)
+    fn work<R: Wait + Clock>(&self, rt: &R, post: (u32, Live<N>)) -> (WorkerOutcome, Live<N>)
         ensures { GoesOn post.1.seat result.1.seat }
     {
         let (worker, live) = post;
         let mut store = Gated::new(rt, self.gate, worker, live);
-        let mut shift = Shift {
+        let mut outcome = WorkerOutcome {
             served: 0,
             failed: false,
         };
@@ -85,23 +85,23 @@ impl<'a, N: StoreName, G: Gate> Stage<'a, N, G> {
                 break;
             }
             let Some(stream) = self.accept(rt) else {
-                shift.failed = true;
+                outcome.failed = true;
                 break;
             };
-            shift.served = shift.served.saturating_add(1);
+            outcome.served = outcome.served.saturating_add(1);
             self.serve(rt, &stream, &mut store);
         }
-        (shift, store.into_live())
+        (outcome, store.into_live())
     }
 }
 
-impl<'a, N: StoreName, G: Gate, R: Wait + Clock> Task<R, (u32, Live<N>), (Shift, Live<N>)>
-    for Stage<'a, N, G> {
+impl<'a, N: StoreName, G: Gate, R: Wait + Clock> Task<R, (u32, Live<N>), (WorkerOutcome, Live<N>)>
+    for Server<'a, N, G> {
     ghost use Rattle.live_store.specs.Sharing.{GoesOn};
 
-    ghost gives = { λ part end. GoesOn part.1.seat end.1.seat };
+    ghost gives = { λ argument end. GoesOn argument.1.seat end.1.seat };
 
-    fn done(&self, rt: &R, part: (u32, Live<N>)) -> (Shift, Live<N>) {
-        self.work(rt, part)
+    fn done(&self, rt: &R, argument: (u32, Live<N>)) -> (WorkerOutcome, Live<N>) {
+        self.work(rt, argument)
     }
 }

@@ -67,18 +67,3 @@ fn refusals(rt: HostRuntime) -> Result<(), Fail> {
     }
     Ok(())
 }
-
-#[test]
-fn responses_that_refuse_nothing(rt: HostRuntime) -> Result<(), Fail> {
-    let alloc = rt.alloc();
-    let accepted = respond(alloc, 202, b"", "", false)?;
-    let want = b"HTTP/1.1 202 Accepted\r\nContent-Length: 0\r\n\r\n";
-    assert!(rt; accepted.as_slice() == want.as_slice());
-    let last = respond(alloc, 202, b"", "", true)?;
-    let want = b"HTTP/1.1 202 Accepted\r\nContent-Length: 0\r\nConnection: close\r\n\r\n";
-    assert!(rt; last.as_slice() == want.as_slice());
-    let answered = respond(alloc, 200, b"{}", "", false)?;
-    let want = b"HTTP/1.1 200 OK\r\nContent-Type: application/json\r\nContent-Length: 2\r\n\r\n{}";
-    assert!(rt; answered.as_slice() == want.as_slice());
-    Ok(())
-}

@@ -7,7 +7,7 @@ use Rattle.thrift_binary.specs.Fields.{Take, behind_field, fields_at}
 use Rattle.thrift_binary.specs.Cuts.{IsCutSafe}
 use Rattle.thrift_binary.proofs.CutFields.{fields_step}
 use Rattle.wire_pieces.specs.declared.heads.FieldHead.{FieldHead}
-use Rattle.wire_pieces.specs.Pieces.{Comes, Waits, Refuses, Reader}
+use Rattle.wire_pieces.specs.Pieces.{Comes, NeedsMore, Refuses, Reader}
 use Rattle.wire_pieces.specs.Heads.{head_from, fields_head, fields_value}
 use Rattle.wire_pieces.proofs.Steps.{comes-is, comes-trans, comes-inside, waits-inside, refuses-inside, comes-lift, waits-lift, refuses-lift}
 
@@ -15,7 +15,7 @@ module _ {S E : Type 0} (wire : WireError → E) (take : Take S E) where
   abbrev behind : S → Option (ℕ × ℤ) × List ℕ → Result (S × List ℕ) E
   behind s x = behind_field (fields_at wire take) take s x.0 x.1
 
-  pub head-waits : (s : S) (h k : FieldHead) (w v : List ℕ) → Waits Truncated (head_from h) (head_from k) w v → Waits (wire Truncated) (fields_head wire take s h) (fields_head wire take s k) w v
+  pub head-waits : (s : S) (h k : FieldHead) (w v : List ℕ) → NeedsMore Truncated (head_from h) (head_from k) w v → NeedsMore (wire Truncated) (fields_head wire take s h) (fields_head wire take s k) w v
   head-waits s h k w v g = waits-inside (behind s) (waits-lift wire g)
 
   pub head-refuses : (s : S) (h : FieldHead) (w : List ℕ) (e : WireError) → (wire e ≡ wire Truncated → e ≡ Truncated) → Refuses Truncated (head_from h) w e → Refuses (wire Truncated) (fields_head wire take s h) w (wire e)
@@ -31,7 +31,7 @@ module _ {S E : Type 0} (wire : WireError → E) (take : Take S E) where
       comes-trans (comes-inside (behind s) (comes-lift wire g))
       (comes-is _ (fields_value wire take now) v (λ u. ap (λ r. r >>= λ x. fields_at wire take x.0 x.1) (sym (same u))))
 
-  pub value-waits : (now next : Reader S E) (w v : List ℕ) → Waits (wire Truncated) now next w v → Waits (wire Truncated) (fields_value wire take now) (fields_value wire take next) w v
+  pub value-waits : (now next : Reader S E) (w v : List ℕ) → NeedsMore (wire Truncated) now next w v → NeedsMore (wire Truncated) (fields_value wire take now) (fields_value wire take next) w v
   value-waits now next w v g = waits-inside (λ x. fields_at wire take x.0 x.1) g
 
   pub value-refuses : (now : Reader S E) (w : List ℕ) (e : E) → Refuses (wire Truncated) now w e → Refuses (wire Truncated) (fields_value wire take now) w e

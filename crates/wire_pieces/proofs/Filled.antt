@@ -7,7 +7,7 @@ use Rattle.byteorder.specs.Endian.{big_number}
 use Rattle.thrift_binary.specs.declared.fault.WireError.TheVariants.{Truncated, BadLength, BadType}
 use Rattle.thrift_binary.specs.Reading.{bytes_at, number_at, signed_at, size_at, list_at, map_at, is_code}
 use Rattle.thrift_binary.proofs.Found.{big_number-take, size_found}
-use Rattle.wire_pieces.specs.Pieces.{Comes, Waits, Refuses}
+use Rattle.wire_pieces.specs.Pieces.{Comes, NeedsMore, Refuses}
 
 module _ {X E : Type 0} (read : List ℕ → Result X E) where
   same_bytes : (got g piece left rest : List ℕ) → g ++ left ≡ got ++ piece → got ++ (piece ++ rest) ≡ g ++ (left ++ rest)
@@ -15,7 +15,7 @@ module _ {X E : Type 0} (read : List ℕ → Result X E) where
 
   -- fewer than n bytes have come
   pub filled-waits : (short : E) (n : ℕ) → ((w : List ℕ) → length w < n → read w ≡ Err short) → (got new piece left : List ℕ) → (new ≡ got ++ piece) × (left ≡ []) → length new < n
-      → Waits short (λ w. read (got ++ w)) (λ w. read (new ++ w)) piece left
+      → NeedsMore short (λ w. read (got ++ w)) (λ w. read (new ++ w)) piece left
   filled-waits short n few got new piece left e lt = record {
     comes = record { same = λ rest. ap read (same_bytes got new piece left rest (rw (e.1, append-nil new) e.0)) };
     want = ap read (append-nil new) ∙ few new lt;

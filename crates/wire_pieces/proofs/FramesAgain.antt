@@ -16,7 +16,7 @@ use Rattle.wire_pieces.specs.declared.skip.Now.{Now}
 use Rattle.wire_pieces.specs.declared.skip.Now.TheVariants as now
 use Rattle.wire_pieces.specs.declared.fault.PieceError.{PieceError}
 use Rattle.wire_pieces.specs.declared.fault.PieceError.TheVariants.{Wire, Memory}
-use Rattle.wire_pieces.specs.Pieces.{Comes, Waits, Refuses, Refused}
+use Rattle.wire_pieces.specs.Pieces.{Comes, NeedsMore, Refuses, Refused}
 use Rattle.wire_pieces.specs.declared.heads.ListHead.{ListHead}
 use Rattle.wire_pieces.specs.declared.maps.MapHead.{MapHead}
 use Rattle.wire_pieces.specs.declared.numbers.Size.{Size}
@@ -89,7 +89,7 @@ stack-push top inner below w =
 
 -- a value inside of the innermost container
 module _ (top : Frame) (below : List Frame) where
-  pub now-waits : (n next : Now) (w v : List ℕ) → Waits Truncated (now_at (64 - length below) n) (now_at (64 - length below) next) w v → Waits Truncated (state_at n top below) (state_at next top below) w v
+  pub now-waits : (n next : Now) (w v : List ℕ) → NeedsMore Truncated (now_at (64 - length below) n) (now_at (64 - length below) next) w v → NeedsMore Truncated (state_at n top below) (state_at next top below) w v
   unfolding state_at
   now-waits n next w v g = waits-inside (after top below) g
 
@@ -156,19 +156,19 @@ module _ (top : Frame) (below : List Frame) where
   pub now-done : (n : Now) (w v : List ℕ) → Comes (now_at (64 - length below) n) (λ u. Ok (tt, u)) w v → Comes (state_at n top below) (state_at now.Nothing top below) w v
   now-done n w v g = now-next top below n now.Nothing w v g
 
-  pub size-waits : (p q : Size) (w v : List ℕ) → Waits Truncated (size_from p) (size_from q) w v → Waits Truncated (state_at (now.Size p) top below) (state_at (now.Size q) top below) w v
+  pub size-waits : (p q : Size) (w v : List ℕ) → NeedsMore Truncated (size_from p) (size_from q) w v → NeedsMore Truncated (state_at (now.Size p) top below) (state_at (now.Size q) top below) w v
   size-waits p q w v g = now-waits top below (now.Size p) (now.Size q) w v (waits-inside (λ m. past m.0 m.1) g)
 
   pub size-refused : (p : Size) (w : List ℕ) (e : PieceError) → Refused (size_from p) w e → Refused (state_at (now.Size p) top below) w e
   size-refused p w e g = now-refused top below (now.Size p) w e (refused-inside (λ m. past m.0 m.1) (size_from p) w e g)
 
-  pub list-waits : (p q : ListHead) (w v : List ℕ) → Waits Truncated (list_head p) (list_head q) w v → Waits Truncated (state_at (now.List p) top below) (state_at (now.List q) top below) w v
+  pub list-waits : (p q : ListHead) (w v : List ℕ) → NeedsMore Truncated (list_head p) (list_head q) w v → NeedsMore Truncated (state_at (now.List p) top below) (state_at (now.List q) top below) w v
   list-waits p q w v g = now-waits top below (now.List p) (now.List q) w v (waits-inside (λ h. items_of (64 - length below) h.0 h.1) g)
 
   pub list-refused : (p : ListHead) (w : List ℕ) (e : PieceError) → Refused (list_head p) w e → Refused (state_at (now.List p) top below) w e
   list-refused p w e g = now-refused top below (now.List p) w e (refused-inside (λ h. items_of (64 - length below) h.0 h.1) (list_head p) w e g)
 
-  pub map-waits : (p q : MapHead) (w v : List ℕ) → Waits Truncated (map_head p) (map_head q) w v → Waits Truncated (state_at (now.Map p) top below) (state_at (now.Map q) top below) w v
+  pub map-waits : (p q : MapHead) (w v : List ℕ) → NeedsMore Truncated (map_head p) (map_head q) w v → NeedsMore Truncated (state_at (now.Map p) top below) (state_at (now.Map q) top below) w v
   map-waits p q w v g = now-waits top below (now.Map p) (now.Map q) w v (waits-inside (λ h. pairs_of (64 - length below) h.0 h.1) g)
 
   pub map-refused : (p : MapHead) (w : List ℕ) (e : PieceError) → Refused (map_head p) w e → Refused (state_at (now.Map p) top below) w e
@@ -216,7 +216,7 @@ module _ (below : List Frame) where
   abbrev outside : Unit {0} × List ℕ → Read (Unit {0})
   outside x = frames_at 64 below x.1
 
-  pub field-waits : (h k : FieldHead) (w v : List ℕ) → Waits Truncated (head_from h) (head_from k) w v → Waits Truncated (state_at now.Nothing (Fields h) below) (state_at now.Nothing (Fields k) below) w v
+  pub field-waits : (h k : FieldHead) (w v : List ℕ) → NeedsMore Truncated (head_from h) (head_from k) w v → NeedsMore Truncated (state_at now.Nothing (Fields h) below) (state_at now.Nothing (Fields k) below) w v
   unfolding state_at stack_at
   field-waits h k w v g = waits-inside outside (head-waits (λ e. e) (passes (64 - length below)) tt h k w v g)
 

@@ -6,7 +6,7 @@ use Rattle.thrift_binary.specs.declared.fault.WireError.TheVariants.{Truncated}
 use Rattle.thrift_binary.specs.Reading.{◌>>=◌, lift}
 use Rattle.wire_pieces.specs.declared.fault.PieceError.{PieceError}
 use Rattle.wire_pieces.specs.declared.fault.PieceError.TheVariants.{Wire, Memory}
-use Rattle.wire_pieces.specs.Pieces.{Comes, Waits, Refuses, Refused, Reaches}
+use Rattle.wire_pieces.specs.Pieces.{Comes, NeedsMore, Refuses, Refused, Reaches}
 
 module _ {X E : Type 0} where
   -- a state that only looks different
@@ -16,7 +16,7 @@ module _ {X E : Type 0} where
   pub comes-trans : {a b c : List ℕ → Result X E} {p q r : List ℕ} → Comes a b p q → Comes b c q r → Comes a c p r
   comes-trans f g = record { same = λ rest. f.same rest ∙ g.same rest }
 
-  pub comes-waits : {short : E} {a b c : List ℕ → Result X E} {p q r : List ℕ} → Comes a b p q → Waits short b c q r → Waits short a c p r
+  pub comes-waits : {short : E} {a b c : List ℕ → Result X E} {p q r : List ℕ} → Comes a b p q → NeedsMore short b c q r → NeedsMore short a c p r
   comes-waits f g = record { comes = comes-trans f g.comes; want = g.want; spent = g.spent }
 
   pub comes-refuses : {short e : E} {a b : List ℕ → Result X E} {p q : List ℕ} → Comes a b p q → Refuses short b q e → Refuses short a p e
@@ -26,7 +26,7 @@ module _ {X Y E : Type 0} (then : X → Result Y E) where
   pub comes-inside : {a b : List ℕ → Result X E} {p q : List ℕ} → Comes a b p q → Comes (λ w. a w >>= then) (λ w. b w >>= then) p q
   comes-inside f = record { same = λ rest. ap (λ r. r >>= then) (f.same rest) }
 
-  pub waits-inside : {short : E} {a b : List ℕ → Result X E} {p q : List ℕ} → Waits short a b p q → Waits short (λ w. a w >>= then) (λ w. b w >>= then) p q
+  pub waits-inside : {short : E} {a b : List ℕ → Result X E} {p q : List ℕ} → NeedsMore short a b p q → NeedsMore short (λ w. a w >>= then) (λ w. b w >>= then) p q
   waits-inside f = record { comes = comes-inside f.comes; want = ap (λ r. r >>= then) f.want; spent = f.spent }
 
   pub refuses-inside : {short e : E} {a : List ℕ → Result X E} {p : List ℕ} → Refuses short a p e → Refuses short (λ w. a w >>= then) p e
@@ -37,7 +37,7 @@ module _ {X E : Type 0} (wire : WireError → E) where
   pub comes-lift : {a b : List ℕ → Result X WireError} {p q : List ℕ} → Comes a b p q → Comes (λ w. lift wire (a w)) (λ w. lift wire (b w)) p q
   comes-lift f = record { same = λ rest. ap (lift wire) (f.same rest) }
 
-  pub waits-lift : {a b : List ℕ → Result X WireError} {p q : List ℕ} → Waits Truncated a b p q → Waits (wire Truncated) (λ w. lift wire (a w)) (λ w. lift wire (b w)) p q
+  pub waits-lift : {a b : List ℕ → Result X WireError} {p q : List ℕ} → NeedsMore Truncated a b p q → NeedsMore (wire Truncated) (λ w. lift wire (a w)) (λ w. lift wire (b w)) p q
   waits-lift f = record { comes = comes-lift f.comes; want = ap (lift wire) f.want; spent = f.spent }
 
   pub refuses-lift : {e : WireError} {a : List ℕ → Result X WireError} {p : List ℕ} → (wire e ≡ wire Truncated → e ≡ Truncated) → Refuses Truncated a p e → Refuses (wire Truncated) (λ w. lift wire (a w)) p (wire e)
@@ -51,7 +51,7 @@ module _ {A X : Type 0} (view : A → X) {a b : List ℕ → Result (X × List �
   comes-reaches c r None f g = comes-waits f g
 
 module _ {A X : Type 0} (view : A → X) (a b : List ℕ → Result (X × List ℕ) WireError) (p q : List ℕ) where
-  pub reaches-none : (o : Option A) → is_some o ≡ false → Reaches Truncated view a b p q o → Waits Truncated a b p q
+  pub reaches-none : (o : Option A) → is_some o ≡ false → Reaches Truncated view a b p q o → NeedsMore Truncated a b p q
   reaches-none None e g = g
   reaches-none (Some x) e g = absurd cc
 

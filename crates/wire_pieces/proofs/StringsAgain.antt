@@ -5,7 +5,7 @@ use Rattle.std.proofs.lemmas.Bool.{lt-ltb}
 use Rattle.thrift_binary.specs.declared.fault.WireError.TheVariants.{Truncated}
 use Rattle.thrift_binary.specs.Reading.{◌>>=◌, Read, bytes_at, size_at, string_at}
 use Rattle.thrift_binary.specs.Skipping.{past, text}
-use Rattle.wire_pieces.specs.Pieces.{Comes, Waits}
+use Rattle.wire_pieces.specs.Pieces.{Comes, NeedsMore}
 use Rattle.wire_pieces.specs.Strings.{bytes_end}
 use Rattle.wire_pieces.proofs.Filled.{bytes-whole}
 use Rattle.wire_pieces.proofs.Steps.{comes-trans, comes-inside}
@@ -20,67 +20,67 @@ lt-part a b n = grind arith
 lt-whole : (b : ℕ) → ltb b 0 ≡ false
 lt-whole b = grind arith
 
-test-part : (front w : List ℕ) (k : ℕ) → ltb (length (front ++ w)) (length front + k) ≡ ltb (length w) k
-test-part front w k = ap (λ n. ltb n (length front + k)) (length-append front w) ∙ lt-part (length front) (length w) k
+test-part : (beginning w : List ℕ) (k : ℕ) → ltb (length (beginning ++ w)) (length beginning + k) ≡ ltb (length w) k
+test-part beginning w k = ap (λ n. ltb n (length beginning + k)) (length-append beginning w) ∙ lt-part (length beginning) (length w) k
 
-bytes_end-part : (got front w : List ℕ) (k : ℕ) → bytes_end got (length front + k) (front ++ w) ≡ bytes_end (got ++ front) k w
+bytes_end-part : (got beginning w : List ℕ) (k : ℕ) → bytes_end got (length beginning + k) (beginning ++ w) ≡ bytes_end (got ++ beginning) k w
 unfolding bytes_end
-bytes_end-part got front w k = by (ltb (length w) k) refl
+bytes_end-part got beginning w k = by (ltb (length w) k) refl
   where
-    by : (b : Bool) → ltb (length w) k ≡ b → bytes_end got (length front + k) (front ++ w) ≡ bytes_end (got ++ front) k w
-    by true e = rw (test-part front w k, e) refl
-    by false e = rw (test-part front w k, e, take-append-add, drop-append-add, append_assoc) refl
+    by : (b : Bool) → ltb (length w) k ≡ b → bytes_end got (length beginning + k) (beginning ++ w) ≡ bytes_end (got ++ beginning) k w
+    by true e = rw (test-part beginning w k, e) refl
+    by false e = rw (test-part beginning w k, e, take-append-add, drop-append-add, append_assoc) refl
 
 -- where some bytes are still to come
-pub body-waits : (got new front piece left : List ℕ) (n : ℕ) → new ≡ got ++ front → piece ≡ front ++ left → length front ≡ min n (length piece) → 0 < n - length front
-    → Waits Truncated (bytes_end got n) (bytes_end new (n - length front)) piece left
+pub body-waits : (got new beginning piece left : List ℕ) (n : ℕ) → new ≡ got ++ beginning → piece ≡ beginning ++ left → length beginning ≡ min n (length piece) → 0 < n - length beginning
+    → NeedsMore Truncated (bytes_end got n) (bytes_end new (n - length beginning)) piece left
 unfolding bytes_end
-body-waits got new front piece left n is parts size more =
-    let sizes : length piece ≡ length front + length left = rw parts (length-append front left) in
+body-waits got new beginning piece left n is parts size more =
+    let sizes : length piece ≡ length beginning + length left = rw parts (length-append beginning left) in
     let none : length left ≡ 0 = omega arith in
-    let k : n ≡ length front + (n - length front) = omega arith in
-    let few : ltb 0 (n - length front) ≡ true = lt-ltb _ _ more in
+    let k : n ≡ length beginning + (n - length beginning) = omega arith in
+    let few : ltb 0 (n - length beginning) ≡ true = lt-ltb _ _ more in
     record {
-      comes = record { same = λ rest. rw (parts, is, append_assoc) (ap (λ m. bytes_end got m (front ++ (left ++ rest))) k ∙ bytes_end-part got front (left ++ rest) (n - length front)) };
+      comes = record { same = λ rest. rw (parts, is, append_assoc) (ap (λ m. bytes_end got m (beginning ++ (left ++ rest))) k ∙ bytes_end-part got beginning (left ++ rest) (n - length beginning)) };
       want = rw few refl;
       spent = nothing left none;
     }
 
 -- where all bytes have come
-pub body-whole : (got new front piece left : List ℕ) (n : ℕ) → new ≡ got ++ front → piece ≡ front ++ left → length front ≡ min n (length piece) → n - length front ≤ 0
+pub body-whole : (got new beginning piece left : List ℕ) (n : ℕ) → new ≡ got ++ beginning → piece ≡ beginning ++ left → length beginning ≡ min n (length piece) → n - length beginning ≤ 0
     → Comes (bytes_end got n) (λ w. Ok (new, w)) piece left
 unfolding bytes_end
-body-whole got new front piece left n is parts size done =
-    let k : n ≡ length front + 0 = omega arith in
-    record { same = λ rest. rw (parts, is, append_assoc) (ap (λ m. bytes_end got m (front ++ (left ++ rest))) k ∙ bytes_end-part got front (left ++ rest) 0 ∙ last (left ++ rest)) }
+body-whole got new beginning piece left n is parts size done =
+    let k : n ≡ length beginning + 0 = omega arith in
+    record { same = λ rest. rw (parts, is, append_assoc) (ap (λ m. bytes_end got m (beginning ++ (left ++ rest))) k ∙ bytes_end-part got beginning (left ++ rest) 0 ∙ last (left ++ rest)) }
   where
-    last : (w : List ℕ) → bytes_end (got ++ front) 0 w ≡ Ok (got ++ front, w)
+    last : (w : List ℕ) → bytes_end (got ++ beginning) 0 w ≡ Ok (got ++ beginning, w)
     last w = rw (lt-whole (length w), append-nil) refl
 
-past-part : (front w : List ℕ) (k : ℕ) → past (length front + k) (front ++ w) ≡ past k w
-past-part front w k = by (ltb (length w) k) refl
+past-part : (beginning w : List ℕ) (k : ℕ) → past (length beginning + k) (beginning ++ w) ≡ past k w
+past-part beginning w k = by (ltb (length w) k) refl
   where
-    by : (b : Bool) → ltb (length w) k ≡ b → past (length front + k) (front ++ w) ≡ past k w
-    by true e = rw (test-part front w k, e) refl
-    by false e = rw (test-part front w k, e, drop-append-add) refl
+    by : (b : Bool) → ltb (length w) k ≡ b → past (length beginning + k) (beginning ++ w) ≡ past k w
+    by true e = rw (test-part beginning w k, e) refl
+    by false e = rw (test-part beginning w k, e, drop-append-add) refl
 
-pub past-waits : (front piece left : List ℕ) (n : ℕ) → piece ≡ front ++ left → length front ≡ min n (length piece) → 0 < n - length front
-    → Waits Truncated (past n) (past (n - length front)) piece left
-past-waits front piece left n parts size more =
-    let sizes : length piece ≡ length front + length left = rw parts (length-append front left) in
+pub past-waits : (beginning piece left : List ℕ) (n : ℕ) → piece ≡ beginning ++ left → length beginning ≡ min n (length piece) → 0 < n - length beginning
+    → NeedsMore Truncated (past n) (past (n - length beginning)) piece left
+past-waits beginning piece left n parts size more =
+    let sizes : length piece ≡ length beginning + length left = rw parts (length-append beginning left) in
     let none : length left ≡ 0 = omega arith in
-    let k : n ≡ length front + (n - length front) = omega arith in
-    let few : ltb 0 (n - length front) ≡ true = lt-ltb _ _ more in
+    let k : n ≡ length beginning + (n - length beginning) = omega arith in
+    let few : ltb 0 (n - length beginning) ≡ true = lt-ltb _ _ more in
     record {
-      comes = record { same = λ rest. rw (parts, append_assoc) (ap (λ m. past m (front ++ (left ++ rest))) k ∙ past-part front (left ++ rest) (n - length front)) };
+      comes = record { same = λ rest. rw (parts, append_assoc) (ap (λ m. past m (beginning ++ (left ++ rest))) k ∙ past-part beginning (left ++ rest) (n - length beginning)) };
       want = rw few refl;
       spent = nothing left none;
     }
 
-pub past-whole : (front piece left : List ℕ) (n : ℕ) → piece ≡ front ++ left → length front ≡ n → Comes (past n) (λ w. Ok (tt, w)) piece left
-past-whole front piece left n parts size =
-    let k : n ≡ length front + 0 = omega arith in
-    record { same = λ rest. rw (parts, append_assoc) (ap (λ m. past m (front ++ (left ++ rest))) k ∙ past-part front (left ++ rest) 0 ∙ none (left ++ rest)) }
+pub past-whole : (beginning piece left : List ℕ) (n : ℕ) → piece ≡ beginning ++ left → length beginning ≡ n → Comes (past n) (λ w. Ok (tt, w)) piece left
+past-whole beginning piece left n parts size =
+    let k : n ≡ length beginning + 0 = omega arith in
+    record { same = λ rest. rw (parts, append_assoc) (ap (λ m. past m (beginning ++ (left ++ rest))) k ∙ past-part beginning (left ++ rest) 0 ∙ none (left ++ rest)) }
   where
     none : (w : List ℕ) → past 0 w ≡ Ok (tt, w)
     none w = rw (lt-whole (length w)) refl
@@ -115,8 +115,8 @@ text-is w = by (size_at w)
     by (Err e) = refl
 
 -- all of the bytes behind a length, at once
-pub string-at-once : (a : List ℕ → Read ℕ) (p v left front got : List ℕ) (n m : ℕ) → m ≡ n → Comes a (λ w. Ok (n, w)) p v → v ≡ front ++ left → length front ≡ m → got ≡ front
+pub string-at-once : (a : List ℕ → Read ℕ) (p v left beginning got : List ℕ) (n m : ℕ) → m ≡ n → Comes a (λ w. Ok (n, w)) p v → v ≡ beginning ++ left → length beginning ≡ m → got ≡ beginning
     → Comes (λ w. a w >>= λ x. bytes_end [] x.0 x.1) (λ w. Ok (got, w)) p left
-string-at-once a p v left front got n m same g parts size is =
+string-at-once a p v left beginning got n m same g parts size is =
     comes-trans (comes-inside (λ x. bytes_end [] x.0 x.1) g)
-    (record { same = λ rest. bytes_end-fresh n (v ++ rest) ∙ rw (parts, is, append_assoc) (bytes-whole n front (left ++ rest) (size ∙ same)) })
+    (record { same = λ rest. bytes_end-fresh n (v ++ rest) ∙ rw (parts, is, append_assoc) (bytes-whole n beginning (left ++ rest) (size ∙ same)) })

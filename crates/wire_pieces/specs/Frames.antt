@@ -7,7 +7,7 @@ use Rattle.thrift_binary.specs.Skipping.{Skip, past, both, times, value_at}
 use Rattle.thrift_binary.specs.declared.fault.WireError.{WireError}
 use Rattle.thrift_binary.specs.declared.fault.WireError.TheVariants.{Truncated}
 use Rattle.wire_pieces.specs.declared.fault.PieceError.{PieceError}
-use Rattle.wire_pieces.specs.Pieces.{Comes, Waits, Refused}
+use Rattle.wire_pieces.specs.Pieces.{Comes, NeedsMore, Refused}
 use Rattle.wire_pieces.specs.declared.skip.Progress.{Progress}
 use Rattle.wire_pieces.specs.declared.skip.Progress.TheVariants as progress
 use Rattle.wire_pieces.specs.Numbers.{size_from}
@@ -85,7 +85,7 @@ begun c top below w = value_at (64 - length below) c w >>= λ x. stack_at top be
 -- what a step came to
 abbrev pub Progresses : Skip → Skip → List ℕ → List ℕ → Result Progress PieceError → Type 0
 Progresses old new piece left (Ok progress.On) = Comes old new piece left
-Progresses old new piece left (Ok progress.Short) = Waits Truncated old new piece left
+Progresses old new piece left (Ok progress.Short) = NeedsMore Truncated old new piece left
 Progresses old new piece left (Ok progress.Whole) = Comes old (λ w. Ok (tt, w)) piece left
 Progresses old new piece left (Err e) = Refused old piece e
 

@@ -9,12 +9,12 @@ use Rattle.wire_pieces.specs.declared.heads.ListHead.{ListHead}
 use Rattle.wire_pieces.specs.Heads.{list_head}
 
 -- behind the items that have come
-abbrev pub with_front : {A E : Type 0} → List A → Result (List A × List ℕ) E → Result (List A × List ℕ) E
-with_front front read = read >>= λ x. Ok (front ++ x.0, x.1)
+abbrev pub with_beginning : {A E : Type 0} → List A → Result (List A × List ℕ) E → Result (List A × List ℕ) E
+with_beginning beginning read = read >>= λ x. Ok (beginning ++ x.0, x.1)
 
 -- behind the items that have come, one more of which some bytes have come, and n others
 unfoldable pub items_from : {A E : Type 0} → Reader A E → List A → ℕ → Reader A E → Reader (List A) E
-items_from one items n now w = now w >>= λ x. with_front (items ++ x.0 ∷ []) (items_at one n x.1)
+items_from one items n now w = now w >>= λ x. with_beginning (items ++ x.0 ∷ []) (items_at one n x.1)
 
 -- what follows the head of a list of values of the type c
 abbrev pub behind_head : {A E : Type 0} → (WireError → E) → ℕ → Reader A E → ℕ × ℕ → Reader (List A) E

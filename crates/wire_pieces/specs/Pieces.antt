@@ -12,7 +12,7 @@ pub record Comes {X E : Type 0} (old new : List ℕ → Result X E) (piece left 
   pub same : (rest : List ℕ) → old (piece ++ rest) ≡ new (left ++ rest)
 
 -- It took the whole piece, and no more bytes would be too few.
-pub record Waits {X E : Type 0} (short : E) (old new : List ℕ → Result X E) (piece left : List ℕ) : Type 0 where
+pub record NeedsMore {X E : Type 0} (short : E) (old new : List ℕ → Result X E) (piece left : List ℕ) : Type 0 where
   pub comes : Comes old new piece left
   pub want : new [] ≡ Err short
   pub spent : left ≡ []
@@ -28,7 +28,7 @@ Reader X E = List ℕ → Result (X × List ℕ) E
 
 -- What a call gave that went on over a piece: a value, or nothing yet.
 abbrev pub Reaches : {A X E : Type 0} → E → (A → X) → Reader X E → Reader X E → List ℕ → List ℕ → Option A → Type 0
-Reaches short view old new piece left None = Waits short old new piece left
+Reaches short view old new piece left None = NeedsMore short old new piece left
 Reaches short view old new piece left (Some x) = Comes old (λ w. Ok (view x, w)) piece left
 
 -- the fault of a call; of running out of memory nothing is said
@@ -37,9 +37,9 @@ Refused old piece (Wire e) = Refuses Truncated old piece e
 Refused old piece Memory = Unit {0}
 
 -- the same of a call that can refuse
-abbrev pub Goes : {A X : Type 0} → (A → X) → Reader X WireError → Reader X WireError → List ℕ → List ℕ → Result (Option A) PieceError → Type 0
-Goes view old new piece left (Ok o) = Reaches Truncated view old new piece left o
-Goes view old new piece left (Err e) = Refused old piece e
+abbrev pub Continues : {A X : Type 0} → (A → X) → Reader X WireError → Reader X WireError → List ℕ → List ℕ → Result (Option A) PieceError → Type 0
+Continues view old new piece left (Ok o) = Reaches Truncated view old new piece left o
+Continues view old new piece left (Err e) = Refused old piece e
 
 -- a step that gives no value
 abbrev pub Steps : {X : Type 0} → (List ℕ → Result X WireError) → (List ℕ → Result X WireError) → List ℕ → List ℕ → Result (Unit {0}) PieceError → Type 0

@@ -51,19 +51,19 @@ impl Gathered {
 
     /// The bytes of a number or a head that came at once.
     #[inline]
-    fn of(front: &[u8]) -> Self
-        requires { length front.now ≤ 8 }
-        ensures { result ≡ front.now }
+    fn of(beginning: &[u8]) -> Self
+        requires { length beginning.now ≤ 8 }
+        ensures { result ≡ beginning.now }
     {
         let mut bytes = [0; 8];
-        bytes[..front.len()].copy_from_slice(front);
+        bytes[..beginning.len()].copy_from_slice(beginning);
         Gathered {
             bytes,
-            len: front.len(),
+            len: beginning.len(),
         }
     }
 
-    /// Goes on until n bytes have come. They are handed out then, and none is left here.
+    /// Continues until n bytes have come. They are handed out then, and none is left here.
     #[inline]
     pub(crate) fn fill(&mut self, n: usize, piece: &mut Piece<'_>) -> Option<Gathered>
         requires short { length self.old < n }
@@ -75,8 +75,8 @@ impl Gathered {
             (λ _. length piece.new < length piece.old) }
     {
         if self.len() == 0 {
-            if let Some(front) = piece.front(n) {
-                return Some(Gathered::of(front));
+            if let Some(beginning) = piece.beginning(n) {
+                return Some(Gathered::of(beginning));
             }
         }
         self.fill_by_bytes(n, piece)

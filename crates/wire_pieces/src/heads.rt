@@ -1,6 +1,6 @@
 ghost use Rattle.std.specs.Prelude.{◌≡◌, true, false, List, ℕ, None, Ok};
 ghost use Rattle.thrift_binary.specs.Reading.{is_code, field_at, list_at};
-ghost use Rattle.wire_pieces.specs.Pieces.{Goes, OkTakes};
+ghost use Rattle.wire_pieces.specs.Pieces.{Continues, OkTakes};
 ghost use Rattle.wire_pieces.specs.Heads.{IsTyped, id_from, head_from, typed_size_from, list_head};
 
 use crate::fault::PieceError;
@@ -34,7 +34,7 @@ pub(crate) struct TypedId {
 impl TypedId {
     #[inline]
     fn more(&mut self, piece: &mut Piece<'_>) -> Result<Option<Option<(u8, i16)>>, PieceError>
-        ensures reads { Goes (λ x. x) (id_from self.old) (id_from self.new)
+        ensures reads { Continues (λ x. x) (id_from self.old) (id_from self.new)
             piece.old piece.new result }
         ensures taken { OkTakes piece.old piece.new result }
         ensures typed { IsTyped result }
@@ -82,11 +82,11 @@ impl FieldHead {
         matches!(self.step, HeadStep::First)
     }
 
-    /// Goes on over a piece.
+    /// Continues over a piece.
     #[tactic(auto, unfolding(thrift_binary::specs::Reading::field_at))]
     #[inline]
     pub fn more(&mut self, piece: &mut Piece<'_>) -> Result<Option<Option<(u8, i16)>>, PieceError>
-        ensures reads { Goes (λ x. x) (head_from self.old) (head_from self.new)
+        ensures reads { Continues (λ x. x) (head_from self.old) (head_from self.new)
             piece.old piece.new result }
         ensures taken { OkTakes piece.old piece.new result }
         ensures typed { IsTyped result }
@@ -122,7 +122,7 @@ pub(crate) struct TypedSize {
 impl TypedSize {
     #[inline]
     fn more(&mut self, piece: &mut Piece<'_>) -> Result<Option<(u8, u32)>, PieceError>
-        ensures reads { Goes (λ x. x) (typed_size_from self.old) (typed_size_from self.new)
+        ensures reads { Continues (λ x. x) (typed_size_from self.old) (typed_size_from self.new)
             piece.old piece.new result }
         ensures taken { OkTakes piece.old piece.new result }
     {
@@ -159,11 +159,11 @@ impl ListHead {
         }
     }
 
-    /// Goes on over a piece.
+    /// Continues over a piece.
     #[tactic(auto, unfolding(thrift_binary::specs::Reading::list_at))]
     #[inline]
     pub fn more(&mut self, piece: &mut Piece<'_>) -> Result<Option<(u8, u32)>, PieceError>
-        ensures reads { Goes (λ x. x) (list_head self.old) (list_head self.new)
+        ensures reads { Continues (λ x. x) (list_head self.old) (list_head self.new)
             piece.old piece.new result }
         ensures taken { OkTakes piece.old piece.new result }
     {

@@ -1,6 +1,6 @@
 ghost use Rattle.std.specs.Prelude.{◌≡◌, List, ℕ};
 ghost use Rattle.thrift_binary.specs.Reading.{map_at};
-ghost use Rattle.wire_pieces.specs.Pieces.{Goes, OkTakes};
+ghost use Rattle.wire_pieces.specs.Pieces.{Continues, OkTakes};
 ghost use Rattle.wire_pieces.specs.Heads.{pair_size_from, pair_head, map_head};
 
 use crate::fault::PieceError;
@@ -19,7 +19,7 @@ pub(crate) struct PairSize {
 
 impl PairSize {
     fn more(&mut self, piece: &mut Piece<'_>) -> Result<Option<(u8, u8, u32)>, PieceError>
-        ensures reads { Goes (λ x. ((x.0, x.1), x.2)) (pair_size_from self.old)
+        ensures reads { Continues (λ x. ((x.0, x.1), x.2)) (pair_size_from self.old)
             (pair_size_from self.new)
             piece.old piece.new result }
         ensures taken { OkTakes piece.old piece.new result }
@@ -49,7 +49,7 @@ pub(crate) struct PairHead {
 
 impl PairHead {
     fn more(&mut self, piece: &mut Piece<'_>) -> Result<Option<(u8, u8, u32)>, PieceError>
-        ensures reads { Goes (λ x. ((x.0, x.1), x.2)) (pair_head self.old) (pair_head self.new)
+        ensures reads { Continues (λ x. ((x.0, x.1), x.2)) (pair_head self.old) (pair_head self.new)
             piece.old piece.new result }
         ensures taken { OkTakes piece.old piece.new result }
     {
@@ -94,10 +94,10 @@ impl MapHead {
         }
     }
 
-    /// Goes on over a piece.
+    /// Continues over a piece.
     #[tactic(auto, unfolding(thrift_binary::specs::Reading::map_at))]
     pub fn more(&mut self, piece: &mut Piece<'_>) -> Result<Option<(u8, u8, u32)>, PieceError>
-        ensures reads { Goes (λ x. ((x.0, x.1), x.2)) (map_head self.old) (map_head self.new)
+        ensures reads { Continues (λ x. ((x.0, x.1), x.2)) (map_head self.old) (map_head self.new)
             piece.old piece.new result }
         ensures taken { OkTakes piece.old piece.new result }
     {

@@ -2,7 +2,7 @@ ghost use Rattle.std.specs.Prelude.{◌≡◌, ◌<◌, List, ℕ, [], ◌++◌,
 ghost use Rattle.std.specs.Int.{w16, w32, w64};
 ghost use Rattle.thrift_binary.specs.Reading.{bool_at, bytes_at, signed_at, size_at};
 ghost use Rattle.thrift_binary.specs.declared.fault.WireError.TheVariants.{Truncated};
-ghost use Rattle.wire_pieces.specs.Pieces.{Reaches, Goes, Takes, OkTakes};
+ghost use Rattle.wire_pieces.specs.Pieces.{Reaches, Continues, Takes, OkTakes};
 
 use crate::fault::PieceError;
 use crate::gathered::Gathered;
@@ -30,7 +30,7 @@ impl I16 {
         }
     }
 
-    /// Goes on over a piece.
+    /// Continues over a piece.
     #[inline]
     pub fn more(&mut self, piece: &mut Piece<'_>) -> Option<i16>
         ensures reads { Reaches Truncated (λ x. x) (i16_from self.old) (i16_from self.new)
@@ -63,7 +63,7 @@ impl I32 {
         }
     }
 
-    /// Goes on over a piece.
+    /// Continues over a piece.
     #[inline]
     pub fn more(&mut self, piece: &mut Piece<'_>) -> Option<i32>
         ensures reads { Reaches Truncated (λ x. x) (i32_from self.old) (i32_from self.new)
@@ -96,7 +96,7 @@ impl I64 {
         }
     }
 
-    /// Goes on over a piece.
+    /// Continues over a piece.
     #[inline]
     pub fn more(&mut self, piece: &mut Piece<'_>) -> Option<i64>
         ensures reads { Reaches Truncated (λ x. x) (i64_from self.old) (i64_from self.new)
@@ -129,7 +129,7 @@ impl Double {
         }
     }
 
-    /// Goes on over a piece.
+    /// Continues over a piece.
     #[inline]
     pub fn more(&mut self, piece: &mut Piece<'_>) -> Option<[u8; 8]>
         ensures reads { Reaches Truncated (λ x. x) (double_from self.old) (double_from self.new)
@@ -154,11 +154,11 @@ impl Bool {
         Bool {}
     }
 
-    /// Goes on over a piece.
+    /// Continues over a piece.
     #[tactic(auto, unfolding(thrift_binary::specs::Reading::bool_at))]
     #[inline]
     pub fn more(&mut self, piece: &mut Piece<'_>) -> Result<Option<bool>, PieceError>
-        ensures reads { Goes (λ x. x) bool_at bool_at piece.old piece.new result }
+        ensures reads { Continues (λ x. x) bool_at bool_at piece.old piece.new result }
         ensures taken { OkTakes piece.old piece.new result }
     {
         match piece.next() {
@@ -190,10 +190,10 @@ impl Size {
         }
     }
 
-    /// Goes on over a piece.
+    /// Continues over a piece.
     #[inline]
     pub fn more(&mut self, piece: &mut Piece<'_>) -> Result<Option<u32>, PieceError>
-        ensures reads { Goes (λ x. x) (size_from self.old) (size_from self.new)
+        ensures reads { Continues (λ x. x) (size_from self.old) (size_from self.new)
             piece.old piece.new result }
         ensures taken { OkTakes piece.old piece.new result }
     {

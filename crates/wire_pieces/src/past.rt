@@ -20,17 +20,17 @@ impl Past {
         Past { left }
     }
 
-    /// Goes on over a piece.
+    /// Continues over a piece.
     pub(crate) fn more(&mut self, piece: &mut Piece<'_>) -> Option<()>
         ensures reads { Reaches Truncated (λ x. x) (past self.old.left) (past self.new.left)
             piece.old piece.new result }
         ensures taken { Takes piece.old piece.new result }
     {
-        let front = piece.up_to(self.left);
-        if front.len() == self.left {
+        let beginning = piece.up_to(self.left);
+        if beginning.len() == self.left {
             return Some(());
         }
-        self.left -= front.len();
+        self.left -= beginning.len();
         None
     }
 }

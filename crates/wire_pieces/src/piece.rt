@@ -55,7 +55,7 @@ impl<'a> Piece<'a> {
 
     /// The first n bytes, where there are as many.
     #[inline]
-    pub(crate) fn front(&mut self, n: usize) -> Option<&'a [u8]>
+    pub(crate) fn beginning(&mut self, n: usize) -> Option<&'a [u8]>
         ensures parts { MatchOption result (self.new ≡ self.old)
             (λ t. self.old ≡ t.now ++ self.new) }
         ensures size { MatchOption result (length self.old < n) (λ t. length t.now ≡ n) }
@@ -63,9 +63,9 @@ impl<'a> Piece<'a> {
         if self.bytes.len() < n {
             return None;
         }
-        let (front, rest) = self.bytes.split_at(n);
+        let (beginning, rest) = self.bytes.split_at(n);
         self.bytes = rest;
-        Some(front)
+        Some(beginning)
     }
 
     /// The first n bytes, or all where there are fewer.
@@ -78,8 +78,8 @@ impl<'a> Piece<'a> {
         } else {
             n
         };
-        let (front, rest) = self.bytes.split_at(size);
+        let (beginning, rest) = self.bytes.split_at(size);
         self.bytes = rest;
-        front
+        beginning
     }
 }

@@ -5,7 +5,7 @@ ghost use Rattle.thrift_binary.specs.Skipping.{width, is_container, skip_at, lea
 ghost use Rattle.wire_pieces.specs.declared.fault.PieceError.TheVariants.{Wire, Memory};
 ghost use Rattle.wire_pieces.specs.declared.skip.Frame.{Frame};
 ghost use Rattle.wire_pieces.specs.declared.skip.Now.TheVariants.{Nothing};
-ghost use Rattle.wire_pieces.specs.Pieces.{Goes, Steps};
+ghost use Rattle.wire_pieces.specs.Pieces.{Continues, Steps};
 ghost use Rattle.wire_pieces.specs.Frames.{frame_at, now_at, skipping, begun, rank, height, weight, Progresses, IsOn, Lightens};
 
 use crate::fault::PieceError;
@@ -226,7 +226,7 @@ impl Skipping {
         Ok(())
     }
 
-    /// Goes on between two values of the innermost container.
+    /// Continues between two values of the innermost container.
     fn outside(&mut self, piece: &mut Piece<'_>) -> Result<Progress, PieceError>
         requires now { self.old.now ≡ Nothing }
         ensures progress { Progresses (skipping self.old) (skipping self.new)
@@ -257,7 +257,7 @@ impl Skipping {
         }
     }
 
-    /// Goes on inside of a value.
+    /// Continues inside of a value.
     fn step(&mut self, piece: &mut Piece<'_>) -> Result<Progress, PieceError>
         ensures progress { Progresses (skipping self.old) (skipping self.new)
             piece.old piece.new result }
@@ -296,9 +296,9 @@ impl Skipping {
         Ok(Progress::On)
     }
 
-    /// Goes on over a piece.
+    /// Continues over a piece.
     pub fn more(&mut self, piece: &mut Piece<'_>) -> Result<Option<()>, PieceError>
-        ensures reads { Goes (λ x. x) (skipping self.old) (skipping self.new)
+        ensures reads { Continues (λ x. x) (skipping self.old) (skipping self.new)
             piece.old piece.new result }
         ensures no_longer { OnOk result (length piece.new ≤ length piece.old) }
     {

@@ -1,6 +1,6 @@
 ghost use Rattle.std.specs.Prelude.{◌≡◌, ◌≤◌, List, ℕ, [], length, OnOk};
 ghost use Rattle.thrift_binary.specs.Reading.{string_at};
-ghost use Rattle.wire_pieces.specs.Pieces.{Goes};
+ghost use Rattle.wire_pieces.specs.Pieces.{Continues};
 ghost use Rattle.wire_pieces.specs.Strings.{bytes_end, string_from};
 
 use crate::fault::PieceError;
@@ -30,13 +30,13 @@ impl Body {
 
     #[inline]
     fn more(&mut self, alloc: Global, piece: &mut Piece<'_>) -> Result<Option<Vec<u8>>, PieceError>
-        ensures reads { Goes (λ x. x.items) (bytes_end self.old.got.items self.old.left)
+        ensures reads { Continues (λ x. x.items) (bytes_end self.old.got.items self.old.left)
             (bytes_end self.new.got.items self.new.left) piece.old piece.new result }
         ensures no_longer { OnOk result (length piece.new ≤ length piece.old) }
     {
-        let front = piece.up_to(self.left);
-        self.got.extend_from_slice(front)?;
-        self.left -= front.len();
+        let beginning = piece.up_to(self.left);
+        self.got.extend_from_slice(beginning)?;
+        self.left -= beginning.len();
         if self.left > 0 {
             return Ok(None);
         }
@@ -67,14 +67,14 @@ impl StringPart {
         }
     }
 
-    /// Goes on over a piece.
+    /// Continues over a piece.
     #[inline]
     pub fn more(
         &mut self,
         alloc: Global,
         piece: &mut Piece<'_>,
     ) -> Result<Option<Vec<u8>>, PieceError>
-        ensures reads { Goes (λ x. x.items) (string_from self.old) (string_from self.new)
+        ensures reads { Continues (λ x. x.items) (string_from self.old) (string_from self.new)
             piece.old piece.new result }
         ensures no_longer { OnOk result (length piece.new ≤ length piece.old) }
     {
@@ -83,8 +83,8 @@ impl StringPart {
                 let Some(size) = part.more(piece)? else {
                     return Ok(None);
                 };
-                if let Some(front) = piece.front(size as usize) {
-                    let bytes = Vec::from_slice(alloc, front)?;
+                if let Some(beginning) = piece.beginning(size as usize) {
+                    let bytes = Vec::from_slice(alloc, beginning)?;
                     return Ok(Some(bytes));
                 }
                 let mut body = Body::new(alloc, size as usize);

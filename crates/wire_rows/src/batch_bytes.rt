@@ -1,8 +1,7 @@
-use batch_codec::{DecodeError, Part, decode, encode};
-use jaeger_model::{Batch, Seq};
+use batch_codec::{DecodeError, decode, encode};
+use jaeger_model::{Batch, Seq, SharedProcess};
 use std::alloc::{AllocError, Global};
 use std::test::*;
-use thrift_binary::WireError;
 use trace_samples::process;
 
 /// The bytes of hexadecimal text; spaces are skipped.
@@ -74,6 +73,14 @@ fn claimed_sizes_take_no_memory(rt: HostRuntime) {
     assert!(rt; matches!(decode(alloc, &service), Err(fault) if fault.number() == 1));
 }
 
+/// The one fault that no bytes have; the texts of the others stand in `cases/batches`.
+#[test]
+fn text_of_no_memory(rt: HostRuntime) -> Result<(), Fail> {
+    let text = DecodeError::Memory.text(rt.alloc())?;
+    assert_eq!(rt; text.as_str(), "22 NoMemory");
+    Ok(())
+}
+
 /// The bytes of three texts, one after the other.
 fn joined(alloc: Global, parts: (&str, &str, &str)) -> Result<Vec<u8>, AllocError> {
     let mut bytes = bytes_of(alloc, parts.0)?;
@@ -82,123 +89,10 @@ fn joined(alloc: Global, parts: (&str, &str, &str)) -> Result<Vec<u8>, AllocErro
     Ok(bytes)
 }
 
-/// The bytes, decoded: the fault's text, or the operation of each span.
-fn outcome(alloc: Global, hex: &str) -> Result<String, Fail> {
-    let bytes = bytes_of(alloc, hex)?;
-    let batch = match decode(alloc, &bytes) {
-        Ok(batch) => batch,
-        Err(fault) => return Ok(fault.text(alloc)?),
-    };
-    let mut text = String::from_str(alloc, "ok")?;
-    for span in batch.spans.as_slice() {
-        text.push_str(" ")?;
-        text.push_str(span.operation.as_str())?;
-    }
-    Ok(text)
-}
-
-/// Each kind of fault has a text, and so has each struct that may lack a field.
-#[test]
-fn texts_of_faults(rt: HostRuntime) -> Result<(), Fail> {
-    for (fault, text) in [
-        (DecodeError::Wire(WireError::TooDeep), "4 TooDeep"),
-        (DecodeError::Missing(Part::Batch, 2), "7 Missing Batch 2"),
-        (
-            DecodeError::Missing(Part::Process, 1),
-            "7 Missing Process 1",
-        ),
-        (DecodeError::Missing(Part::Span, 9), "7 Missing Span 9"),
-        (
-            DecodeError::Missing(Part::SpanRef, 4),
-            "7 Missing SpanRef 4",
-        ),
-        (DecodeError::Missing(Part::Log, 1), "7 Missing Log 1"),
-        (DecodeError::Missing(Part::Tag, 2), "7 Missing Tag 2"),
-        (DecodeError::BadEnum, "8 BadEnum"),
-        (DecodeError::Trailing, "9 Trailing"),
-        (DecodeError::Memory, "22 NoMemory"),
-    ] {
-        assert_eq!(rt; fault.text(rt.alloc())?.as_str(), text);
-    }
-    Ok(())
-}
-
 /// A batch up to its process's one tag, and what follows that.
 const TAG: &str = "0c0001 0b0001 00000001 61 0f0002 0c 00000001 0b0001 00000001 65";
 
 const TAG_END: &str = "00 00 0f0002 0c 00000000 00";
-
-/// Bytes, and what comes of decoding them.
-const OUTCOMES: &str = "
-    0c0001 0b0001 00000001 61 00 0f0002 0c 00000000 00 -> ok
-    0c0001 0b0001 00000001 61 00 0f0002 0c 00000000 -> 1 Truncated
-    -> 1 Truncated
-    00 -> 7 Missing Batch 1
-    00 00 -> 7 Missing Batch 1
-    0c0001 0b0001 00000001 61 00 0f0002 0c 00000000 00 00 -> 9 Trailing
-    0c0001 0b0001 00000001 61 00 0f0002 0c 7fffffff -> 1 Truncated
-    0c0001 0b0001 00000001 61 00 0f0002 0c ffffffff -> 2 BadLength
-    0c0001 0b0001 00000001 61 00 0f0002 03 00000000 00 -> ok
-    0c0001 0b0001 00000001 61 00 0f0002 03 00000001 00 -> 3 BadType
-    0c0001 0b0001 00000001 61 00 0f0002 10 ffffffff -> 2 BadLength
-    ff00 -> 1 Truncated
-    ff00 01 -> 3 BadType
-    0c0001 0b0001 00000001 61 00 0f0002 0c 00000000 0c0004 0a0001 0000000000000001 00 00 -> ok
-    0c0001 0b0001 00000001 61 0f0002 0c 00000001 0b0001 00000001 65 080002 00000002 00 00 0f0002 0c 00000000 00 -> ok
-    0c0001 0b0001 00000001 61 0f0002 0c 00000001 0b0001 00000001 65 080002 00000002 020005 02 00 00 0f0002 0c 00000000 00 -> 5 BadBool
-    0c0001 0b0001 00000001 61 0f0002 0c 00000001 0b0001 00000001 65 080002 00000003 020005 02 00 00 0f0002 0c 00000000 00 -> 5 BadBool
-    0c0001 0b0001 00000001 61 0f0002 0c 00000001 0b0001 00000001 65 080002 00000003 0b0003 00000001 ff 00 00 0f0002 0c 00000000 00 -> 6 BadText
-    0c0001 0b0001 00000001 61 0f0002 0c 00000001 0b0001 00000001 65 080002 00000003 0b0007 00000001 ff 00 00 0f0002 0c 00000000 00 -> ok
-    0c0001 0b0001 00000001 61 0f0002 0c 00000001 0b0001 00000001 65 080002 00000005 00 00 0f0002 0c 00000000 00 -> 8 BadEnum
-    0c0001 0b0001 00000001 61 0f0002 0c 00000001 0b0001 00000001 65 00 00 0f0002 0c 00000000 00 -> 7 Missing Tag 2
-    0c0001 00 -> 7 Missing Process 1
-    0c0001 0b0001 00000001 61 00 0f0002 0c 00000001 0a0001 0000000000000001 0a0002 0000000000000000 0a0003 0000000000000002 0a0004 0000000000000000 0b0005 00000002 6f70 080007 00000001 0a0008 00000000000003e8 0a0009 0000000000000032 00 00 -> ok op
-    0c0001 0b0001 00000001 61 00 0f0002 0c 00000001 0a0001 0000000000000001 0a0002 0000000000000000 0a0003 0000000000000002 0a0004 0000000000000000 0b0005 00000002 6f70 0a0007 0000000000000001 0a0008 00000000000003e8 0a0009 0000000000000032 00 00 -> 7 Missing Span 7
-    0c0001 0b0001 00000001 61 00 0f0002 0c 00000001 0a0001 0000000000000001 0a0002 0000000000000000 0a0003 0000000000000002 0a0004 0000000000000000 0b0005 00000002 6f70 0b0005 00000001 78 080007 00000001 0a0008 00000000000003e8 0a0009 0000000000000032 00 00 -> ok x
-    0c0001 0b0001 00000001 61 00 0f0002 0c 00000001 0a0001 0000000000000001 0a0002 0000000000000000 0a0003 0000000000000002 0a0004 0000000000000000 0b0005 00000002 6f70 0f0006 0c 00000001 080001 00000002 0a0008 00000000000003e8 0a0009 0000000000000032 00 00 -> 8 BadEnum
-    0c0001 0b0001 00000001 61 00 0f0002 0c 00000001 0a0001 0000000000000001 0a0002 0000000000000000 0a0003 0000000000000002 0a0004 0000000000000000 0b0005 00000002 6f70 0f0006 0c 00000001 00 0a0008 00000000000003e8 0a0009 0000000000000032 00 00 -> 7 Missing SpanRef 1
-    0c0001 0b0001 00000001 61 00 0f0002 0c 00000001 0a0001 0000000000000001 0a0002 0000000000000000 0a0003 0000000000000002 0a0004 0000000000000000 0b0005 00000002 6f70 0f000b 0c 00000001 00 0a0008 00000000000003e8 0a0009 0000000000000032 00 00 -> 7 Missing Log 1";
-
-#[test]
-fn faults_and_what_is_no_fault(rt: HostRuntime) -> Result<(), Fail> {
-    let mut rows = 0u32;
-    for line in OUTCOMES.lines() {
-        let Some((hex, want)) = line.split_once("-> ") else {
-            continue;
-        };
-        let text = outcome(rt.alloc(), hex)?;
-        assert!(rt; text.as_str() == want, "{line}: {text}");
-        rows = rows.wrapping_add(1);
-    }
-    assert_eq!(rt; rows, 28);
-    Ok(())
-}
-
-/// Lists inside lists, the innermost empty, in a field that nobody knows.
-fn nested(alloc: Global, levels: u32) -> Result<Vec<u8>, Fail> {
-    let mut bytes = bytes_of(
-        alloc,
-        "0c0001 0b0001 00000001 61 00 0f0002 0c 00000000 0f0009",
-    )?;
-    for level in 0..levels {
-        let last = level + 1 == levels;
-        bytes.extend_from_slice(if last {
-            &[15, 0, 0, 0, 0]
-        } else {
-            &[15, 0, 0, 0, 1]
-        })?;
-    }
-    bytes.push(0)?;
-    Ok(bytes)
-}
-
-#[test]
-fn levels_of_skipped_lists(rt: HostRuntime) -> Result<(), Fail> {
-    let alloc = rt.alloc();
-    assert!(rt; decode(alloc, &nested(alloc, 64)?).is_ok());
-    assert!(rt; matches!(decode(alloc, &nested(alloc, 65)?), Err(fault) if fault.number() == 4));
-    Ok(())
-}
 
 /// A batch of no spans with a number, as it is encoded.
 const NUMBERED: &str = "0c0001 0b0001 00000001 61 00 0f0002 0c 00000000 0a0003 0000000000000001 00";
@@ -207,7 +101,7 @@ const NUMBERED: &str = "0c0001 0b0001 00000001 61 00 0f0002 0c 00000000 0a0003 0
 fn one_spelling(rt: HostRuntime) -> Result<(), Fail> {
     let alloc = rt.alloc();
     let numbered = Batch {
-        process: process(alloc, "a")?,
+        process: SharedProcess::new(alloc, process(alloc, "a")?)?,
         spans: Seq::new(alloc),
         seq_no: Some(1),
     };

@@ -23,26 +23,6 @@ fn levels_of_skipped_values(rt: HostRuntime) -> Result<(), Fail> {
 }
 
 #[test]
-fn first_faults_of_heads(rt: HostRuntime) {
-    assert_eq!(rt;
-        Cursor::new(&[0xff, 0x00]).field(),
-        Err(WireError::Truncated)
-    );
-    assert_eq!(rt;
-        Cursor::new(&[0xff, 0x00, 0x01]).field(),
-        Err(WireError::BadType)
-    );
-    for (head, want) in [
-        ([0x10, 0xff, 0xff, 0xff, 0xff], Err(WireError::BadLength)),
-        ([0x10, 0x7f, 0xff, 0xff, 0xff], Err(WireError::BadType)),
-        ([0x10, 0x00, 0x00, 0x00, 0x00], Ok((0x10, 0))),
-        ([0x0c, 0x7f, 0xff, 0xff, 0xff], Ok((0x0c, 0x7fff_ffff))),
-    ] {
-        assert_eq!(rt; Cursor::new(&head).list_head(), want);
-    }
-}
-
-#[test]
 fn after_a_refusal(rt: HostRuntime) {
     let mut cursor = Cursor::new(&[2, 0, 0, 0, 0, 0, 0, 0, 7]);
     assert_eq!(rt; cursor.read_bool(), Err(WireError::BadBool));

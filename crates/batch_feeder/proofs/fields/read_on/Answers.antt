@@ -2,7 +2,7 @@ use Rattle.std.proofs.Common.{◌∙◌, sym}
 use Rattle.batch_feeder.proofs.FieldsFromAgain.{none-left, fresh-waits}
 use Rattle.batch_feeder.proofs.fields.read_on.Goals as goal
 
-pub returns-then-is_empty-clause-goes : goal.returns-then-is_empty-clause-goes
-returns-then-is_empty-clause-goes g c =
+pub returns-then-is_empty-clause-continues : goal.returns-then-is_empty-clause-continues
+returns-then-is_empty-clause-continues g c =
     let read = rw c.in-Ok-Head.field-0-is at c.in-Ok-Head.ensures.reads in
     fresh-waits g.S.Slots.takes g.S.Slots.resumes _ _ c.args.step.now _ _ c.requires (none-left _ (sym c.is_empty.ensures.empty ∙ c.if-is_empty.true)) (read.0)

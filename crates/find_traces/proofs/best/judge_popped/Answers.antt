@@ -18,32 +18,32 @@ loop-key-init g c =
       all = refl;
       heap = c.requires.1.1.1;
       leaves = leaves_all best_total best_exact g.ranking (heap_items c.args.keys) c.requires.1.0 c.requires.1.1.0;
-      found = c.new-places.ensures.items ∙ sym (answer_none (key_judged c.args.query.now ts) key_place c.args.query.now.limit);
+      found = c.new-places.ensures.items ∙ sym (answer_none (key_judged (g.T.Searched.query c.args.traces.now) ts) key_place (g.T.Searched.query c.args.traces.now).limit);
     }
 
-pub loop-key-preserved-in-Continue-1 : goal.loop-key-preserved-in-Continue-1
-loop-key-preserved-in-Continue-1 g c =
-    let p : Key → Bool = key_judged c.args.query.now (g.T.Searched.traces c.args.traces.now) in
-    let limit : ℕ = c.args.query.now.limit in
+pub loop-key-preserved-in-Continue-branch-2 : goal.loop-key-preserved-in-Continue-branch-2
+loop-key-preserved-in-Continue-branch-2 g c =
+    let p : Key → Bool = key_judged (g.T.Searched.query c.args.traces.now) (g.T.Searched.traces c.args.traces.now) in
+    let limit : ℕ = (g.T.Searched.query c.args.traces.now).limit in
     let i = c.loop-key.invariant in
     let h = c.in-Some.ensures in
     let x : Key = c.in-Some.key in
     let next : Next best_cmp i.rest (heap_items c.pop.new.self) x = popped best_total best_exact i.rest (heap_items c.loop-key.keys) (heap_items c.pop.new.self) x i.leaves h.permutation (h.below_top i.heap) in
     let found : c.loop-key.places.items ≡ answer p key_place limit i.before = i.found in
     let count : length (answer p key_place limit i.before) ≡ c.len.result = sym (ap length found) ∙ (let l = c.len.ensures in omega arith) in
-    let room : is_full limit (length (answer p key_place limit i.before)) ≡ false = ap (is_full limit) count ∙ sym c.is_full.ensures ∙ c.if-is_full.false in
+    let room : is_full limit (length (answer p key_place limit i.before)) ≡ false = ap (is_full limit) count ∙ ap (λ l. is_full l c.len.result) (sym c.limit.ensures) ∙ sym c.is_full.ensures ∙ c.if-is_full.false in
     record {
       before = i.before ++ x ∷ [];
       rest = next.after;
       all = i.all ∙ ap (λ l. i.before ++ l) next.is ∙ sym (append_assoc i.before (x ∷ []) next.after);
       heap = (h.heap_order i.heap).0;
       leaves = next.leaves;
-      found = c.in_ok-push.ensures.items ∙ ap (λ l. l ++ x.place ∷ []) found ∙ sym (answer_hit p key_place limit i.before x (sym c.is_found_at.ensures ∙ c.if-is_found_at.true) room);
+      found = c.in_ok-push.ensures.items ∙ ap (λ l. l ++ x.place ∷ []) found ∙ sym (answer_hit p key_place limit i.before x (sym c.in_ok-is_found_at.ensures ∙ c.if-branch.true) room);
     }
 
 pub loop-key-preserved : goal.loop-key-preserved
 loop-key-preserved g c =
-    let p : Key → Bool = key_judged c.args.query.now (g.T.Searched.traces c.args.traces.now) in
+    let p : Key → Bool = key_judged (g.T.Searched.query c.args.traces.now) (g.T.Searched.traces c.args.traces.now) in
     let i = c.loop-key.invariant in
     let h = c.in-Some.ensures in
     let x : Key = c.in-Some.key in
@@ -54,21 +54,21 @@ loop-key-preserved g c =
       all = i.all ∙ ap (λ l. i.before ++ l) next.is ∙ sym (append_assoc i.before (x ∷ []) next.after);
       heap = (h.heap_order i.heap).0;
       leaves = next.leaves;
-      found = i.found ∙ sym (answer_miss p key_place c.args.query.now.limit i.before x (sym c.is_found_at.ensures ∙ c.if-is_found_at.false));
+      found = i.found ∙ sym (answer_miss p key_place (g.T.Searched.query c.args.traces.now).limit i.before x (sym c.in_ok-is_found_at.ensures ∙ c.if-branch.false));
     }
 
 pub returns : goal.returns
 returns g c =
     let ts : List (List Placed) = g.T.Searched.traces c.args.traces.now in
-    let p : Key → Bool = key_judged c.args.query.now ts in
-    let limit : ℕ = c.args.query.now.limit in
+    let p : Key → Bool = key_judged (g.T.Searched.query c.args.traces.now) ts in
+    let limit : ℕ = (g.T.Searched.query c.args.traces.now).limit in
     let i = c.loop-key.invariant in
     let found : c.loop-key.places.items ≡ answer p key_place limit i.before = i.found in
     let whole : answer p key_place limit (i.before ++ i.rest) ≡ answer p key_place limit g.ranking = ap (answer p key_place limit) (sym i.all) in
     elim c.match-pop.branch [
       | in-Some+then-is_full w ↦
           let count : length (answer p key_place limit i.before) ≡ w.len.result = sym (ap length found) ∙ (let l = w.len.ensures in omega arith) in
-          let full : is_full limit (length (answer p key_place limit i.before)) ≡ true = ap (is_full limit) count ∙ sym w.is_full.ensures ∙ w.if-is_full.true in
+          let full : is_full limit (length (answer p key_place limit i.before)) ≡ true = ap (is_full limit) count ∙ ap (λ l. is_full l w.len.result) (sym w.limit.ensures) ∙ sym w.is_full.ensures ∙ w.if-is_full.true in
           found ∙ sym (answer_full p key_place limit i.before i.rest full) ∙ whole
       | in_default w ↦
           let empty : length (heap_items c.loop-key.keys) ≡ 0 = search rules in

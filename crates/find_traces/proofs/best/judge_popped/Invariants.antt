@@ -13,7 +13,7 @@ invariant-loop-key g l = record {
   all : g.ranking ≡ before ++ rest;
   heap : IsHeap key_cmp (heap_items l.keys);
   leaves : Leaves best_cmp rest (heap_items l.keys);
-  found : l.places.items ≡ answer (key_judged l.query (g.T.Searched.traces l.traces)) key_place l.query.limit before;
+  found : l.places.items ≡ answer (key_judged (g.T.Searched.query l.traces) (g.T.Searched.traces l.traces)) key_place (g.T.Searched.query l.traces).limit before;
 }
 
 abbrev pub decreases-loop-key : goal.decreases-loop-key

@@ -24,5 +24,5 @@ returns g c =
     let before : c.loop-place.ids.items ≡ filter_map (id_at (g.T.Searched.traces c.args.traces.now)) (take c.loop-place.place-index c.deref-place-items.result.now) = c.loop-place.invariant in
     let end : length c.deref-place-items.result.now ≤ c.loop-place.place-index = let h = c.loop-place-test.false in omega arith in
     before ∙ ap (filter_map (id_at (g.T.Searched.traces c.args.traces.now))) (take_all c.loop-place.place-index c.deref-place-items.result.now end)
-    ∙ ids_found c.args.query.now (g.T.Searched.traces c.args.traces.now) c.deref-place-items.result.now
+    ∙ ids_found (g.T.Searched.query c.args.traces.now) (g.T.Searched.traces c.args.traces.now) c.deref-place-items.result.now
     (ap (map (trace_at (g.T.Searched.traces c.args.traces.now))) c.deref-place-items.ensures.value ∙ c.in_ok-places.ensures.traces)

@@ -11,7 +11,7 @@ use Rattle.find_traces.proofs.matched.find_all.Goals as goal
 
 pub returns : goal.returns
 returns g c =
-    let q : Find = c.args.query.now in
+    let q : Find = (g.T.Searched.query c.args.traces.now) in
     let ts : List (List Placed) = g.T.Searched.traces c.args.traces.now in
     let moved : IsPermutation (map hit_of (hits q ts)) c.sort_unstable.new.self.items = subst (λ (l : List Hit). IsPermutation l c.sort_unstable.new.self.items) c.in_ok-found.ensures c.sort_unstable.ensures.permutation in
     let sorted : c.deref.result.now ≡ map hit_of (ranked start_of (hits q ts)) = c.deref.ensures.value ∙ sorted_hits q ts c.sort_unstable.new.self.items moved c.sort_unstable.ensures.sorted in

@@ -1,6 +1,9 @@
 use Rattle.std.proofs.Common.{◌≡◌, ◌++◌}
-use Rattle.journal_traces.specs.Standing.{spans_named}
+use Rattle.journal_traces.specs.Standing.{spans_named, AreAt}
 use Rattle.journal_traces.proofs.gathering.gather.Given as goal
 
 abbrev pub invariant-loop-spot : goal.invariant-loop-spot
-invariant-loop-spot l = l.spans.items ++ spans_named l.journal.held.entries l.spot-iterator ≡ spans_named l.journal.held.entries l.fn.spots
+invariant-loop-spot l = record {
+  spans : l.spans.items ++ spans_named l.journal.held.entries l.spot-iterator ≡ spans_named l.journal.held.entries l.fn.spots;
+  places : AreAt l.journal.held.entries l.spans.items l.places.items;
+}

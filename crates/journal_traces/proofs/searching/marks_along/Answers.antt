@@ -14,7 +14,7 @@ loop-place-init c = (
 
 pub mark_entry-requires-clause-size : goal.mark_entry-requires-clause-size
 mark_entry-requires-clause-size c =
-    ap length (c.deref_mut.ensures.value ∙ c.loop-place.invariant.2) ∙ length-map c.args.ring.now.ids (reaches (met_along c.args.query.now c.args.journal.now.held.entries c.loop-place.invariant.0))
+    ap length (c.deref_mut.ensures.value ∙ c.loop-place.invariant.2) ∙ length-map c.args.ring.now.ids (reaches (met_along c.args.wanted.now c.args.journal.now.held.entries c.loop-place.invariant.0))
 
 pub loop-place-preserved : goal.loop-place-preserved
 loop-place-preserved c =
@@ -26,12 +26,12 @@ loop-place-preserved c =
       done ++ place ∷ [],
       c.loop-place.invariant.1 ∙ ap (λ (r : List ℕ). done ++ r) c.in-Some.ensures.steps ∙ sym (append_assoc done (place ∷ []) c.next.new.self),
       take-append-le c.loop-place.marks.len marks _ (omega (arith, long)) ∙ take_all c.loop-place.marks.len marks (omega (arith, long))
-          ∙ c.mark_entry.ensures (reaches (met_along c.args.query.now h done)) (c.deref_mut.ensures.value ∙ c.loop-place.invariant.2)
-          ∙ marked_place c.args.query.now h c.args.ring.now.ids done place,
+          ∙ c.in_ok-mark_entry.ensures (reaches (met_along c.args.wanted.now h done)) (c.deref_mut.ensures.value ∙ c.loop-place.invariant.2)
+          ∙ marked_place c.args.wanted.now h c.args.ring.now.ids done place,
     )
 
 pub returns : goal.returns
 returns c =
     let done = c.loop-place.invariant.0 in
     let all : c.args.places ≡ done = c.loop-place.invariant.1 ∙ ap (λ (r : List ℕ). done ++ r) c.in-None.ensures.steps.0 ∙ append-nil done in
-    c.loop-place.invariant.2 ∙ ap (λ ps. map (reaches (met_along c.args.query.now c.args.journal.now.held.entries ps)) c.args.ring.now.ids) (sym all)
+    c.loop-place.invariant.2 ∙ ap (λ ps. map (reaches (met_along c.args.wanted.now c.args.journal.now.held.entries ps)) c.args.ring.now.ids) (sym all)

@@ -3,4 +3,4 @@ use Rattle.journal_traces.specs.Picked.{reaches, met_along}
 use Rattle.journal_traces.proofs.searching.marks_along.Given as goal
 
 abbrev pub invariant-loop-place : goal.invariant-loop-place
-invariant-loop-place l = (done : List ℕ) × (l.fn.places ≡ done ++ l.place-iterator) × (l.marks.items ≡ map (reaches (met_along l.query l.journal.held.entries done)) l.ring.ids)
+invariant-loop-place l = (done : List ℕ) × (l.fn.places ≡ done ++ l.place-iterator) × (l.marks.items ≡ map (reaches (met_along l.wanted l.journal.held.entries done)) l.ring.ids)

@@ -8,9 +8,9 @@ use Rattle.journal_traces.proofs.standing.is_found.Goals as goal
 pub loop-spot-preserved : goal.loop-spot-preserved
 loop-spot-preserved c =
     let h = c.args.journal.now.held.entries in
-    let own = matches c.args.query.now in
-    any_later h own c.in-Some.spot c.next.new.self (sym c.is_match_at.ensures ∙ c.if-is_match_at.false)
+    let own = matches c.args.wanted.now in
+    any_later h own c.in-Some.spot c.next.new.self (sym c.in_ok-is_match.ensures ∙ c.if-is_match.false)
     ∙ ap (λ l. list_any own (spans_named h l)) (sym c.in-Some.ensures.steps) ∙ c.loop-spot.invariant
 
 pub returns : goal.returns
-returns c = any_end c.args.journal.now.held.entries (matches c.args.query.now) c.loop-spot.spot-iterator c.in-None.ensures.steps.0 ∙ c.loop-spot.invariant
+returns c = any_end c.args.journal.now.held.entries (matches c.args.wanted.now) c.loop-spot.spot-iterator c.in-None.ensures.steps.0 ∙ c.loop-spot.invariant

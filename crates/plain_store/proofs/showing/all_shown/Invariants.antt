@@ -1,9 +1,6 @@
-use Rattle.std.proofs.Common.{◌≡◌}
-use Rattle.trace_model.specs.Showing.{shown, ring}
+use Rattle.std.proofs.Common.{map}
+use Rattle.plain_store.specs.Happened.{event_of, Shows}
 use Rattle.plain_store.proofs.showing.all_shown.Given as goal
 
-abbrev pub invariant-loop-placed : goal.invariant-loop-placed
-invariant-loop-placed l = record {
-  kept : l.kept.items ≡ shown l.limit l.yielded;
-  ring : l.ring.items ≡ ring l.limit l.yielded;
-}
+abbrev pub invariant-loop-happening : goal.invariant-loop-happening
+invariant-loop-happening l = Shows l.limit (map event_of l.yielded) l.showing

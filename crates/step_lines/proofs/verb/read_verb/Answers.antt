@@ -3,6 +3,11 @@ use Rattle.std.proofs.lemmas.Slice.Eq.{text_from_reads}
 use Rattle.step_lines.specs.Steps.{verb_in}
 use Rattle.step_lines.proofs.verb.read_verb.Goals as goal
 
+pub returns-in-limit : goal.returns-in-limit
+returns-in-limit c =
+    ap verb_in (sym (text_from_reads c.args.word.now (codes "limit") (omega arith)
+    (omega arith, (omega arith, (omega arith, (omega arith, (omega arith, tt)))))))
+
 pub returns-in-take : goal.returns-in-take
 returns-in-take c =
     ap verb_in (sym (text_from_reads c.args.word.now (codes "take") (omega arith)

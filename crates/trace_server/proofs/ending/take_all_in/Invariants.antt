@@ -1,7 +1,7 @@
 use Rattle.std.proofs.Common.{◌≡◌, length, map}
 use Rattle.std.specs.Arc.{arc_value}
 use Rattle.intake.specs.Books.{Balances}
-use Rattle.trace_server.specs.Staffing.{AreOpen, Moves}
+use Rattle.trace_server.specs.WorkerSeats.{AreOpen, Moves}
 use Rattle.trace_server.proofs.Workers.{SomeTakenIn}
 use Rattle.trace_server.proofs.ending.take_all_in.Given as goal
 

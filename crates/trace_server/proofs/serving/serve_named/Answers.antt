@@ -9,9 +9,9 @@ returns-in-Err g c = inr (inl (unheard _ _ (g.W.Output.has_failed c.say_listenin
 
 pub returns : goal.returns
 returns g c =
-    let failed = g.W.Output.has_failed c.serve_house.new.output in
+    let failed = g.W.Output.has_failed c.serve_store.new.output in
     let workers = c.args.options.now.workers in
     let old = g.W.Output.contents c.args.output.now in
-    let new = g.W.Output.contents c.serve_house.new.output in
-    subst (λ (l : Limits). Serves l workers old new failed c.serve_house.result) (sym c.requires.limits)
-    (reported g.N.StoreName.limits workers old _ new failed _ c.serve_house.result c.in_default-say_listening.ensures.0 c.serve_house.ensures)
+    let new = g.W.Output.contents c.serve_store.new.output in
+    subst (λ (l : Limits). Serves l workers old new failed c.serve_store.result) (sym c.requires.limits)
+    (reported g.N.StoreName.limits workers old _ new failed _ c.serve_store.result c.in_default-say_listening.ensures.0 c.serve_store.ensures)

@@ -4,19 +4,19 @@ use Rattle.batch_codec.specs.Decoding.{wire}
 use Rattle.batch_codec.specs.BatchReading.{take_batch}
 use Rattle.batch_codec.specs.SpanReading.{span_at}
 use Rattle.batch_feeder.specs.declared.batch.BatchHeld.TheVariants.{Spans}
-use Rattle.batch_feeder.proofs.GoingAgain.{fresh-whole, fresh-waits, fresh-faults}
+use Rattle.batch_feeder.proofs.ContinuingAgain.{fresh-whole, fresh-waits, fresh-faults}
 use Rattle.batch_feeder.proofs.batch.BatchParts.enter_spans.Goals as goal
 use Rattle.batch_feeder.proofs.batch.BatchParts.enter_spans.Goals.{in-Err, in-Ok-true, in-Ok-false}
 
-pub returns-clause-goes : goal.returns-clause-goes
+pub returns-clause-continues : goal.returns-clause-continues
 unfolding take_batch span_at
-returns-clause-goes c =
+returns-clause-continues c =
     rw (sym c.self.view_is) (elim c.match-set.branch [
-      | in-Err b ↦ rw b.result-is (fresh-faults (list_of wire 12 span_at) _ c.new-part.ensures.fresh _ _ _ b.in-Err.ensures.goes)
+      | in-Err b ↦ rw b.result-is (fresh-faults (list_of wire 12 span_at) _ c.new-part.ensures.fresh _ _ _ b.in-Err.ensures.continues)
       | in-Ok-true b ↦
-          let h = rw b.in-Ok-true.field-0-test at b.in-Ok-true.ensures.goes in
+          let h = rw b.in-Ok-true.field-0-test at b.in-Ok-true.ensures.continues in
           rw (b.result-is, h.1) (fresh-whole (list_of wire 12 span_at) _ c.new-part.ensures.fresh _ _ _ _ h.2)
       | in-Ok-false b ↦
-          let h = rw b.in-Ok-false.field-0-test at b.in-Ok-false.ensures.goes in
+          let h = rw b.in-Ok-false.field-0-test at b.in-Ok-false.ensures.continues in
           rw b.result-is (Spans c.set.new.self, b.next-is ∙ b.hold_next.ensures, fresh-waits (list_of wire 12 span_at) _ c.new-part.ensures.fresh _ _ _ _ h.0)
     ])

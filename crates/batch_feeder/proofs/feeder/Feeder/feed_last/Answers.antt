@@ -9,4 +9,4 @@ pub returns-then-more-gt0 : goal.returns-then-more-gt0
 returns-then-more-gt0 c = record { feeds = byte-begun _ _ _ c.args.self.now.holds _ _ _ _ (c.still_wanted-more.ensures.begun c.if-more-gt0.true) c.if-more-gt0.true c.as_slice.ensures.value c.still_wanted-more.ensures.quiet c.in-Ok.ensures.items }
 
 pub returns-else-more-gt0 : goal.returns-else-more-gt0
-returns-else-more-gt0 c = record { feeds = feeds-last _ _ _ _ _ _ _ (c.as_slice-in-Ok.ensures.value ∙ c.in-Ok.ensures.items) c.clear.ensures.items c.go_over-result.ensures.feeds }
+returns-else-more-gt0 c = record { feeds = feeds-last _ _ _ _ _ _ _ (c.as_slice-in-Ok.ensures.value ∙ c.in-Ok.ensures.items) c.clear.ensures.items c.advance_or_refuse-result.ensures.feeds }

@@ -3,12 +3,12 @@ use Rattle.std.proofs.lemmas.Int.{to_z-of_z}
 use mir.Val.{SFits}
 use Rattle.batch_feeder.proofs.process.ProcessPartsFields.enter.Goals as goal
 
-pub returns-in_default-clause-goes : goal.returns-in_default-clause-goes
-returns-in_default-clause-goes c =
+pub returns-in_default-clause-continues : goal.returns-in_default-clause-continues
+returns-in_default-clause-continues c =
     let f : SFits w16 c.args.id = search rules in
-    simp to_z-of_z at c.enter_slowly.ensures.goes
+    simp to_z-of_z at c.enter_slowly.ensures.continues
 
-pub returns-in-15-eq2-clause-goes : goal.returns-in-15-eq2-clause-goes
-returns-in-15-eq2-clause-goes c =
+pub returns-in-15-eq2-clause-continues : goal.returns-in-15-eq2-clause-continues
+returns-in-15-eq2-clause-continues c =
     let i : c.args.id ≡ pos 2 = rw c.in-15-eq2.is-1 at (sym (to_z-of_z w16 c.args.id c.ranges.id)) in
-    rw (c.in-15-eq2.is-0, i) c.enter_tags.ensures.goes
+    rw (c.in-15-eq2.is-0, i) c.enter_tags.ensures.continues

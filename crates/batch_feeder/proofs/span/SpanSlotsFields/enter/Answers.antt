@@ -3,22 +3,22 @@ use Rattle.std.proofs.lemmas.Int.{to_z-of_z}
 use mir.Val.{SFits}
 use Rattle.batch_feeder.proofs.span.SpanSlotsFields.enter.Goals as goal
 
-pub returns-in_default-clause-goes : goal.returns-in_default-clause-goes
-returns-in_default-clause-goes c =
+pub returns-in_default-clause-continues : goal.returns-in_default-clause-continues
+returns-in_default-clause-continues c =
     let f : SFits w16 c.args.id = search rules in
-    simp to_z-of_z at c.enter_slowly.ensures.goes
+    simp to_z-of_z at c.enter_slowly.ensures.continues
 
-pub returns-in-15-eq6-clause-goes : goal.returns-in-15-eq6-clause-goes
-returns-in-15-eq6-clause-goes c =
+pub returns-in-15-eq6-clause-continues : goal.returns-in-15-eq6-clause-continues
+returns-in-15-eq6-clause-continues c =
     let i : c.args.id ≡ pos 6 = rw c.in-15-eq6.is-1 at (sym (to_z-of_z w16 c.args.id c.ranges.id)) in
-    rw (c.in-15-eq6.is-0, i) c.enter_references.ensures.goes
+    rw (c.in-15-eq6.is-0, i) c.enter_references.ensures.continues
 
-pub returns-in-15-eq10-clause-goes : goal.returns-in-15-eq10-clause-goes
-returns-in-15-eq10-clause-goes c =
+pub returns-in-15-eq10-clause-continues : goal.returns-in-15-eq10-clause-continues
+returns-in-15-eq10-clause-continues c =
     let i : c.args.id ≡ pos 10 = rw c.in-15-eq10.is-1 at (sym (to_z-of_z w16 c.args.id c.ranges.id)) in
-    rw (c.in-15-eq10.is-0, i) c.enter_tags.ensures.goes
+    rw (c.in-15-eq10.is-0, i) c.enter_tags.ensures.continues
 
-pub returns-in-15-eq11-clause-goes : goal.returns-in-15-eq11-clause-goes
-returns-in-15-eq11-clause-goes c =
+pub returns-in-15-eq11-clause-continues : goal.returns-in-15-eq11-clause-continues
+returns-in-15-eq11-clause-continues c =
     let i : c.args.id ≡ pos 11 = rw c.in-15-eq11.is-1 at (sym (to_z-of_z w16 c.args.id c.ranges.id)) in
-    rw (c.in-15-eq11.is-0, i) c.enter_logs.ensures.goes
+    rw (c.in-15-eq11.is-0, i) c.enter_logs.ensures.continues

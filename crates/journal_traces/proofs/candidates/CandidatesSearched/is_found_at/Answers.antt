@@ -1,9 +1,18 @@
-use Rattle.std.proofs.Common.{◌∙◌, ap}
+use Rattle.std.proofs.Common.{◌≡◌, ◌∙◌, ap}
 use Rattle.std.specs.List.{list_any}
+use Rattle.std.proofs.lemmas.Result.{IfOk-weaker}
 use Rattle.trace_model.specs.Searching.{matches}
+use Rattle.find_traces.specs.Places.{trace_at}
+use Rattle.journal_traces.specs.Looked.{traces_of}
 use Rattle.journal_traces.specs.Standing.{spans_named}
 use Rattle.journal_traces.proofs.Spots.{trace_there}
 use Rattle.journal_traces.proofs.candidates.CandidatesSearched.is_found_at.Goals as goal
 
 pub returns-in-Some : goal.returns-in-Some
-returns-in-Some c = c.is_found.ensures ∙ ap (list_any (matches c.args.query.now)) (ap (spans_named c.args.self.now.journal.now.held.entries) c.again.ensures ∙ trace_there c.args.self.now.journal.now.held.entries c.args.self.now.spots.now c.args.place c.get.result c.in-Some.spots c.get.ensures.lookup c.in-Some.is)
+returns-in-Some c =
+    let traces = c.args.self.now in
+    let h = traces.journal.now.held.entries in
+    let q = traces.wanted.now in
+    IfOk-weaker c.is_found.result (λ b. b ≡ list_any (matches q) (spans_named h c.again.result)) (λ b. b ≡ list_any (matches q) (trace_at (traces_of traces) c.args.place))
+    (λ b e. e ∙ ap (list_any (matches q)) (ap (spans_named h) c.again.ensures ∙ trace_there h traces.spots.now c.args.place c.get.result c.in-Some.spots c.get.ensures.lookup c.in-Some.is))
+    c.is_found.ensures

@@ -1,7 +1,7 @@
-use Rattle.std.proofs.Common.{◌≡◌, ◌≤◌, ◌∙◌, List, ℕ, [], length, refl, ap, sym, subst, arith}
-use Rattle.service_index.specs.Indexes.{owners, IsLinked}
+use Rattle.std.proofs.Common.{◌≡◌, List, ℕ, [], map, length, refl, ap, sym, subst, arith}
+use Rattle.service_index.specs.Indexes.{IsLinked}
 use Rattle.service_index.proofs.Linking.{linked_empty}
-use Rattle.service_places.specs.Reported.{names_of}
+use Rattle.service_places.specs.Reported.{service_at, service_labels, AreGroups}
 use Rattle.service_places.proofs.places.ServicePlaces.with_room.Goals as goal
 
 pub returns-clause-kept : goal.returns-clause-kept
@@ -12,9 +12,11 @@ returns-clause-kept c =
       fits = omega (arith, c.ranges.batches.fits);
       room = c.in_ok-services.ensures.room;
       few = omega arith;
-      named = c.in_ok-services.ensures.leads (names_of []);
+      named = c.in_ok-services.ensures.leads (service_labels []);
       linked =
-          subst (λ (ns : List ℕ). IsLinked [] (owners (names_of []) ns) c.in_ok-newest.newest.items c.in_ok-earlier.earlier.items) (sym numbers)
+          subst (λ (ns : List ℕ). IsLinked [] (map (service_at []) ns) c.in_ok-newest.newest.items c.in_ok-earlier.earlier.items) (sym numbers)
           (subst (λ (x : List ℕ). IsLinked [] [] x c.in_ok-earlier.earlier.items) (sym c.in_ok-newest.ensures.items)
           (subst (λ (x : List ℕ). IsLinked [] [] [] x) (sym c.in_ok-earlier.ensures.items) linked_empty));
+      first = λ r below. absurd (omega arith);
+      grouped = subst (AreGroups []) (sym c.in_ok-groups.ensures.items) (record { as_many = refl; each = λ n below. absurd (omega arith) });
     }

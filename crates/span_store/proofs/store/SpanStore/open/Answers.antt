@@ -11,9 +11,8 @@ invariant_of-result c =
     let newest = c.in_ok-with_room.field-0 in
     let spots = c.in_ok-with_room-2.field-0 in
     let few : length newest.seen ≤ span_count [] = search rules in
-    let follows : Follows newest.limit (located []) newest.ids (spots_of spots) = search rules in
+    let follows : Follows c.args.limits.traces (located []) newest (spots_of spots) = search rules in
     subst (λ (h : Held). IsKept h newest spots c.in_ok-with_room-3.field-0 c.in_ok-with_room-4.field-0) (sym c.in_ok-new.ensures) (record {
-      limit = c.in_ok-with_room.ensures.limit;
       room = c.in_ok-with_room.ensures.room;
       few = few;
       spots_room = c.in_ok-with_room-2.ensures.room;

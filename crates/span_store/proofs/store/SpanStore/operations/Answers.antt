@@ -1,10 +1,12 @@
-use Rattle.std.proofs.Common.{List, ◌≡◌, ◌∙◌, ap, subst}
+use Rattle.std.proofs.Common.{List, ◌≡◌, ◌∙◌, ap, sym, subst}
 use Rattle.trace_model.specs.declared.entry.Entry.{Entry}
 use Rattle.trace_model.specs.Held.{Held}
 use Rattle.trace_model.specs.declared.query.Query.TheVariants as ask
 use Rattle.trace_model.specs.declared.answer.Answer.TheVariants as say
 use Rattle.trace_model.specs.Answers.{answer}
-use Rattle.trace_model.specs.Histories.{arrivals}
+use Rattle.trace_model.specs.Events.{without_limits}
+use Rattle.trace_model.specs.Histories.{arrivals, events}
+use Rattle.trace_model.proofs.Arriving.{came_of}
 use Rattle.trace_model.specs.Names.{operations}
 use Rattle.span_store.proofs.store.SpanStore.operations.Goals as goal
 
@@ -13,5 +15,5 @@ returns c =
     let held = c.self.inside.journal.held in
     let service = c.args.service.now in
     let kind = c.args.kind.now in
-    let all : c.from_vec.result ≡ operations service kind (arrivals held.entries) = c.from_vec.ensures ∙ c.in_ok-found.ensures ∙ ap (λ (h : List Entry). operations service kind (arrivals h)) c.entries.ensures in
+    let all : c.from_vec.result ≡ operations service kind (without_limits (events held.entries)) = c.from_vec.ensures ∙ c.in_ok-found.ensures ∙ ap (λ (h : List Entry). operations service kind (arrivals h)) c.entries.ensures ∙ ap (λ ps. operations service kind ps) (sym (came_of held.entries)) in
     subst (λ (v : Held). say.Operations c.from_vec.result ≡ answer v.limits v.entries (ask.Operations service kind)) c.self.view_is (ap say.Operations all)

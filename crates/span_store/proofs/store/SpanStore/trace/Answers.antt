@@ -3,9 +3,11 @@ use Rattle.std.specs.Prelude.{option_map}
 use Rattle.trace_model.specs.Held.{Held}
 use Rattle.trace_model.specs.declared.answer.Answer.TheVariants.{Trace}
 use Rattle.trace_model.specs.Answers.{shown_as}
-use Rattle.trace_model.specs.Histories.{arrivals}
+use Rattle.trace_model.specs.Histories.{events}
 use Rattle.trace_model.specs.Showing.{spans_of_trace, trace_found}
 use Rattle.trace_assembly.specs.Rows.{spots_of}
+use Rattle.trace_adjust.specs.Hosts.{ShareProcesses}
+use Rattle.span_store.proofs.Sharing.{share_processes}
 use Rattle.span_store.proofs.Following.{spots_name, none_found, some_found}
 use Rattle.span_store.proofs.store.SpanStore.trace.Goals as goal
 
@@ -14,16 +16,21 @@ returns-then-is_empty c =
     let held = c.self.inside.journal.held in
     let spots = c.spots-spots.result in
     let none : length spots ≡ 0 = search rules in
-    let named = spots_name c.self.inside.ring.limit held.limits.traces held.entries c.self.inside.ring.ids (spots_of c.self.inside.assembly) c.args.id spots c.self.invariant.follows c.self.invariant.limit c.spots-spots.ensures in
-    subst (λ (v : Held). Trace None ≡ Trace (option_map (shown_as v.limits c.args.raw) (trace_found v.limits.traces (arrivals v.entries) c.args.id))) c.self.view_is
-    (ap Trace (none_found (shown_as held.limits c.args.raw) held.entries spots (spans_of_trace held.limits.traces (arrivals held.entries) c.args.id) named none))
+    let named = spots_name held.limits.traces held.entries c.self.inside.ring (spots_of c.self.inside.assembly) c.args.id spots c.self.invariant.follows c.spots-spots.ensures in
+    subst (λ (v : Held). Trace None ≡ Trace (option_map (shown_as v.limits c.args.raw) (trace_found v.limits.traces (events v.entries) c.args.id))) c.self.view_is
+    (ap Trace (none_found (shown_as held.limits c.args.raw) held.entries spots (spans_of_trace held.limits.traces (events held.entries) c.args.id) named none))
 
 pub returns : goal.returns
 returns c =
     let held = c.self.inside.journal.held in
     let spots = c.spots-spots.result in
     let some : 0 < length spots = search rules in
-    let named = spots_name c.self.inside.ring.limit held.limits.traces held.entries c.self.inside.ring.ids (spots_of c.self.inside.assembly) c.args.id spots c.self.invariant.follows c.self.invariant.limit c.spots-spots.ensures in
-    let shown : c.in_ok-shown.shown ≡ shown_as held.limits c.args.raw c.in_ok-spans.spans.items = c.in_ok-shown.ensures ∙ ap (λ l. shown_as l c.args.raw c.in_ok-spans.spans.items) (c.limits.ensures ∙ ap (λ (v : Held). v.limits) (sym c.self.view_is)) in
-    subst (λ (v : Held). Trace (Some c.in_ok-shown.shown) ≡ Trace (option_map (shown_as v.limits c.args.raw) (trace_found v.limits.traces (arrivals v.entries) c.args.id))) c.self.view_is
-    (ap Trace (some_found (shown_as held.limits c.args.raw) held.entries spots (spans_of_trace held.limits.traces (arrivals held.entries) c.args.id) c.in_ok-spans.spans.items c.in_ok-shown.shown named c.in_ok-spans.ensures some shown))
+    let named = spots_name held.limits.traces held.entries c.self.inside.ring (spots_of c.self.inside.assembly) c.args.id spots c.self.invariant.follows c.spots-spots.ensures in
+    let shown : c.in_ok-shown.shown ≡ shown_as held.limits c.args.raw c.in_ok-gathered.gathered.spans.items = c.in_ok-shown.ensures ∙ ap (λ l. shown_as l c.args.raw c.in_ok-gathered.gathered.spans.items) (c.limits.ensures ∙ ap (λ (v : Held). v.limits) (sym c.self.view_is)) in
+    subst (λ (v : Held). Trace (Some c.in_ok-shown.shown) ≡ Trace (option_map (shown_as v.limits c.args.raw) (trace_found v.limits.traces (events v.entries) c.args.id))) c.self.view_is
+    (ap Trace (some_found (shown_as held.limits c.args.raw) held.entries spots (spans_of_trace held.limits.traces (events held.entries) c.args.id) c.in_ok-gathered.gathered.spans.items c.in_ok-shown.shown named c.in_ok-gathered.ensures.spans some shown))
+
+pub shown_as-requires : goal.shown_as-requires
+shown_as-requires c =
+    let gathered = c.in_ok-gathered.gathered in
+    subst (ShareProcesses gathered.spans.items) (sym c.deref.ensures.value) (share_processes c.self.inside.journal.held.entries gathered.spans.items gathered.places.items c.in_ok-gathered.ensures.places)

@@ -3,7 +3,7 @@ use Rattle.std.proofs.lemmas.Int.{to_z-of_z}
 use Rattle.std.specs.List.{list_any}
 use Rattle.jaeger_model.specs.declared.ids.TraceId.{TraceId}
 use Rattle.trace_model.specs.Held.{Held}
-use Rattle.trace_model.specs.Histories.{arrivals}
+use Rattle.trace_model.specs.Histories.{events}
 use Rattle.trace_model.specs.Linking.{in_window, links}
 use Rattle.trace_model.specs.Searching.{traces}
 use Rattle.trace_assembly.specs.Rows.{spots_of}
@@ -26,8 +26,8 @@ returns c =
     let stands = trace_stands h.limits.traces h.entries spots (kept_spots h was.ring was.assembly was.names was.reported c.self.invariant) in
     let ids : c.deref.result.now ≡ was.ring.ids = c.deref.ensures.value ∙ c.in_ok-ids.ensures in
     let seen : given_traces c.in_ok-traces.traces.items ≡ filter (list_any (in_window end_ms lookback_ms)) (map (trace_named h.entries spots) c.deref.result.now) = rw (e, l) at c.in_ok-traces.ensures in
-    let all : links end_ms lookback_ms (given_traces c.in_ok-traces.traces.items) ≡ links end_ms lookback_ms (traces h.limits.traces (arrivals h.entries)) =
+    let all : links end_ms lookback_ms (given_traces c.in_ok-traces.traces.items) ≡ links end_ms lookback_ms (traces h.limits.traces (events h.entries)) =
     ap (links end_ms lookback_ms) seen ∙ links_within end_ms lookback_ms (map (trace_named h.entries spots) c.deref.result.now)
     ∙ ap (λ (r : List TraceId). links end_ms lookback_ms (map (trace_named h.entries spots) r)) ids
     ∙ ap (links end_ms lookback_ms) ((λ i. map (λ t. stands t i) was.ring.ids) ∙ kept_traces h was.ring was.assembly was.names was.reported c.self.invariant) in
-    subst (λ (v : Held). links end_ms lookback_ms (given_traces c.in_ok-traces.traces.items) ≡ links end_ms lookback_ms (traces v.limits.traces (arrivals v.entries))) c.self.view_is all
+    subst (λ (v : Held). links end_ms lookback_ms (given_traces c.in_ok-traces.traces.items) ≡ links end_ms lookback_ms (traces v.limits.traces (events v.entries))) c.self.view_is all

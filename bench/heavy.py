@@ -1,0 +1,208 @@
+#!/usr/bin/env python3
+"""What bodies cost in which two parts could multiply: process tags and spans, a long text and the spans that share
+it, tags and asked pairs, and more.
+
+Each shape is a session of the built program, `jaeger_one pipe`, once with half of each part and once with the whole.
+Where a shape costs what its bytes cost, the whole takes twice the seconds and twice the memory of the half; where two
+parts multiply it takes four times. Seconds are processor time of the program, the least of some runs, less those of a
+session in which nothing is sent; memory is the program's greatest resident size, less that of the same (which is about
+ten megabytes, so a shape that takes less shows none).
+
+    bench/heavy.py [--bin PATH] [--runs 3] [SHAPE..]
+"""
+import argparse
+import json
+import os
+import struct
+import subprocess
+import tempfile
+
+from decode import ROOT, field, text
+from session import get, post
+
+WORDS = ["pipe", "--max-skew", "1000", "--batches", "100000", "--spans", "1000000"]
+TRACE = 7
+START = 1_600_000_000_000_000
+
+
+def items(code, number, of):
+    return field(15, number) + bytes([code]) + struct.pack(">i", len(of)) + b"".join(of)
+
+
+def tag(key, value):
+    return field(11, 1) + text(key) + field(8, 2) + struct.pack(">i", 0) + field(11, 3) + text(value) + b"\0"
+
+
+def tags(count, key="k"):
+    return [tag(f"{key}{n}", "") for n in range(count)]
+
+
+def reference(span):
+    return (field(8, 1) + struct.pack(">i", 0) + field(10, 2) + struct.pack(">q", TRACE) + field(10, 3)
+            + struct.pack(">q", 0) + field(10, 4) + struct.pack(">q", span) + b"\0")
+
+
+def span(number, parent=0, trace=TRACE, operation="op", more=b""):
+    """A span; `more` are its fields behind the operation: references (6), tags (10), logs (11)."""
+    out = b"".join(field(10, k) + struct.pack(">q", n) for k, n in [(1, trace), (2, 0), (3, number), (4, parent)])
+    out += field(11, 5) + text(operation) + field(8, 7) + struct.pack(">i", 1)
+    out += field(10, 8) + struct.pack(">q", START + number) + field(10, 9) + struct.pack(">q", 50)
+    return out + more + b"\0"
+
+
+def batch(service, process_tags, spans):
+    process = field(11, 1) + text(service) + (items(12, 2, process_tags) if process_tags else b"") + b"\0"
+    return field(12, 1) + process + items(12, 2, spans) + b"\0"
+
+
+def chain(count, first=1):
+    return [span(n, n - 1 if n > first else 0) for n in range(first, first + count)]
+
+
+def log(fields):
+    return field(10, 1) + struct.pack(">q", START) + items(12, 2, fields) + b"\0"
+
+
+def asked(pairs, service="a"):
+    """A search by so many tags, which no span has all of."""
+    tags = "".join(f"&tag=x{n}:y" for n in range(pairs))
+    return get(f"/api/traces?service={service}&start=1&end={1 << 60}{tags}")
+
+
+def in_chunks(body, size):
+    head = b"POST /api/traces HTTP/1.1\r\nContent-Type: application/x-thrift\r\nTransfer-Encoding: chunked\r\n\r\n"
+    parts = [body[at:at + size] for at in range(0, len(body), size)]
+    return head + b"".join(b"%x\r\n%s\r\n" % (len(part), part) for part in parts) + b"0\r\n\r\n"
+
+
+THE_TRACE = get(f"/api/traces/{TRACE:x}")
+DEPENDENCIES = get("/api/dependencies?endTs=1700000000000&lookback=1700000000000")
+
+
+def by_turns(count, name):
+    """Two batches of two services whose spans call one another."""
+    one = [span(n, n - 1) for n in range(1, count, 2)]
+    other = [span(n, n - 1) for n in range(2, count, 2)]
+    return [post(batch("a" * name, [], one)), post(batch("b" * name, [], other))]
+
+
+# Each gives the requests of a session in which the parts have n thousandths of their whole size.
+SHAPES = {
+    "process tags, spans; the trace":
+        lambda n: [post(batch("a", tags(12 * n), chain(3 * n))), THE_TRACE],
+    "a long ip, spans in a chain; the trace":
+        lambda n: [post(batch("a", [tag("ip", "1" * (120 * n))], chain(3 * n))), THE_TRACE],
+    "a span with tags, then spans, one a body":
+        lambda n: [post(batch("a", [], [span(1, more=items(12, 10, tags(24 * n)))]))]
+        + [post(batch("a", [], [s])) for s in chain(6 * n, 2)],
+    "the same in one body":
+        lambda n: [post(batch("a", [], [span(1, more=items(12, 10, tags(24 * n)))] + chain(6 * n, 2)))],
+    "a long service, spans":
+        lambda n: [post(batch("a" * (800 * n), [], chain(8 * n)))],
+    "a long service, spans of an operation each":
+        lambda n: [post(batch("a" * (800 * n), [], [span(k, operation=f"op{k}") for k in range(8 * n)]))],
+    "a long service, spans; the trace":
+        lambda n: [post(batch("a" * (400 * n), [], chain(4 * n))), THE_TRACE],
+    "two long services, calls; dependencies":
+        lambda n: by_turns(4 * n, 400 * n) + [DEPENDENCIES],
+    "process tags, spans; a search by a tag":
+        lambda n: [post(batch("a", tags(8 * n), chain(4 * n))), asked(1)],
+    "tags of a span; a search by pairs":
+        lambda n: [post(batch("a", [], [span(1, more=items(12, 10, tags(40 * n, "x")))])), asked(n * 2 // 5)],
+    "log fields of a span; a search by pairs":
+        lambda n: [post(batch("a", [], [span(1, more=items(12, 11, [log(tags(40 * n, "x"))]))])), asked(n * 2 // 5)],
+    "process tags, spans; a search by pairs":
+        lambda n: [post(batch("a", tags(8 * n, "x"), chain(4 * n))), asked(n * 2 // 5)],
+    "references of a span; the trace":
+        lambda n: [post(batch("a", [], [span(1, more=items(12, 6, [reference(k) for k in range(20 * n)]))])), THE_TRACE],
+    "spans of one id; the trace":
+        lambda n: [post(batch("a", [], [span(1, 1) for _ in range(8 * n)])), THE_TRACE],
+    "a chain, last span first; the trace":
+        lambda n: [post(batch("a", [], chain(8 * n)[::-1])), THE_TRACE],
+    "equal processes of batches; the trace":
+        lambda n: [post(batch("a", tags(n), [s])) for s in chain(n // 5)] + [THE_TRACE],
+    "a body in chunks of one byte":
+        lambda n: [in_chunks(batch("a", [], chain(4 * n)), 1)],
+    "a service each; the services":
+        lambda n: [post(batch(f"s{k}", [], [span(k)])) for k in range(4 * n)] + [get("/api/services")],
+    "an operation each; the operations":
+        lambda n: [post(batch("a", [], [span(k, operation=f"op{k}") for k in range(20 * n)])), get("/api/operations?service=a")],
+    "a trace each; a search by a tag":
+        lambda n: [post(batch("a", tags(4 * n), [span(k, trace=k + 1) for k in range(8 * n)])), asked(1)],
+}
+
+
+class Runner:
+    """Runs programs from a process of its own that holds next to nothing: a program's greatest resident size is
+    never told to be less than that of the process that started it."""
+
+    def __init__(self):
+        to_read, self.to = os.pipe()
+        self.back, to_write = os.pipe()
+        if os.fork() == 0:
+            os.close(self.to)
+            os.close(self.back)
+            serve(to_read, to_write)
+        os.close(to_read)
+        os.close(to_write)
+
+    def run(self, words, stdin, stdout):
+        """Exit status, processor seconds and the greatest resident size in kilobytes."""
+        os.write(self.to, json.dumps([words, stdin, stdout]).encode() + b"\n")
+        return json.loads(os.read(self.back, 1000))
+
+
+def serve(to_read, to_write):
+    for line in os.fdopen(to_read):
+        words, stdin, stdout = json.loads(line)
+        with open(stdin, "rb") as given, open(stdout, "wb") as got:
+            program = subprocess.Popen(words, stdin=given, stdout=got)
+        _, status, used = os.wait4(program.pid, 0)
+        program.returncode = os.waitstatus_to_exitcode(status)
+        os.write(to_write, json.dumps([program.returncode, used.ru_utime + used.ru_stime, used.ru_maxrss]).encode())
+    os._exit(0)
+
+
+def run(runner, binary, requests):
+    """Processor seconds, the greatest resident size in megabytes, and the bytes of all answers."""
+    with tempfile.TemporaryDirectory() as room:
+        stdin, stdout = f"{room}/stdin", f"{room}/stdout"
+        with open(stdin, "wb") as file:
+            file.writelines(requests)
+        status, seconds, kilobytes = runner.run([binary] + WORDS, stdin, stdout)
+        assert status == 0, status
+        with open(stdout, "rb") as file:
+            answers = file.read()
+    assert b"HTTP/1.1 4" not in answers and b"HTTP/1.1 5" not in answers, answers[:400]
+    return seconds, kilobytes / 1024, len(answers)
+
+
+def least(runner, binary, requests, runs):
+    taken = [run(runner, binary, requests) for _ in range(runs)]
+    return min(t[0] for t in taken), min(t[1] for t in taken), taken[0][2]
+
+
+def main():
+    words = argparse.ArgumentParser(description=__doc__, formatter_class=argparse.RawDescriptionHelpFormatter)
+    words.add_argument("--bin", default=os.path.join(ROOT, "crates/jaeger_one/out/jaeger_one"))
+    words.add_argument("--runs", type=int, default=3)
+    words.add_argument("shapes", nargs="*", help="words of the shapes to run; all where none is given")
+    options = words.parse_args()
+    runner = Runner()
+    rest = least(runner, options.bin, [], options.runs)
+    print(f"{'':45} {'MB in':>6} {'MB out':>7} {'seconds':>14} {'ratio':>6} {'MB of memory':>15} {'ratio':>6} {'of bytes':>8}")
+    for name, shape in SHAPES.items():
+        if options.shapes and not any(word in name for word in options.shapes):
+            continue
+        seen = []
+        for n in (500, 1000):
+            requests = shape(n)
+            seconds, peak, out = least(runner, options.bin, requests, options.runs)
+            seen.append((seconds - rest[0], peak - rest[1], sum(map(len, requests)) / 1e6, out / 1e6))
+        half, whole = seen
+        print(f"{name:45} {whole[2]:6.2f} {whole[3]:7.2f} {half[0]:6.2f}, {whole[0]:6.2f} {whole[0] / max(half[0], 1e-3):6.1f}"
+              f" {half[1]:6.0f}, {whole[1]:7.0f} {whole[1] / max(half[1], 1e-3):6.1f} {whole[1] / (whole[2] + whole[3]):8.0f}", flush=True)
+
+
+if __name__ == "__main__":
+    main()

@@ -1,0 +1,62 @@
+#!/usr/bin/env python3
+"""What a trace limit costs, by number of traces held.
+
+Each size is a run of the built program, `jaeger_one play`, on a script that puts that many traces, ten spans of
+ten traces to a batch; then the same with limits of 10 and of none in turn behind it. The first limit hides all
+traces but ten, and the others have nothing to do. Times are processor time of the program, the least of some runs.
+
+    bench/limits.py [--bin PATH] [--sizes 1000,10000,100000] [--limits 100000] [--runs 5]
+"""
+import argparse
+import os
+import random
+import tempfile
+
+from decode import ROOT, field, span, text
+from store import IN_BATCH, seconds
+
+
+def batch(rng):
+    """Ten spans, each of a trace of its own."""
+    spans = b"".join(span(rng, rng.getrandbits(62) | 1 << 62, rng.getrandbits(63) | 1, 0) for _ in range(IN_BATCH))
+    process = field(12, 1) + field(11, 1) + text("orders") + b"\0"
+    return process + field(15, 2) + b"\x0c" + IN_BATCH.to_bytes(4, "big") + spans + b"\0"
+
+
+def script(size, limits):
+    """Puts so many traces, then so many limits."""
+    rng = random.Random(1)
+    lines = []
+    for _ in range(size // IN_BATCH):
+        lines.append("put 0 " + batch(rng).hex() + "\ntake\n")
+    for before in range(limits):
+        lines.append(f"limit 0 {10 if before % 2 == 0 else 0}\ntake\n")
+    return "".join(lines) + "publish\nenter 0\nread 0 /api/services\n"
+
+
+def run(program, size, limits, runs):
+    words = [program, "play", "--batches", "1000000", "--spans", "10000000"]
+    with tempfile.NamedTemporaryFile(mode="w") as file:
+        file.write(script(size, limits))
+        file.flush()
+        return seconds(words, file.name, runs, 0)
+
+
+def main():
+    asked = argparse.ArgumentParser(description=__doc__, formatter_class=argparse.RawDescriptionHelpFormatter)
+    asked.add_argument("--bin", default=os.path.join(ROOT, "crates/jaeger_one/out/jaeger_one"))
+    asked.add_argument("--sizes", default="1000,10000,100000", help="traces held")
+    asked.add_argument("--limits", type=int, default=100_000)
+    asked.add_argument("--runs", type=int, default=5)
+    options = asked.parse_args()
+    print(f"{'traces':>8} {'seconds':>8} {'with the first limit':>21} {'with all':>9} {'us a limit':>11}")
+    for size in [int(s) for s in options.sizes.split(",")]:
+        without = run(options.bin, size, 0, options.runs)
+        one = run(options.bin, size, 1, options.runs)
+        all_of_them = run(options.bin, size, options.limits, options.runs)
+        each = (all_of_them - one) / (options.limits - 1) * 1e6
+        print(f"{size:>8} {without:>8.3f} {one:>21.3f} {all_of_them:>9.3f} {each:>11.2f}")
+
+
+if __name__ == "__main__":
+    main()

@@ -1,0 +1,497 @@
+//! A plain trace server that breaks one promise on purpose, or none: what `checks/history.py --self-test` has to tell apart.
+//! One mutex around one list of batches, threads that each serve one connection at a time. Standard library alone:
+//!
+//!     rustc --edition 2021 -O -o broken_server checks/broken_server.rs
+//!     ./broken_server serve --port 0 --workers 20 --fault lost
+//!
+//! | Fault | What it does |
+//! |---|---|
+//! | `none` | nothing |
+//! | `lost` | one batch in a thousand is acknowledged and dropped |
+//! | `twice` | one batch in a thousand is kept twice |
+//! | `half` | one batch in a thousand is kept without its last span |
+//! | `refused` | a batch with a byte behind it is refused and kept |
+//! | `reordered` | one batch in a thousand is kept behind the next one of its connection |
+//! | `stale` | now and then a look stands right in front of the batch that its own connection was acknowledged last |
+//! | `swapped` | now and then a look at a trace shows its last two batches in the other order |
+//! | `late` | some connections see a batch only when 20 others were taken behind it, however early it was acknowledged |
+//!
+//! It answers the requests that history.py makes, and of a span it shows the id alone. Options other than `--port`, `--workers`
+//! and `--fault` are taken and not looked at.
+
+#[path = "../bench/compare/batch.rs"]
+mod batch;
+
+use batch::TraceId;
+use std::collections::{BTreeMap, HashMap};
+use std::io::{self, BufRead, BufReader, Read, Write};
+use std::net::{Shutdown, TcpListener, TcpStream};
+use std::sync::atomic::{AtomicUsize, Ordering};
+use std::sync::{Arc, Mutex};
+use std::time::Duration;
+
+const BODY: u64 = 4_194_304;
+const RARELY: usize = 1000;
+const NOW_AND_THEN: usize = 50;
+const SOME_CONNECTIONS: usize = 8;
+const BEHIND: usize = 20;
+
+#[derive(Clone, Copy, PartialEq)]
+enum Fault {
+    None,
+    Lost,
+    Twice,
+    Half,
+    Refused,
+    Reordered,
+    Stale,
+    Swapped,
+    Late,
+}
+
+// The store. A look stands at a point: it shows the first so many batches.
+
+/// A span, and how many batches were kept before its own.
+struct Kept {
+    place: usize,
+    id: u64,
+}
+
+#[derive(Default)]
+struct Store {
+    taken: usize,
+    count: usize,
+    traces: HashMap<(u64, u64), Vec<Kept>>,
+    /// The operations of each service, each with the place of the first batch that had it.
+    services: BTreeMap<String, BTreeMap<String, usize>>,
+    /// The trace of each service and operation.
+    found: HashMap<(String, String), (u64, u64)>,
+}
+
+impl Store {
+    /// Keeps a batch; gives back one that has to wait for the next one of its connection.
+    fn take(&mut self, mut batch: batch::Batch, fault: Fault) -> Option<batch::Batch> {
+        self.taken += 1;
+        match fault {
+            _ if self.taken % RARELY != 0 => {}
+            Fault::Lost => return None,
+            Fault::Reordered => return Some(batch),
+            Fault::Twice => self.keep(&batch),
+            Fault::Half => drop(batch.spans.pop()),
+            _ => {}
+        }
+        self.keep(&batch);
+        None
+    }
+
+    fn keep(&mut self, batch: &batch::Batch) {
+        let place = self.count;
+        self.count += 1;
+        let service = &batch.process.service;
+        for span in &batch.spans {
+            let trace = key(span.trace);
+            self.traces.entry(trace).or_default().push(Kept { place, id: span.id });
+            self.services.entry(service.clone()).or_default().entry(span.operation.clone()).or_insert(place);
+            self.found.insert((service.clone(), span.operation.clone()), trace);
+        }
+    }
+
+    /// The ids of a trace's spans at a point.
+    fn trace(&self, trace: (u64, u64), point: usize) -> Vec<u64> {
+        let kept = self.traces.get(&trace).map_or(&[][..], Vec::as_slice);
+        kept.iter().take_while(|kept| kept.place < point).map(|kept| kept.id).collect()
+    }
+
+    fn operations(&self, service: &str, point: usize) -> Vec<&str> {
+        let names = self.services.get(service).into_iter().flatten();
+        names.filter(|(_, place)| **place < point).map(|(name, _)| name.as_str()).collect()
+    }
+
+    fn service_names(&self, point: usize) -> Vec<&str> {
+        let names = self.services.keys().map(String::as_str);
+        names.filter(|name| !self.operations(name, point).is_empty()).collect()
+    }
+}
+
+fn key(trace: TraceId) -> (u64, u64) {
+    (trace.high, trace.low)
+}
+
+/// The last two batches of two spans each change places.
+fn swap_last(ids: &mut [u64]) {
+    if let [.., a, b, c, d] = ids {
+        (*a, *b, *c, *d) = (*c, *d, *a, *b);
+    }
+}
+
+// Answers.
+
+struct Reply {
+    status: u16,
+    body: String,
+    close: bool,
+}
+
+impl Reply {
+    fn ok(items: &[String]) -> Self {
+        let (list, total) = (items.join(","), items.len());
+        let body = format!(r#"{{"data":[{list}],"errors":null,"limit":0,"offset":0,"total":{total}}}"#);
+        Reply { status: 200, body, close: false }
+    }
+
+    fn fault(status: u16, text: &str) -> Self {
+        let error = format!(r#"{{"code":{status},"msg":"{text}"}}"#);
+        let body = format!(r#"{{"data":null,"errors":[{error}],"limit":0,"offset":0,"total":0}}"#);
+        Reply { status, body, close: false }
+    }
+
+    fn last(status: u16, text: &str) -> Self {
+        Reply { close: true, ..Reply::fault(status, text) }
+    }
+
+    fn write(&self, mut output: impl Write) -> io::Result<()> {
+        let close = if self.close { "Connection: close\r\n" } else { "" };
+        let length = self.body.len();
+        write!(output, "HTTP/1.1 {} Said\r\nContent-Length: {length}\r\n{close}\r\n{}", self.status, self.body)
+    }
+}
+
+fn trace_json(trace: (u64, u64), ids: &[u64]) -> String {
+    let spans: Vec<String> = ids.iter().map(|id| format!(r#"{{"spanID":"{id:016x}"}}"#)).collect();
+    let (spans, (high, low)) = (spans.join(","), trace);
+    let name = if high == 0 { format!("{low:016x}") } else { format!("{high:016x}{low:016x}") };
+    format!(r#"{{"processes":{{}},"spans":[{spans}],"traceID":"{name}","warnings":null}}"#)
+}
+
+// Requests.
+
+struct Head {
+    method: String,
+    path: String,
+    query: String,
+    length: Option<u64>,
+    chunked: bool,
+    thrift: bool,
+    close: bool,
+}
+
+impl Head {
+    fn parameter(&self, name: &str) -> &str {
+        let mut pairs = self.query.split('&').filter_map(|pair| pair.split_once('='));
+        pairs.find(|(key, _)| *key == name).map_or("", |(_, value)| value)
+    }
+}
+
+fn bad() -> io::Error {
+    io::ErrorKind::InvalidData.into()
+}
+
+/// A line without its end; `None` where the input has ended before it.
+fn line(input: &mut impl BufRead) -> io::Result<Option<String>> {
+    let mut text = String::new();
+    if input.take(8192).read_line(&mut text)? == 0 {
+        return Ok(None);
+    }
+    text.strip_suffix("\r\n").map(|text| Some(text.to_owned())).ok_or_else(bad)
+}
+
+fn read_head(input: &mut impl BufRead) -> io::Result<Option<Head>> {
+    let Some(first) = line(input)? else {
+        return Ok(None);
+    };
+    let words: Vec<&str> = first.split(' ').collect();
+    let [method, target, version] = words[..] else {
+        return Err(bad());
+    };
+    let (path, query) = target.split_once('?').unwrap_or((target, ""));
+    let mut head = Head {
+        method: method.to_owned(),
+        path: path.to_owned(),
+        query: query.to_owned(),
+        length: None,
+        chunked: false,
+        thrift: false,
+        close: version == "HTTP/1.0",
+    };
+    loop {
+        let field = line(input)?.ok_or_else(bad)?;
+        if field.is_empty() {
+            return Ok(Some(head));
+        }
+        let (name, value) = field.split_once(':').ok_or_else(bad)?;
+        read_field(&mut head, &name.to_ascii_lowercase(), value.trim())?;
+    }
+}
+
+fn read_field(head: &mut Head, name: &str, value: &str) -> io::Result<()> {
+    match name {
+        "content-length" => head.length = Some(value.parse().map_err(|_| bad())?),
+        "transfer-encoding" => head.chunked = value == "chunked",
+        "content-type" => head.thrift = value == "application/x-thrift",
+        "connection" => head.close |= value == "close",
+        _ => {}
+    }
+    Ok(())
+}
+
+fn read_body(input: &mut impl BufRead, head: &Head) -> io::Result<Vec<u8>> {
+    let mut body = Vec::new();
+    if head.chunked {
+        while read_chunk(input, &mut body)? {}
+        while !line(input)?.ok_or_else(bad)?.is_empty() {}
+    } else {
+        read_exactly(input, head.length.unwrap_or(0), &mut body)?;
+    }
+    Ok(body)
+}
+
+/// One more chunk; says whether it had data.
+fn read_chunk(input: &mut impl BufRead, body: &mut Vec<u8>) -> io::Result<bool> {
+    let text = line(input)?.ok_or_else(bad)?;
+    let digits = text.split(';').next().unwrap_or("").trim();
+    let size = u64::from_str_radix(digits, 16).map_err(|_| bad())?;
+    if size > 0 {
+        read_exactly(input, size, body)?;
+        if line(input)? != Some(String::new()) {
+            return Err(bad());
+        }
+    }
+    Ok(size > 0)
+}
+
+fn read_exactly(input: &mut impl BufRead, size: u64, body: &mut Vec<u8>) -> io::Result<()> {
+    let wanted = body.len() as u64 + size;
+    if wanted > BODY || input.take(size).read_to_end(body)? as u64 != size {
+        return Err(bad());
+    }
+    Ok(())
+}
+
+// The server.
+
+struct Server {
+    listener: TcpListener,
+    store: Mutex<Store>,
+    fault: Fault,
+    connections: AtomicUsize,
+    looks: AtomicUsize,
+}
+
+/// What a connection was told.
+struct Session<'a> {
+    server: &'a Server,
+    /// How many batches were kept when its last batch was acknowledged.
+    acknowledged: usize,
+    /// The point of its last look.
+    seen: usize,
+    late: bool,
+    /// A batch that was acknowledged and waits for the next one.
+    waits: Option<batch::Batch>,
+}
+
+impl Session<'_> {
+    /// Where the next look stands.
+    fn point(&mut self, count: usize) -> usize {
+        let point = match self.server.fault {
+            Fault::Stale if self.acknowledged > 0 && self.server.now_and_then() => self.acknowledged - 1,
+            Fault::Late if self.late => count.saturating_sub(BEHIND).max(self.acknowledged).max(self.seen),
+            _ => count,
+        };
+        self.seen = point;
+        point
+    }
+
+    fn answer(&mut self, head: &Head, body: &[u8]) -> Reply {
+        let path: Vec<&str> = head.path.split('/').skip(1).collect();
+        match (head.method.as_str(), &path[..]) {
+            ("POST", ["api", "traces"]) => self.hand_in(head, body),
+            ("GET", ["api", "traces"]) => self.search(head),
+            ("GET", ["api", "traces", id]) => self.trace(id),
+            ("GET", ["api", "services"]) => self.names(|store, point| store.service_names(point), quoted),
+            ("GET", ["api", "services", service, "operations"]) => {
+                self.names(|store, point| store.operations(service, point), quoted)
+            }
+            ("GET", ["api", "operations"]) => {
+                self.names(|store, point| store.operations(head.parameter("service"), point), operation)
+            }
+            _ => Reply::fault(404, "no such path"),
+        }
+    }
+
+    fn hand_in(&mut self, head: &Head, body: &[u8]) -> Reply {
+        if !head.thrift {
+            return Reply::fault(415, "unsupported content type");
+        }
+        let mut store = self.server.store.lock().unwrap();
+        let Ok(batch) = batch::decode(body) else {
+            let most = &body[..body.len().saturating_sub(1)];
+            if let (Fault::Refused, Ok(batch)) = (self.server.fault, batch::decode(most)) {
+                store.keep(&batch);
+            }
+            return Reply::fault(400, "batch refused");
+        };
+        let earlier = self.waits.take();
+        self.waits = store.take(batch, self.server.fault);
+        if let Some(earlier) = earlier {
+            store.keep(&earlier);
+        }
+        self.acknowledged = store.count;
+        Reply { status: 202, body: String::new(), close: false }
+    }
+
+    fn trace(&mut self, text: &str) -> Reply {
+        let Ok(id) = u128::from_str_radix(text, 16) else {
+            return Reply::fault(400, "bad parameter: traceID");
+        };
+        let trace = ((id >> 64) as u64, id as u64);
+        let store = self.server.store.lock().unwrap();
+        let mut ids = store.trace(trace, self.point(store.count));
+        if self.server.fault == Fault::Swapped && self.server.now_and_then() {
+            swap_last(&mut ids);
+        }
+        if ids.is_empty() {
+            return Reply::fault(404, "trace not found");
+        }
+        Reply::ok(&[trace_json(trace, &ids)])
+    }
+
+    fn search(&mut self, head: &Head) -> Reply {
+        let store = self.server.store.lock().unwrap();
+        let point = self.point(store.count);
+        let (service, operation) = (head.parameter("service"), head.parameter("operation"));
+        let is_there = store.operations(service, point).contains(&operation);
+        let trace = store.found.get(&(service.to_owned(), operation.to_owned())).filter(|_| is_there);
+        let items: Vec<String> = trace.map(|trace| trace_json(*trace, &store.trace(*trace, point))).into_iter().collect();
+        Reply::ok(&items)
+    }
+
+    fn names(&mut self, ask: impl Fn(&Store, usize) -> Vec<&str>, write: fn(&str) -> String) -> Reply {
+        let store = self.server.store.lock().unwrap();
+        let point = self.point(store.count);
+        let items: Vec<String> = ask(&store, point).into_iter().map(write).collect();
+        Reply::ok(&items)
+    }
+}
+
+impl Drop for Session<'_> {
+    fn drop(&mut self) {
+        if let Some(batch) = self.waits.take() {
+            self.server.store.lock().unwrap().keep(&batch);
+        }
+    }
+}
+
+fn quoted(name: &str) -> String {
+    format!("\"{name}\"")
+}
+
+fn operation(name: &str) -> String {
+    format!(r#"{{"name":"{name}","spanKind":""}}"#)
+}
+
+impl Server {
+    fn now_and_then(&self) -> bool {
+        self.looks.fetch_add(1, Ordering::Relaxed) % NOW_AND_THEN == 0
+    }
+
+    /// Requests and responses, until the client ends or a response closes.
+    fn serve(&self, stream: &TcpStream) -> io::Result<()> {
+        stream.set_nodelay(true)?;
+        stream.set_read_timeout(Some(Duration::from_secs(10)))?;
+        let mut input = BufReader::with_capacity(65536, stream);
+        let late = self.connections.fetch_add(1, Ordering::Relaxed) % SOME_CONNECTIONS == 0;
+        let mut session = Session { server: self, acknowledged: 0, seen: 0, late, waits: None };
+        loop {
+            let reply = match self.request(&mut input) {
+                Ok(None) => return Ok(()),
+                Ok(Some((head, body))) => {
+                    let reply = session.answer(&head, &body);
+                    Reply { close: head.close || reply.close, ..reply }
+                }
+                Err(fault) if fault.kind() == io::ErrorKind::InvalidData => Reply::last(400, "bad request"),
+                Err(fault) => return Err(fault),
+            };
+            let mut text = Vec::new();
+            reply.write(&mut text)?;
+            (&mut &*stream).write_all(&text)?;
+            if reply.close {
+                return linger(stream);
+            }
+        }
+    }
+
+    fn request(&self, input: &mut impl BufRead) -> io::Result<Option<(Head, Vec<u8>)>> {
+        let Some(head) = read_head(input)? else {
+            return Ok(None);
+        };
+        let body = read_body(input, &head)?;
+        Ok(Some((head, body)))
+    }
+
+    fn work(&self) {
+        loop {
+            if let Ok((stream, _)) = self.listener.accept() {
+                let _ = self.serve(&stream);
+            }
+        }
+    }
+}
+
+/// What the client still sends is dropped for a while, so that it sees the last response and no reset.
+fn linger(mut stream: &TcpStream) -> io::Result<()> {
+    stream.shutdown(Shutdown::Write)?;
+    stream.set_read_timeout(Some(Duration::from_secs(1)))?;
+    let mut rest = [0; 65536];
+    while stream.read(&mut rest)? > 0 {}
+    Ok(())
+}
+
+fn option<'a>(words: &'a [String], name: &str) -> Option<&'a str> {
+    let place = words.iter().position(|word| word == name)?;
+    words.get(place + 1).map(String::as_str)
+}
+
+fn fault_named(name: &str) -> Fault {
+    match name {
+        "none" => Fault::None,
+        "lost" => Fault::Lost,
+        "twice" => Fault::Twice,
+        "half" => Fault::Half,
+        "refused" => Fault::Refused,
+        "reordered" => Fault::Reordered,
+        "stale" => Fault::Stale,
+        "swapped" => Fault::Swapped,
+        "late" => Fault::Late,
+        _ => {
+            eprintln!("no such fault: {name}");
+            std::process::exit(2);
+        }
+    }
+}
+
+fn main() {
+    let words: Vec<String> = std::env::args().collect();
+    let number = |name, otherwise| option(&words, name).and_then(|text| text.parse().ok()).unwrap_or(otherwise);
+    let fault = fault_named(option(&words, "--fault").unwrap_or("none"));
+    let listener = TcpListener::bind(("127.0.0.1", number("--port", 0))).unwrap_or_else(|fault| {
+        eprintln!("{fault}");
+        std::process::exit(4);
+    });
+    println!("listening {}", listener.local_addr().unwrap());
+    let server = Arc::new(Server {
+        listener,
+        store: Mutex::default(),
+        fault,
+        connections: AtomicUsize::new(0),
+        looks: AtomicUsize::new(0),
+    });
+    let workers: Vec<_> = (0..number("--workers", 4))
+        .map(|_| {
+            let server = server.clone();
+            std::thread::spawn(move || server.work())
+        })
+        .collect();
+    for worker in workers {
+        worker.join().unwrap();
+    }
+}

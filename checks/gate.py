@@ -1,0 +1,75 @@
+#!/usr/bin/env python3
+"""Prints a table of crates from a log of rt ci: gate.py LOG. With --stamp it writes the moment before each line of its input."""
+
+import re
+import sys
+import time
+
+STAMP = re.compile(r"@(\d+\.\d) ")
+BLOCK = re.compile(r"rt: (\w+)(: its tests are)? (proved|NOT PROVED)$")
+KEPT = re.compile(r"rt: (\w+) is kept:")
+BEGUN = re.compile(r"rt: (\w+): trying its must-fail edits \((\d+)\)")
+EDIT = re.compile(r"rt: must-fail (\w+)/\S+: (refused|NOT REFUSED|BAD EDIT|NOT TRIED)")
+
+
+def stamp():
+    """Copies standard input, each line after the seconds since the start."""
+    began = time.monotonic()
+    for line in sys.stdin:
+        print(f"@{time.monotonic() - began:.1f} {line}", end="", flush=True)
+
+
+def lines_of(log):
+    """Yields (minutes or None, line) of a log, with or without stamps."""
+    with open(log, encoding="utf-8", errors="replace") as file:
+        for line in file:
+            at = STAMP.match(line)
+            yield (float(at[1]) / 60 if at else None), line[at.end() if at else 0 :].rstrip("\n")
+
+
+def row(crates, name):
+    """Returns the crate's row, a new one at its first line."""
+    return crates.setdefault(name, {"proof": "", "tests": "", "begun": "", "edits": 0, "other": 0})
+
+
+def told(what, at):
+    """Returns what came of a proof, and the minute at which it ended where the log has one."""
+    return what if at is None else f"{what} {at:.1f}"
+
+
+def read(log):
+    """Returns the rows of the log by crate, and whether it has moments."""
+    crates, timed = {}, False
+    for at, line in lines_of(log):
+        timed = timed or at is not None
+        if found := BLOCK.match(line):
+            row(crates, found[1])["tests" if found[2] else "proof"] = told(found[3], at)
+        elif found := KEPT.match(line):
+            row(crates, found[1])["proof"] = told("kept", at)
+        elif found := BEGUN.match(line):
+            row(crates, found[1])["begun"] = told(found[2], at)
+        elif found := EDIT.match(line):
+            row(crates, found[1])["edits" if found[2] == "refused" else "other"] += 1
+    return crates, timed
+
+
+def main():
+    """Prints the table of the log that is named."""
+    if sys.argv[1:] == ["--stamp"]:
+        return stamp()
+    if len(sys.argv) != 2:
+        sys.exit(__doc__)
+    crates, timed = read(sys.argv[1])
+    form = "{:<18}{:<18}{:<18}{:<12}{:>8}{:>12}"
+    print(form.format("crate", "proof", "tests", "edits begun", "refused", "not refused"))
+    for name, it in crates.items():
+        print(form.format(name, it["proof"], it["tests"], it["begun"], it["edits"], it["other"]))
+    if timed:
+        print("A number behind a word is the minute of the clock at which that ended or, of edits, began.")
+    else:
+        print("The log has no times, and rt ci prints none: run 'rt ci 2>&1 | python3 checks/gate.py --stamp > LOG'.")
+    print("Minutes of a processor by crate stand in no log: 'time rt ci' has the sum.")
+
+
+if __name__ == "__main__":
+    main()

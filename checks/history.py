@@ -1,0 +1,280 @@
+#!/usr/bin/env python3
+"""`jaeger_one serve` from outside: does one growing history of batches explain every answer?
+
+    checks/history.py [--bin PATH] [--seconds 60] [--workers 20] [--strict]
+    checks/history.py --port N           drives a server that listens on 127.0.0.1 already and holds nothing
+    checks/history.py --self-test        finds each fault of checks/broken_server.rs, and none where there is none
+
+Writers and readers, each a process of its own, work over real sockets at once. A *look* is one GET and its answer, from which
+it is seen exactly which batches stood in the store at one point. Each batch puts a span into one trace for the whole run, the
+*record*, and two into a trace that 50 batches share, its *page*; a service has the batches of one writer in 20 pages, and an
+operation is one batch. So a look at a page, at the services, at the operations of a service, or a search for one batch shows
+how far the history had come, and at the end the record is the history itself, in order. Looks are kept as a length and a hash.
+
+Connections are cut in a head, in a body, before an answer and inside it; bodies are damaged (and must be refused) and sent
+again; bodies come in chunks and in pieces; requests are pipelined; some clients read slowly, or ask for the end.
+
+Judged, as docs/serve.md and docs/http-session.md promise it:
+
+  each batch        sent whole and acknowledged (202): stands in the history once. Sent again after an answer that never came:
+                    at least as often as it was acknowledged, at most as often as it was sent whole. Refused, damaged or cut
+                    before its end: never. It is whole: no look shows one of its spans without the others.
+  each look         shows a beginning of the history, as far as its question lets it be seen. So of any two looks one is a
+                    beginning of the other, and nothing is shown that was never sent.
+  each connection   its batches stand in the order in which they were handed in. No look stands in front of an earlier look of
+                    the same connection, of a batch acknowledged on it, or of a batch whose 202 had come, to whichever
+                    client, before the connection was opened.
+
+Counted and not judged, as tests show it and no page promises it: looks that begin after a 202, or after the answer of a look
+that showed more, had come on another connection while their own was open already, and that stand in front of it. `--strict`
+judges these too.
+
+It prints how many looks and acknowledgements it judged. Status 0: all holds. 1: it doesn't; the first violations are told. 2:
+it could not run, or a connection ended in a way that no client asked for. Standard library alone; `--self-test` needs rustc.
+"""
+import argparse
+import collections
+import multiprocessing
+import os
+import random
+import select
+import subprocess
+import sys
+import tempfile
+import time
+import traceback
+
+from history_clients import (RECORD, TOLD, Connection, Log, Look, OperationsLook, PageLook, Parted, Reader, ServicesLook,
+                             Violation, Writer, run_client, service_of)
+from history_judge import Judge
+
+ROOT = os.path.dirname(os.path.dirname(os.path.abspath(__file__)))
+
+
+class CannotRun(Exception):
+    pass
+
+
+class Server:
+    """The program, killed at the end, or a server that listens already."""
+
+    def __init__(self, words, port=None):
+        self.run = None
+        self.port = port
+        if port is None:
+            self.start(words)
+
+    def start(self, words):
+        try:
+            self.run = subprocess.Popen(words, stdin=subprocess.DEVNULL, stdout=subprocess.PIPE)
+        except OSError as fault:
+            raise CannotRun(f"{words[0]} can't be started: {fault}") from None
+        ready, _, _ = select.select([self.run.stdout], [], [], 10)
+        line = self.run.stdout.readline().decode().strip() if ready else ""
+        if not line.startswith("listening 127.0.0.1:"):
+            self.end()
+            raise CannotRun(f"{words[0]} does not listen: {line!r}")
+        self.port = int(line.rpartition(":")[2])
+
+    def __enter__(self):
+        return self
+
+    def __exit__(self, *_):
+        self.end()
+
+    def end(self):
+        if self.run:
+            self.run.kill()
+            self.run.wait()
+            self.run.stdout.close()
+
+    def is_there(self):
+        return self.run is None or self.run.poll() is None
+
+
+def run_clients(options, port, start):
+    context = multiprocessing.get_context("fork")
+    tickets = context.Value("Q")
+    end = start + options.seconds
+    kinds = [(Writer, n, options.pace) for n in range(1, options.writers + 1)]
+    kinds += [(Reader, n, options.looks) for n in range(1, options.readers + 1)]
+    runs = []
+    for kind, number, pace in kinds:
+        ours, theirs = context.Pipe(duplex=False)
+        given = (kind, theirs, number, options.writers, port, options.seed, end, options.least, tickets, pace)
+        process = context.Process(target=run_client, args=given, daemon=True)
+        process.start()
+        theirs.close()
+        runs.append((process, ours))
+    logs = []
+    for process, ours in runs:
+        try:
+            logs.append(ours.recv())
+        except EOFError:
+            raise CannotRun("a client ended without its log") from None
+        process.join()
+    return logs
+
+
+def wants_empty(port):
+    """The first look: a server that holds something already can't be judged."""
+    try:
+        with Connection(port, random.Random(0), Log("the first look")) as connection:
+            connection.send(Look(ServicesLook()).bytes)
+            status, body = connection.answer()
+    except (Parted, OSError) as fault:
+        raise CannotRun(f"port {port} is not answered: {type(fault).__name__} {fault}") from None
+    if status != 200 or b'"data":[]' not in body:
+        raise CannotRun(f"the server holds something already: {status} {body[:120]!r}")
+
+
+def look_at_all(port, logs):
+    """The last connection: the record, all services, each page and each service, and the record again, which is the history."""
+    log = Log("the last look")
+    pages = sorted({page for each in logs for page in each.pages.values()})
+    services = sorted({service_of(batch, page) for each in logs for batch, page in each.pages.items()})
+    looks = [PageLook(RECORD, raw=True), ServicesLook(), *map(PageLook, pages), *map(OperationsLook, services)]
+    with Connection(port, random.Random(0), log) as connection:
+        for look in map(Look, looks):
+            begin = time.monotonic()
+            connection.send(look.bytes)
+            look.answered(log, *connection.answer(), begin)
+        connection.send(Look(looks[0]).bytes)
+        status, body = connection.answer()
+    if status >= 500:
+        raise CannotRun(f"the record can't be read: {status} {body[:120]!r}")
+    return log, looks[0].read(status, body)[1]
+
+
+def report(judge, logs, options, seconds):
+    counts = judge.counts
+    kinds = ["at pages", "at operations", "at services", "searches that find nothing", "at the record"]
+    looks = sum(counts[kind] for kind in kinds)
+    connections = sum(len(log.opened) for log in logs)
+    print(f"{looks} looks and {counts['acknowledged']} acknowledgements judged, on {connections} connections of "
+          f"{options.writers} writers and {options.readers} readers in {seconds:.0f} s")
+    print("looks: " + ", ".join(f"{counts[kind]} {kind}" for kind in kinds))
+    print(f"batches: {counts['sent']} sent, {counts['again']} of them again; {counts['refused']} times refused, damaged or cut, "
+          f"{counts['open']} times without answer, of which {counts['open that stand']} stand in the history")
+    print(f"counted{' and judged' if options.strict else ' only'}: {counts['acknowledged elsewhere']} looks in front of a "
+          f"batch acknowledged, and {counts['shown elsewhere']} of a batch shown, on another connection before")
+    for what, count in troubles(logs).items():
+        print(f"{count} {what}")
+    for _, what in judge.violations[:TOLD]:
+        print(f"VIOLATION {what}")
+    if judge.violations:
+        print(f"{len(judge.violations)} violations")
+    else:
+        print(f"one growing history of {len(judge.history)} batches explains every answer")
+
+
+def troubles(logs):
+    return sum((log.troubles for log in logs), collections.Counter())
+
+
+def drive(options, words, port=None):
+    """Drives a server and judges it: what violates a promise, and whether something went wrong beside that."""
+    start = time.monotonic()
+    with Server(words, port) as server:
+        wants_empty(server.port)
+        logs = run_clients(options, server.port, start)
+        if not server.is_there():
+            raise CannotRun(f"the server ended by itself: {dict(troubles(logs))}")
+        time.sleep(0.5)
+        try:
+            last, history = look_at_all(server.port, logs)
+        except Violation as seen:
+            print(f"VIOLATION the last look: {seen}")
+            return [str(seen)], False
+        except (Parted, OSError) as fault:
+            raise CannotRun(f"the last look failed: {type(fault).__name__} {fault}") from None
+    logs.append(last)
+    judge = Judge(logs, history, start, options.strict)
+    judge.judge()
+    report(judge, logs, options, time.monotonic() - start)
+    return [what for _, what in judge.violations], bool(troubles(logs))
+
+
+# What is told of each fault of the plain server.
+FAULTS = {
+    "lost": "stands nowhere in the history; it was acknowledged once",
+    "twice": "stands twice in the history; it was acknowledged once",
+    "half": "does not show the whole of",
+    "refused": "stands once in the history; it was refused or cut once",
+    "reordered": "which was handed in first",
+    "stale": "which was acknowledged on this connection",
+    "swapped": "which is no beginning of the history",
+    "late": "was acknowledged before the connection was opened",
+}
+
+
+def build(folder):
+    program = os.path.join(folder, "broken_server")
+    source = os.path.join(ROOT, "checks", "broken_server.rs")
+    try:
+        subprocess.run(["rustc", "--edition", "2021", "-O", "-o", program, source], check=True)
+    except (OSError, subprocess.CalledProcessError) as fault:
+        raise CannotRun(f"{source} can't be built: {fault}") from None
+    return program
+
+
+def self_test(options):
+    """The plain server without a fault, and with each of them; the status to end with."""
+    failed = 0
+    with tempfile.TemporaryDirectory() as folder:
+        program = build(folder)
+        for fault in ["none", *FAULTS]:
+            print(f"-- a plain server, fault: {fault}", flush=True)
+            words = [program, "serve", "--port", "0", "--workers", str(options.workers), "--fault", fault]
+            violations, troubled = drive(options, words)
+            is_seen = any(FAULTS[fault] in what for what in violations) if fault in FAULTS else not violations
+            if troubled or not is_seen:
+                failed += 1
+                print(f"FAILED fault {fault}")
+    print(f"{1 + len(FAULTS) - failed} passed, {failed} failed")
+    return 1 if failed else 0
+
+
+def parsed():
+    asked = argparse.ArgumentParser(description=__doc__, formatter_class=argparse.RawDescriptionHelpFormatter)
+    asked.add_argument("--bin", default=os.path.join(ROOT, "crates/jaeger_one/out/jaeger_one"))
+    asked.add_argument("--port", type=int, help="a server that listens already and holds nothing")
+    asked.add_argument("--seconds", type=float, help="60, or 5 with --self-test")
+    asked.add_argument("--writers", type=int, default=8)
+    asked.add_argument("--readers", type=int, default=8)
+    asked.add_argument("--workers", type=int, default=20, help="of the server")
+    asked.add_argument("--queue", type=int, default=256, help="of the server; with 1 some batches are answered `busy`")
+    asked.add_argument("--batches", type=int, default=300_000, help="how many the server keeps; then it answers `journal full`")
+    asked.add_argument("--pace", type=float, help="steps a second of each writer; 25, or 120 with --self-test; 0: no limit")
+    asked.add_argument("--looks", type=float, default=300, help="looks a second of each reader; 0: no limit")
+    asked.add_argument("--seed", default=str(random.randrange(10**6)), help="of what the clients choose")
+    asked.add_argument("--strict", action="store_true", help="judge looks on connections that were open already")
+    asked.add_argument("--self-test", action="store_true")
+    options = asked.parse_args()
+    if options.seconds is None:
+        options.seconds = 5 if options.self_test else 60
+    options.least = 3500 if options.self_test else 0
+    if options.pace is None:
+        options.pace = 120 if options.self_test else 25
+    return options
+
+
+def main():
+    options = parsed()
+    print(f"seed {options.seed}", flush=True)
+    try:
+        if options.self_test:
+            sys.exit(self_test(options))
+        limits = ["--queue", options.queue, "--batches", options.batches, "--spans", 3 * options.batches]
+        words = [options.bin, "serve", "--port", "0", "--idle", "60", "--workers", options.workers, *limits]
+        violations, troubled = drive(options, [str(word) for word in words], options.port)
+        sys.exit(1 if violations else 2 if troubled else 0)
+    except CannotRun as fault:
+        print(fault)
+    except Exception:
+        traceback.print_exc()
+    sys.exit(2)
+
+
+if __name__ == "__main__":
+    main()

@@ -1,0 +1,679 @@
+"""The clients of checks/history.py: batches, looks, connections, and what each client keeps of them."""
+import collections
+import hashlib
+import itertools
+import json
+import random
+import re
+import socket
+import struct
+import time
+import traceback
+from array import array
+
+PATIENCE = 30
+PER_PAGE = 50
+PAGES_OF_SERVICE = 20
+RECORD = 0
+RECORD_READABLE = 10_000
+TOLD = 10
+
+
+class Violation(Exception):
+    """What a client saw that no history explains, as it came."""
+
+
+class Parted(Exception):
+    """The server ended the connection."""
+
+
+# Batches, by docs/wire-format.md. A batch is known by a number: its writer, and which of the writer's batches it is.
+
+def batch_of(writer, number):
+    return writer << 24 | number
+
+
+def batch_name(batch):
+    return f"{batch >> 24}-{batch & 0xFFFFFF:06d}"
+
+
+def service_of(batch, page):
+    return (batch >> 24) << 24 | page // PAGES_OF_SERVICE
+
+
+def service_name(service):
+    return f"w{service >> 24}.{service & 0xFFFFFF:04d}"
+
+
+def from_name(name):
+    """The batch or the service of a name; None for what no client sent."""
+    parts = re.fullmatch(r"w?(\d{1,3})[-.](\d{4,7})", name)
+    return int(parts[1]) << 24 | int(parts[2]) if parts else None
+
+
+def trace_id(page):
+    return 0x1000 + page
+
+
+def field(code, number):
+    return struct.pack(">bh", code, number)
+
+
+def text(value):
+    return struct.pack(">i", len(value)) + value.encode()
+
+
+def span(trace, span_id, operation):
+    ids = b"".join(field(10, number) + struct.pack(">Q", value) for number, value in ((1, trace), (2, 0), (3, span_id), (4, 0)))
+    times = field(10, 8) + struct.pack(">q", trace) + field(10, 9) + struct.pack(">q", 1)
+    return ids + field(11, 5) + text(operation) + field(8, 7) + struct.pack(">i", 1) + times + b"\0"
+
+
+def body_of(batch, page):
+    """Its span in the record stands first, and has another operation: a search for the batch finds its page alone."""
+    spans = [span(trace_id(RECORD), batch << 2 | 2, "record")]
+    spans += [span(trace_id(page), batch << 2 | part, batch_name(batch)) for part in (0, 1)]
+    process = field(12, 1) + field(11, 1) + text(service_name(service_of(batch, page))) + b"\0"
+    return process + field(15, 2) + b"\x0c" + struct.pack(">i", len(spans)) + b"".join(spans) + b"\0"
+
+
+def damaged(rng, body):
+    """Bytes that are no batch."""
+    last_name = body.rindex(field(11, 5)) + 7
+    last_flags = body.rindex(field(8, 7))
+    size = body.index(field(15, 2)) + 4
+    return rng.choice([
+        lambda: body[:rng.randrange(1, len(body))],
+        lambda: body + b"\0",
+        lambda: b"\x10" + body[1:],
+        lambda: body[:last_name] + b"\xff" + body[last_name + 1:],
+        lambda: body[:last_flags] + field(8, 99) + body[last_flags + 3:],
+        lambda: body[:size] + b"\xff" + body[size + 1:],
+    ])()
+
+
+# Requests.
+
+def head(line, *fields):
+    return "".join(part + "\r\n" for part in (line, "Host: 127.0.0.1", *fields, "")).encode()
+
+
+def in_chunks(rng, body):
+    parts = []
+    while body:
+        size = rng.choice([1, 7, 64, 4096])
+        extension = rng.choice([b"", b"", b";a=b", b" "])
+        parts.append(b"%x%s\r\n%s\r\n" % (len(body[:size]), extension, body[:size]))
+        body = body[size:]
+    return b"".join(parts) + b"0\r\n" + rng.choice([b"", b"", b"X-Sum: 1\r\n"]) + b"\r\n"
+
+
+def post(rng, body, chunked=False, kind="application/x-thrift"):
+    if chunked:
+        return head("POST /api/traces HTTP/1.1", f"Content-Type: {kind}", "Transfer-Encoding: chunked") + in_chunks(rng, body)
+    return head("POST /api/traces HTTP/1.1", f"Content-Type: {kind}", f"Content-Length: {len(body)}") + body
+
+
+# What a look is at. A subject is one number: its kind, and which page, service or batch.
+
+PAGE, OPERATIONS, SERVICES, ABSENT, ACKNOWLEDGED = range(5)
+PLACE = 40
+
+
+def subject(kind, which=0):
+    return kind << PLACE | which
+
+
+def parts_of(number):
+    return number >> PLACE, number & (1 << PLACE) - 1
+
+
+def told_subject(number):
+    kind, which = parts_of(number)
+    if kind == PAGE:
+        return "the record" if which == RECORD else f"page {which} (trace {trace_id(which):x})"
+    return {OPERATIONS: f"the operations of {service_name(which)}", SERVICES: "the services",
+            ABSENT: f"a search for {batch_name(which)}"}[kind]
+
+
+def digest(items):
+    return int.from_bytes(hashlib.blake2b(array("Q", items).tobytes(), digest_size=8).digest(), "big")
+
+
+def listed(status, body):
+    if status != 200:
+        raise Violation(f"a look was answered {status} {body[:120]!r}")
+    return json.loads(body)["data"]
+
+
+def batches_shown(trace, page):
+    """The batches of a trace's spans, in order; each is whole."""
+    ids = [int(item["spanID"], 16) for item in trace["spans"]]
+    parts = (2,) if page == RECORD else (0, 1)
+    batches = [number >> 2 for number in ids[::len(parts)]]
+    whole = [batch << 2 | part for batch in batches for part in parts]
+    if ids != whole:
+        place = next(place for place, pair in enumerate(itertools.zip_longest(ids, whole)) if pair[0] != pair[1])
+        batch = batch_name(whole[place] >> 2)
+        raise Violation(f"{told_subject(subject(PAGE, page))} does not show the whole of {batch}, from span {place + 1} on")
+    return batches
+
+
+class PageLook:
+    def __init__(self, page, raw=False):
+        self.page = page
+        self.target = f"/api/traces/{trace_id(page):x}" + ("?raw=1" if raw else "")
+
+    def read(self, status, body):
+        if status == 404:
+            return subject(PAGE, self.page), []
+        return subject(PAGE, self.page), batches_shown(listed(status, body)[0], self.page)
+
+
+class OperationsLook:
+    def __init__(self, service, kinds=False):
+        self.service = service
+        name = service_name(service)
+        self.kinds = kinds
+        self.target = f"/api/operations?service={name}" if kinds else f"/api/services/{name}/operations"
+
+    def read(self, status, body):
+        items = listed(status, body)
+        names = [item["name"] for item in items] if self.kinds else items
+        batches = [from_name(name) for name in names if name != "record"]
+        if None in batches or bool(batches) != ("record" in names):
+            raise Violation(f"the operations of {service_name(self.service)} are {names[:20]}")
+        return subject(OPERATIONS, self.service), sorted(batches)
+
+
+class ServicesLook:
+    target = "/api/services"
+
+    def read(self, status, body):
+        names = listed(status, body)
+        services = [from_name(name) for name in names]
+        if None in services:
+            raise Violation(f"the services are {names[:20]}")
+        return subject(SERVICES), sorted(services)
+
+
+class SearchLook:
+    """A search for one batch: it finds the batch's page, or shows that the batch isn't there."""
+
+    def __init__(self, batch, page):
+        self.batch = batch
+        self.service = service_of(batch, page)
+        self.target = f"/api/traces?service={service_name(self.service)}&operation={batch_name(batch)}"
+
+    def read(self, status, body):
+        traces = listed(status, body)
+        if not traces:
+            return subject(ABSENT, self.batch), [self.service]
+        page = int(traces[0]["traceID"], 16) - trace_id(0)
+        batches = batches_shown(traces[0], page)
+        if len(traces) > 1 or self.batch not in batches:
+            raise Violation(f"a search for {batch_name(self.batch)} finds {len(traces)} traces, or one without it")
+        return subject(PAGE, page), batches
+
+
+# What a client keeps.
+
+WHOLE, KEPT, OPEN, REFUSED = range(4)
+
+
+class Log:
+    """What one client sent and was answered, in order. An event is a look or an acknowledgement: a few numbers each."""
+
+    def __init__(self, name):
+        self.name = name
+        self.opened = array("d")
+        self.first_event = array("Q")
+        self.subjects, self.counts, self.digests = array("Q"), array("Q"), array("Q")
+        self.begins, self.ends = array("d"), array("d")
+        self.sent = []
+        self.pages = {}
+        self.seen_last = {}
+        self.violations = []
+        self.troubles = collections.Counter()
+
+    def opens(self):
+        self.opened.append(time.monotonic())
+        self.first_event.append(len(self.subjects))
+
+    def connection(self):
+        return len(self.opened) - 1
+
+    def event(self, subject_seen, count, items_digest, begin):
+        self.subjects.append(subject_seen)
+        self.counts.append(count)
+        self.digests.append(items_digest)
+        self.begins.append(begin)
+        self.ends.append(time.monotonic())
+
+    def looked(self, subject_seen, items, begin):
+        if subject_seen >> PLACE == ABSENT:
+            self.event(subject_seen, 0, items[0], begin)
+            return
+        self.event(subject_seen, len(items), digest(items), begin)
+        self.compare(subject_seen, items)
+
+    def compare(self, subject_seen, items):
+        """Two looks of this client of which neither is a beginning of the other are told while both are at hand."""
+        before = self.seen_last.get(subject_seen, [])
+        shorter, longer = sorted((before, items), key=len)
+        agree = longer[:len(shorter)] == shorter if subject_seen >> PLACE == PAGE else set(shorter) <= set(longer)
+        if not agree:
+            self.violates(f"it is shown of {told_subject(subject_seen)} {told_difference(before, items)}")
+        if len(self.seen_last) > 100:
+            self.seen_last.clear()
+        self.seen_last[subject_seen] = items
+
+    def handed_in(self, batch, outcome):
+        self.sent.append((self.connection(), batch, outcome, time.monotonic()))
+
+    def violates(self, what):
+        if len(self.violations) < TOLD:
+            self.violations.append((time.monotonic(), self.connection(), what))
+
+
+def told_difference(before, items):
+    place = next((place for place, pair in enumerate(zip(before, items)) if pair[0] != pair[1]), 0)
+    names = [" ".join(batch_name(item) for item in shown[place:place + 3]) or "nothing" for shown in (before, items)]
+    return f"{names[1]} from place {place + 1} on, where an earlier look of this client showed {names[0]}"
+
+
+# Connections.
+
+class Connection:
+    def __init__(self, port, rng, log, narrow=False):
+        self.rng = rng
+        self.log = log
+        self.socket = socket.socket()
+        self.socket.settimeout(PATIENCE)
+        if narrow:
+            self.socket.setsockopt(socket.SOL_SOCKET, socket.SO_RCVBUF, 4096)
+        self.socket.setsockopt(socket.IPPROTO_TCP, socket.TCP_NODELAY, 1)
+        log.opens()
+        self.socket.connect(("127.0.0.1", port))
+        self.input = b""
+        self.open = True
+        self.narrow = narrow
+
+    def __enter__(self):
+        return self
+
+    def __exit__(self, *_):
+        self.leave()
+
+    def send(self, data):
+        """All at once, or in pieces."""
+        if len(data) < 2 or self.rng.random() < 0.8:
+            self.socket.sendall(data)
+            return
+        cuts = sorted(self.rng.randrange(1, len(data)) for _ in range(3))
+        for begin, end in zip([0, *cuts], [*cuts, len(data)]):
+            self.socket.sendall(data[begin:end])
+            time.sleep(self.rng.choice([0, 0.001]))
+
+    def more(self):
+        """Some bytes are read, by a slow client few at a time."""
+        if self.narrow:
+            time.sleep(0.0005)
+        try:
+            data = self.socket.recv(2048 if self.narrow else 65536)
+        except ConnectionError:
+            data = b""
+        if not data:
+            raise Parted
+        self.input += data
+
+    def answer(self):
+        while b"\r\n\r\n" not in self.input:
+            self.more()
+        top, _, self.input = self.input.partition(b"\r\n\r\n")
+        length = re.search(rb"(?i)\r\ncontent-length: *(\d+)", top)
+        wanted = int(length[1]) if length else 0
+        while len(self.input) < wanted:
+            self.more()
+        body, self.input = self.input[:wanted], self.input[wanted:]
+        if re.search(rb"(?i)\r\nconnection: *close", top):
+            self.open = False
+        return int(top.split(b" ", 2)[1]), body
+
+    def ends_sending(self):
+        self.socket.shutdown(socket.SHUT_WR)
+
+    def leave(self):
+        """By a close, or by a reset."""
+        self.open = False
+        if self.socket.fileno() >= 0 and self.rng.random() < 0.4:
+            self.socket.setsockopt(socket.SOL_SOCKET, socket.SO_LINGER, struct.pack("ii", 1, 0))
+        self.socket.close()
+
+
+# Requests that wait for their answers.
+
+class Look:
+    def __init__(self, look):
+        self.look = look
+        self.bytes = head(f"GET {look.target} HTTP/1.1")
+
+    def answered(self, log, status, body, begin):
+        if status >= 500:
+            log.troubles[f"looks answered {status}"] += 1
+            return
+        try:
+            log.looked(*self.look.read(status, body), begin)
+        except Violation as seen:
+            log.violates(str(seen))
+        except (ValueError, LookupError, TypeError, ArithmeticError) as fault:
+            log.violates(f"{self.look.target} was answered {status} {body[:120]!r}: {fault!r}")
+
+    def unanswered(self, log):
+        pass
+
+
+class HandIn:
+    """A batch that is handed in; `wanted` is what a body that is none, or of another type, has to be answered."""
+
+    def __init__(self, batch, request, wanted=202):
+        self.batch = batch
+        self.bytes = request
+        self.wanted = wanted
+
+    def answered(self, log, status, body, begin):
+        if status != self.wanted and status < 500:
+            log.violates(f"{batch_name(self.batch)} was answered {status} {body[:120]!r} and not {self.wanted}")
+        outcome = self.outcome(status, body)
+        log.handed_in(self.batch, outcome)
+        if outcome == WHOLE:
+            log.event(subject(ACKNOWLEDGED, self.batch), 0, 0, begin)
+
+    def outcome(self, status, body):
+        if self.wanted != 202:
+            return REFUSED
+        if b"deferred" in body:
+            return KEPT
+        if b"internal error" in body:
+            return OPEN
+        return WHOLE if status == 202 else REFUSED
+
+    def unanswered(self, log):
+        log.handed_in(self.batch, OPEN if self.wanted == 202 else REFUSED)
+
+
+# Clients.
+
+class Client:
+    def __init__(self, number, writers, port, seed, end, least, tickets, pace):
+        self.number = number
+        self.writers = writers
+        self.port = port
+        self.rng = random.Random(f"{seed} {type(self).__name__} {number}")
+        self.end = end
+        self.least = least
+        self.tickets = tickets
+        self.pause = 1 / pace if pace else 0
+        self.due = time.monotonic()
+        self.log = Log(f"{type(self).__name__.lower()} {number}")
+        self.known = collections.deque(maxlen=20)
+        self.record_next = time.monotonic() + self.rng.random() * 5
+
+    def run(self):
+        while not self.is_over():
+            try:
+                self.session()
+            except Parted:
+                self.log.troubles["connections that the server ended unasked"] += 1
+            except TimeoutError:
+                self.log.troubles[f"waits of {PATIENCE} s for an answer"] += 1
+            except ConnectionError as fault:
+                self.log.troubles[f"connections that failed: {type(fault).__name__}"] += 1
+                time.sleep(0.1)
+
+    def is_over(self):
+        """At the end, and on a slow machine once there were enough batches, or a minute later."""
+        late = time.monotonic() - self.end
+        return late > 60 or late > 0 and self.handed_out() >= self.least
+
+    def handed_out(self):
+        """How many batches all writers have begun, read without the lock."""
+        return self.tickets.get_obj().value
+
+    def waits_its_turn(self, count=1):
+        """So many turns come in this pace, some of them at once."""
+        self.due = max(self.due + count * self.pause, time.monotonic() - 1)
+        ahead = self.due - time.monotonic()
+        if ahead > 0 and self.rng.random() < 0.8:
+            time.sleep(min(ahead, 0.5))
+
+    def connects(self):
+        return Connection(self.port, self.rng, self.log, narrow=self.rng.random() < 0.1)
+
+    def ask(self, connection, *requests):
+        """The requests, pipelined, and their answers; says whether the connection is open still."""
+        waiting = collections.deque(requests)
+        begin = time.monotonic()
+        try:
+            data = b"".join(request.bytes for request in requests)
+            if data:
+                connection.send(data)
+            while waiting and connection.open:
+                status, body = connection.answer()
+                waiting.popleft().answered(self.log, status, body, begin)
+        finally:
+            for request in waiting:
+                request.unanswered(self.log)
+        return connection.open
+
+    def page(self):
+        """Most often the page that is written, or the one before."""
+        newest = 1 + self.handed_out() // PER_PAGE
+        oldest = self.rng.choice([newest, newest, newest, newest - 1, newest - 5, 1])
+        return self.rng.randint(max(1, oldest), newest)
+
+    def look(self):
+        kind = self.rng.random()
+        if kind < 0.6 or not self.known:
+            return Look(PageLook(self.page(), raw=kind < 0.1))
+        batch, page = self.rng.choice(self.known)
+        if kind < 0.75:
+            return Look(OperationsLook(service_of(batch, page), kinds=kind < 0.66))
+        if kind < 0.8:
+            return Look(ServicesLook())
+        if kind < 0.9:
+            return Look(SearchLook(batch, page))
+        return Look(PageLook(page))
+
+    def looks(self, count):
+        return [self.look() for _ in range(count)]
+
+    def record(self):
+        """The record while it is short, now and then; else nothing."""
+        if time.monotonic() < self.record_next or self.handed_out() > RECORD_READABLE:
+            return []
+        self.record_next = time.monotonic() + 5
+        return [Look(PageLook(RECORD, raw=True))]
+
+    def cut(self, connection, data, least, most):
+        """The beginning of a request, and then nothing more."""
+        with_pause = self.rng.random() < 0.5
+        connection.send(data[:self.rng.randint(least, most)])
+        if with_pause:
+            time.sleep(0.001)
+        connection.leave()
+        return False
+
+
+class Reader(Client):
+    def session(self):
+        with self.connects() as connection:
+            for _ in range(self.rng.choice([1, 10, 100, 300])):
+                if self.is_over() or not self.step(connection):
+                    return
+
+    def step(self, connection):
+        self.guess()
+        kind = self.rng.random()
+        if kind < 0.90:
+            self.waits_its_turn()
+            return self.ask(connection, *(self.record() or self.looks(1)))
+        if kind < 0.98:
+            self.waits_its_turn(5)
+            return self.ask(connection, *self.looks(5))
+        if kind < 0.985:
+            request = self.look().bytes
+            return self.cut(connection, request, 1, len(request) - 1)
+        if kind < 0.99:
+            return self.leaves_in_answer(connection)
+        return self.asks_for_the_end(connection)
+
+    def guess(self):
+        """A batch that may be there, or may not be yet."""
+        newest = self.handed_out()
+        writer = self.rng.randint(1, self.writers)
+        number = max(1, newest // self.writers + self.rng.randint(-20, 5))
+        self.known.append((batch_of(writer, number), 1 + newest // PER_PAGE))
+
+    def leaves_in_answer(self, connection):
+        connection.send(self.look().bytes)
+        connection.socket.recv(self.rng.randint(1, 100))
+        connection.leave()
+        return False
+
+    def asks_for_the_end(self, connection):
+        look = self.look()
+        version, fields = self.rng.choice([("1.0", []), ("1.1", ["Connection: close"])])
+        look.bytes = head(f"GET {look.look.target} HTTP/{version}", *fields)
+        return self.ask(connection, look)
+
+
+class Writer(Client):
+    def __init__(self, *given):
+        super().__init__(*given)
+        self.last = 0
+        self.again = []
+
+    def session(self):
+        with self.connects() as connection:
+            for _ in range(self.rng.choice([1, 5, 20, 60])):
+                self.waits_its_turn()
+                if self.is_over() or not self.step(connection):
+                    return
+
+    def step(self, connection):
+        steps = [self.hands_in, self.pipelines, self.damages, self.mistypes, self.cuts_in_head, self.cuts_in_body,
+                 self.closes_in_body, self.cuts_before_answer, self.cuts_in_answer]
+        weights = [70, 12, 6, 1, 2, 3, 1, 3, 2]
+        return self.rng.choices(steps, weights)[0](connection)
+
+    def batch(self):
+        """The next batch and its page: one that has to be sent again, or a new one."""
+        if self.again:
+            batch = self.again.pop()
+            return batch, self.log.pages[batch]
+        self.last += 1
+        with self.tickets.get_lock():
+            page = 1 + self.tickets.value // PER_PAGE
+            self.tickets.value += 1
+        batch = batch_of(self.number, self.last)
+        self.log.pages[batch] = page
+        self.known.append((batch, page))
+        return batch, page
+
+    def request(self, batch, page):
+        return post(self.rng, body_of(batch, page), chunked=self.rng.random() < 0.3)
+
+    def hand_in(self):
+        batch, page = self.batch()
+        return batch, page, HandIn(batch, self.request(batch, page))
+
+    def may_send_again(self, batch):
+        if self.rng.random() < 0.6:
+            self.again.append(batch)
+
+    def own_look(self, batch, page):
+        kind = self.rng.random()
+        if kind < 0.5:
+            return Look(PageLook(page))
+        if kind < 0.7:
+            return Look(SearchLook(batch, page))
+        return Look(OperationsLook(service_of(batch, page), kinds=kind < 0.8)) if kind < 0.9 else self.look()
+
+    def hands_in(self, connection):
+        batch, page, request = self.hand_in()
+        is_open = self.ask(connection, request)
+        for _ in range(self.rng.randint(0, 3)):
+            is_open = is_open and self.ask(connection, self.own_look(batch, page))
+        return is_open
+
+    def pipelines(self, connection):
+        requests = []
+        for _ in range(self.rng.randint(1, 3)):
+            batch, page, request = self.hand_in()
+            requests += [request, self.own_look(batch, page)]
+        return self.ask(connection, *requests)
+
+    def damages(self, connection):
+        batch, page = self.batch()
+        body = damaged(self.rng, body_of(batch, page))
+        request = post(self.rng, body, chunked=self.rng.random() < 0.3)
+        self.may_send_again(batch)
+        return self.ask(connection, HandIn(batch, request, 400), self.own_look(batch, page))
+
+    def mistypes(self, connection):
+        batch, page = self.batch()
+        self.may_send_again(batch)
+        return self.ask(connection, HandIn(batch, post(self.rng, body_of(batch, page), kind="text/plain"), 415))
+
+    def cuts(self, connection, in_body):
+        """The request is never whole."""
+        batch, page = self.batch()
+        data = self.request(batch, page)
+        self.log.handed_in(batch, REFUSED)
+        self.may_send_again(batch)
+        body = data.index(b"\r\n\r\n") + 4
+        return self.cut(connection, data, body if in_body else 1, len(data) - 1 if in_body else body - 1)
+
+    def cuts_in_head(self, connection):
+        return self.cuts(connection, in_body=False)
+
+    def cuts_in_body(self, connection):
+        return self.cuts(connection, in_body=True)
+
+    def closes_in_body(self, connection):
+        """It ends its own side inside the body, and reads what comes of it."""
+        batch, page = self.batch()
+        data = self.request(batch, page)
+        refused = HandIn(batch, data[:self.rng.randrange(data.index(b"\r\n\r\n") + 4, len(data))], 400)
+        self.may_send_again(batch)
+        connection.send(refused.bytes)
+        connection.ends_sending()
+        refused.bytes = b""
+        return self.ask(connection, refused)
+
+    def cuts_before_answer(self, connection):
+        batch, page, request = self.hand_in()
+        self.log.handed_in(batch, OPEN)
+        self.may_send_again(batch)
+        return self.cut(connection, request.bytes, len(request.bytes), len(request.bytes))
+
+    def cuts_in_answer(self, connection):
+        batch, page, request = self.hand_in()
+        self.log.handed_in(batch, OPEN)
+        self.may_send_again(batch)
+        connection.send(request.bytes + self.look().bytes)
+        connection.socket.recv(self.rng.randint(1, 30))
+        connection.leave()
+        return False
+
+
+def run_client(kind, pipe, *given):
+    client = kind(*given)
+    try:
+        client.run()
+    except Exception:
+        client.log.troubles[traceback.format_exc()] += 1
+    client.log.seen_last.clear()
+    pipe.send(client.log)
+    pipe.close()

@@ -1,0 +1,105 @@
+#!/usr/bin/env python3
+"""Tries all wrong bodies of a crate, those of wrong-bodies/ too, in a copy: wrong_bodies.py CRATE [--only WORD]."""
+
+import argparse
+import pathlib
+import re
+import shutil
+import subprocess
+import sys
+import tempfile
+
+TOP = pathlib.Path(__file__).resolve().parent.parent
+LINE = re.compile(r"(?:rt: )?must-fail \S+/(\S+\.edit): (refused|NOT REFUSED|BAD EDIT|NOT TRIED)")
+# How rt says that an edit was refused for a lost name or at a limit, which shows little of the contract.
+LITTLE = re.compile(r"(?:rt: )?must-fail \S+/(\S+\.edit): refused, as it must be \(only ")
+
+
+def below(name):
+    """Returns the crate and those of this repository that it stands on, through crates.txt."""
+    deps = {}
+    for line in (TOP / "crates.txt").read_text(encoding="utf-8").splitlines():
+        head, colon, tail = line.partition(":")
+        if colon and not line.startswith("#"):
+            deps[head.split()[0]] = tail.split()
+    found, ahead = set(), [name]
+    while ahead:
+        crate = ahead.pop()
+        if crate in deps and crate not in found:
+            found.add(crate)
+            ahead += deps[crate]
+    return found
+
+
+def copy(room, name):
+    """Copies the repository's crates, with what earlier checks kept of this crate and those below it."""
+    kept = below(name)
+    for crate in sorted(path for path in (TOP / "crates").iterdir() if path.is_dir()):
+        left = shutil.ignore_patterns("must-fail") if crate.name in kept else shutil.ignore_patterns("must-fail", "out")
+        shutil.copytree(crate, room / "crates" / crate.name, ignore=left, symlinks=True)
+    for file in ("crates.txt", "HANDLES"):
+        shutil.copy2(TOP / file, room / file)
+
+
+def put_edits(room, name, only):
+    """Puts the crate's edits whose name has the word into the copy, and returns their names."""
+    there, names = room / "crates" / name / "must-fail", []
+    there.mkdir()
+    for folder in (TOP / "crates" / name / "must-fail", TOP / "wrong-bodies" / name):
+        for edit in sorted(folder.glob("*.edit")):
+            if only not in edit.name:
+                continue
+            if edit.name in names:
+                sys.exit(f"{edit.name} stands in the gate and in wrong-bodies/ too: give one another name")
+            shutil.copy2(edit, there / edit.name)
+            names.append(edit.name)
+    return names
+
+
+def try_all(room, name):
+    """Runs rt must-fail, prints what it says as it comes, and returns its status and each edit's outcome."""
+    found = {}
+    with subprocess.Popen(["rt", "must-fail", name], cwd=room, stdin=subprocess.DEVNULL, stdout=subprocess.PIPE,
+                          stderr=subprocess.STDOUT, text=True, errors="replace") as ran:
+        for line in ran.stdout:
+            print(line, end="", flush=True)
+            if little := LITTLE.match(line):
+                print(f"shows little of the contract: {little[1]}", flush=True)
+            outcome = LINE.match(line)
+            if outcome:
+                found[outcome[1]] = outcome[2]
+    return ran.returncode, found
+
+
+def report(names, found, status):
+    """Prints the edits that were not refused, and the counts; returns the exit status."""
+    kinds = {"refused": [], "NOT REFUSED": [], "BAD EDIT": [], "NOT TRIED": []}
+    for edit in names:
+        kinds[found.get(edit, "NOT TRIED")].append(edit)
+    print()
+    for kind, edits in kinds.items():
+        for edit in edits if kind != "refused" else []:
+            print(f"{kind}: {edit}")
+    print(f"{len(names)} edits: " + ", ".join(f"{len(edits)} {kind.lower()}" for kind, edits in kinds.items()))
+    return 0 if status == 0 and len(kinds["refused"]) == len(names) else 1
+
+
+def main():
+    """Tries the edits of the crate that is named."""
+    words = argparse.ArgumentParser(description=__doc__)
+    words.add_argument("crate")
+    words.add_argument("--only", metavar="WORD", default="", help="only edits whose name has this word")
+    asked = words.parse_args()
+    if not (TOP / "crates" / asked.crate).is_dir():
+        sys.exit(f"there is no crate {asked.crate}")
+    with tempfile.TemporaryDirectory(prefix="wrong-bodies-") as folder:
+        room = pathlib.Path(folder)
+        copy(room, asked.crate)
+        names = put_edits(room, asked.crate, asked.only)
+        if not names:
+            sys.exit(f"{asked.crate} has no such edit")
+        return report(names, *reversed(try_all(room, asked.crate)))
+
+
+if __name__ == "__main__":
+    sys.exit(main())

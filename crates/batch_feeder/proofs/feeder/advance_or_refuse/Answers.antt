@@ -1,0 +1,14 @@
+use Rattle.std.proofs.Common.{arith}
+use Rattle.batch_feeder.proofs.FeedingAgain.{refused-settled, refused-answers}
+use Rattle.batch_feeder.proofs.HoldingAgain.{holds-none}
+use Rattle.batch_feeder.proofs.feeder.advance_or_refuse.Goals as goal
+
+pub returns-in-Err : goal.returns-in-Err
+returns-in-Err c = record {
+  feeds = record { faults = c.in-Err.ensures.0; stays = λ rest. refused-answers _ _ rest c.refuse.ensures };
+  settled = refused-settled _ _ c.refuse.ensures c.in-Err.ensures.1;
+  holds = holds-none _ 0 (λ some. absurd (omega (arith, some))) (omega arith);
+}
+
+pub returns-in-Ok : goal.returns-in-Ok
+returns-in-Ok c = record { feeds = c.in-Ok.ensures.0; settled = c.in-Ok.ensures.1; holds = holds-none _ _ c.wanted_between_fields.ensures.wants c.wanted_between_fields.ensures.one }

@@ -1,0 +1,117 @@
+ghost use Rattle.std.specs.Prelude.{◌≡◌, ◌≤◌, ℕ, List, Result, Err, true, length, OnOk};
+ghost use Rattle.thrift_binary.specs.declared.fault.WireError.TheVariants.{Truncated};
+ghost use Rattle.batch_codec.specs.declared.fault.DecodeError.{DecodeError};
+ghost use Rattle.batch_codec.specs.declared.fault.DecodeError.TheVariants.{Wire};
+ghost use Rattle.batch_codec.specs.Decoding.{Reading};
+ghost use Rattle.batch_feeder.specs.LeastBytes.{IsPart};
+ghost use Rattle.batch_feeder.specs.Continuing.{Arrives, Begins, Continues, Places, Sets, fault_of};
+
+use batch_codec::DecodeError;
+use std::alloc::Global;
+use wire_pieces::{Piece, PieceError};
+
+/// A value of which some bytes have come.
+pub(crate) trait Partial: Drop + Sized {
+    type Value: Drop;
+
+    /// What it reads of the bytes that are still to come.
+    ghost resumes: { Self → List ℕ → Result (Self.Value × List ℕ) DecodeError };
+
+    /// Continues over a piece: the value where it is whole, and nothing where the piece ends before.
+    fn more(
+        &mut self,
+        alloc: Global,
+        piece: &mut Piece<'_>,
+    ) -> Result<Option<Self::Value>, DecodeError>
+        ensures continues { Continues (resumes self.old) (resumes self.new) piece.old piece.new result }
+        ensures no_longer { OnOk result (length piece.new ≤ length piece.old) };
+}
+
+/// A kind of value that stands in lists.
+pub(crate) trait Item: Partial {
+    ghost reads: { List ℕ → Result (Self.Value × List ℕ) DecodeError };
+
+    /// What it makes where all of its bytes have come.
+    ghost ends: { Self → Result Self.Value DecodeError };
+
+    /// The least number of bytes of a value.
+    fn least() -> usize;
+
+    /// Whether the value stands between two fields of the innermost struct that has begun in it.
+    fn is_between_fields(&self) -> bool
+        ensures wants { result ≡ true → (w : List ℕ) → IsPart w →
+            Self.resumes self.now w ≡ Err (Wire Truncated) };
+
+    /// Begins a value over a piece: the value where it is whole, and else the part of it that has come.
+    fn begin(
+        part: &mut Option<Self>,
+        alloc: Global,
+        piece: &mut Piece<'_>,
+    ) -> Result<Option<Self::Value>, DecodeError>
+        ensures continues { Begins reads Self.resumes part.new piece.old piece.new result }
+        ensures no_longer { OnOk result (length piece.new ≤ length piece.old) };
+
+    /// Continues over a piece: whether all bytes of the value have come, which is then to be taken.
+    fn arrive(&mut self, alloc: Global, piece: &mut Piece<'_>) -> Result<bool, DecodeError>
+        ensures continues { Arrives (Self.resumes self.old) (Self.resumes self.new) (ends self.new)
+            piece.old piece.new result }
+        ensures no_longer { OnOk result (length piece.new ≤ length piece.old) };
+
+    /// Takes the value, all of whose bytes have come, and stands before the first byte of another.
+    fn take(&mut self, alloc: Global) -> Result<Self::Value, DecodeError>
+        ensures value { result ≡ ends self.old }
+        ensures no_want { result ≡ Err (Wire Truncated) → ⊥ }
+        ensures fresh { (w : List ℕ) → Self.resumes self.new w ≡ reads w };
+}
+
+/// The fault of a part.
+pub(crate) fn fault_of(error: PieceError) -> DecodeError
+    ensures { result ≡ fault_of error }
+{
+    match error {
+        PieceError::Wire(e) => DecodeError::Wire(e),
+        PieceError::Memory => DecodeError::Memory,
+    }
+}
+
+/// Continues over a piece, and puts the value into its place.
+pub(crate) fn place<P: Partial>(
+    part: &mut P,
+    slot: &mut P::Value,
+    alloc: Global,
+    piece: &mut Piece<'_>,
+) -> Result<bool, DecodeError>
+    ensures continues { Places (P.resumes part.old) (P.resumes part.new) slot.old slot.new
+        piece.old piece.new result }
+    ensures no_longer { OnOk result (length piece.new ≤ length piece.old) }
+{
+    match part.more(alloc, piece) {
+        Err(error) => Err(error),
+        Ok(None) => Ok(false),
+        Ok(Some(value)) => {
+            *slot = value;
+            Ok(true)
+        }
+    }
+}
+
+/// The same where the place may be empty.
+pub(crate) fn set<P: Partial>(
+    part: &mut P,
+    slot: &mut Option<P::Value>,
+    alloc: Global,
+    piece: &mut Piece<'_>,
+) -> Result<bool, DecodeError>
+    ensures continues { Sets (P.resumes part.old) (P.resumes part.new) slot.old slot.new
+        piece.old piece.new result }
+    ensures no_longer { OnOk result (length piece.new ≤ length piece.old) }
+{
+    match part.more(alloc, piece) {
+        Err(error) => Err(error),
+        Ok(None) => Ok(false),
+        Ok(Some(value)) => {
+            *slot = Some(value);
+            Ok(true)
+        }
+    }
+}

@@ -1,0 +1,211 @@
+-- Pairs that a search asks and that tags tell.
+use Rattle.std.proofs.Common.{◌≡◌, ℕ, ◌+◌, ◌<◌, ◌≤◌, Bool, true, false, true≢false, ◌||◌, ◌&&◌, cond, List, [], ◌∷◌, ◌++◌, length, get_or, take, refl, sym, ap, ◌∙◌, arith, Some, None}
+use Rattle.std.specs.Prelude.{not, flat_map, if◌then◌else◌, ◌==◌}
+use Rattle.std.specs.List.{IsDistinct, list_any, list_all}
+use Rattle.std.specs.List.Sorted.{IsStrictlySortedBy}
+use Rattle.std.specs.declared.cmp.Ordering.{Ordering}
+use Rattle.std.specs.declared.cmp.Ordering.TheVariants.{Less, Equal, Greater}
+use Rattle.std.specs.Ordering.{ordering_then, eq_by_cmp, is_eq}
+use Rattle.std.specs.Cmp.{IsEquivalence, IsTotalOrder, on_total, then_total, eq_by_cmp_equiv}
+use Rattle.std.specs.Cmp.Lexicographic.{nat_list_cmp_total, texts_ties}
+use Rattle.std.proofs.lemmas.List.{take_more, flat_map_more}
+use Rattle.std.proofs.lemmas.List.Folds.{list_any-append, list_any_more}
+use Rattle.std.proofs.lemmas.Map.Keys.{IsDistinct-from_sorted}
+use Rattle.std.proofs.lemmas.Map.Steps.{list_any_congr}
+use Rattle.jaeger_model.specs.declared.batch.Process.{Process}
+use Rattle.jaeger_model.specs.declared.placed.Placed.{Placed}
+use Rattle.jaeger_model.specs.declared.span.Log.{Log}
+use Rattle.jaeger_model.specs.declared.span.Span.{Span}
+use Rattle.jaeger_model.specs.declared.tag.Tag.{Tag}
+use Rattle.jaeger_model.specs.Tags.{tag_text}
+use Rattle.jaeger_model.specs.Texts.{text_cmp}
+use Rattle.trace_model.specs.declared.query.Find.{Find}
+use Rattle.trace_model.specs.Searching.{tells, has_tag, tags_of}
+use Rattle.find_traces.specs.Wanting.{pair_of, pair_cmp, same_pair, asks, asked_count, if_asked, told_by, is_in, wants}
+use Rattle.find_traces.specs.Prepared.{IsJudged}
+use Rattle.find_traces.proofs.Counting.{and_first, few, counted, none_left}
+
+pub text_laws : IsEquivalence (eq_by_cmp text_cmp)
+text_laws = eq_by_cmp_equiv nat_list_cmp_total
+
+pub pair_total : IsTotalOrder pair_cmp
+pair_total = then_total (on_total (λ (a : List ℕ × List ℕ). a.0) nat_list_cmp_total) (on_total (λ (a : List ℕ × List ℕ). a.1) nat_list_cmp_total)
+
+pub pair_laws : IsEquivalence same_pair
+pair_laws = eq_by_cmp_equiv pair_total
+
+pub distinct_pairs : (ps : List (List ℕ × List ℕ)) → IsStrictlySortedBy pair_cmp ps → IsDistinct same_pair ps
+distinct_pairs ps s = IsDistinct-from_sorted pair_cmp ps s
+
+-- ---- tests
+put_last : (e m : Bool) → cond e true m ≡ (m || e)
+put_last true true = refl
+put_last true false = refl
+put_last false true = refl
+put_last false false = refl
+
+or_none : (b : Bool) → b ≡ (b || false)
+or_none true = refl
+or_none false = refl
+
+and_none : (b : Bool) → (b && false) ≡ false
+and_none true = refl
+and_none false = refl
+
+one_more : (o w m e : Bool) → ((o || (w && m)) || (w && e)) ≡ (o || (w && (m || e)))
+one_more true w m e = refl
+one_more false true m e = refl
+one_more false false m e = refl
+
+-- ---- one more key or pair is put in
+pub key_put : (n o : List (List ℕ)) (xs : List (List ℕ × List ℕ)) (i : ℕ) (x : List ℕ × List ℕ) (key : List ℕ) → i < length xs → x ≡ get_or xs i x → key ≡ x.0
+    → (k : List ℕ) → list_any (eq_by_cmp text_cmp k) n ≡ cond (eq_by_cmp text_cmp key k) true (list_any (eq_by_cmp text_cmp k) o)
+    → list_any (eq_by_cmp text_cmp k) o ≡ list_any (λ (a : List ℕ × List ℕ). eq_by_cmp text_cmp k a.0) (take i xs)
+    → list_any (eq_by_cmp text_cmp k) n ≡ list_any (λ (a : List ℕ × List ℕ). eq_by_cmp text_cmp k a.0) (take (i + 1) xs)
+key_put n o xs i x key le is same k put before =
+    put ∙ put_last (eq_by_cmp text_cmp key k) (list_any (eq_by_cmp text_cmp k) o)
+    ∙ (λ j. before j || (text_laws.symm key k ∙ ap (eq_by_cmp text_cmp k) same ∙ ap (λ (y : List ℕ × List ℕ). eq_by_cmp text_cmp k y.0) is) j)
+    ∙ sym (list_any_more (λ (a : List ℕ × List ℕ). eq_by_cmp text_cmp k a.0) xs i x le)
+
+pub pair_put : (n o xs : List (List ℕ × List ℕ)) (i : ℕ) (x pair : List ℕ × List ℕ) → i < length xs → x ≡ get_or xs i x → pair ≡ x
+    → (a : List ℕ × List ℕ) → is_in n a ≡ cond (same_pair pair a) true (is_in o a) → is_in o a ≡ list_any (same_pair a) (take i xs)
+    → is_in n a ≡ list_any (same_pair a) (take (i + 1) xs)
+pair_put n o xs i x pair le is same a put before =
+    put ∙ put_last (same_pair pair a) (is_in o a)
+    ∙ (λ j. before j || (pair_laws.symm pair a ∙ ap (same_pair a) (same ∙ is)) j)
+    ∙ sym (list_any_more (same_pair a) xs i x le)
+
+-- ---- what is asked
+then_not : (r s : Ordering) → is_eq r ≡ false → is_eq (ordering_then r s) ≡ false
+then_not Less s h = refl
+then_not Equal s h = absurd (true≢false h)
+then_not Greater s h = refl
+
+pub no_key : (xs : List (List ℕ × List ℕ)) (k t : List ℕ) → list_any (λ (a : List ℕ × List ℕ). eq_by_cmp text_cmp k a.0) xs ≡ false → list_any (same_pair (k, t)) xs ≡ false
+no_key [] k t h = refl
+no_key (x ∷ xs) k t h = by (eq_by_cmp text_cmp k x.0) refl h (no_key xs k t)
+  where
+    by : (b : Bool) → eq_by_cmp text_cmp k x.0 ≡ b → (b || list_any (λ (a : List ℕ × List ℕ). eq_by_cmp text_cmp k a.0) xs) ≡ false
+        → (list_any (λ (a : List ℕ × List ℕ). eq_by_cmp text_cmp k a.0) xs ≡ false → list_any (same_pair (k, t)) xs ≡ false) → (same_pair (k, t) x || list_any (same_pair (k, t)) xs) ≡ false
+    by true e g more = absurd (true≢false g)
+    by false e g more = ap (λ b. b || list_any (same_pair (k, t)) xs) (then_not (text_cmp k x.0) (text_cmp t x.1) e) ∙ more g
+
+pub asked_some : (q : Find) (x p : List ℕ × List ℕ) → if_asked q x ≡ Some p → (asks q x ≡ true) × (p ≡ x)
+asked_some q x p h = by (asks q x) refl h
+  where
+    by : (b : Bool) → asks q x ≡ b → (if b then Some x else None) ≡ Some p → (asks q x ≡ true) × (p ≡ x)
+    by true e g = (e, cc)
+    by false e g = absurd cc
+
+pub asked_none : (q : Find) (x : List ℕ × List ℕ) → if_asked q x ≡ None → asks q x ≡ false
+asked_none q x h = by (asks q x) refl h
+  where
+    by : (b : Bool) → asks q x ≡ b → (if b then Some x else None) ≡ None → asks q x ≡ false
+    by true e g = absurd cc
+    by false e g = e
+
+-- ---- one more tag
+wants_alike : (q : Find) (others : List (List ℕ × List ℕ)) (a x : List ℕ × List ℕ) → same_pair a x ≡ true → wants q others a ≡ wants q others x
+wants_alike q others a x e = λ i. list_any_congr pair_laws a x q.tags e i && not (list_any_congr pair_laws a x others e i)
+
+pub wants_new : (q : Find) (others : List (List ℕ × List ℕ)) (x p : List ℕ × List ℕ) → asks q x ≡ true → p ≡ x → is_in others p ≡ false → wants q others x ≡ true
+wants_new q others x p asked is absent = λ i. asked i && not ((ap (is_in others) (sym is) ∙ absent) i)
+
+pub wants_old : (q : Find) (others : List (List ℕ × List ℕ)) (x p : List ℕ × List ℕ) → p ≡ x → is_in others p ≡ true → wants q others x ≡ false
+wants_old q others x p is there = ap (λ b. asks q x && not b) (ap (is_in others) (sym is) ∙ there) ∙ and_none (asks q x)
+
+pub wants_none : (q : Find) (others : List (List ℕ × List ℕ)) (x : List ℕ × List ℕ) → asks q x ≡ false → wants q others x ≡ false
+wants_none q others x e = ap (λ b. b && not (is_in others x)) e
+
+pub told_put : (q : Find) (others n o : List (List ℕ × List ℕ)) (x : List ℕ × List ℕ) → wants q others x ≡ true
+    → (a : List ℕ × List ℕ) → is_in n a ≡ cond (same_pair x a) true (is_in o a) → is_in n a ≡ (is_in o a || (wants q others a && same_pair a x))
+told_put q others n o x w a put = put ∙ put_last (same_pair x a) (is_in o a) ∙ ap (λ b. is_in o a || b) (pair_laws.symm x a ∙ by (same_pair a x) refl)
+  where
+    by : (b : Bool) → same_pair a x ≡ b → b ≡ (wants q others a && b)
+    by true e = sym (ap (λ v. v && true) (wants_alike q others a x e ∙ w))
+    by false e = sym (and_none (wants q others a))
+
+pub told_same : (q : Find) (others o : List (List ℕ × List ℕ)) (x : List ℕ × List ℕ) → wants q others x ≡ false
+    → (a : List ℕ × List ℕ) → is_in o a ≡ (is_in o a || (wants q others a && same_pair a x))
+told_same q others o x w a = or_none (is_in o a) ∙ ap (λ b. is_in o a || b) (by (same_pair a x) refl)
+  where
+    by : (b : Bool) → same_pair a x ≡ b → false ≡ (wants q others a && b)
+    by true e = sym (ap (λ v. v && true) (wants_alike q others a x e ∙ w))
+    by false e = sym (and_none (wants q others a))
+
+pub tag_more : (q : Find) (others n o first : List (List ℕ × List ℕ)) (ts : List Tag) (i : ℕ) (t : Tag) → i < length ts → t ≡ get_or ts i t
+    → (a : List ℕ × List ℕ) → is_in n a ≡ (is_in o a || (wants q others a && same_pair a (pair_of t))) → is_in o a ≡ (is_in first a || (wants q others a && told_by (take i ts) a))
+    → is_in n a ≡ (is_in first a || (wants q others a && told_by (take (i + 1) ts) a))
+tag_more q others n o first ts i t le is a put before =
+    put ∙ ap (λ b. b || (wants q others a && same_pair a (pair_of t))) before
+    ∙ one_more (is_in first a) (wants q others a) (told_by (take i ts) a) (same_pair a (pair_of t))
+    ∙ ap (λ b. is_in first a || (wants q others a && b)) (ap (λ y. told_by (take i ts) a || same_pair a (pair_of y)) is ∙ sym (list_any_more (λ (y : Tag). same_pair a (pair_of y)) ts i t le))
+
+abbrev pub fields_of : List Log → List Tag
+fields_of ls = flat_map (λ (l : Log). l.fields) ls
+
+fields_last : (ls : List Log) (l : Log) → fields_of (ls ++ l ∷ []) ≡ fields_of ls ++ l.fields
+fields_last ls l = sym (flat_map_more (λ (x : Log). x.fields) [] ls l)
+
+pub log_more : (q : Find) (others n o first : List (List ℕ × List ℕ)) (ls : List Log) (i : ℕ) (l : Log) → i < length ls → l ≡ get_or ls i l
+    → (a : List ℕ × List ℕ) → is_in n a ≡ (is_in o a || (wants q others a && told_by l.fields a)) → is_in o a ≡ (is_in first a || (wants q others a && told_by (fields_of (take i ls)) a))
+    → is_in n a ≡ (is_in first a || (wants q others a && told_by (fields_of (take (i + 1) ls)) a))
+log_more q others n o first ls i l le is a put before =
+    put ∙ ap (λ b. b || (wants q others a && told_by l.fields a)) before
+    ∙ one_more (is_in first a) (wants q others a) (told_by (fields_of (take i ls)) a) (told_by l.fields a)
+    ∙ ap (λ b. is_in first a || (wants q others a && b)) (
+    sym (list_any-append (λ (y : Tag). same_pair a (pair_of y)) (fields_of (take i ls)) l.fields)
+    ∙ ap (λ ts. told_by ts a) (sym (fields_last (take i ls) l) ∙ ap (λ y. fields_of (take i ls ++ y ∷ [])) is ∙ ap fields_of (sym (take_more ls i l le))))
+
+-- ---- the tags of a span
+then_both : (r s : Ordering) → is_eq (ordering_then r s) ≡ (is_eq r && is_eq s)
+then_both Less s = refl
+then_both Equal s = refl
+then_both Greater s = refl
+
+tells_same : (a : List ℕ × List ℕ) (t : Tag) → tells a t ≡ same_pair a (pair_of t)
+tells_same a t = (λ i. texts_ties a.0 t.key i && texts_ties a.1 (tag_text t.value) i) ∙ sym (then_both (text_cmp a.0 t.key) (text_cmp a.1 (tag_text t.value)))
+
+any_told : (a : List ℕ × List ℕ) (ts : List Tag) → list_any (tells a) ts ≡ told_by ts a
+any_told a [] = refl
+any_told a (t ∷ ts) = λ i. tells_same a t i || any_told a ts i
+
+told_alike : (ts : List Tag) (a b : List ℕ × List ℕ) → same_pair a b ≡ true → told_by ts a ≡ told_by ts b
+told_alike [] a b e = refl
+told_alike (t ∷ ts) a b e = λ i. pair_laws.congr a b (pair_of t) e i || told_alike ts a b e i
+
+regroup : (s o l : Bool) → ((s || o) || l) ≡ ((s || l) || o)
+regroup true o l = refl
+regroup false true true = refl
+regroup false true false = refl
+regroup false false l = or_none l
+
+module _ (q : Find) (o : Process) (s : Span) where
+  abbrev here : Placed
+  here = record { process = o; span = s }
+
+  has_told : (a : List ℕ × List ℕ) → has_tag here a ≡ ((told_by s.tags a || told_by (fields_of s.logs) a) || told_by o.tags a)
+  has_told a =
+      any_told a (tags_of here)
+      ∙ list_any-append (λ (y : Tag). same_pair a (pair_of y)) (s.tags ++ o.tags) (fields_of s.logs)
+      ∙ ap (λ b. b || told_by (fields_of s.logs) a) (list_any-append (λ (y : Tag). same_pair a (pair_of y)) s.tags o.tags)
+      ∙ regroup (told_by s.tags a) (told_by o.tags a) (told_by (fields_of s.logs) a)
+
+  has_alike : (a b : List ℕ × List ℕ) → same_pair a b ≡ true → has_tag here a ≡ has_tag here b
+  has_alike a b e = any_told a (tags_of here) ∙ told_alike (tags_of here) a b e ∙ sym (any_told b (tags_of here))
+
+  pub all_asked : (own told : List (List ℕ × List ℕ)) (left : ℕ) → IsJudged q o told left → IsStrictlySortedBy pair_cmp own
+      → ((a : List ℕ × List ℕ) → is_in own a ≡ (wants q told a && (told_by s.tags a || told_by (fields_of s.logs) a)))
+      → (length own == left) ≡ list_all (has_tag here) q.tags
+  all_asked own told left j rising own_is =
+      counted pair_laws (has_tag here) (λ a. told_by s.tags a || told_by (fields_of s.logs) a) (told_by o.tags) has_alike has_told q.tags own told
+      (distinct_pairs own rising) (distinct_pairs told j.rising) own_is j.asked left j.count
+
+  pub none_asked : (told : List (List ℕ × List ℕ)) (left : ℕ) → IsJudged q o told left → left ≡ 0 → true ≡ list_all (has_tag here) q.tags
+  none_asked told left j none =
+      let count = j.count in
+      none_left pair_laws (has_tag here) (λ a. told_by s.tags a || told_by (fields_of s.logs) a) (told_by o.tags) has_told q.tags told (distinct_pairs told j.rising) j.asked (omega arith)
+
+-- ---- the tags of a process
+pub told_few : (q : Find) (o : Process) (told : List (List ℕ × List ℕ)) → IsStrictlySortedBy pair_cmp told → ((a : List ℕ × List ℕ) → is_in told a ≡ (asks q a && told_by o.tags a)) → length told ≤ asked_count q
+told_few q o told rising is = few pair_laws q.tags told (distinct_pairs told rising) (λ a m. and_first (asks q a) (told_by o.tags a) (sym (is a) ∙ m))

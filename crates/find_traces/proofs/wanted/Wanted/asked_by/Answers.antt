@@ -1,0 +1,13 @@
+use Rattle.std.proofs.Common.{◌∙◌, ap, sym, Some, None}
+use Rattle.std.specs.Prelude.{if◌then◌else◌}
+use Rattle.jaeger_model.specs.Tags.{tag_text}
+use Rattle.find_traces.specs.Wanting.{pair_of, if_asked}
+use Rattle.find_traces.proofs.Wanting.{no_key}
+use Rattle.find_traces.proofs.wanted.Wanted.asked_by.Goals as goal
+
+pub returns-then-not-contains : goal.returns-then-not-contains
+returns-then-not-contains c =
+    let q = c.self.inside.query.now in
+    let t = c.args.tag.now in
+    let absent = no_key q.tags t.key (tag_text t.value) (sym (c.self.invariant.keys_asked t.key) ∙ sym c.contains.ensures ∙ c.if-not-contains.true) in
+    ap (λ b. if b then Some (pair_of t) else None) (sym absent) ∙ ap (λ f. if_asked f (pair_of t)) c.self.view_is

@@ -1,0 +1,54 @@
+-- The pairs of a key and a text that a search asks, and which of them tags tell.
+use Rattle.std.specs.Prelude.{ℕ, Bool, not, ◌&&◌, List, Option, Some, None, if◌then◌else◌}
+use Rattle.std.specs.List.{list_any}
+use Rattle.std.specs.Set.{distinct_count}
+use Rattle.std.specs.declared.cmp.Ordering.{Ordering}
+use Rattle.std.specs.Ordering.{ordering_then, eq_by_cmp}
+use Rattle.jaeger_model.specs.declared.batch.Process.{Process}
+use Rattle.jaeger_model.specs.declared.tag.Tag.{Tag}
+use Rattle.jaeger_model.specs.Tags.{tag_text}
+use Rattle.jaeger_model.specs.Texts.{text_cmp}
+use Rattle.trace_model.specs.declared.query.Find.{Find}
+
+-- what a tag tells
+abbrev pub pair_of : Tag → List ℕ × List ℕ
+pair_of t = (t.key, tag_text t.value)
+
+-- by key, and then by text
+abbrev pub pair_cmp : List ℕ × List ℕ → List ℕ × List ℕ → Ordering
+pair_cmp a b = ordering_then (text_cmp a.0 b.0) (text_cmp a.1 b.1)
+
+abbrev pub same_pair : List ℕ × List ℕ → List ℕ × List ℕ → Bool
+same_pair a b = eq_by_cmp pair_cmp a b
+
+-- the search asks a pair with the key
+abbrev pub asks_key : Find → List ℕ → Bool
+asks_key q k = list_any (λ (a : List ℕ × List ℕ). eq_by_cmp text_cmp k a.0) q.tags
+
+abbrev pub asks : Find → List ℕ × List ℕ → Bool
+asks q a = list_any (same_pair a) q.tags
+
+-- how many pairs the search asks, each counted once
+abbrev pub asked_count : Find → ℕ
+asked_count q = distinct_count same_pair q.tags
+
+-- the pair, if it is asked
+abbrev pub if_asked : Find → List ℕ × List ℕ → Option (List ℕ × List ℕ)
+if_asked q a = if asks q a then Some a else None
+
+-- one of the tags tells the pair
+abbrev pub told_by : List Tag → List ℕ × List ℕ → Bool
+told_by ts a = list_any (λ (t : Tag). same_pair a (pair_of t)) ts
+
+-- the pair is among these
+abbrev pub is_in : List (List ℕ × List ℕ) → List ℕ × List ℕ → Bool
+is_in ps a = list_any (same_pair a) ps
+
+-- the pair is asked and is not among those
+abbrev pub wants : Find → List (List ℕ × List ℕ) → List ℕ × List ℕ → Bool
+wants q but a = asks q a && not (is_in but a)
+
+-- a search and the process of spans that it is about
+pub record Beside : Type 0 where
+  pub query : Find
+  pub process : Process

@@ -1,0 +1,134 @@
+//! Searches whose asked tags are put in order once.
+
+ghost use Rattle.std.specs.Prelude.{◌≡◌, ℕ, List, [], IfOk};
+ghost use Rattle.std.specs.Bool.{OnTrue};
+ghost use Rattle.std.specs.List.{list_any};
+ghost use Rattle.std.specs.Ordering.{eq_by_cmp};
+ghost use Rattle.jaeger_model.specs.Tags.{tag_text};
+ghost use Rattle.jaeger_model.specs.Texts.{text_cmp};
+ghost use Rattle.find_traces.specs.Wanting.{pair_of, same_pair, is_in, asked_count, if_asked};
+
+use jaeger_model::{Tag, Text, Value, tag_text};
+use std::alloc::{AllocError, Global};
+use std::collections::BTreeSet;
+use std::marker::Model;
+use trace_model::Find;
+
+/// A search with the keys and the pairs that it asks of tags in order, so that a tag is looked up among
+/// them. Contracts see the search.
+#[derive(Drop)]
+pub struct Wanted<'q> {
+    query: &'q Find,
+    keys: BTreeSet<Text>,
+    pairs: BTreeSet<(Text, Text)>,
+}
+
+impl<'q> Model for Wanted<'q> {
+    ghost use Rattle.trace_model.specs.declared.query.Find.{Find};
+    ghost use Rattle.find_traces.specs.Prepared.{IsPrepared};
+
+    ghost Value = { Find };
+
+    ghost view = { λ w. w.query.now };
+
+    ghost invariant = { λ w. IsPrepared w.query.now w.keys.keys w.pairs.keys };
+}
+
+/// The keys of the pairs.
+fn keys_of(alloc: Global, asked: &[(Text, Text)]) -> Result<BTreeSet<Text>, AllocError>
+    ensures { IfOk result (λ s. (k : List ℕ) → list_any (eq_by_cmp text_cmp k) s.keys ≡
+        list_any (λ (a : List ℕ × List ℕ). eq_by_cmp text_cmp k a.0) asked.now) }
+{
+    let mut keys = BTreeSet::new(alloc);
+    for pair in asked {
+        let key = pair.0.clone()?;
+        keys.insert(key)?;
+    }
+    Ok(keys)
+}
+
+fn copy_of(pair: &(Text, Text)) -> Result<(Text, Text), AllocError>
+    ensures { IfOk result (λ p. p ≡ pair.now) }
+{
+    Ok((pair.0.clone()?, pair.1.clone()?))
+}
+
+/// The pairs, each once.
+fn pairs_of(alloc: Global, asked: &[(Text, Text)]) -> Result<BTreeSet<(Text, Text)>, AllocError>
+    ensures { IfOk result (λ s. (a : List ℕ × List ℕ) →
+        is_in s.keys a ≡ list_any (same_pair a) asked.now) }
+{
+    let mut pairs = BTreeSet::new(alloc);
+    for pair in asked {
+        let copy = copy_of(pair)?;
+        pairs.insert(copy)?;
+    }
+    Ok(pairs)
+}
+
+/// The value as text.
+fn text_of(alloc: Global, value: &Value) -> Result<Text, AllocError>
+    ensures { IfOk result (λ t. t ≡ tag_text value.now) }
+{
+    match value {
+        Value::Text(text) => text.clone(),
+        other => Ok(Text::from_string(tag_text(alloc, other)?)),
+    }
+}
+
+impl<'q> Wanted<'q> {
+    /// The search, prepared.
+    ///
+    /// # Errors
+    ///
+    /// Out of memory, and nothing else.
+    pub fn new(alloc: Global, query: &'q Find) -> Result<Self, AllocError>
+        ensures { IfOk result (λ w. w ≡ query.now) }
+    {
+        let asked = query.tags.as_slice();
+        let keys = keys_of(alloc, asked)?;
+        let pairs = pairs_of(alloc, asked)?;
+        Ok(Wanted { query, keys, pairs })
+    }
+
+    /// The search.
+    pub fn query(&self) -> &Find
+        ensures { result.now ≡ self.now }
+    {
+        self.query
+    }
+
+    /// Whether no pair is asked.
+    pub(crate) fn asks_nothing(&self) -> bool
+        ensures { OnTrue result (self.now.tags ≡ []) }
+    {
+        self.query.tags.as_slice().is_empty()
+    }
+
+    /// How many pairs are asked, each counted once.
+    pub(crate) fn count(&self) -> usize
+        ensures { result ≡ asked_count self.now }
+    {
+        self.pairs.len()
+    }
+
+    /// The key and the text of the tag, where both are asked together. Where the key is not asked, the
+    /// text is not made.
+    pub(crate) fn asked_by(
+        &self,
+        alloc: Global,
+        tag: &Tag,
+    ) -> Result<Option<(Text, Text)>, AllocError>
+        ensures { IfOk result (λ p. p ≡ if_asked self.now (pair_of tag.now)) }
+    {
+        if !self.keys.contains(&tag.key) {
+            return Ok(None);
+        }
+        let pair = (tag.key.clone()?, text_of(alloc, &tag.value)?);
+        if self.pairs.contains(&pair) {
+            Ok(Some(pair))
+        } else {
+            Ok(None)
+        }
+    }
+}

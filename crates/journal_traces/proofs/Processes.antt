@@ -1,0 +1,55 @@
+-- The processes of spans by the places of their entries.
+use Rattle.std.proofs.Common.{◌≡◌, ℕ, zero, suc, ◌+◌, ◌<◌, List, [], ◌∷◌, ◌++◌, map, length, get_or, refl, sym, ap, ◌∙◌, arith}
+use Rattle.std.specs.Prelude.{Option, Some, None, option_map, slice_get}
+use Rattle.std.specs.Option.{option_and_then}
+use Rattle.std.proofs.lemmas.List.{map_push, length-map}
+use Rattle.jaeger_model.specs.declared.batch.Batch.{Batch}
+use Rattle.jaeger_model.specs.declared.batch.Process.{Process}
+use Rattle.jaeger_model.specs.declared.placed.Placed.{Placed}
+use Rattle.jaeger_model.specs.declared.span.Span.{Span}
+use Rattle.jaeger_model.specs.Parents.{domain, with_parent}
+use Rattle.trace_model.specs.declared.entry.Entry.{Entry}
+use Rattle.trace_model.specs.declared.entry.Work.{Work}
+use Rattle.trace_model.specs.declared.entry.Work.TheVariants as brings
+use Rattle.trace_model.specs.Works.{batch_brought, placed_brought}
+use Rattle.trace_model.specs.Places.{entry_at}
+use Rattle.trace_assembly.specs.declared.spot.Spot.{Spot}
+use Rattle.trace_assembly.specs.Located.{span_at}
+use Rattle.journal_traces.specs.Standing.{process_at, AreAt}
+
+of_batch : (p : Process) (ss : List Span) (i : ℕ) (q : Placed) → Some q ≡ slice_get (map {B = Placed} (λ s. record { process = p; span = with_parent s }) ss) i → q.process ≡ p
+of_batch p [] i q e = absurd (cc e)
+of_batch p (s ∷ ss) zero q e = let same : q ≡ record { process = p; span = with_parent s } = cc e in ap (λ (x : Placed). x.process) same
+of_batch p (s ∷ ss) (suc i) q e = of_batch p ss i q e
+
+brought : (w : Work) (i : ℕ) (q : Placed) → Some q ≡ slice_get (placed_brought w) i → Some q.process ≡ option_map (λ (b : Batch). b.process) (batch_brought w)
+brought (brings.Batch b) i q e = ap Some (of_batch b.process b.spans i q e)
+brought (brings.TraceLimit n) i q e = absurd (cc e)
+
+-- the span at a spot has the process of the batch at its place
+pub process_there : (h : List Entry) (s : Spot) (q : Placed) → Some q ≡ span_at h s → Some q.process ≡ process_at h s.place
+process_there h s q e = there (entry_at h s.place) e
+  where
+    there : (o : Option Entry) → Some q ≡ option_and_then (λ (x : Entry). slice_get (placed_brought x.work) s.index) o → Some q.process ≡ option_map (λ (b : Batch). b.process) (option_and_then (λ (x : Entry). batch_brought x.work) o)
+    there None e = absurd (cc e)
+    there (Some x) e = brought x.work s.index q e
+
+-- one more span
+pub more_at : (h : List Entry) (spans more : List Placed) (places next : List ℕ) (q : Placed) (place : ℕ) → AreAt h spans places → more ≡ spans ++ q ∷ [] → next ≡ places ++ place ∷ [] → Some q.process ≡ process_at h place → AreAt h more next
+more_at h spans more places next q place at put put_place here =
+    ap (map (λ (p : Placed). Some p.process)) put ∙ map_push (λ (p : Placed). Some p.process) spans q ∙ (λ i. at i ++ here i ∷ [])
+    ∙ sym (ap (map (process_at h)) put_place ∙ map_push (process_at h) places place)
+
+-- the process of one of them
+pub process_got : (h : List Entry) (spans : List Placed) (places : List ℕ) → AreAt h spans places → (k : ℕ) (d : Placed) → k < length places → Some (get_or spans k d).process ≡ process_at h (get_or places k 0)
+process_got h [] [] at k d l = absurd (omega arith)
+process_got h [] (x ∷ places) at k d l = absurd (cc at)
+process_got h (p ∷ spans) [] at k d l = absurd (omega arith)
+process_got h (p ∷ spans) (x ∷ places) at zero d l = cc at
+process_got h (p ∷ spans) (x ∷ places) at (suc k) d l = let rest : AreAt h spans places = cc at in process_got h spans places rest k d (omega arith)
+
+-- spans of one place have one process
+pub one_process : (h : List Entry) (spans : List Placed) (places : List ℕ) → AreAt h spans places → (j k : ℕ) (d : Placed) → j < length places → k < length places → get_or places j 0 ≡ get_or places k 0 → (get_or spans j d).process ≡ (get_or spans k d).process
+one_process h spans places at j k d lj lk same =
+    let both : Some (get_or spans j d).process ≡ Some (get_or spans k d).process = process_got h spans places at j d lj ∙ ap (process_at h) same ∙ sym (process_got h spans places at k d lk) in
+    cc both

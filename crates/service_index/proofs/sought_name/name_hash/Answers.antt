@@ -1,7 +1,0 @@
-use Rattle.std.proofs.Common.{rules}
-use Rattle.service_index.specs.Probes.{hash_of}
-use Rattle.service_index.proofs.sought_name.name_hash.Goals as goal
-
-pub returns : goal.returns
-unfolding hash_of
-returns c = search rules

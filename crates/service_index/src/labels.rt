@@ -1,0 +1,35 @@
+//! Labels, and where the labels of numbers stand.
+
+ghost use Rattle.std.specs.Prelude.{◌≡◌, ◌<◌};
+ghost use Rattle.service_index.specs.Naming.{label_value, same_label};
+
+/// A name in a group, with a kind. An operation stands in the group of its service, which is the number
+/// of the service; where no groups are made, all names stand in group 0.
+#[derive(Clone, Copy)]
+pub struct Label<'a> {
+    pub group: u32,
+    pub name: &'a str,
+    pub kind: &'a str,
+}
+
+/// Where the labels of numbers stand.
+pub trait Labels {
+    ghost use Rattle.service_index.specs.Naming.{Labelling};
+
+    /// How many numbers have a label, and the label of each.
+    ghost labels: { Self → Labelling };
+
+    /// The label of a number.
+    fn label_at(&self, n: u32) -> Label<'_>
+        requires { n < (labels self.now).count }
+        ensures { label_value result ≡ (labels self.now).at n };
+}
+
+/// Whether the number has this label.
+pub(crate) fn is_label<L: Labels>(labels: &L, n: u32, label: Label<'_>) -> bool
+    requires { n < (L.labels labels.now).count }
+    ensures { result ≡ same_label ((L.labels labels.now).at n) (label_value label.entry) }
+{
+    let found = labels.label_at(n);
+    found.group == label.group && found.name == label.name && found.kind == label.kind
+}

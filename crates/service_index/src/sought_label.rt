@@ -1,0 +1,54 @@
+//! A label that is sought among those of numbers.
+
+ghost use Rattle.std.specs.Prelude.{◌≡◌};
+ghost use Rattle.service_index.specs.Naming.{label_value};
+ghost use Rattle.service_index.specs.Probes.{hash_of};
+
+use crate::labels::{Label, Labels, is_label};
+use row_places::Sought;
+use std::hash::{BuildHasher, Hash, Hasher, RandomState};
+
+/// The hash of a label, each part of which is delimited.
+pub(crate) fn label_hash(keys: RandomState, label: Label<'_>) -> u64
+    ensures { result ≡ hash_of keys (label_value label.entry) }
+{
+    let mut state = keys.build_hasher();
+    label.group.hash(&mut state);
+    label.name.hash(&mut state);
+    label.kind.hash(&mut state);
+    state.finish()
+}
+
+/// A label that is sought among those of numbers.
+#[derive(Drop)]
+pub(crate) struct SoughtLabel<'a, L> {
+    pub(crate) keys: RandomState,
+    pub(crate) labels: &'a L,
+    pub(crate) numbers: &'a [u32],
+    pub(crate) label: Label<'a>,
+}
+
+impl<'a, L: Labels> Sought for SoughtLabel<'a, L> {
+    ghost use Rattle.std.specs.Prelude.{map, get_or};
+    ghost use Rattle.service_index.specs.Naming.{label_value, same_label};
+    ghost use Rattle.service_index.specs.Probes.{AreNumbers, hashes_of};
+
+    ghost can_read = { λ s. AreNumbers (L.labels s.labels.now).count s.numbers.now };
+
+    ghost hashes = { λ s. hashes_of s.keys (map (L.labels s.labels.now).at s.numbers.now) };
+
+    ghost is_sought = { λ s row. same_label ((L.labels s.labels.now).at (get_or s.numbers.now row 0))
+        (label_value s.label) };
+
+    fn rows(&self) -> usize {
+        self.numbers.len()
+    }
+
+    fn hash_at(&self, row: usize) -> u64 {
+        label_hash(self.keys, self.labels.label_at(self.numbers[row]))
+    }
+
+    fn is_sought(&self, row: usize) -> bool {
+        is_label(self.labels, self.numbers[row], self.label)
+    }
+}

@@ -1,0 +1,5 @@
+use Rattle.service_places.proofs.Entries.{before_last-push}
+use Rattle.service_places.proofs.laws.one_more_entry.Goals as goal
+
+pub returns : goal.returns
+returns c h e = before_last-push h e

@@ -1,0 +1,78 @@
+use Rattle.std.proofs.Common.{rules, refl, ◌≡◌, ◌+◌, ◌<◌, ◌≤◌, ◌++◌, ◌∷◌, [], ◌∙◌, ap, sym, subst, arith, length, get_or, List}
+use Rattle.jaeger_model.specs.declared.span.Span.{Span}
+use Rattle.jaeger_model.specs.Parents.{placed}
+use Rattle.trace_model.specs.Events.{came}
+use Rattle.trace_model.proofs.Parents.{with_parent-trace}
+use Rattle.trace_assembly.specs.Rows.{spots_of}
+use Rattle.trace_assembly.specs.Located.{located_upto}
+use Rattle.trace_assembly.proofs.Places.{upto_more}
+use Rattle.span_store.specs.Kept.{Follows}
+use Rattle.span_store.proofs.Following.{upto_end, follows_none}
+use Rattle.span_store.proofs.arrange.let_all_in.Goals as goal
+
+pub loop-span-init : goal.loop-span-init
+loop-span-init c = record {
+  index = refl;
+  within = c.requires.within;
+  follows = λ n h at f. follows_none n h c.args.batch.now c.args.ring.now (spots_of c.args.assembly.now) f;
+  ring_room = refl;
+  seen = omega arith;
+  assembly_room = refl;
+  used = omega arith;
+}
+
+pub overflow_add-index : goal.overflow_add-index
+overflow_add-index c =
+    let le : c.loop-span.span-index < length c.args.batch.now.spans = subst (λ (ss : List Span). c.loop-span.span-index < length ss) c.as_slice-span-items.ensures c.loop-span-test.true in
+    let fits = c.requires.fits in
+    let at = c.loop-span.invariant.index in
+    search rules
+
+pub loop-span-preserved : goal.loop-span-preserved
+loop-span-preserved c =
+    let s = c.span-item.result in
+    let i = c.loop-span.span-index in
+    let b = c.args.batch.now in
+    let le : i < length b.spans = subst (λ (ss : List Span). i < length ss) c.as_slice-span-items.ensures c.loop-span-test.true in
+    let is : s ≡ get_or b.spans i s = c.span-item.is ∙ ap (λ ss. get_or ss i s) c.as_slice-span-items.ensures in
+    record {
+      index = ap (λ k. k + 1) c.loop-span.invariant.index;
+      within = c.let_in.ensures.within;
+      follows = λ n h at f.
+          subst (λ es. Follows n es c.let_in.new.ring (spots_of c.let_in.new.assembly))
+          ((λ j. located_upto h b i ++ came (record { place = at j; index = c.loop-span.invariant.index j }, placed b s) ∷ []) ∙ sym (upto_more h b i s le (sym is)))
+          (c.let_in.ensures.follows n (located_upto h b i) (placed b s) (c.loop-span.invariant.follows n h at f) (with_parent-trace s));
+      ring_room = c.let_in.ensures.ring_room ∙ c.loop-span.invariant.ring_room;
+      seen = let now = c.let_in.ensures.seen in let then = c.loop-span.invariant.seen in omega arith;
+      assembly_room = c.let_in.ensures.assembly_room ∙ c.loop-span.invariant.assembly_room;
+      used = let now = c.let_in.ensures.used in let then = c.loop-span.invariant.used in omega arith;
+    }
+
+pub returns-clause-follows : goal.returns-clause-follows
+returns-clause-follows c = λ n h at f.
+    let past : length c.args.batch.now.spans ≤ c.loop-span.span-index = subst (λ (ss : List Span). length ss ≤ c.loop-span.span-index) c.as_slice-span-items.ensures c.loop-span-test.false in
+    subst (λ es. Follows n es c.loop-span.ring (spots_of c.loop-span.assembly)) (upto_end h c.args.batch.now c.loop-span.span-index past) (c.loop-span.invariant.follows n h at f)
+
+pub let_in-requires-clause-ring_room : goal.let_in-requires-clause-ring_room
+let_in-requires-clause-ring_room c =
+    let le : c.loop-span.span-index < length c.args.batch.now.spans = subst (λ (ss : List Span). c.loop-span.span-index < length ss) c.as_slice-span-items.ensures c.loop-span-test.true in
+    omega (arith, c.requires.ring_room, c.loop-span.invariant.ring_room, c.loop-span.invariant.seen)
+
+pub returns-clause-ring_room : goal.returns-clause-ring_room
+returns-clause-ring_room c = c.loop-span.invariant.ring_room
+
+pub returns-clause-seen : goal.returns-clause-seen
+returns-clause-seen c = omega (arith, c.loop-span.invariant.seen)
+
+pub let_in-requires-clause-assembly_room : goal.let_in-requires-clause-assembly_room
+let_in-requires-clause-assembly_room c =
+    let le : c.loop-span.span-index < length c.args.batch.now.spans = subst (λ (ss : List Span). c.loop-span.span-index < length ss) c.as_slice-span-items.ensures c.loop-span-test.true in
+    omega (arith, c.requires.assembly_room, c.loop-span.invariant.assembly_room, c.loop-span.invariant.used)
+
+pub returns-clause-assembly_room : goal.returns-clause-assembly_room
+returns-clause-assembly_room c = c.loop-span.invariant.assembly_room
+
+pub returns-clause-used : goal.returns-clause-used
+returns-clause-used c =
+    let past : length c.args.batch.now.spans ≤ c.loop-span.span-index = subst (λ (ss : List Span). length ss ≤ c.loop-span.span-index) c.as_slice-span-items.ensures c.loop-span-test.false in
+    omega (arith, c.loop-span.invariant.used)

@@ -1,0 +1,11 @@
+use Rattle.std.proofs.Common.{refl}
+use Rattle.span_store.proofs.Leaving.{lowering_more}
+use Rattle.span_store.proofs.arrange.lower.Goals as goal
+
+pub loop-gone-preserved : goal.loop-gone-preserved
+loop-gone-preserved c =
+    let before = c.loop-gone in
+    let drop = c.in-Some.ensures in
+    let many = drop.variant.0 refl in
+    lowering_more c.args.limit c.args.ring.now before.ring c.drop_oldest.new.self c.args.assembly.now before.assembly c.hide.new.self c.in-Some.gone before.invariant
+    drop.limit drop.ids drop.seen drop.room many.0 many.1 drop.gone c.hide.ensures.spots c.hide.ensures.used c.hide.ensures.room

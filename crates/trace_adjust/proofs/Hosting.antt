@@ -1,0 +1,275 @@
+-- Numbers tell hosts apart, and clocks by numbers are the spans' clocks.
+use Rattle.std.proofs.Common.{◌≡◌, ℕ, zero, suc, pos, ◌+◌, ◌-◌, ◌<◌, Bool, true, false, List, [], ◌∷◌, ◌++◌, map, take, drop, length, get_or, set, refl, sym, ap, ◌∙◌, arith, eqb-true, eq-eqb}
+use Rattle.std.specs.Prelude.{Option, Some, None, option_map, is_some, not, ◌||◌, ◌==◌, cond, unwrap_or, codes, if◌then◌else◌}
+use Rattle.std.specs.Option.{option_or}
+use Rattle.std.specs.Ordering.{is_eq}
+use Rattle.std.specs.Cmp.Lexicographic.{bytes_decides, texts_ties}
+use Rattle.std.proofs.lemmas.Bool.{false≢true}
+use Rattle.std.proofs.lemmas.List.{map-set, map-append, map_more, map_push, get_or-map, length-map, length-take-le, take-append-drop}
+use Rattle.jaeger_model.specs.declared.placed.Placed.{Placed}
+use Rattle.jaeger_model.specs.declared.span.Span.{Span}
+use Rattle.jaeger_model.specs.Texts.{same_text, text_cmp}
+use Rattle.jaeger_model.specs.Tags.{first_text}
+use Rattle.trace_model.specs.declared.answer.Shown.{Shown}
+use Rattle.trace_model.specs.Adjusting.{host_of, spans_of, unadjusted, with_parent_first, new_delta, clock_at, clock_below}
+use Rattle.trace_adjust.specs.declared.clock.HostClock.{HostClock}
+use Rattle.trace_adjust.specs.Settling.{near, is_unset, written, delta_at, delta_or_none}
+use Rattle.trace_adjust.specs.Hosts.{ShareProcesses, hosts_of, number_in, hosted, all_hosted, AreNumbers, IsNumber, IsNumbered, AreNumbered, clock_by, below_by, near_by, delta_of, delta_by}
+use Rattle.trace_adjust.proofs.Places.{as_many, placed_at}
+
+-- ---- processes
+first_process : (ps : List Placed) (k : ℕ) (d : Placed) → (get_or (spans_of (map unadjusted (map with_parent_first ps))) k d).process ≡ (get_or ps k d).process
+first_process [] k d = refl
+first_process (p ∷ ps) zero d = refl
+first_process (p ∷ ps) (suc k) d = first_process ps k d
+
+pub shared_first : (ps : List Placed) (places : List ℕ) → ShareProcesses ps places → ShareProcesses (spans_of (map unadjusted (map with_parent_first ps))) places
+shared_first ps places share k d l e = first_process ps k d ∙ share k d l e ∙ sym (first_process ps (k + 1) d)
+
+-- ---- numbers
+same_is : (t u : List ℕ) → same_text t u ≡ true → t ≡ u
+same_is t u e = (bytes_decides t u).0 e
+
+itself : (t : List ℕ) → same_text t t ≡ true
+itself t = (bytes_decides t t).1 refl
+
+-- the host with the number
+pub number_there : (hosts : List (List ℕ)) (t : List ℕ) (n : ℕ) → number_in hosts t ≡ Some n → get_or hosts n [] ≡ t
+number_there [] t n e = absurd (false≢true (ap is_some e))
+number_there (h ∷ hosts) t n e = elim (same_text t h) as (λ b. same_text t h ≡ b → (if b then Some 0 else option_map suc (number_in hosts t)) ≡ Some n → get_or (h ∷ hosts) n [] ≡ t) [
+  | true ↦ λ s q. let z : 0 ≡ n = cc q in ap (λ k. get_or (h ∷ hosts) k []) (sym z) ∙ sym (same_is t h s)
+  | false ↦ λ s q. later (λ k. number_there hosts t k) (number_in hosts t) refl q
+] refl e
+  where
+    later : ((k : ℕ) → number_in hosts t ≡ Some k → get_or hosts k [] ≡ t) → (o : Option ℕ) → number_in hosts t ≡ o → option_map suc o ≡ Some n → get_or (h ∷ hosts) n [] ≡ t
+    later there None r q = absurd (false≢true (ap is_some q))
+    later there (Some k) r q = let s : suc k ≡ n = cc q in ap (λ j. get_or (h ∷ hosts) j []) (sym s) ∙ there k r
+
+pub is_number : (hosts : List (List ℕ)) (t : List ℕ) (n : ℕ) → number_in hosts t ≡ Some n → IsNumber hosts n
+is_number hosts t n e = ap (number_in hosts) (number_there hosts t n e) ∙ e
+
+-- two hosts have one number where they are the same
+pub same_number : (hosts : List (List ℕ)) (t u : List ℕ) (n k : ℕ) → number_in hosts t ≡ Some n → number_in hosts u ≡ Some k → (n == k) ≡ same_text t u
+same_number hosts t u n k e f = elim (n == k) as (λ b. (n == k) ≡ b → b ≡ same_text t u) [
+  | true ↦ λ s. sym (ap (same_text t) (sym (sym (number_there hosts t n e) ∙ ap (λ j. get_or hosts j []) (eqb-true n k s) ∙ number_there hosts u k f)) ∙ itself t)
+  | false ↦ λ s. elim (same_text t u) as (λ b. same_text t u ≡ b → false ≡ b) [
+    | true ↦ λ q.
+        let both : Some n ≡ Some k = sym e ∙ ap (number_in hosts) (same_is t u q) ∙ f in
+        let one : n ≡ k = cc both in
+        sym s ∙ eq-eqb n k one
+    | false ↦ λ q. refl
+  ] refl
+] refl
+
+-- ---- clocks by numbers are clocks
+pub below_hosted : (m : ℕ) (trace : List Placed) (c : HostClock) (n : ℕ) (p : Placed) → IsNumber (hosts_of trace) c.host → number_in (hosts_of trace) (host_of p) ≡ Some n
+    → hosted (hosts_of trace) (below_by m c n p.span) ≡ clock_below m (hosted (hosts_of trace) c) p
+below_hosted m trace c n p known number =
+    let hosts = hosts_of trace in
+    let empty : (n == 0) ≡ same_text (host_of p) [] = same_number hosts (host_of p) [] n 0 number refl in
+    let other : (n == c.host) ≡ same_text (host_of p) (get_or hosts c.host []) = same_number hosts (host_of p) (get_or hosts c.host []) n c.host number known in
+    let own : get_or hosts n [] ≡ host_of p = number_there hosts (host_of p) n number in
+    by_tests (n == 0) (n == c.host)
+    ∙ (λ i. if empty i || not (other i) then clock_at m (own i) (new_delta (hosted hosts c) p.span) p.span else clock_at m (get_or hosts c.host []) c.delta p.span)
+  where
+    by_tests : (a b : Bool) → hosted (hosts_of trace) (if a || not b then clock_by m n (new_delta (hosted (hosts_of trace) c) p.span) p.span else clock_by m c.host c.delta p.span)
+        ≡ (if a || not b then clock_at m (get_or (hosts_of trace) n []) (new_delta (hosted (hosts_of trace) c) p.span) p.span else clock_at m (get_or (hosts_of trace) c.host []) c.delta p.span)
+    by_tests true b = refl
+    by_tests false true = refl
+    by_tests false false = refl
+
+below_numbered : (m : ℕ) (hosts : List (List ℕ)) (c : HostClock) (n : ℕ) (s : Span) → IsNumber hosts c.host → IsNumber hosts n → IsNumber hosts (below_by m c n s).host
+below_numbered m hosts c n s known own = by_test ((n == 0) || not (n == c.host))
+  where
+    by_test : (b : Bool) → IsNumber hosts (if b then clock_by m n (new_delta (hosted hosts c) s) s else clock_by m c.host c.delta s).host
+    by_test true = own
+    by_test false = known
+
+pub hosted_at : {X Y : Type 0} (f : X → Y) (cs : List (Option X)) (k : ℕ) → get_or (map (option_map f) cs) k None ≡ option_map f (get_or cs k None)
+hosted_at f [] k = refl
+hosted_at f (c ∷ cs) zero = refl
+hosted_at f (c ∷ cs) (suc k) = hosted_at f cs k
+
+pub hosted_none : {X Y : Type 0} (f : X → Y) (o : Option X) → option_map f o ≡ None → o ≡ None
+hosted_none f None e = refl
+hosted_none f (Some x) e = absurd (false≢true (sym (ap is_some e)))
+
+hosted_some : {X Y : Type 0} (f : X → Y) (o : Option X) → is_some (option_map f o) ≡ is_some o
+hosted_some f None = refl
+hosted_some f (Some x) = refl
+
+pub written_hosted : {X Y : Type 0} (f : X → Y) (cs : List (Option X)) (i : ℕ) (o : Option X) → map (option_map f) (written cs i o) ≡ written (map (option_map f) cs) i (option_map f o)
+written_hosted f cs i o =
+    by_test (is_unset (get_or cs i None))
+    ∙ ap (λ b. if not b then set (map (option_map f) cs) i (option_map f o) else map (option_map f) cs) (sym (ap is_some (hosted_at f cs i) ∙ hosted_some f (get_or cs i None)))
+  where
+    by_test : (b : Bool) → map (option_map f) (if b then set cs i o else cs) ≡ (if b then set (map (option_map f) cs) i (option_map f o) else map (option_map f) cs)
+    by_test true = map-set (option_map f) cs i o
+    by_test false = refl
+
+pub near_hosted : (m : ℕ) (trace : List Placed) (cs : List (Option HostClock)) (n : ℕ) (p : Placed) (o : Option ℕ) → AreNumbered (hosts_of trace) cs → number_in (hosts_of trace) (host_of p) ≡ Some n
+    → option_map (hosted (hosts_of trace)) (near_by m cs n p.span o) ≡ near m (all_hosted (hosts_of trace) cs) p o
+near_hosted m trace cs n p None known number = ap (λ h. Some (clock_at m h (pos 0) p.span)) (number_there (hosts_of trace) (host_of p) n number)
+near_hosted m trace cs n p (Some j) known number = by_above (get_or cs j None) (known j) ∙ ap (option_map (λ above. clock_below m above p)) (sym (hosted_at (hosted (hosts_of trace)) cs j))
+  where
+    by_above : (c : Option HostClock) → IsNumbered (hosts_of trace) c → option_map (hosted (hosts_of trace)) (option_map (λ above. below_by m above n p.span) c) ≡ option_map (λ above. clock_below m above p) (option_map (hosted (hosts_of trace)) c)
+    by_above None k = refl
+    by_above (Some c) k = ap Some (below_hosted m trace c n p k number)
+
+pub near_numbered : (m : ℕ) (trace : List Placed) (cs : List (Option HostClock)) (n : ℕ) (p : Placed) (o : Option ℕ) → AreNumbered (hosts_of trace) cs → number_in (hosts_of trace) (host_of p) ≡ Some n
+    → IsNumbered (hosts_of trace) (near_by m cs n p.span o)
+near_numbered m trace cs n p None known number = is_number (hosts_of trace) (host_of p) n number
+near_numbered m trace cs n p (Some j) known number = by_above (get_or cs j None) (known j)
+  where
+    by_above : (c : Option HostClock) → IsNumbered (hosts_of trace) c → IsNumbered (hosts_of trace) (option_map (λ above. below_by m above n p.span) c)
+    by_above None k = tt
+    by_above (Some c) k = below_numbered m (hosts_of trace) c n p.span k (is_number (hosts_of trace) (host_of p) n number)
+
+pub written_numbered : (hosts : List (List ℕ)) (cs : List (Option HostClock)) (i : ℕ) (o : Option HostClock) → AreNumbered hosts cs → IsNumbered hosts o → AreNumbered hosts (written cs i o)
+written_numbered hosts cs i o known here = elim (is_unset (get_or cs i None)) as (λ b. AreNumbered hosts (if b then set cs i o else cs)) [
+  | true ↦ set_numbered cs i known
+  | false ↦ known
+]
+  where
+    set_numbered : (cs : List (Option HostClock)) (i : ℕ) → AreNumbered hosts cs → AreNumbered hosts (set cs i o)
+    set_numbered [] i known k = known k
+    set_numbered (c ∷ cs) zero known zero = here
+    set_numbered (c ∷ cs) zero known (suc k) = known (suc k)
+    set_numbered (c ∷ cs) (suc i) known zero = known zero
+    set_numbered (c ∷ cs) (suc i) known (suc k) = set_numbered cs i (λ j. known (suc j)) k
+
+-- ---- deltas by numbers
+delta_hosted : (hosts : List (List ℕ)) (c : Option HostClock) → delta_of c ≡ delta_or_none (option_map (hosted hosts) c)
+delta_hosted hosts None = refl
+delta_hosted hosts (Some c) = refl
+
+pub same_delta : (hosts : List (List ℕ)) (first : ℕ → Option ℕ) (cs : List (Option HostClock)) (i id : ℕ) → delta_by first cs i id ≡ delta_at first (all_hosted hosts cs) i id
+same_delta hosts first cs i id = ap (λ d. if unwrap_or (first id) i == i then d else pos 0) (delta_hosted hosts (get_or cs i None) ∙ ap delta_or_none (sym (hosted_at (hosted hosts) cs i)))
+
+-- ---- the table of numbers, with one more host
+or_none : {X : Type 0} (o : Option X) → option_or o None ≡ o
+or_none None = refl
+or_none (Some x) = refl
+
+map_or : (o : Option ℕ) (b : Bool) (n : ℕ) → option_map suc (option_or o (cond b (Some n) None)) ≡ option_or (option_map suc o) (cond b (Some (suc n)) None)
+map_or (Some x) b n = refl
+map_or None true n = refl
+map_or None false n = refl
+
+pub number_push : (hosts : List (List ℕ)) (h t : List ℕ) → number_in (hosts ++ h ∷ []) t ≡ option_or (number_in hosts t) (cond (same_text t h) (Some (length hosts)) None)
+number_push [] h t = refl
+number_push (g ∷ hosts) h t = elim (same_text t g) as (λ b. (if b then Some 0 else option_map suc (number_in (hosts ++ h ∷ []) t)) ≡ option_or (if b then Some 0 else option_map suc (number_in hosts t)) (cond (same_text t h) (Some (suc (length hosts))) None)) [
+  | true ↦ refl
+  | false ↦ ap (option_map suc) (number_push hosts h t) ∙ map_or (number_in hosts t) (same_text t h) (length hosts)
+]
+
+-- a host that is there already changes nothing
+pub number_again : (hosts : List (List ℕ)) (h : List ℕ) (n : ℕ) → number_in hosts h ≡ Some n → (t : List ℕ) → number_in (hosts ++ h ∷ []) t ≡ number_in hosts t
+number_again hosts h n e t = number_push hosts h t ∙ elim (same_text t h) as (λ b. same_text t h ≡ b → option_or (number_in hosts t) (cond b (Some (length hosts)) None) ≡ number_in hosts t) [
+  | true ↦ λ s.
+      let there : number_in hosts t ≡ Some n = ap (number_in hosts) (same_is t h s) ∙ e in
+      ap (λ o. option_or o (Some (length hosts))) there ∙ sym there
+  | false ↦ λ s. or_none (number_in hosts t)
+] refl
+
+pub number_stays : (hosts more : List (List ℕ)) (t : List ℕ) (n : ℕ) → number_in hosts t ≡ Some n → number_in (hosts ++ more) t ≡ Some n
+number_stays [] more t n e = absurd (false≢true (ap is_some e))
+number_stays (h ∷ hosts) more t n e = elim (same_text t h) as (λ b. (if b then Some 0 else option_map suc (number_in hosts t)) ≡ Some n → (if b then Some 0 else option_map suc (number_in (hosts ++ more) t)) ≡ Some n) [
+  | true ↦ λ q. q
+  | false ↦ λ q. later (λ k. number_stays hosts more t k) (number_in hosts t) refl q
+] e
+  where
+    later : ((k : ℕ) → number_in hosts t ≡ Some k → number_in (hosts ++ more) t ≡ Some k) → (o : Option ℕ) → number_in hosts t ≡ o → option_map suc o ≡ Some n → option_map suc (number_in (hosts ++ more) t) ≡ Some n
+    later stays None r q = absurd (false≢true (ap is_some q))
+    later stays (Some k) r q = ap (option_map suc) (stays k r) ∙ q
+
+-- the number that stands at a place
+pub number_read : (hosts : List (List ℕ)) (trace : List Placed) (ns : List ℕ) (i : ℕ) (d : Placed) (e : ℕ) → i < length trace → AreNumbers hosts trace ns → number_in hosts (host_of (get_or trace i d)) ≡ Some (get_or ns i e)
+number_read hosts [] ns i d e l are = absurd (omega arith)
+number_read hosts (p ∷ trace) [] i d e l are = absurd (cc are)
+number_read hosts (p ∷ trace) (n ∷ ns) zero d e l are = let first : Some n ≡ number_in hosts (host_of p) = cc are in sym first
+number_read hosts (p ∷ trace) (n ∷ ns) (suc i) d e l are = let rest : AreNumbers hosts trace ns = cc are in number_read hosts trace ns i d e (omega arith) rest
+
+-- ---- one more span's host
+module _ (ss : List Shown) (i : ℕ) (s : Shown) (l : i < length ss) (e : s ≡ get_or ss i s) where
+  abbrev all : List (List ℕ)
+  all = hosts_of (spans_of ss)
+
+  abbrev before : List (List ℕ)
+  before = hosts_of (spans_of (take i ss))
+
+  within : i < length (spans_of ss)
+  within = let many = as_many ss in omega (arith, many, l)
+
+  there : s.placed ≡ get_or (spans_of ss) i s.placed
+  there = placed_at ss i s l e
+
+  before_more : hosts_of (spans_of (take (i + 1) ss)) ≡ before ++ host_of s.placed ∷ []
+  before_more = ap hosts_of (map_more (λ (x : Shown). x.placed) ss i s l ∙ ap (λ (x : Shown). spans_of (take i ss) ++ x.placed ∷ []) (sym e)) ∙ ap (λ hs. [] ∷ hs) (map_push host_of (spans_of (take i ss)) s.placed)
+
+  all_is : all ≡ hosts_of (spans_of (take (i + 1) ss)) ++ map host_of (spans_of (drop (i + 1) ss))
+  all_is = ap hosts_of (ap spans_of (sym (take-append-drop (i + 1) ss)) ∙ map-append (λ (x : Shown). x.placed) (take (i + 1) ss) (drop (i + 1) ss)) ∙ ap (λ hs. [] ∷ hs) (map-append host_of (spans_of (take (i + 1) ss)) (spans_of (drop (i + 1) ss)))
+
+  host_at : get_or all (i + 1) [] ≡ host_of s.placed
+  host_at = ap (λ k. get_or all k []) (add_one i) ∙ get_or-map host_of (spans_of ss) i s.placed [] within ∙ ap host_of (sym there)
+    where
+      add_one : (k : ℕ) → k + 1 ≡ suc k
+      add_one k = omega arith
+
+  pub table_more : (g : List ℕ → Option ℕ) → ((t : List ℕ) → g t ≡ number_in (before ++ host_of s.placed ∷ []) t) → (t : List ℕ) → g t ≡ number_in (hosts_of (spans_of (take (i + 1) ss))) t
+  table_more g is t = is t ∙ ap (λ hs. number_in hs t) (sym before_more)
+
+  pub last_more : (n : ℕ) → number_in (before ++ host_of s.placed ∷ []) (host_of s.placed) ≡ Some n → number_in (hosts_of (spans_of (take (i + 1) ss))) (get_or all (i + 1) []) ≡ Some n
+  last_more n is = (λ j. number_in (before_more j) (host_at j)) ∙ is
+
+  pub numbers_more : (ns new : List ℕ) (n : ℕ) → AreNumbers all (spans_of (take i ss)) ns → new ≡ ns ++ n ∷ [] → number_in (before ++ host_of s.placed ∷ []) (host_of s.placed) ≡ Some n → AreNumbers all (spans_of (take (i + 1) ss)) new
+  numbers_more ns new n are put is =
+      let known : number_in all (host_of s.placed) ≡ Some n = ap (λ hs. number_in hs (host_of s.placed)) (all_is ∙ ap (λ hs. hs ++ map host_of (spans_of (drop (i + 1) ss))) before_more) ∙ number_stays (before ++ host_of s.placed ∷ []) _ (host_of s.placed) n is in
+      ap (map Some) put ∙ map_push Some ns n ∙ (λ j. are j ++ (sym known) j ∷ [])
+      ∙ sym (map_push (λ p. number_in all (host_of p)) (spans_of (take i ss)) s.placed)
+      ∙ ap (map (λ p. number_in all (host_of p))) (sym (map_more (λ (x : Shown). x.placed) ss i s l ∙ ap (λ (x : Shown). spans_of (take i ss) ++ x.placed ∷ []) (sym e)))
+
+  pub fresh_is : length before ≡ i + 1
+  fresh_is = let a = length-map (spans_of (take i ss)) host_of in let b = as_many (take i ss) in let c = length-take-le i ss (omega (arith, l)) in omega (arith, a, b, c)
+
+  -- the span before has the same host
+  pub same_host : (places : List ℕ) → ShareProcesses (spans_of ss) places → 0 < i → i < length places → get_or places (i - 1) 0 ≡ get_or places i 0 → get_or all i [] ≡ host_of s.placed
+  same_host places share above short same =
+      let one : (i - 1) + 1 ≡ i = omega (arith, above) in
+      let next : suc (i - 1) ≡ i = omega (arith, above) in
+      let shared = share (i - 1) s.placed (omega (arith, one, short)) (same ∙ ap (λ k. get_or places k 0) (sym one)) in
+      ap (λ k. get_or all k []) (sym next) ∙ get_or-map host_of (spans_of ss) (i - 1) s.placed [] (omega (arith, within))
+      ∙ ap (λ q. first_text (codes "ip") q.tags) (shared ∙ ap (λ k. (get_or (spans_of ss) k s.placed).process) one)
+      ∙ ap host_of (sym there)
+
+-- the number that a host gets
+pub number_given : (hosts : List (List ℕ)) (h : List ℕ) (o : Option ℕ) (n fresh : ℕ) → o ≡ number_in hosts h → n ≡ unwrap_or o fresh → length hosts ≡ fresh → number_in (hosts ++ h ∷ []) h ≡ Some n
+number_given hosts h o n fresh is given long =
+    number_push hosts h h ∙ (λ i. option_or ((sym is) i) (cond (itself h i) (Some (long i)) None)) ∙ by_cases o ∙ ap Some (sym given)
+  where
+    by_cases : (o : Option ℕ) → option_or o (cond true (Some fresh) None) ≡ Some (unwrap_or o fresh)
+    by_cases None = refl
+    by_cases (Some k) = refl
+
+-- the table as it is after that
+pub table_given : (hosts : List (List ℕ)) (h : List ℕ) (old new : List ℕ → Option ℕ) (fresh : ℕ) → ((t : List ℕ) → old t ≡ number_in hosts t) → length hosts ≡ fresh
+    → ((t : List ℕ) → new t ≡ option_or (old t) (cond (same_text t h) (Some fresh) None)) → (t : List ℕ) → new t ≡ number_in (hosts ++ h ∷ []) t
+table_given hosts h old new fresh is long put t = put t ∙ (λ i. option_or (is t i) (cond (same_text t h) (Some ((sym long) i)) None)) ∙ sym (number_push hosts h t)
+
+-- ---- one entry of the table of numbers
+pub entry_kept : (g : List ℕ → Option ℕ) (h : List ℕ) (n fresh : ℕ) → g h ≡ Some n → (t : List ℕ) → g t ≡ option_or (g t) (cond (same_text t h) (Some fresh) None)
+entry_kept g h n fresh e t = elim (same_text t h) as (λ b. same_text t h ≡ b → g t ≡ option_or (g t) (cond b (Some fresh) None)) [
+  | true ↦ λ s. let found : g t ≡ Some n = ap g (same_is t h s) ∙ e in found ∙ ap (λ o. option_or o (Some fresh)) (sym found)
+  | false ↦ λ s. sym (or_none (g t))
+] refl
+
+pub entry_made : (g : List ℕ → Option ℕ) (h : List ℕ) (o : Option ℕ) (fresh : ℕ) (t : List ℕ) → g h ≡ None → o ≡ cond (is_eq (text_cmp h t)) (Some fresh) (g t) → o ≡ option_or (g t) (cond (same_text t h) (Some fresh) None)
+entry_made g h o fresh t none put = put ∙ ap (λ b. cond b (Some fresh) (g t)) (sym (texts_ties h t)) ∙ elim (same_text h t) as (λ b. same_text h t ≡ b → cond b (Some fresh) (g t) ≡ option_or (g t) (cond (same_text t h) (Some fresh) None)) [
+  | true ↦ λ s.
+      let same : h ≡ t = same_is h t s in
+      (λ i. option_or ((sym none ∙ ap g same) i) (cond ((sym (itself h) ∙ ap (λ x. same_text x h) same) i) (Some fresh) None))
+  | false ↦ λ s. elim (same_text t h) as (λ b. same_text t h ≡ b → g t ≡ option_or (g t) (cond b (Some fresh) None)) [
+    | true ↦ λ q. absurd (false≢true (sym s ∙ ap (same_text h) (same_is t h q) ∙ itself h))
+    | false ↦ λ q. sym (or_none (g t))
+  ] refl
+] refl

@@ -1,0 +1,66 @@
+-- The hosts of the spans of a trace by numbers, and clocks that name them so.
+use Rattle.std.specs.Prelude.{◌≡◌, ℕ, suc, pos, ◌+◌, ◌<◌, List, [], ◌∷◌, length, get_or, map, not, ◌||◌, ◌==◌, Option, Some, None, option_map, unwrap_or, ℤ, if◌then◌else◌}
+use Rattle.jaeger_model.specs.declared.placed.Placed.{Placed}
+use Rattle.jaeger_model.specs.declared.span.Span.{Span}
+use Rattle.jaeger_model.specs.Texts.{same_text}
+use Rattle.trace_model.specs.declared.clock.Clock.{Clock}
+use Rattle.trace_model.specs.Adjusting.{host_of, start_at, delta_between}
+use Rattle.trace_adjust.specs.Settling.{AreRight}
+use Rattle.trace_adjust.specs.declared.clock.HostClock.{HostClock}
+
+-- spans that stand together and have one place have one process; a span without a place stands alone
+abbrev pub ShareProcesses : List Placed → List ℕ → Type 0
+ShareProcesses trace places = (k : ℕ) (d : Placed) → k + 1 < length places → get_or places k 0 ≡ get_or places (k + 1) 0 → (get_or trace k d).process ≡ (get_or trace (k + 1) d).process
+
+-- the hosts of the spans, behind the empty one
+abbrev pub hosts_of : List Placed → List (List ℕ)
+hosts_of trace = [] ∷ map host_of trace
+
+-- the number of a host: where it stands first
+abbrev pub number_in : List (List ℕ) → List ℕ → Option ℕ
+number_in [] host = None
+number_in (h ∷ hosts) host = if same_text host h then Some 0 else option_map suc (number_in hosts host)
+
+-- each span has the number of its host
+abbrev pub AreNumbers : List (List ℕ) → List Placed → List ℕ → Type 0
+AreNumbers hosts trace ns = map Some ns ≡ map (λ p. number_in hosts (host_of p)) trace
+
+-- the clock of the host with the number
+abbrev pub hosted : List (List ℕ) → HostClock → Clock
+hosted hosts c = record { host = get_or hosts c.host []; delta = c.delta; start = c.start; duration = c.duration }
+
+abbrev pub all_hosted : List (List ℕ) → List (Option HostClock) → List (Option Clock)
+all_hosted hosts cs = map (option_map (hosted hosts)) cs
+
+-- the number is its host's
+abbrev pub IsNumber : List (List ℕ) → ℕ → Type 0
+IsNumber hosts n = number_in hosts (get_or hosts n []) ≡ Some n
+
+abbrev pub IsNumbered : List (List ℕ) → Option HostClock → Type 0
+IsNumbered hosts None = Unit {0}
+IsNumbered hosts (Some c) = IsNumber hosts c.host
+
+abbrev pub AreNumbered : List (List ℕ) → List (Option HostClock) → Type 0
+AreNumbered hosts cs = (k : ℕ) → IsNumbered hosts (get_or cs k None)
+
+-- each clock that is set is the span's, and its host's number that of a host of the trace
+abbrev pub AreSet : ℕ → List Placed → List (Option HostClock) → Type 0
+AreSet max_skew trace cs = AreRight max_skew trace (all_hosted (hosts_of trace) cs) × AreNumbered (hosts_of trace) cs
+
+-- ---- what Adjusting and Settling say of clocks, by numbers
+abbrev pub clock_by : ℕ → ℕ → ℤ → Span → HostClock
+clock_by max_skew n delta s = record { host = n; delta = delta; start = start_at max_skew delta s; duration = s.duration }
+
+abbrev pub below_by : ℕ → HostClock → ℕ → Span → HostClock
+below_by max_skew c n s = if (n == 0) || not (n == c.host) then clock_by max_skew n (delta_between c.start c.duration s.start s.duration) s else clock_by max_skew c.host c.delta s
+
+abbrev pub near_by : ℕ → List (Option HostClock) → ℕ → Span → Option ℕ → Option HostClock
+near_by max_skew cs n s None = Some (clock_by max_skew n (pos 0) s)
+near_by max_skew cs n s (Some j) = option_map (λ above. below_by max_skew above n s) (get_or cs j None)
+
+abbrev pub delta_of : Option HostClock → ℤ
+delta_of None = pos 0
+delta_of (Some c) = c.delta
+
+abbrev pub delta_by : (ℕ → Option ℕ) → List (Option HostClock) → ℕ → ℕ → ℤ
+delta_by first cs i id = if unwrap_or (first id) i == i then delta_of (get_or cs i None) else pos 0

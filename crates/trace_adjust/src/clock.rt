@@ -1,0 +1,64 @@
+//! The clock of one span, by its host's number.
+
+ghost use Rattle.std.specs.Prelude.{◌≡◌, pos, ◌==◌, ◌||◌, not};
+ghost use Rattle.trace_model.specs.Adjusting.{delta_between};
+ghost use Rattle.trace_adjust.specs.Hosts.{clock_by, below_by};
+
+use jaeger_model::Span;
+use span_steps::{delta_between, start_at};
+
+/// The number of the empty host, which is that of a span whose process names none.
+pub(crate) const NO_HOST: usize = 0;
+
+/// What a span hands down to the spans below it: a [`trace_model::Clock`] with a number in the place
+/// of its host.
+#[derive(Clone, Copy)]
+pub(crate) struct HostClock {
+    pub(crate) host: usize,
+    pub(crate) delta: i128,
+    pub(crate) start: i64,
+    pub(crate) duration: i64,
+}
+
+fn clock_at(max_skew: u64, host: usize, delta: i128, span: &Span) -> HostClock
+    ensures { result ≡ clock_by max_skew host delta span.now }
+{
+    HostClock {
+        host,
+        delta,
+        start: start_at(max_skew, delta, span),
+        duration: span.duration,
+    }
+}
+
+/// The clock of a span whose parent is not in its trace: its own host's, with no delta.
+pub(crate) fn root_clock(host: usize, span: &Span, max_skew: u64) -> HostClock
+    ensures { result ≡ clock_by max_skew host (pos 0) span.now }
+{
+    clock_at(max_skew, host, 0, span)
+}
+
+/// The host is none, or another than the one whose clock runs there.
+fn is_elsewhere(above: HostClock, host: usize) -> bool
+    ensures { result ≡ ((host == 0) || not (host == above.host)) }
+{
+    host == NO_HOST || host != above.host
+}
+
+/// What brings the span into the time of its parent, which has this clock.
+fn new_delta(above: HostClock, span: &Span) -> i128
+    ensures { result ≡ delta_between above.start above.duration span.now.start span.now.duration }
+{
+    delta_between(above.start, above.duration, span.start, span.duration)
+}
+
+/// The clock of a span whose parent has this one: the parent's where the span is of the same host,
+/// else its own host's, with a delta that brings the span into its parent's time.
+pub(crate) fn clock_below(above: HostClock, host: usize, span: &Span, max_skew: u64) -> HostClock
+    ensures { result ≡ below_by max_skew above host span.now }
+{
+    if is_elsewhere(above, host) {
+        return clock_at(max_skew, host, new_delta(above, span), span);
+    }
+    clock_at(max_skew, above.host, above.delta, span)
+}

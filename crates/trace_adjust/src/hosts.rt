@@ -1,0 +1,65 @@
+//! The hosts of the spans of a trace by numbers, so that no clock has a host's text.
+
+ghost use Rattle.std.specs.Prelude.{◌≡◌, ◌+◌, ◌<◌, ◌-◌, ℕ, List, IsTrue, true, get_or, length, IfOk, OnOk, cond, Some, None, unwrap_or};
+ghost use Rattle.std.specs.BTreeMap.{get};
+ghost use Rattle.std.specs.Option.{option_or};
+ghost use Rattle.jaeger_model.specs.Texts.{same_text, text_cmp};
+ghost use Rattle.trace_model.specs.Adjusting.{spans_of};
+ghost use Rattle.trace_adjust.specs.Hosts.{ShareProcesses, AreNumbers, hosts_of};
+
+use crate::clock::NO_HOST;
+use jaeger_model::Text;
+use span_steps::host_of;
+use std::alloc::{AllocError, Global};
+use std::collections::BTreeMap;
+use trace_model::Shown;
+
+/// The number of a host, which gets the fresh one where it has none.
+fn number_of(
+    numbers: &mut BTreeMap<Text, usize>,
+    host: Text,
+    fresh: usize,
+) -> Result<usize, AllocError>
+    ensures number { IfOk result (λ n. n ≡ unwrap_or (get text_cmp numbers.old host) fresh) }
+    ensures numbers { OnOk result ((t : List ℕ) → get text_cmp numbers.new t ≡
+        option_or (get text_cmp numbers.old t) (cond (same_text t host) (Some fresh) None)) }
+{
+    if let Some(number) = numbers.get(&host) {
+        return Ok(*number);
+    }
+    numbers.insert(host, fresh)?;
+    Ok(fresh)
+}
+
+/// The span at an index and the one before it were brought by one entry.
+fn goes_on(places: &[u64], index: usize) -> bool
+    ensures { IsTrue result → (0 < index) × (index < length places.now)
+        × (get_or places.now (index - 1) 0 ≡ get_or places.now index 0) }
+{
+    0 < index && index < places.len() && places[index - 1] == places[index]
+}
+
+/// The number of the host of each span: one more than the index of the first span that has it, and
+/// that of [`NO_HOST`] where it is empty. A host's text is looked at once for the spans of one entry,
+/// which have one process, and else for each span.
+pub(crate) fn host_numbers(
+    alloc: Global,
+    trace: &[Shown],
+    places: &[u64],
+) -> Result<Vec<usize>, AllocError>
+    requires { ShareProcesses (spans_of trace.now) places.now }
+    ensures { IfOk result (λ v.
+        AreNumbers (hosts_of (spans_of trace.now)) (spans_of trace.now) v.items) }
+{
+    let mut numbers = BTreeMap::new(alloc);
+    numbers.insert(Text::new(alloc), NO_HOST)?;
+    let mut hosts = Vec::new(alloc);
+    let mut last = NO_HOST;
+    for (index, shown) in trace.iter().enumerate() {
+        if !goes_on(places, index) {
+            last = number_of(&mut numbers, host_of(alloc, &shown.placed)?, index + 1)?;
+        }
+        hosts.push(last)?;
+    }
+    Ok(hosts)
+}

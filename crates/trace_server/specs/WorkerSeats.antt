@@ -1,0 +1,43 @@
+-- The workers' seats, before and after their work.
+use Rattle.std.specs.Prelude.{◌≡◌, ℕ, ◌+◌, true, List, [], ◌∷◌, ◌++◌, length, All}
+use Rattle.atomic_table.specs.Seated.{TableId}
+use Rattle.trace_model.specs.declared.entry.Entry.{Entry}
+use Rattle.trace_model.specs.declared.limits.Limits.{Limits}
+use Rattle.read_side.specs.Keepers.{Lists, no_entries}
+use Rattle.intake.specs.declared.account.Account.{Account}
+use Rattle.intake.specs.Seats.{SeatValue}
+use Rattle.intake.specs.Books.{Ran, AllTaken}
+use Rattle.intake.specs.Books.{acknowledged as acknowledged_of, refused as refused_of}
+use Rattle.live_store.specs.Sharing.{GoesOn}
+
+-- seats of this desk that may hand in more
+abbrev pub AreOpen : TableId → List SeatValue → Type 0
+AreOpen desk seats = All (λ (s : SeatValue). (s.desk ≡ desk) × (s.hands_in ≡ true)) seats
+
+-- a clerk of an empty store judged all that it took, and the counts are those of its answers
+pub record HasJudged (limits : Limits) (taken : List Entry) (accounts : List Account) (acknowledged refused : ℕ) : Type 0 where
+  pub lists : Lists
+  pub ran : Ran limits [] [] no_entries taken accounts lists
+  pub acknowledged_is : acknowledged ≡ acknowledged_of accounts
+  pub refused_is : refused ≡ refused_of accounts
+
+-- each seat has gone on to the one at its place
+abbrev pub GoOn : List SeatValue → List SeatValue → Type 0
+GoOn [] [] = Unit {0}
+GoOn (s ∷ ss) (t ∷ ts) = GoesOn s t × GoOn ss ts
+GoOn _ _ = ⊥
+
+-- each of these may be given for the argument at its place
+abbrev pub Each : {J X : Type 0} → (J → X → Type 0) → List J → List X → Type 0
+Each gives [] [] = Unit {0}
+Each gives (j ∷ js) (x ∷ xs) = gives j x × Each gives js xs
+Each gives _ _ = ⊥
+
+-- these jobs were taken, and all of them are left
+abbrev pub Moves : List Entry → List Entry → List Entry → List Entry → Type 0
+Moves taken left taken' left' =
+    (moved : List Entry) × (taken' ≡ taken ++ moved) × (left' ≡ left ++ moved)
+
+-- all that the seats handed in was taken
+abbrev pub AreTaken : List Entry → List SeatValue → Type 0
+AreTaken taken seats = All (λ (s : SeatValue). AllTaken s.seat s.jobs taken) seats

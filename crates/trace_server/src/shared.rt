@@ -1,0 +1,120 @@
+//! A store with its desk and its clerk.
+
+ghost use Rattle.std.specs.Prelude.{◌≡◌, ◌≤◌, length, map, IfOk};
+ghost use Rattle.read_side.specs.Keepers.{no_entries};
+ghost use Rattle.intake.specs.Turns.{IsNewClerk};
+ghost use Rattle.trace_server.specs.Serving.{OneForEach};
+ghost use Rattle.trace_server.specs.WorkerSeats.{AreOpen};
+
+use crate::options::Options;
+use intake::{Clerk, Desk, desk};
+use live_store::Live;
+use read_side::{Keeper, Opened, StoreName, open};
+use std::alloc::{AllocError, Global};
+use std::sync::Wait;
+use trace_model::{Limits, Refusal};
+
+/// A store, its desk and its clerk, and the workers' ends of both. It isn't `Drop`, since the keeper
+/// isn't.
+pub(crate) struct SharedStore<N: StoreName> {
+    pub(crate) keeper: Keeper<N>,
+    pub(crate) desk: Desk<N>,
+    pub(crate) clerk: Clerk<N>,
+    /// One for each worker, with the worker's number.
+    pub(crate) lives: Vec<(u32, Live<N>)>,
+}
+
+/// A seat and a pass for each worker.
+fn pairs<N: StoreName>(
+    alloc: Global,
+    seats: Vec<intake::Seat<N>>,
+    passes: Vec<read_side::Pass<N>>,
+) -> Result<Vec<(u32, Live<N>)>, AllocError>
+    requires { length passes.items ≡ length seats.items }
+    ensures { IfOk result (λ v. map (λ p. p.1.seat) v.items ≡ seats.items) }
+{
+    let mut passes = passes;
+    let mut lives = Vec::with_capacity(alloc, seats.len())?;
+    for seat in seats {
+        let Some(pass) = passes.pop() else {
+            unreachable!()
+        };
+        lives.push((seat.number() as u32, Live::new(seat, pass)))?;
+    }
+    Ok(lives)
+}
+
+/// A desk at the store, with its clerk, and the workers' ends.
+type DeskEnds<N> = (Desk<N>, Clerk<N>, Vec<(u32, Live<N>)>);
+
+fn open_desk<N: StoreName>(
+    alloc: Global,
+    keeper: &mut Keeper<N>,
+    passes: Vec<read_side::Pass<N>>,
+    options: &Options,
+) -> Result<DeskEnds<N>, Refusal>
+    requires workers { (1 ≤ options.now.workers) × (options.now.workers ≤ 64) }
+    requires queue { (1 ≤ options.now.queue) × (options.now.queue ≤ 4096) }
+    requires passes { length passes.items ≡ options.now.workers }
+    ensures keeper { keeper.new ≡ keeper.old }
+    ensures clerk { IfOk result (λ f. IsNewClerk f.1) }
+    ensures open { IfOk result (λ f. AreOpen f.1.desk (map (λ p. p.1.seat) f.2.items)) }
+    ensures numbers { IfOk result (λ f. OneForEach options.now.workers
+        (map (λ p. p.1.seat) f.2.items)) }
+{
+    let first = keeper.receipt();
+    let (desk, seats, clerk) = desk(alloc, first, options.queue as usize, options.workers)?;
+    let lives = pairs(alloc, seats, passes)?;
+    Ok((desk, clerk, lives))
+}
+
+impl<N: StoreName> SharedStore<N> {
+    /// Opens an empty store under a name, which is spent.
+    ///
+    /// # Errors
+    ///
+    /// Out of memory.
+    pub(crate) fn open<R: Wait>(
+        rt: &R,
+        alloc: Global,
+        name: Opened,
+        limits: Limits,
+        options: &Options,
+    ) -> Result<SharedStore<N>, Refusal>
+        requires book { name.seen.book ≡ N.book }
+        requires limits { limits ≡ N.limits }
+        requires workers { (1 ≤ options.now.workers) × (options.now.workers ≤ 64) }
+        requires queue { (1 ≤ options.now.queue) × (options.now.queue ≤ 4096) }
+        ensures keeper { IfOk result (λ h. h.keeper ≡ no_entries) }
+        ensures clerk { IfOk result (λ h. IsNewClerk h.clerk) }
+        ensures open { IfOk result (λ h. AreOpen h.clerk.desk (map (λ p. p.1.seat) h.lives.items)) }
+        ensures numbers { IfOk result (λ h.
+            OneForEach options.now.workers (map (λ p. p.1.seat) h.lives.items)) }
+    {
+        let workers = options.workers as usize;
+        let (mut keeper, passes) = open::<N>(alloc, options.keys, name, limits, workers)?;
+        match open_desk(alloc, &mut keeper, passes, options) {
+            Ok((desk, clerk, lives)) => Ok(SharedStore {
+                keeper,
+                desk,
+                clerk,
+                lives,
+            }),
+            Err(why) => {
+                keeper.close(rt);
+                Err(why)
+            }
+        }
+    }
+
+    /// Closes the store, which nobody has used.
+    pub(crate) fn close<R: Wait>(self, rt: &R) {
+        let SharedStore {
+            keeper,
+            desk: _,
+            clerk: _,
+            lives: _,
+        } = self;
+        keeper.close(rt);
+    }
+}
