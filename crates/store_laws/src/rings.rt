@@ -127,8 +127,8 @@ pub fn trace_of_ring_is_found()
 /// A trace that is not in the ring is not found.
 #[tactic(auto, using(crate::proofs::RingFacts::not_found))]
 pub fn other_trace_is_not_found()
-    ensures { (n : ℕ) (es : List (Event PlacedValue)) (t : TraceIdValue) → holds (ring n es) t ≡ false →
-        trace_found n es t ≡ None }
+    ensures { (n : ℕ) (es : List (Event PlacedValue)) (t : TraceIdValue) →
+        holds (ring n es) t ≡ false → trace_found n es t ≡ None }
 {}
 
 /// No trace is found empty.
