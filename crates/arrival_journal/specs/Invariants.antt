@@ -3,11 +3,12 @@ use Rattle.std.specs.Prelude.{◌≡◌, ◌≤◌, ℕ, List, map, get_or}
 use Rattle.trace_model.specs.declared.entry.Entry.{Entry}
 use Rattle.trace_model.specs.declared.limits.Limits.{Limits}
 use Rattle.trace_model.specs.Histories.{IsLegal, span_count, last_number}
+use Rattle.sent_batches.specs.Sent.{Sent, IsKept as SentKept}
 use Rattle.arrival_journal.specs.declared.outline.Outline.{Outline}
 use Rattle.arrival_journal.specs.Outlines.{outline_in}
 
 -- the entries are legal, what is kept beside them is what they say, and there is room for all entries and for every seat
-pub record IsKept (limits : Limits) (entries : List Entry) (most : ℕ) (outlines : List Outline) (most_outlines spans : ℕ) (last_numbers : List ℕ) (seats : ℕ) : Type 0 where
+pub record IsKept (limits : Limits) (entries : List Entry) (most : ℕ) (outlines : List Outline) (most_outlines spans : ℕ) (last_numbers : List ℕ) (seats : ℕ) (sent : Sent) : Type 0 where
   pub legal : IsLegal limits entries
   pub room : limits.batches ≤ most
   pub outlined : outlines ≡ map outline_in entries
@@ -15,3 +16,5 @@ pub record IsKept (limits : Limits) (entries : List Entry) (most : ℕ) (outline
   pub counted : spans ≡ span_count entries
   pub last : (seat : ℕ) → get_or last_numbers seat 0 ≡ last_number seat entries
   pub seats_fit : 65536 ≤ seats
+  pub known : SentKept entries sent
+  pub room_for_sent : limits.batches ≤ sent.room

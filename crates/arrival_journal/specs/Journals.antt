@@ -1,17 +1,27 @@
 -- What a journal keeps, and how it answers.
-use Rattle.std.specs.Prelude.{Option}
+use Rattle.std.specs.Prelude.{Option, ℕ, Result}
+use Rattle.trace_model.specs.declared.admission.Admission.{Admission}
 use Rattle.trace_model.specs.declared.entry.Entry.{Entry}
 use Rattle.trace_model.specs.declared.refusal.Refusal.{Refusal}
 use Rattle.trace_model.specs.declared.refusal.Refusal.TheVariants.{NoMemory}
 use Rattle.std.specs.Option.{unwrap_or}
-use Rattle.trace_model.specs.Refusals.{refusal_of}
+use Rattle.trace_model.specs.Refusals.{admission, refusal_of, place_of}
+use Rattle.std.specs.Result.{result_map_both}
 use Rattle.trace_model.specs.Held.{Held}
 
 -- the history
 pub record Journaled : Type 0 where
   pub held : Held
 
--- what the history answers to this entry; None where it takes it
+-- what becomes of this entry
+abbrev pub admission_by : Held → Entry → Result Admission Refusal
+admission_by held e = admission held.limits held.entries e
+
+-- where it stands then, or the one that answers for it
+abbrev pub place_by : Held → Entry → Result ℕ Refusal
+place_by held e = result_map_both (place_of held.entries) (λ why. why) (admission_by held e)
+
+-- what the history answers to this entry; None where it takes it or has it already
 abbrev pub refusal_by : Held → Entry → Option Refusal
 refusal_by held e = refusal_of held.limits held.entries e
 

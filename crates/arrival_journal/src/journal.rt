@@ -1,19 +1,21 @@
-ghost use Rattle.std.specs.Prelude.{◌≡◌, ◌==◌, [], length, map, None, OnOk, OnErr, IfOk, option_map};
+ghost use Rattle.std.specs.Prelude.{◌≡◌, ◌==◌, ◌<◌, [], length, map, Ok, IfOk, option_map};
 ghost use Rattle.std.specs.Arc.{arc_value};
 ghost use Rattle.std.specs.Option.{option_copied};
-ghost use Rattle.std.specs.Result.{result_err};
 ghost use Rattle.trace_model.specs.Histories.{span_count, last_number, IsLegal};
-ghost use Rattle.trace_model.specs.Refusals.{followed_by};
+ghost use Rattle.trace_model.specs.declared.admission.Admission.TheVariants.{Added};
+ghost use Rattle.trace_model.specs.Refusals.{admitted_anew, followed_by, repeated, with_admitted};
 ghost use Rattle.trace_model.specs.Places.{entry_at};
-ghost use Rattle.arrival_journal.specs.Journals.{refusal_by};
+ghost use Rattle.arrival_journal.specs.Journals.{admission_by, place_by};
 ghost use Rattle.arrival_journal.specs.Outlines.{outline_in};
 
 use crate::outline::Outline;
 use crate::seats::{SEATS, note};
+use sent_batches::{BatchKeys, HashedEntry, SentBatches};
 use std::alloc::{AllocError, Global};
+use std::hash::RandomState;
 use std::marker::Model;
 use std::sync::Arc;
-use trace_model::{Entry, Limits, Refusal};
+use trace_model::{Admission, Entry, Limits, Refusal};
 
 /// The accepted entries, in the order of their arrival and within their limits.
 #[derive(Drop)]
@@ -25,6 +27,8 @@ pub struct Journal {
     spans: u64,
     /// By seat the number of its last entry, 0 where it has none, up to the last seat that has one.
     last_numbers: Vec<u64>,
+    /// Finds batches that were sent before.
+    sent: SentBatches,
 }
 
 impl Model for Journal {
@@ -41,28 +45,30 @@ impl Model for Journal {
 
     ghost invariant = { λ j. IsKept j.limits (map arc_value j.entries.items)
         (vec_capacity j.entries) j.outlines.items (vec_capacity j.outlines) j.spans j.last_numbers.items
-        (vec_capacity j.last_numbers) };
+        (vec_capacity j.last_numbers) j.sent };
 }
 
 impl Journal {
     /// A journal with no entry, and the room for all that its limits let it hold. Nothing takes memory
-    /// from then on.
+    /// from then on. The keys decide where batches stand in the table that they are found in.
     ///
     /// # Errors
     ///
     /// Out of memory, and nothing else.
-    pub fn new(alloc: Global, limits: Limits) -> Result<Self, AllocError>
+    pub fn new(alloc: Global, keys: RandomState, limits: Limits) -> Result<Self, AllocError>
         ensures { IfOk result (λ journal. journal.held ≡ record { limits = limits; entries = [] }) }
     {
         let entries = Vec::with_capacity(alloc, limits.batches as usize)?;
         let outlines = Vec::with_capacity(alloc, limits.batches as usize)?;
         let last_numbers = Vec::with_capacity(alloc, SEATS)?;
+        let sent = SentBatches::with_room(alloc, BatchKeys::new(keys), limits.batches)?;
         Ok(Journal {
             limits,
             entries,
             outlines,
             spans: 0,
             last_numbers,
+            sent,
         })
     }
 
@@ -129,16 +135,31 @@ impl Journal {
             .unwrap_or(0)
     }
 
-    /// Says whether the entry may follow.
-    ///
-    /// # Errors
-    ///
-    /// First [`Refusal::Stale`], where its number is not above the last one of its seat; then
-    /// [`Refusal::JournalFull`], with the counts now held, where it or its spans would pass the limits.
-    /// Nothing else.
-    pub fn judge(&self, entry: &Entry) -> Result<(), Refusal>
-        ensures answer { result_err result ≡ refusal_by self.now.held entry.now }
-        ensures legal { IsLegal self.now.held.limits self.now.held.entries }
+    /// The entry with the hash by which its batch is found.
+    pub fn hashed(&self, entry: Arc<Entry>) -> HashedEntry
+        ensures { result ≡ arc_value entry }
+    {
+        HashedEntry::new(self.sent.keys(), entry)
+    }
+
+    /// An entry whose batch was sent before and stands behind so many entries: the one there answers for it,
+    /// unless it has other spans.
+    fn judge_again(&self, entry: &Entry, before: u32) -> Result<Admission, Refusal>
+        requires { before < length self.now.held.entries }
+        ensures { result ≡ repeated self.now.held.entries entry.now before }
+    {
+        let place = u64::from(before) + 1;
+        if entry.work == self.entries[before as usize].work {
+            Ok(Admission::Resent { place })
+        } else {
+            Err(Refusal::Conflict { place })
+        }
+    }
+
+    /// An entry whose batch was not sent before.
+    fn judge_anew(&self, entry: &Entry) -> Result<Admission, Refusal>
+        ensures { result ≡
+            admitted_anew self.now.held.limits self.now.held.entries entry.now }
     {
         let batches = self.len();
         let spans = self.spans;
@@ -152,39 +173,61 @@ impl Journal {
         {
             return Err(Refusal::JournalFull { batches, spans });
         }
-        Ok(())
+        Ok(Admission::Added)
+    }
+
+    /// Says whether the entry may follow, or was sent before.
+    ///
+    /// # Errors
+    ///
+    /// First [`Refusal::Conflict`], where an entry has the batch's number and process already, with its place,
+    /// and other spans; then [`Refusal::Stale`], where the entry's number is not above the last one of its seat;
+    /// then [`Refusal::JournalFull`], with the counts now held, where it or its spans would pass the limits.
+    /// Nothing else.
+    pub fn judge(&self, entry: &HashedEntry) -> Result<Admission, Refusal>
+        ensures answer { result ≡ admission_by self.now.held entry.now }
+        ensures legal { IsLegal self.now.held.limits self.now.held.entries }
+    {
+        match self.sent.find(&self.entries, entry) {
+            Some(before) => self.judge_again(entry.entry(), before),
+            None => self.judge_anew(entry.entry()),
+        }
     }
 
     /// Adds an entry that may follow.
-    pub fn append(&mut self, entry: Arc<Entry>)
-        requires { refusal_by self.old.held (arc_value entry) ≡ None }
-        ensures appended { self.new.held ≡ followed_by self.old.held (arc_value entry) }
+    pub fn append(&mut self, entry: HashedEntry)
+        requires { admission_by self.old.held entry ≡ Ok Added }
+        ensures appended { self.new.held ≡ followed_by self.old.held entry }
         ensures legal { IsLegal self.new.held.limits self.new.held.entries }
     {
+        let hash = entry.hash(self.sent.keys());
+        let entry = entry.into_entry();
         self.spans += entry.work.spans().len() as u64;
         note(&mut self.last_numbers, entry.seat, entry.number);
         self.outlines.push_reserved(Outline::of(&entry.work));
         self.entries.push_reserved(entry);
+        self.sent.add(&self.entries, hash);
     }
 
-    /// Adds an entry at the end and gives its place, the first one being 1.
+    /// Adds an entry at the end and gives its place, the first one being 1; where its batch was sent before
+    /// with the same spans, nothing is added, and the place is that of the entry that has it.
     ///
     /// # Errors
     ///
     /// Those of [`judge`](Self::judge), and no others. Any of them leaves the entries as they were.
     pub fn admit(&mut self, entry: Arc<Entry>) -> Result<u64, Refusal>
-        ensures answer { result_err result ≡ refusal_by self.old.held (arc_value entry) }
-        ensures admissible { OnOk result (refusal_by self.old.held (arc_value entry) ≡ None) }
-        ensures admitted { OnOk result (self.new.held ≡
-            followed_by self.old.held (arc_value entry)) }
-        ensures place { IfOk result (λ place. place ≡ length self.new.held.entries) }
-
-        ensures unchanged { OnErr result (self.new.held ≡ self.old.held) }
-
+        ensures place { result ≡ place_by self.old.held (arc_value entry) }
+        ensures admitted { self.new.held ≡ with_admitted self.old.held (arc_value entry)
+            (admission_by self.old.held (arc_value entry)) }
         ensures legal { IsLegal self.new.held.limits self.new.held.entries }
     {
-        self.judge(&entry)?;
-        self.append(entry);
-        Ok(self.len())
+        let entry = self.hashed(entry);
+        match self.judge(&entry)? {
+            Admission::Added => {
+                self.append(entry);
+                Ok(self.len())
+            }
+            Admission::Resent { place } => Ok(place),
+        }
     }
 }

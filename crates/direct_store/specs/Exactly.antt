@@ -1,7 +1,8 @@
 -- What a store that one owner has does, as functions of its entries.
-use Rattle.std.specs.Prelude.{◌≡◌, ℕ, ◌+◌, ◌⊎◌, [], ◌∷◌, ◌++◌, length, Result, Ok, Err, None, refl}
+use Rattle.std.specs.Prelude.{◌≡◌, ℕ, ◌+◌, ◌⊎◌, [], ◌++◌, length, Result, Ok, Err, refl}
 use Rattle.std.proofs.Common.{append_assoc, sym, ◌∙◌, ap, subst, append-nil}
 use Rattle.jaeger_model.specs.declared.batch.Batch.{Batch}
+use Rattle.trace_model.specs.declared.admission.Admission.{Admission}
 use Rattle.trace_model.specs.declared.entry.Entry.{Entry}
 use Rattle.trace_model.specs.declared.entry.Work.TheVariants as brings
 use Rattle.trace_model.specs.declared.query.Query.{Query}
@@ -10,10 +11,11 @@ use Rattle.trace_model.specs.declared.refusal.Refusal.{Refusal}
 use Rattle.trace_model.specs.declared.refusal.Refusal.TheVariants.{NoMemory}
 use Rattle.trace_model.specs.Held.{Held}
 use Rattle.trace_model.specs.Histories.{IsLegal}
-use Rattle.trace_model.specs.Refusals.{followed_by}
+use Rattle.trace_model.specs.Refusals.{place_of, with_admitted}
 use Rattle.trace_model.specs.Answers.{answer}
-use Rattle.arrival_journal.specs.Journals.{refusal_by, turned_away_by}
+use Rattle.arrival_journal.specs.Journals.{admission_by, turned_away_by}
 use Rattle.store_backend.specs.Knowing.{History, Begins, HasAt, Keeps, SubmitKnows, ReadKnows}
+use Rattle.direct_store.specs.Behind.{grows, limits_stay, has_batch}
 
 -- the next entry of seat 0
 abbrev pub next_entry : Held → Batch → Entry
@@ -22,9 +24,11 @@ next_entry s b = record { seat = 0; number = length s.entries + 1; work = brings
 abbrev pub DirectKnows : Held → History → Type 0
 DirectKnows s h = Begins h s.entries
 
+-- a batch is accepted where the entries take it, or have it already: then they stay, and its place is the old one
 abbrev pub DirectSubmits : Held → Batch → Result ℕ Refusal → Held → Type 0
 DirectSubmits s b (Ok place) t =
-    (refusal_by s (next_entry s b) ≡ None) × (t ≡ followed_by s (next_entry s b)) × (place ≡ length s.entries + 1) × IsLegal t.limits t.entries
+    (a : Admission) × (admission_by s (next_entry s b) ≡ Ok a) × (place ≡ place_of s.entries a)
+    × (t ≡ with_admitted s (next_entry s b) (Ok a)) × IsLegal t.limits t.entries
 DirectSubmits s b (Err why) t = (t ≡ s) × ((why ≡ NoMemory) ⊎ (why ≡ turned_away_by s (next_entry s b)))
 
 abbrev pub DirectReads : Held → Query → Result Answer Refusal → Held → Type 0
@@ -39,11 +43,13 @@ keeps s t e = record { same_limits = ap (λ (x : Held). x.limits) e; knowledge =
 pub submit_knows : (s : Held) (b : Batch) (r : Result ℕ Refusal) (t : Held) → DirectSubmits s b r t → SubmitKnows (λ (x : Held). x.limits) DirectKnows s b r t
 submit_knows s b (Ok place) t d =
     let e = next_entry s b in
-    let entries : t.entries ≡ s.entries ++ e ∷ [] = ap (λ (x : Held). x.entries) d.1 in
-    let goes : (h : History) → DirectKnows s h → DirectKnows t h = λ h k. (k.0 ++ e ∷ [], entries ∙ ap (λ x. x ++ e ∷ []) k.1 ∙ append_assoc h k.0 (e ∷ [])) in
-    let has : HasAt t.entries place b = record { before = s.entries; entry = e; after = []; whole = entries; work_is = refl; place_is = d.2 } in (
-      record { same_limits = ap (λ (x : Held). x.limits) d.1; knowledge = goes },
-      record { history = t.entries; legal = d.3; has = has; known = ([], sym (append-nil t.entries)) },
+    let after : Held = with_admitted s e (Ok d.0) in
+    let more = grows s e d.0 in
+    let entries : t.entries ≡ s.entries ++ more.0 = ap (λ (x : Held). x.entries) d.3 ∙ more.1 in
+    let goes : (h : History) → DirectKnows s h → DirectKnows t h = λ h k. (k.0 ++ more.0, entries ∙ ap (λ x. x ++ more.0) k.1 ∙ append_assoc h k.0 more.0) in
+    let has : HasAt t.entries place b = subst (λ (x : Held). HasAt x.entries place b) (sym d.3) (subst (λ p. HasAt after.entries p b) (sym d.2) (has_batch s e b d.0 refl d.1)) in (
+      record { same_limits = ap (λ (x : Held). x.limits) d.3 ∙ limits_stay s e d.0; knowledge = goes },
+      record { history = t.entries; legal = d.4; has = has; known = ([], sym (append-nil t.entries)) },
     )
 submit_knows s b (Err why) t d = keeps s t d.0
 

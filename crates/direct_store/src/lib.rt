@@ -2,8 +2,8 @@
 //! store's at once.
 //!
 //! Contracts see a [`Direct`] as its limits and its list of entries. What it does is exact: a batch is
-//! accepted where the store takes it, as the next entry of seat 0, and a read is answered at the entries
-//! held.
+//! accepted where the store takes it, as the next entry of seat 0, or has it already, and a read is
+//! answered at the entries held.
 #![tactic(auto)]
 
 ghost use Rattle.std.specs.Prelude.{◌≡◌, ◌≤◌, length};

@@ -9,7 +9,7 @@ use Rattle.batch_codec.specs.declared.fault.DecodeError.TheVariants.{Wire, Missi
 use Rattle.batch_codec.specs.Decoding.{Fails}
 use Rattle.batch_codec.specs.BatchReading.{decoded}
 use Rattle.trace_model.specs.Held.{Held}
-use Rattle.trace_model.specs.Refusals.{refusal_of}
+use Rattle.trace_model.specs.Refusals.{admission}
 use Rattle.get_command.specs.declared.line_fault.LineFault.{LineFault}
 use Rattle.get_command.specs.declared.line_fault.LineFault.TheVariants.{BadHex, Undecodable}
 use Rattle.get_command.specs.Judging.{admitted, batch_in, judged, next_entry, without_blanks, of_bytes, of_batch}
@@ -44,6 +44,6 @@ unfolding judged
 line_refused held line f some is = rw (some, ← is) refl
 
 pub line_judged : (held : Held) (line : List ℕ) (b : Batch) → (length (without_blanks line) == 0) ≡ false → Ok b ≡ batch_in (without_blanks line)
-    → admitted held (next_entry held b) (refusal_of held.limits held.entries (next_entry held b)) ≡ judged held line
+    → admitted held (next_entry held b) (admission held.limits held.entries (next_entry held b)) ≡ judged held line
 unfolding judged
 line_judged held line b some is = rw (some, ← is) refl

@@ -5,11 +5,12 @@ use Rattle.hex.specs.declared.error.FromHexError.{FromHexError}
 use Rattle.jaeger_model.specs.declared.batch.Batch.{Batch}
 use Rattle.batch_codec.specs.declared.fault.DecodeError.{DecodeError}
 use Rattle.batch_codec.specs.BatchReading.{decoded}
+use Rattle.trace_model.specs.declared.admission.Admission.{Admission}
 use Rattle.trace_model.specs.declared.entry.Entry.{Entry}
 use Rattle.trace_model.specs.declared.entry.Work.TheVariants as brings
 use Rattle.trace_model.specs.declared.refusal.Refusal.{Refusal}
 use Rattle.trace_model.specs.Held.{Held}
-use Rattle.trace_model.specs.Refusals.{refusal_of, followed_by}
+use Rattle.trace_model.specs.Refusals.{admission, with_admitted}
 use Rattle.get_command.specs.declared.line_fault.LineFault.{LineFault}
 use Rattle.get_command.specs.declared.line_fault.LineFault.TheVariants.{BadHex, Undecodable, Refused}
 
@@ -46,15 +47,19 @@ pub record Judged : Type 0 where
   pub fault : Option LineFault
   pub held : Held
 
-abbrev pub admitted : Held → Entry → Option Refusal → Judged
-admitted held entry None = record { fault = None; held = followed_by held entry }
-admitted held entry (Some refusal) = record { fault = Some (Refused refusal); held = held }
+-- no fault where it is added, or where its batch was sent before and nothing is added
+abbrev pub fault_by : Result Admission Refusal → Option LineFault
+fault_by (Ok a) = None
+fault_by (Err refusal) = Some (Refused refusal)
+
+abbrev pub admitted : Held → Entry → Result Admission Refusal → Judged
+admitted held entry answer = record { fault = fault_by answer; held = with_admitted held entry answer }
 
 abbrev pub taken_in : Held → Option (Result Batch LineFault) → Judged
 taken_in held None = record { fault = None; held = held }
 taken_in held (Some (Err fault)) = record { fault = Some fault; held = held }
-taken_in held (Some (Ok batch)) = admitted held (next_entry held batch) (refusal_of held.limits held.entries (next_entry held batch))
+taken_in held (Some (Ok batch)) = admitted held (next_entry held batch) (admission held.limits held.entries (next_entry held batch))
 
--- a refused batch leaves what is held
+-- a refused batch leaves what is held, and so does one that was sent before
 unfoldable pub judged : Held → List ℕ → Judged
 judged held line = taken_in held (batch_on line)

@@ -1,6 +1,6 @@
 //! A store that takes a batch from each line.
 ghost use Rattle.std.specs.Prelude.{◌≡◌, ◌≢◌, ◌++◌, IfOk, OnOk, Some};
-ghost use Rattle.trace_model.specs.Refusals.{refusal_of};
+ghost use Rattle.trace_model.specs.Refusals.{admission};
 ghost use Rattle.get_command.specs.Judging.{admitted, batch_in, is_written, judged, next_entry, without_blanks};
 ghost use Rattle.get_command.specs.Runs.{fault_line, nothing_held};
 
@@ -53,7 +53,7 @@ fn read_batch(alloc: Global, text: &[u8]) -> Result<Result<Batch, LineFault>, Al
     }
 }
 
-/// Hands the batch to the store, as seat 0's next entry.
+/// Hands the batch to the store, as seat 0's next entry. Where it was sent before, nothing is added.
 fn admit(
     alloc: Global,
     store: &mut SpanStore,
@@ -61,7 +61,7 @@ fn admit(
 ) -> Result<Option<LineFault>, AllocError>
     ensures { IfOk result (λ fault. record { fault = fault; held = store.new }
         ≡ admitted store.old (next_entry store.old batch)
-        (refusal_of store.old.limits store.old.entries (next_entry store.old batch))) }
+        (admission store.old.limits store.old.entries (next_entry store.old batch))) }
 {
     let number = store.len() + 1;
     let Ok(entry) = Arc::new(

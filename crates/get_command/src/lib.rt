@@ -65,7 +65,8 @@ fn finish<R: Input, W: Output>(
 /// Reads batches, a line of hexadecimal text each, and writes the spans of the trace.
 ///
 /// A line that can't be used is answered by a line of its own, as the lines are read, and leaves
-/// what is held. Spaces and tabs don't count, and lines without anything else are passed over. The
+/// what is held. So does a batch that was sent before, with its number, process and spans, but it is
+/// no fault. Spaces and tabs don't count, and lines without anything else are passed over. The
 /// spans of the trace follow at the end of the input, or `trace not found`.
 ///
 /// The status is 0; 1 where the trace isn't found; 3, before 1, where a line couldn't be used; 4

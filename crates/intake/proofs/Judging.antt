@@ -1,72 +1,119 @@
 -- What one judging of an entry leaves.
-use Rattle.std.proofs.Common.{◌≡◌, ℕ, zero, suc, ◌+◌, ◌-◌, Bool, true, false, if◌then◌else◌, nat_le, List, [], ◌∷◌, ◌++◌, length, refl, subst, sym, ap, ◌∙◌, ⊎_elim, arith, append_assoc, length-append, Some, None, slice_get, Result, Ok, Err}
+use Rattle.std.proofs.Common.{◌≡◌, ℕ, zero, suc, ◌+◌, ◌-◌, Bool, true, false, if◌then◌else◌, List, [], ◌∷◌, ◌++◌, length, refl, subst, sym, ap, ◌∙◌, ⊎_elim, arith, append_assoc, length-append, Some, slice_get, inl, inr, Result, Ok, Err}
+use Rattle.std.specs.Prelude.{◌&&◌, not}
 use Rattle.std.specs.Option.{unwrap_or}
+use Rattle.std.specs.Result.{result_err}
 use Rattle.std.proofs.lemmas.List.{append-nil}
 use mathlib.Core.List.{IsPrefix}
+use Rattle.trace_model.specs.declared.admission.Admission.{Admission}
+use Rattle.trace_model.specs.declared.admission.Admission.TheVariants.{Added, Resent}
 use Rattle.trace_model.specs.declared.entry.Entry.{Entry}
 use Rattle.trace_model.specs.declared.limits.Limits.{Limits}
 use Rattle.trace_model.specs.declared.refusal.Refusal.{Refusal}
-use Rattle.trace_model.specs.declared.refusal.Refusal.TheVariants.{JournalFull, Stale, NoMemory}
-use Rattle.trace_model.specs.Histories.{last_number, span_count}
-use Rattle.trace_model.specs.Refusals.{has_room}
+use Rattle.trace_model.specs.declared.refusal.Refusal.TheVariants.{JournalFull, Stale, NoMemory, Conflict}
+use Rattle.trace_model.specs.Places.{entry_at}
+use Rattle.trace_model.specs.Refusals.{admission, place_of}
+use Rattle.trace_model.specs.Resending.{is_sent}
+use Rattle.trace_model.proofs.Admissions.{IsSaid, admission_says}
 use Rattle.trace_model.proofs.Prefixes.{prefix_get}
-use Rattle.read_side.specs.Keepers.{Lists, accepted, with_pending, all_published, refusal_after, TurnsAway}
-use Rattle.read_side.specs.Receipts.{StandsAt}
+use Rattle.read_side.specs.Keepers.{Lists, accepted, after_admission, all_published, admission_after, refusal_after, TurnsAway}
+use Rattle.read_side.specs.Receipts.{StandsAt, AnsweredAt}
 use Rattle.intake.specs.Seats.{IsUnacknowledged}
 use Rattle.intake.specs.Turns.{Judged}
-use Rattle.intake.specs.Books.{is_accepted, StandsIfPlaced}
+use Rattle.intake.specs.Books.{is_accepted, AnsweredIfPlaced}
 
--- whatever a keeper turns an entry away for, without accepting it, is one of three refusals
-pub one-of-three : (P : Refusal → Type 0) (limits : Limits) (k : Lists) (e : Entry) → P NoMemory → ((last : ℕ) → P (Stale last)) → ((batches spans : ℕ) → P (JournalFull batches spans)) → P (unwrap_or (refusal_after limits k e) NoMemory)
-one-of-three P limits k e memory stale full = go (nat_le e.number (last_number e.seat (accepted k))) (has_room limits (accepted k) e)
+-- whatever a keeper turns an entry away for, without accepting it, is one of four refusals
+pub one-of-four : (P : Refusal → Type 0) (limits : Limits) (k : Lists) (e : Entry) → P NoMemory → ((last : ℕ) → P (Stale last)) → ((batches spans : ℕ) → P (JournalFull batches spans)) → ((place : ℕ) → P (Conflict place)) → P (unwrap_or (refusal_after limits k e) NoMemory)
+one-of-four P limits k e memory stale full conflict = go (admission_after limits k e) (admission_says limits (accepted k) e)
   where
-    go : (old room : Bool) → P (unwrap_or (if old then Some (Stale (last_number e.seat (accepted k))) else if room then None else Some (JournalFull (length (accepted k)) (span_count (accepted k)))) NoMemory)
-    go true room = stale (last_number e.seat (accepted k))
-    go false true = memory
-    go false false = full (length (accepted k)) (span_count (accepted k))
+    go : (r : Result Admission Refusal) → IsSaid limits (accepted k) e r → P (unwrap_or (result_err r) NoMemory)
+    go (Ok a) s = memory
+    go (Err (Stale last)) s = stale last
+    go (Err (JournalFull batches spans)) s = full batches spans
+    go (Err (Conflict place)) s = conflict place
+    go (Err why) s = absurd s
 
 pub turned-unacknowledged : (limits : Limits) (k : Lists) (e : Entry) (why : Refusal) (m : Lists) → TurnsAway limits k e why m → IsUnacknowledged why
 turned-unacknowledged limits k e why m t = ⊎_elim
     (λ p. subst IsUnacknowledged (sym p.0) tt)
-    (λ q. subst IsUnacknowledged (sym q.1) (one-of-three IsUnacknowledged limits k e tt (λ l. tt) (λ b s. tt)))
+    (λ q. subst IsUnacknowledged (sym q.1) (one-of-four IsUnacknowledged limits k e tt (λ l. tt) (λ b s. tt) (λ place. tt)))
     t
 
--- the accepted list grows by the entry where it was accepted
-pub judged-accepted : (limits : Limits) (k : Lists) (j : Entry) (r : Result ℕ Refusal) (m : Lists) → Judged limits k j r m → accepted m ≡ accepted k ++ (if is_accepted r then j ∷ [] else [])
-judged-accepted limits k j (Ok place) m g = ap accepted g.1 ∙ (append-nil _ ∙ sym (append_assoc k.published k.pending (j ∷ [])))
+-- what was said of an entry that is taken
+said : (limits : Limits) (k : Lists) (j : Entry) (a : Admission) → admission_after limits k j ≡ Ok a → IsSaid limits (accepted k) j (Ok a)
+said limits k j a is = subst (IsSaid limits (accepted k) j) is (admission_says limits (accepted k) j)
+
+-- ---- what the accepted list gains
+-- it gains the entry where no earlier one answers for it
+accepted-after : (limits : Limits) (k : Lists) (j : Entry) (a : Admission) → IsSaid limits (accepted k) j (Ok a) → accepted (after_admission k j a) ≡ accepted k ++ (if not (is_sent (accepted k) j) then j ∷ [] else [])
+accepted-after limits k j Added s =
+    let P : Bool → Type 0 = λ b. accepted (after_admission k j Added) ≡ accepted k ++ (if not b then j ∷ [] else []) in
+    subst P (sym s.unsent) (sym (append_assoc k.published k.pending (j ∷ [])))
+accepted-after limits k j (Resent place) s =
+    let P : Bool → Type 0 = λ b. accepted k ≡ accepted k ++ (if not b then j ∷ [] else []) in
+    subst P (sym s.sent) (sym (append-nil (accepted k)))
+
+-- the accepted list grows by the entry where it was accepted and was not there before
+pub judged-accepted : (limits : Limits) (k : Lists) (j : Entry) (r : Result ℕ Refusal) (m : Lists) → Judged limits k j r m → accepted m ≡ accepted k ++ (if is_accepted r && not (is_sent (accepted k) j) then j ∷ [] else [])
+judged-accepted limits k j (Ok place) m g =
+    ap accepted g.2 ∙ (append-nil (accepted (after_admission k j g.0)) ∙ accepted-after limits k j g.0 (said limits k j g.0 g.1))
 judged-accepted limits k j (Err why) m g = ⊎_elim
-    (λ p. let P : Refusal → Type 0 = λ z. accepted m ≡ accepted k ++ (if is_accepted (Err z) then j ∷ [] else []) in
-    subst P (sym p.0) (ap accepted p.2 ∙ sym (append_assoc k.published k.pending (j ∷ []))))
-    (λ q. let P : Refusal → Type 0 = λ z. accepted m ≡ accepted k ++ (if is_accepted (Err z) then j ∷ [] else []) in
+    (λ p. let P : Refusal → Type 0 = λ z. accepted m ≡ accepted k ++ (if is_accepted (Err z) && not (is_sent (accepted k) j) then j ∷ [] else []) in
+    let a = p.1.0 in
+    subst P (sym p.0) (ap accepted p.1.2 ∙ accepted-after limits k j a (said limits k j a p.1.1)))
+    (λ q. let P : Refusal → Type 0 = λ z. accepted m ≡ accepted k ++ (if is_accepted (Err z) && not (is_sent (accepted k) j) then j ∷ [] else []) in
     let same : accepted m ≡ accepted k ++ [] = ap accepted q.0 ∙ sym (append-nil (accepted k)) in
-    subst P (sym q.1) (one-of-three P limits k j same (λ l. same) (λ b s. same)))
+    subst P (sym q.1) (one-of-four P limits k j same (λ l. same) (λ b s. same) (λ place. same)))
     g
 
--- the published list never shrinks
+-- ---- the published list never shrinks
+shown-after : (k : Lists) (j : Entry) (a : Admission) → (after_admission k j a).published ≡ k.published
+shown-after k j Added = refl
+shown-after k j (Resent place) = refl
+
 pub judged-shown : (limits : Limits) (k : Lists) (j : Entry) (r : Result ℕ Refusal) (m : Lists) → Judged limits k j r m → IsPrefix k.published m.published
-judged-shown limits k j (Ok place) m g = (k.pending ++ j ∷ [], sym (ap (λ (z : Lists). z.published) g.1))
+judged-shown limits k j (Ok place) m g =
+    let behind = (after_admission k j g.0).pending in
+    (behind, ap (λ z. z ++ behind) (sym (shown-after k j g.0)) ∙ sym (ap (λ (z : Lists). z.published) g.2))
 judged-shown limits k j (Err why) m g = ⊎_elim
-    (λ p. ([], append-nil k.published ∙ sym (ap (λ (z : Lists). z.published) p.2)))
+    (λ p. ([], append-nil k.published ∙ sym (ap (λ (z : Lists). z.published) p.1.2 ∙ shown-after k j p.1.0)))
     (λ q. ([], append-nil k.published ∙ sym (ap (λ (z : Lists). z.published) q.0)))
     g
 
+-- ---- what stands at the place
 pub snoc_get : (xs : List Entry) (j : Entry) (n : ℕ) → n ≡ length xs → slice_get (xs ++ j ∷ []) n ≡ Some j
 snoc_get [] j zero e = refl
 snoc_get [] j (suc n) e = absurd (omega (arith, e))
 snoc_get (x ∷ xs) j zero e = absurd (omega (arith, e))
 snoc_get (x ∷ xs) j (suc n) e = snoc_get xs j n (omega (arith, e))
 
--- the last of all that was published
-pub published-stands : (k m : Lists) (j : Entry) (place : ℕ) → m ≡ all_published (with_pending k j) → place ≡ length m.published → StandsAt m.published place j
-published-stands k m j place same len =
-    let all : m.published ≡ (k.published ++ k.pending) ++ j ∷ [] = ap (λ (z : Lists). z.published) same ∙ sym (append_assoc k.published k.pending (j ∷ [])) in
-    let n : place ≡ length (k.published ++ k.pending) + 1 = len ∙ (ap length all ∙ length-append (k.published ++ k.pending) (j ∷ [])) in
-    let P : List Entry → Type 0 = λ z. slice_get z (place - 1) ≡ Some j in
-    (omega (arith, n), subst P (sym all) (snoc_get (k.published ++ k.pending) j (place - 1) (omega (arith, n))))
+last-stands : (h : List Entry) (j : Entry) → StandsAt (h ++ j ∷ []) (length h + 1) j
+last-stands h j = (omega arith, snoc_get h j (length h + 1 - 1) (omega arith))
 
--- an acknowledged entry stands at its place of each later list
-pub judged-stands : (limits : Limits) (k : Lists) (j : Entry) (r : Result ℕ Refusal) (m : Lists) (list : List Entry) → Judged limits k j r m → IsPrefix m.published list → StandsIfPlaced list j r
-judged-stands limits k j (Err why) m list g p = tt
-judged-stands limits k j (Ok place) m list g p =
-    let here = published-stands k m j place g.1 g.2 in
-    (here.0, prefix_get m.published list (place - 1) j p here.1)
+entry-stands : (h : List Entry) (place : ℕ) (d : Entry) → entry_at h place ≡ Some d → StandsAt h place d
+entry-stands h zero d is = absurd (cc is)
+entry-stands h (suc n) d is =
+    let P : ℕ → Type 0 = λ i. slice_get h i ≡ Some d in
+    let same : n ≡ suc n - 1 = omega arith in
+    (omega arith, subst P same is)
+
+-- an entry that is taken is answered for in the accepted list that it leaves
+answered-after : (limits : Limits) (k : Lists) (j : Entry) (a : Admission) → IsSaid limits (accepted k) j (Ok a) → AnsweredAt (accepted (after_admission k j a)) (place_of (accepted k) a) j
+answered-after limits k j Added s =
+    let P : List Entry → Type 0 = λ z. StandsAt z (length (accepted k) + 1) j in
+    (j, subst P (append_assoc k.published k.pending (j ∷ [])) (last-stands (accepted k) j), inl refl)
+answered-after limits k j (Resent place) s = (s.by, entry-stands (accepted k) place s.by s.stands, inr (s.resent, s.same))
+
+-- a list that goes on has at a place what it had there
+pub answered-on : (list more : List Entry) (place : ℕ) (j : Entry) → IsPrefix list more → AnsweredAt list place j → AnsweredAt more place j
+answered-on list more place j p s = (s.0, (s.1.0, prefix_get list more (place - 1) s.0 p s.1.1), s.2)
+
+-- an entry answers for each acknowledged one at its place of each later list
+pub judged-answered : (limits : Limits) (k : Lists) (j : Entry) (r : Result ℕ Refusal) (m : Lists) (list : List Entry) → Judged limits k j r m → IsPrefix m.published list → AnsweredIfPlaced list j r
+judged-answered limits k j (Err why) m list g p = tt
+judged-answered limits k j (Ok place) m list g p =
+    let a = g.0 in
+    let all : m.published ≡ accepted (after_admission k j a) = ap (λ (z : Lists). z.published) g.2 in
+    let P : List Entry → Type 0 = λ z. AnsweredAt z place j in
+    let Q : ℕ → Type 0 = λ n. AnsweredAt (accepted (after_admission k j a)) n j in
+    answered-on m.published list place j p (subst P (sym all) (subst Q (sym g.3) (answered-after limits k j a (said limits k j a g.1))))

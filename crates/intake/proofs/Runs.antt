@@ -1,10 +1,12 @@
 -- Jobs judged one after the other.
 use Rattle.std.proofs.Common.{◌≡◌, ℕ, Bool, true, false, if◌then◌else◌, List, [], ◌∷◌, ◌++◌, refl, subst, sym, ap, ◌∙◌, append_assoc, Result, Ok, Err}
+use Rattle.std.specs.Prelude.{◌&&◌, not}
 use Rattle.std.proofs.lemmas.List.{append-nil}
 use mathlib.Core.List.{IsPrefix}
 use Rattle.trace_model.specs.declared.entry.Entry.{Entry}
 use Rattle.trace_model.specs.declared.limits.Limits.{Limits}
 use Rattle.trace_model.specs.declared.refusal.Refusal.{Refusal}
+use Rattle.trace_model.specs.Resending.{is_sent}
 use Rattle.trace_model.proofs.Prefixes.{prefix_trans}
 use Rattle.read_side.specs.Keepers.{Lists, accepted}
 use Rattle.intake.specs.declared.account.Account.{Account}
@@ -12,9 +14,9 @@ use Rattle.intake.specs.declared.clerk.Turn.{Turn}
 use Rattle.intake.specs.declared.clerk.Turn.TheVariants.{Idle, Served, Ended}
 use Rattle.intake.specs.declared.queue.EndedSeat.{EndedSeat}
 use Rattle.intake.specs.Turns.{ClerkValue, Accounted, Judged, Serves, IfServed, IfNotServed, IfNoJob, WasEmpty, account_of}
-use Rattle.intake.specs.Books.{JudgedInTurn, is_accepted, accepted_jobs, AllStand, Ran}
+use Rattle.intake.specs.Books.{JudgedInTurn, is_accepted, gained_jobs, AllAnswered, Ran}
 use Rattle.intake.proofs.Accounts.{accounted-snoc}
-use Rattle.intake.proofs.Judging.{judged-accepted, judged-shown, judged-stands}
+use Rattle.intake.proofs.Judging.{judged-accepted, judged-shown, judged-answered}
 
 pub judged-snoc : (limits : Limits) (k : Lists) (js : List Entry) (bs : List Account) (m : Lists) (j : Entry) (a : Account) (end : Lists) → JudgedInTurn limits k js bs m → Judged limits m j a.answer end → JudgedInTurn limits k (js ++ j ∷ []) (bs ++ a ∷ []) end
 judged-snoc limits k [] [] m j a end r g = (end, subst (λ (z : Lists). Judged limits z j a.answer end) r g, refl)
@@ -28,25 +30,26 @@ all-shown limits k [] (b ∷ bs) end r = absurd r
 all-shown limits k (j ∷ js) [] end r = absurd r
 all-shown limits k (j ∷ js) (b ∷ bs) end r = prefix_trans k.published r.0.published end.published (judged-shown limits k j b.answer r.0 r.1) (all-shown limits r.0 js bs end r.2)
 
-pub all-stand : (limits : Limits) (k : Lists) (js : List Entry) (bs : List Account) (end : Lists) → JudgedInTurn limits k js bs end → AllStand end.published js bs
-all-stand limits k [] [] end r = tt
-all-stand limits k [] (b ∷ bs) end r = absurd r
-all-stand limits k (j ∷ js) [] end r = absurd r
-all-stand limits k (j ∷ js) (b ∷ bs) end r = (judged-stands limits k j b.answer r.0 end.published r.1 (all-shown limits r.0 js bs end r.2), all-stand limits r.0 js bs end r.2)
+pub all-answered : (limits : Limits) (k : Lists) (js : List Entry) (bs : List Account) (end : Lists) → JudgedInTurn limits k js bs end → AllAnswered end.published js bs
+all-answered limits k [] [] end r = tt
+all-answered limits k [] (b ∷ bs) end r = absurd r
+all-answered limits k (j ∷ js) [] end r = absurd r
+all-answered limits k (j ∷ js) (b ∷ bs) end r = (judged-answered limits k j b.answer r.0 end.published r.1 (all-shown limits r.0 js bs end r.2), all-answered limits r.0 js bs end r.2)
 
-pub all-accepted : (limits : Limits) (k : Lists) (js : List Entry) (bs : List Account) (end : Lists) → JudgedInTurn limits k js bs end → accepted end ≡ accepted k ++ accepted_jobs js bs
+-- what is gained where one job is gained or not, and then others
+gained-then : (c : Bool) (before after : List Entry) (j : Entry) (js : List Entry) (bs : List Account) → after ≡ before ++ (if c then j ∷ [] else [])
+    → after ++ gained_jobs after js bs ≡ before ++ (if c then j ∷ gained_jobs (before ++ j ∷ []) js bs else gained_jobs before js bs)
+gained-then true before after j js bs e =
+    ap (λ z. z ++ gained_jobs z js bs) e ∙ append_assoc before (j ∷ []) (gained_jobs (before ++ j ∷ []) js bs)
+gained-then false before after j js bs e = ap (λ z. z ++ gained_jobs z js bs) (e ∙ append-nil before)
+
+pub all-accepted : (limits : Limits) (k : Lists) (js : List Entry) (bs : List Account) (end : Lists) → JudgedInTurn limits k js bs end → accepted end ≡ accepted k ++ gained_jobs (accepted k) js bs
 all-accepted limits k [] [] end r = ap accepted r ∙ sym (append-nil (accepted k))
 all-accepted limits k [] (b ∷ bs) end r = absurd r
 all-accepted limits k (j ∷ js) [] end r = absurd r
 all-accepted limits k (j ∷ js) (b ∷ bs) end r =
-    let rest = accepted_jobs js bs in
     all-accepted limits r.0 js bs end r.2
-    ∙ (ap (λ z. z ++ rest) (judged-accepted limits k j b.answer r.0 r.1)
-    ∙ (append_assoc (accepted k) (if is_accepted b.answer then j ∷ [] else []) rest ∙ ap (λ z. accepted k ++ z) (go (is_accepted b.answer) rest)))
-  where
-    go : (c : Bool) (rest : List Entry) → (if c then j ∷ [] else []) ++ rest ≡ (if c then j ∷ rest else rest)
-    go true rest = refl
-    go false rest = refl
+    ∙ gained-then (is_accepted b.answer && not (is_sent (accepted k) j)) (accepted k) (accepted r.0) j js bs (judged-accepted limits k j b.answer r.0 r.1)
 
 -- what a run leaves, by what was judged
 pub ran : (limits : Limits) (before : List Entry) (accounts : List Account) (start : Lists) (taken : List Entry) (after : List Account) (end : Lists) (js : List Entry) (bs : List Account)
@@ -59,7 +62,7 @@ ran limits before accounts start taken after end js bs t a each judged = record 
   each = each;
   judged = judged;
   gained = all-accepted limits start js bs end judged;
-  stand = all-stand limits start js bs end judged;
+  answered = all-answered limits start js bs end judged;
 }
 
 pub ran-start : (limits : Limits) (before : List Entry) (accounts : List Account) (start : Lists) → Accounted before accounts → Ran limits before accounts start before accounts start

@@ -1,12 +1,13 @@
 -- What the clerk leaves.
-use Rattle.std.specs.Prelude.{◌≡◌, ℕ, ◌⊎◌, ◌==◌, ◌&&◌, Bool, true, false, if◌then◌else◌, List, [], ◌∷◌, ◌++◌, Result, Ok, Err, count_by, is_ok, is_err}
+use Rattle.std.specs.Prelude.{◌≡◌, ℕ, ◌⊎◌, ◌==◌, ◌&&◌, not, Bool, true, false, if◌then◌else◌, List, [], ◌∷◌, ◌++◌, Result, Ok, Err, count_by, is_ok, is_err}
 use Rattle.std.specs.List.{list_any}
 use Rattle.trace_model.specs.declared.entry.Entry.{Entry}
 use Rattle.trace_model.specs.declared.limits.Limits.{Limits}
 use Rattle.trace_model.specs.declared.refusal.Refusal.{Refusal}
 use Rattle.trace_model.specs.declared.refusal.Refusal.TheVariants.{Deferred}
+use Rattle.trace_model.specs.Resending.{is_sent}
 use Rattle.read_side.specs.Keepers.{Lists, accepted}
-use Rattle.read_side.specs.Receipts.{StandsAt}
+use Rattle.read_side.specs.Receipts.{AnsweredAt}
 use Rattle.intake.specs.declared.account.Account.{Account}
 use Rattle.intake.specs.declared.queue.EndedSeat.{EndedSeat}
 use Rattle.intake.specs.Queues.{jobs_of, CountUp}
@@ -19,28 +20,29 @@ JudgedInTurn limits k (j ∷ js) (a ∷ rest) end =
     (m : Lists) × Judged limits k j a.answer m × JudgedInTurn limits m js rest end
 JudgedInTurn limits k _ _ end = ⊥
 
--- the entry was acknowledged, or is pending
+-- the entry was acknowledged, or it waits for a publish
 abbrev pub is_accepted : Result ℕ Refusal → Bool
 is_accepted (Ok place) = true
 is_accepted (Err Deferred) = true
 is_accepted (Err _) = false
 
--- the jobs that were accepted, in order
-abbrev pub accepted_jobs : List Entry → List Account → List Entry
-accepted_jobs [] accounts = []
-accepted_jobs (j ∷ js) [] = []
-accepted_jobs (j ∷ js) (a ∷ rest) =
-    if is_accepted a.answer then j ∷ accepted_jobs js rest else accepted_jobs js rest
+-- what a list gained by these jobs, in order: of those that were accepted, the ones that no earlier entry answers for
+abbrev pub gained_jobs : List Entry → List Entry → List Account → List Entry
+gained_jobs list [] accounts = []
+gained_jobs list (j ∷ js) [] = []
+gained_jobs list (j ∷ js) (a ∷ rest) =
+    if is_accepted a.answer && not (is_sent list j) then j ∷ gained_jobs (list ++ j ∷ []) js rest
+    else gained_jobs list js rest
 
-abbrev pub StandsIfPlaced : List Entry → Entry → Result ℕ Refusal → Type 0
-StandsIfPlaced list j (Ok place) = StandsAt list place j
-StandsIfPlaced list j (Err why) = Unit {0}
+abbrev pub AnsweredIfPlaced : List Entry → Entry → Result ℕ Refusal → Type 0
+AnsweredIfPlaced list j (Ok place) = AnsweredAt list place j
+AnsweredIfPlaced list j (Err why) = Unit {0}
 
--- each acknowledged job stands in this list at its place
-abbrev pub AllStand : List Entry → List Entry → List Account → Type 0
-AllStand list [] [] = Unit {0}
-AllStand list (j ∷ js) (a ∷ rest) = StandsIfPlaced list j a.answer × AllStand list js rest
-AllStand list _ _ = ⊥
+-- in this list an entry answers for each acknowledged job at its place
+abbrev pub AllAnswered : List Entry → List Entry → List Account → Type 0
+AllAnswered list [] [] = Unit {0}
+AllAnswered list (j ∷ js) (a ∷ rest) = AnsweredIfPlaced list j a.answer × AllAnswered list js rest
+AllAnswered list _ _ = ⊥
 
 -- how many were acknowledged
 abbrev pub acknowledged : List Account → ℕ
@@ -58,8 +60,8 @@ pub record Ran (limits : Limits) (before : List Entry) (accounts : List Account)
   pub accounts_are : after ≡ accounts ++ answers
   pub each : Accounted taken after
   pub judged : JudgedInTurn limits start jobs answers end
-  pub gained : accepted end ≡ accepted start ++ accepted_jobs jobs answers
-  pub stand : AllStand end.published jobs answers
+  pub gained : accepted end ≡ accepted start ++ gained_jobs (accepted start) jobs answers
+  pub answered : AllAnswered end.published jobs answers
 
 -- the jobs that were judged, each with its account, and behind them those that are left
 pub record Balances (taken : List Entry) (accounts : List Account) (left : List Entry) : Type 0 where

@@ -1,10 +1,10 @@
 -- What contracts see of the clerk, and what a turn does.
-use Rattle.std.specs.Prelude.{◌≡◌, ℕ, List, [], ◌∷◌, ◌++◌, length, None, Result, Ok, Err}
+use Rattle.std.specs.Prelude.{◌≡◌, ℕ, List, [], ◌∷◌, ◌++◌, length, Result, Ok, Err}
 use Rattle.atomic_table.specs.Seated.{TableId}
 use Rattle.trace_model.specs.declared.entry.Entry.{Entry}
 use Rattle.trace_model.specs.declared.limits.Limits.{Limits}
 use Rattle.trace_model.specs.declared.refusal.Refusal.{Refusal}
-use Rattle.read_side.specs.Keepers.{Lists, with_pending, all_published, refusal_after, TurnsAway}
+use Rattle.read_side.specs.Keepers.{Lists, Admits, TurnsAway}
 use Rattle.intake.specs.declared.account.Account.{Account}
 use Rattle.intake.specs.declared.clerk.Turn.{Turn}
 use Rattle.intake.specs.declared.clerk.Turn.TheVariants.{Idle, Served, Ended}
@@ -55,9 +55,7 @@ place_or_refusal place (Err why) = Err why
 
 -- what one admit of the entry answers and leaves
 abbrev pub Judged : Limits → Lists → Entry → Result ℕ Refusal → Lists → Type 0
-Judged limits old e (Ok place) new =
-    (refusal_after limits old e ≡ None)
-    × (new ≡ all_published (with_pending old e)) × (place ≡ length new.published)
+Judged limits old e (Ok place) new = Admits limits old e place new
 Judged limits old e (Err why) new = TurnsAway limits old e why new
 
 abbrev pub account_of : Entry → Result ℕ Refusal → Account

@@ -3,7 +3,7 @@
 ghost use Rattle.std.specs.Prelude.{◌≡◌, map, [], IfOk, IfErr};
 ghost use Rattle.std.specs.Arc.{arc_value};
 ghost use Rattle.trace_model.specs.declared.refusal.Refusal.TheVariants.{NoMemory};
-ghost use Rattle.read_side.specs.Receipts.{StandsAt};
+ghost use Rattle.read_side.specs.Receipts.{AnsweredAt};
 ghost use Rattle.intake.specs.Seats.{IsUnacknowledged};
 ghost use Rattle.intake.specs.Turns.{IsNewInbox, IsNewClerk, Accounted, Judged, place_or_refusal, Serves, IfServed, IfNotServed, IfNoJob, WasEmpty};
 ghost use Rattle.intake.specs.Books.{Ran, Balances, acknowledged, refused};
@@ -93,12 +93,14 @@ fn judged<N: StoreName, R: Wait>(
 ) -> Result<Ack<N>, Refusal>
     ensures judged { Judged N.limits keeper.old (arc_value entry)
         (place_or_refusal (λ a. a.place) result) keeper.new }
-    ensures stands { IfOk result (λ a. StandsAt (arc_value a.receipt).entries a.place
-        (arc_value entry)) }
+    ensures answered { IfOk result (λ a.
+        AnsweredAt (arc_value a.receipt).entries a.place (arc_value entry)) }
     ensures reason { IfErr result IsUnacknowledged }
 {
     let receipt = keeper.admit(rt, entry)?;
-    let place = receipt.front();
+    let Some(place) = receipt.place() else {
+        unreachable!()
+    };
     Ok(Ack {
         receipt: fill(rt, room, receipt),
         place,

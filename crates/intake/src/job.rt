@@ -3,7 +3,7 @@
 ghost use Rattle.std.specs.Prelude.{◌≡◌, ◌↔◌, IfOk, IfErr, IfSome, IsTrue};
 ghost use Rattle.std.specs.Arc.{arc_value};
 ghost use Rattle.trace_model.specs.declared.refusal.Refusal.TheVariants.{NoMemory, Stranger};
-ghost use Rattle.read_side.specs.Receipts.{StandsAt};
+ghost use Rattle.read_side.specs.Receipts.{AnsweredAt};
 ghost use Rattle.intake.specs.Seats.{IsUnacknowledged};
 
 use crate::ticket::Ack;
@@ -23,7 +23,7 @@ impl<N: StoreName> Model for Reply<N> {
     ghost use Rattle.std.specs.Prelude.{IfOk, IfErr};
     ghost use Rattle.std.specs.Arc.{arc_value};
     ghost use Rattle.trace_model.specs.declared.entry.Entry.{Entry};
-    ghost use Rattle.read_side.specs.Receipts.{StandsAt};
+    ghost use Rattle.read_side.specs.Receipts.{AnsweredAt};
     ghost use Rattle.intake.specs.Seats.{IsUnacknowledged};
 
     ghost Value = { Entry };
@@ -31,7 +31,7 @@ impl<N: StoreName> Model for Reply<N> {
     ghost view = { λ r. arc_value r.entry };
 
     ghost invariant = { λ r.
-        IfOk r.answer (λ a. StandsAt (arc_value a.receipt).entries a.place (arc_value r.entry))
+        IfOk r.answer (λ a. AnsweredAt (arc_value a.receipt).entries a.place (arc_value r.entry))
         × IfErr r.answer IsUnacknowledged };
 }
 
@@ -68,10 +68,10 @@ fn is_same(entry: &Entry, other: &Entry) -> bool
 }
 
 impl<N: StoreName> Reply<N> {
-    /// The answer to an entry. An acknowledgement's list has the entry at its place.
+    /// The answer to an entry. An acknowledgement's list has at its place an entry that answers for this one.
     pub(crate) fn new(entry: Arc<Entry>, answer: Result<Ack<N>, Refusal>) -> Reply<N>
-        requires stands { IfOk answer (λ a.
-            StandsAt (arc_value a.receipt).entries a.place (arc_value entry)) }
+        requires answered { IfOk answer (λ a.
+            AnsweredAt (arc_value a.receipt).entries a.place (arc_value entry)) }
         requires reason { IfErr answer IsUnacknowledged }
         ensures { result ≡ arc_value entry }
     {
@@ -92,8 +92,8 @@ impl<N: StoreName> Reply<N> {
     ///
     /// The entry's refusal, or [`Refusal::Stranger`]: the reply is to another entry.
     pub(crate) fn to(self, entry: &Entry) -> Result<Ack<N>, Refusal>
-        ensures stands { IfOk result (λ a.
-            StandsAt (arc_value a.receipt).entries a.place entry.now) }
+        ensures answered { IfOk result (λ a.
+            AnsweredAt (arc_value a.receipt).entries a.place entry.now) }
         ensures reason { IfErr result IsUnacknowledged }
     {
         let Reply {

@@ -2,7 +2,8 @@
 //!
 //! [`desk`] opens it. A [`Seat`] hands a batch in and gets a [`Ticket`] for it; the [`Clerk`] takes the
 //! jobs in the queue's order and has the store's keeper judge each one; the ticket waits for the answer.
-//! An acknowledgement holds a receipt whose list has the ticket's own entry at the place that it names.
+//! An acknowledgement holds a receipt whose list has, at the place that it names, the ticket's own entry or the one
+//! that had its batch before.
 //! For each seat the jobs that were taken, followed by those in the queue, are the jobs that it handed in,
 //! in order, with the numbers 1, 2 and so on: nothing is lost, doubled or changed on the way.
 //!

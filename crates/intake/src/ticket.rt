@@ -2,7 +2,7 @@
 
 ghost use Rattle.std.specs.Prelude.{◌≡◌, IfOk, IfErr};
 ghost use Rattle.std.specs.Arc.{arc_value};
-ghost use Rattle.read_side.specs.Receipts.{StandsAt};
+ghost use Rattle.read_side.specs.Receipts.{AnsweredAt};
 ghost use Rattle.intake.specs.Seats.{IsUnacknowledged};
 
 use crate::job::{Cell, Reply};
@@ -13,7 +13,8 @@ use std::sync::{Arc, Wait};
 use std::thread::yield_now;
 use trace_model::{Entry, Refusal};
 
-/// An acknowledgement: a receipt, and the place of the job's entry in its list, the first one being 1.
+/// An acknowledgement: a receipt, and the place in its list, the first one being 1, of the entry that answers
+/// for the job's: that one itself, or the one that had its batch before.
 #[derive(Drop)]
 pub struct Ack<N: StoreName> {
     pub receipt: Arc<Receipt<N>>,
@@ -54,15 +55,16 @@ impl<N: StoreName> Ticket<N> {
         }
     }
 
-    /// Waits for the answer. An acknowledgement's list has this job's own entry at the place.
+    /// Waits for the answer. An acknowledgement's list has at the place an entry that answers for the job's:
+    /// its own, or the one that had its batch before.
     ///
     /// # Errors
     ///
-    /// The keeper's refusals [`Refusal::JournalFull`], [`Refusal::Stale`], [`Refusal::NoMemory`] and
-    /// [`Refusal::Deferred`]. Where the clerk has ended without an answer: [`Refusal::Closed`] if the desk
+    /// The keeper's refusals [`Refusal::Conflict`], [`Refusal::Stale`], [`Refusal::JournalFull`],
+    /// [`Refusal::NoMemory`] and [`Refusal::Deferred`]. Where the clerk has ended without an answer: [`Refusal::Closed`] if the desk
     /// was closed, else [`Refusal::NoReply`]. [`Refusal::Stranger`]: the reply is to another entry.
     pub fn wait<R: Wait>(self, rt: &R) -> Result<Ack<N>, Refusal>
-        ensures stands { IfOk result (λ a. StandsAt (arc_value a.receipt).entries a.place self) }
+        ensures answered { IfOk result (λ a. AnsweredAt (arc_value a.receipt).entries a.place self) }
         ensures reason { IfErr result IsUnacknowledged }
     {
         for _ in rt.forever() {

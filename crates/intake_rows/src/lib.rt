@@ -9,4 +9,6 @@ mod house;
 #[cfg(test)]
 mod limits;
 #[cfg(test)]
+mod resent;
+#[cfg(test)]
 mod rows;

@@ -4,6 +4,7 @@ ghost use Rattle.std.specs.Prelude.{◌≡◌, ◌≤◌};
 
 use crate::house::{House, batch, played};
 use crate::limits::a_limit_is_in_force;
+use crate::resent::a_resent_job_is_acknowledged;
 use intake::{Ack, Books, Clerk, Seat, Ticket, Turn};
 use jaeger_model::Batch;
 use read_side::{Keeper, Opened, StoreName};
@@ -25,6 +26,7 @@ pub enum Row {
     ClosedAndClerkGone,
     FourSeats,
     LimitBySeat,
+    Resent,
 }
 
 impl Row {
@@ -42,6 +44,7 @@ impl Row {
             Row::ClosedAndClerkGone => clerk_gone(rt, alloc, house, true),
             Row::FourSeats => four_seats(rt, alloc, house),
             Row::LimitBySeat => a_limit_is_in_force(rt, alloc, house),
+            Row::Resent => a_resent_job_is_acknowledged(rt, alloc, house),
         }
     }
 }
@@ -98,6 +101,12 @@ fn one_of_four_seats(rt: HostRuntime) -> Result<(), Fail> {
 fn limit_by_seat(rt: HostRuntime) -> Result<(), Fail> {
     let limits = Limits::new(1000, 100_000, 0, 0).expect(&rt, "limits");
     assert!(rt; plays(&rt, rt.alloc(), limits, 4, Row::LimitBySeat)?);
+    Ok(())
+}
+
+#[test]
+fn a_batch_handed_in_again(rt: HostRuntime) -> Result<(), Fail> {
+    assert!(rt; plays_small(&rt, rt.alloc(), Row::Resent)?);
     Ok(())
 }
 

@@ -1,6 +1,6 @@
 -- What a store over a seat and a pass does, and what it knows.
 use Rattle.std.specs.Prelude.{◌≡◌, ℕ, ◌⊎◌, List, Result, Ok, Err, refl}
-use Rattle.std.proofs.Common.{sym, subst}
+use Rattle.std.proofs.Common.{sym, subst, ap, ⊎_elim}
 use mathlib.Core.List.{IsPrefix}
 use Rattle.jaeger_model.specs.declared.batch.Batch.{Batch}
 use Rattle.trace_model.specs.declared.entry.Entry.{Entry}
@@ -11,9 +11,10 @@ use Rattle.trace_model.specs.declared.answer.Answer.{Answer}
 use Rattle.trace_model.specs.declared.refusal.Refusal.{Refusal}
 use Rattle.trace_model.specs.declared.refusal.Refusal.TheVariants.{NoMemory, Gone}
 use Rattle.trace_model.specs.Histories.{IsLegal}
+use Rattle.trace_model.specs.Resending.{AnswersFor}
 use Rattle.trace_model.specs.Answers.{answer}
 use Rattle.trace_model.proofs.Prefixes.{prefix_self, prefix_trans}
-use Rattle.read_side.specs.Receipts.{StandsAt}
+use Rattle.read_side.specs.Receipts.{AnsweredAt}
 use Rattle.intake.specs.Seats.{SeatValue, IsNotTaken, IsUnacknowledged, next_job, with_job}
 use Rattle.intake.proofs.Places.{stands-split}
 use Rattle.store_backend.specs.Knowing.{History, Begins, HasAt, Keeps, SubmitKnows, ReadKnows}
@@ -37,12 +38,13 @@ LiveKnows s h = IsPrefix h s.known
 abbrev pub HandsIn : SeatValue → Batch → SeatValue → Type 0
 HandsIn s b t = t ≡ with_job s (next_job s (brings.Batch b))
 
--- a legal list is known that has the entry at the place
+-- a legal list is known that has at the place an entry that answers for this one: it itself, or the one that had its
+-- batch before
 abbrev pub KnowsPlace : Limits → Entry → ℕ → List Entry → Type 0
 KnowsPlace limits e place known =
-    (list : List Entry) × IsLegal limits list × StandsAt list place e × IsPrefix list known
+    (list : List Entry) × IsLegal limits list × AnsweredAt list place e × IsPrefix list known
 
--- the seat handed the batch in, and its own entry stands at the place of a list that is known then; or,
+-- the seat handed the batch in, and its entry is answered for at the place of a list that is known then; or,
 -- at a refusal, it did not, for the seat's reason, or it did, for the reason that its ticket returned
 abbrev pub LiveSubmits : Limits → LiveValue → Batch → Result ℕ Refusal → LiveValue → Type 0
 LiveSubmits limits s b (Ok place) t =
@@ -66,12 +68,17 @@ LiveReads limits s q (Err why) t =
 keeps : (limits : Limits) (s t : LiveValue) → IsPrefix s.known t.known → Keeps (λ _. limits) LiveKnows s t
 keeps limits s t more = record { same_limits = refl; knowledge = λ h k. prefix_trans h s.known t.known k more }
 
+-- an entry that answers for another brings the same
+brings_the_same : (d e : Entry) → AnswersFor d e → d.work ≡ e.work
+brings_the_same d e a = ⊎_elim (λ same. ap (λ (z : Entry). z.work) same) (λ resent. resent.1) a
+
 pub submit_knows : (limits : Limits) (s : LiveValue) (b : Batch) (r : Result ℕ Refusal) (t : LiveValue) → LiveSubmits limits s b r t → SubmitKnows (λ _. limits) LiveKnows s b r t
 submit_knows limits s b (Ok place) t d =
     let list = d.2.0 in
     let job = next_job s.seat (brings.Batch b) in
-    let split = stands-split list place job d.2.2 in
-    let has : HasAt list place b = record { before = split.0; entry = job; after = split.1; whole = split.2; work_is = refl; place_is = split.3 } in
+    let by = d.2.2.0 in
+    let split = stands-split list place by d.2.2.1 in
+    let has : HasAt list place b = record { before = split.0; entry = by; after = split.1; whole = split.2; work_is = brings_the_same by job d.2.2.2; place_is = split.3 } in
     (keeps limits s t d.0, record { history = list; legal = d.2.1; has = has; known = d.2.3 })
 submit_knows limits s b (Err why) t d =
     let P : List Entry → Type 0 = λ z. IsPrefix s.known z in keeps limits s t (subst P (sym d.0) (prefix_self s.known))

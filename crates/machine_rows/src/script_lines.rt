@@ -49,6 +49,19 @@ fn outcomes(rt: HostRuntime) -> Result<(), Fail> {
         spans: 2,
     };
     is_reported(&rt, alloc, Outcome::Refused(full), "refused 20 JournalFull")?;
+    let again = Outcome::Again {
+        seat: 1,
+        number: 18_446_744_073_709_551_615,
+        place: 4_294_967_295,
+    };
+    is_reported(&rt, alloc, again, "again 1 18446744073709551615 4294967295")?;
+    let conflict = Refusal::Conflict { place: 4 };
+    is_reported(
+        &rt,
+        alloc,
+        Outcome::Refused(conflict),
+        "refused 29 Conflict",
+    )?;
     is_reported(&rt, alloc, Outcome::Idle, "idle")?;
     is_reported(&rt, alloc, Outcome::Published { front: 3 }, "published 3")?;
     is_reported(&rt, alloc, Outcome::Held { reader: 4 }, "held 4")?;

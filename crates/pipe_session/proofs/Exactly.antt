@@ -1,37 +1,44 @@
 -- A run over a store that one owner has is exact.
-use Rattle.std.proofs.Common.{◌≡◌, ◌≢◌, ℕ, ◌⊎◌, List, [], ◌∷◌, map, Option, Some, None, Ok, refl, sym, ap, ◌∙◌, inl, inr}
+use Rattle.std.proofs.Common.{◌≡◌, ◌≢◌, ℕ, ◌⊎◌, List, [], ◌∷◌, map, Result, Ok, Err, refl, sym, ap, ◌∙◌, inl, inr}
+use Rattle.std.specs.Option.{unwrap_or}
+use Rattle.std.specs.Result.{result_err}
 use Rattle.std.proofs.lemmas.List.Elements.{All-head, All-tail}
 use Rattle.jaeger_model.specs.declared.batch.Batch.{Batch}
+use Rattle.trace_model.specs.declared.admission.Admission.{Admission}
 use Rattle.trace_model.specs.declared.refusal.Refusal.{Refusal}
 use Rattle.trace_model.specs.declared.refusal.Refusal.TheVariants.{NoMemory}
 use Rattle.trace_model.specs.Held.{Held}
-use Rattle.arrival_journal.specs.Journals.{refusal_by, turned_away_by}
+use Rattle.trace_model.specs.Refusals.{with_admitted}
+use Rattle.arrival_journal.specs.Journals.{admission_by, turned_away_by}
 use Rattle.direct_store.specs.Exactly.{DirectSubmits, DirectReads, next_entry}
 use Rattle.http_session.specs.Sessions.{Exchange, Step, Run}
 use Rattle.http_session.specs.declared.verdict.Verdict.{Verdict}
 use Rattle.http_session.specs.declared.verdict.Verdict.TheVariants.{Submit, Ask, Say}
 use Rattle.http_session.specs.declared.reply.Reply.{Reply}
 use Rattle.http_session.specs.declared.reply.Reply.TheVariants.{Accepted, Answered, Refused, Said}
-use Rattle.pipe_session.specs.Exact.{reply_by, held_by, reply_at, held_after, replies_at, held_at_last, IsExact}
+use Rattle.pipe_session.specs.Exact.{reply_by, reply_at, held_after, replies_at, held_at_last, IsExact}
 
 abbrev Exactly : Held → Verdict → Reply → Held → Type 0
 Exactly s v reply t = (reply ≡ reply_at s v) × (t ≡ held_after s v)
 
+abbrev answered : Result Admission Refusal → Reply
+answered r = reply_by (result_err r)
+
 taken : (s t : Held) (b : Batch) (place : ℕ) → DirectSubmits s b (Ok place) t → Exactly s (Submit b) Accepted t
-taken s t b place d = (sym (ap reply_by d.0), d.1 ∙ sym (ap (λ o. held_by o s (next_entry s b)) d.0))
+taken s t b place d = (sym (ap answered d.1), d.3 ∙ sym (ap (with_admitted s (next_entry s b)) d.1))
 
 -- a refusal other than running out of memory is the entries' own
-refused_by : (o : Option Refusal) (s t : Held) (b : Batch) (why : Refusal) → refusal_by s (next_entry s b) ≡ o → why ≢ NoMemory → t ≡ s
+refused_by : (r : Result Admission Refusal) (s t : Held) (b : Batch) (why : Refusal) → admission_by s (next_entry s b) ≡ r → why ≢ NoMemory → t ≡ s
     → (why ≡ NoMemory) ⊎ (why ≡ turned_away_by s (next_entry s b)) → Exactly s (Submit b) (Refused why) t
-refused_by o s t b why is memory same (inl none) = absurd (memory none)
-refused_by None s t b why is memory same (inr reported) = absurd (memory (reported ∙ rw is refl))
-refused_by (Some r) s t b why is memory same (inr reported) =
-    let reason : why ≡ r = reported ∙ rw is refl in
-    (ap Refused reason ∙ sym (ap reply_by is), same ∙ sym (ap (λ o. held_by o s (next_entry s b)) is))
+refused_by r s t b why is memory same (inl none) = absurd (memory none)
+refused_by (Ok a) s t b why is memory same (inr reported) = absurd (memory (reported ∙ ap (λ r. unwrap_or (result_err r) NoMemory) is))
+refused_by (Err own) s t b why is memory same (inr reported) =
+    let reason : why ≡ own = reported ∙ ap (λ r. unwrap_or (result_err r) NoMemory) is in
+    (ap Refused reason ∙ sym (ap answered is), same ∙ sym (ap (with_admitted s (next_entry s b)) is))
 
 one : (s t : Held) (v : Verdict) (reply : Reply) → reply ≢ Refused NoMemory → Step DirectSubmits DirectReads s v reply t → Exactly s v reply t
 one s t (Submit b) Accepted m step = taken s t b step.0 step.1
-one s t (Submit b) (Refused why) m step = refused_by (refusal_by s (next_entry s b)) s t b why refl (λ e. m (ap Refused e)) step.0 step.1
+one s t (Submit b) (Refused why) m step = refused_by (admission_by s (next_entry s b)) s t b why refl (λ e. m (ap Refused e)) step.0 step.1
 one s t (Ask q) (Answered a) m step = (ap Answered step.1, step.0)
 one s t (Ask q) (Refused why) m step = absurd (m (ap Refused step.1))
 one s t (Say remark) (Said said) m step = (ap Said step.0, step.1)

@@ -2,11 +2,10 @@
 use Rattle.std.specs.Prelude.{◌≡◌, ◌≢◌, List, [], ◌∷◌, map, All, Option, Some, None}
 use Rattle.trace_model.specs.declared.refusal.Refusal.{Refusal}
 use Rattle.trace_model.specs.declared.refusal.Refusal.TheVariants.{NoMemory}
-use Rattle.trace_model.specs.declared.entry.Entry.{Entry}
 use Rattle.trace_model.specs.Held.{Held}
-use Rattle.trace_model.specs.Refusals.{followed_by}
+use Rattle.trace_model.specs.Refusals.{with_admitted}
 use Rattle.trace_model.specs.Answers.{answer}
-use Rattle.arrival_journal.specs.Journals.{refusal_by}
+use Rattle.arrival_journal.specs.Journals.{admission_by, refusal_by}
 use Rattle.direct_store.specs.Exactly.{next_entry}
 use Rattle.http_session.specs.Sessions.{Exchange}
 use Rattle.http_session.specs.declared.verdict.Verdict.{Verdict}
@@ -19,19 +18,15 @@ abbrev pub reply_by : Option Refusal → Reply
 reply_by None = Accepted
 reply_by (Some why) = Refused why
 
-abbrev pub held_by : Option Refusal → Held → Entry → Held
-held_by None s e = followed_by s e
-held_by (Some why) s e = s
-
 -- what is answered where these entries are held
 abbrev pub reply_at : Held → Verdict → Reply
 reply_at s (Submit b) = reply_by (refusal_by s (next_entry s b))
 reply_at s (Ask q) = Answered (answer s.limits s.entries q)
 reply_at s (Say remark) = Said remark
 
--- and what is held then
+-- and what is held then: a batch that was sent before adds nothing
 abbrev pub held_after : Held → Verdict → Held
-held_after s (Submit b) = held_by (refusal_by s (next_entry s b)) s (next_entry s b)
+held_after s (Submit b) = with_admitted s (next_entry s b) (admission_by s (next_entry s b))
 held_after s (Ask q) = s
 held_after s (Say remark) = s
 

@@ -1,8 +1,8 @@
 //! A session over a store that one owner has: what is answered is a function of what was asked.
 //!
 //! The reads are answered at exactly the entries held at the start followed by one for each batch
-//! accepted so far, in order. So the bytes written are one function of the bytes read, those entries and the
-//! limits: `laws`.
+//! accepted so far, in order, but for those that were sent before. So the bytes written are one function of the
+//! bytes read, those entries and the limits: `laws`.
 #![tactic(auto)]
 
 ghost use Rattle.std.specs.Prelude.{◌≡◌, ◌++◌, false, IfOk, IfErr, OnOk};

@@ -1,5 +1,5 @@
 //! `get`, and the program's words.
-use crate::runs::{HEAD, NONE, OPEN, SPAN, TAIL, check};
+use crate::runs::{HEAD, LONGER, NONE, NUMBERED, OPEN, SPAN, TAIL, check};
 use program_run::run;
 use session_devices::Watched;
 use std::test::Fail;
@@ -12,7 +12,7 @@ type Row = (
     &'static [&'static str],
 );
 
-const WORKED_ROWS: [Row; 16] = [
+const WORKED_ROWS: [Row; 18] = [
     (&["1"], &[OPEN, "00"], 1, &[NONE]),
     (&["1"], &[OPEN], 3, &["line 1: refused 1 Truncated\n", NONE]),
     (
@@ -67,6 +67,18 @@ const WORKED_ROWS: [Row; 16] = [
         &[HEAD, TAIL, "\n", HEAD, TAIL],
         3,
         &["line 2: refused 20 JournalFull\n", SPAN],
+    ),
+    (
+        &["1"],
+        &[HEAD, NUMBERED, "\n", HEAD, NUMBERED, "\n"],
+        0,
+        &[SPAN],
+    ),
+    (
+        &["1"],
+        &[HEAD, NUMBERED, "\n", HEAD, LONGER, "\n"],
+        3,
+        &["line 2: refused 29 Conflict\n", SPAN],
     ),
     (&["g"], &["zz"], 2, &["bad trace id\n"]),
     (&["0x1"], &[HEAD, TAIL], 2, &["bad trace id\n"]),

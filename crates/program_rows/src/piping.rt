@@ -1,6 +1,6 @@
 //! `pipe`.
 use crate::host::Host;
-use crate::runs::{HEAD, TAIL};
+use crate::runs::{HEAD, LONGER, NUMBERED, TAIL};
 use program_run::run;
 use session_devices::{MemoryInput, MemoryOutput};
 use std::alloc::Global;
@@ -39,6 +39,8 @@ type Row = (
 /// The fields of a batch of so many bytes.
 const OF_104: &str = "Content-Type: application/x-thrift\r\nContent-Length: 104\r\n";
 
+const OF_115: &str = "Content-Type: application/x-thrift\r\nContent-Length: 115\r\n";
+
 const SERVICES: Request = Bare("GET /api/services");
 
 const TRACE: Request = Bare("GET /api/traces/1");
@@ -63,7 +65,7 @@ const P6: &str = "\",\"warnings\":null}";
 /// A double's bits, as they are shown.
 const NAN: &str = "{\"key\":\"d\",\"type\":\"float64\",\"value\":\"7ff8000000000001\"}";
 
-const ROWS: [Row; 10] = [
+const ROWS: [Row; 12] = [
     (
         &[],
         &[Batch("Content-Length: 104\r\n", &[HEAD, TAIL]), SERVICES],
@@ -116,6 +118,38 @@ const ROWS: [Row; 10] = [
         &["--batches", "1"],
         &[Batch(OF_104, &[HEAD, TAIL]), Batch(OF_104, &[HEAD, TAIL])],
         &[
+            Accepted,
+            Refused("503", "Service Unavailable", "89", "journal full"),
+        ],
+    ),
+    (
+        &[],
+        &[
+            Batch(OF_115, &[HEAD, NUMBERED]),
+            Batch(OF_115, &[HEAD, NUMBERED]),
+            Batch(OF_115, &[HEAD, LONGER]),
+            TRACE,
+        ],
+        &[
+            Accepted,
+            Accepted,
+            Refused("409", "Conflict", "85", "conflict"),
+            Found(
+                "351",
+                &["[", P1, "50", P2, "2", P3, P4, "1", P5, "1", P6, "]"],
+                "1",
+            ),
+        ],
+    ),
+    (
+        &["--batches", "1"],
+        &[
+            Batch(OF_115, &[HEAD, NUMBERED]),
+            Batch(OF_115, &[HEAD, NUMBERED]),
+            Batch(OF_104, &[HEAD, TAIL]),
+        ],
+        &[
+            Accepted,
             Accepted,
             Refused("503", "Service Unavailable", "89", "journal full"),
         ],

@@ -1,5 +1,5 @@
 //! `play`.
-use crate::runs::{HEAD, TAIL, check};
+use crate::runs::{HEAD, LONGER, NUMBERED, TAIL, check};
 use std::test::Fail;
 
 const WORDS: [&str; 2] = ["jaeger_one", "play"];
@@ -87,6 +87,33 @@ fn a_limit_is_counted(rt: HostRuntime) -> Result<(), Fail> {
         &[
             "put 1\nput 2\nput 3\ntaken 0 1\ntaken 0 2\nrefused 20 JournalFull\n",
             "line 7: bad step\n",
+        ],
+    )
+}
+
+/// A batch that was sent before is answered by its place, whichever seat hands it in; with another span it is refused.
+#[test]
+fn resent_batches(rt: HostRuntime) -> Result<(), Fail> {
+    check(
+        &rt,
+        rt.alloc(),
+        &WORDS,
+        &[
+            "put 0 ",
+            HEAD,
+            NUMBERED,
+            "\nput 1 ",
+            HEAD,
+            NUMBERED,
+            "\nput 0 ",
+            HEAD,
+            LONGER,
+            "\ntake\ntake\ntake\n",
+        ],
+        0,
+        &[
+            "put 1\nput 1\nput 2\n",
+            "taken 0 1\nagain 1 1 1\nrefused 29 Conflict\n",
         ],
     )
 }

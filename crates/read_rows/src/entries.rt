@@ -18,6 +18,13 @@ pub fn batch_of(alloc: Global, trace: u64) -> Result<Batch, Fail> {
     Ok(batch(alloc, "a", spans)?)
 }
 
+/// The same with this number of the sender's own.
+pub fn numbered_batch(alloc: Global, sent: u64, trace: u64) -> Result<Batch, Fail> {
+    let mut batch = batch_of(alloc, trace)?;
+    batch.seq_no = i64::try_from(sent).ok();
+    Ok(batch)
+}
+
 /// What seat 0 handed in under the number.
 fn entry(alloc: Global, number: u64, work: Work) -> Result<Arc<Entry>, Fail> {
     let entry = Entry {
@@ -33,6 +40,16 @@ pub fn entry_of(alloc: Global, number: u64) -> Result<Arc<Entry>, Fail> {
     entry(alloc, number, Work::Batch(batch_of(alloc, number)?))
 }
 
+/// The entry of seat 0 with this number, whose batch has this number of the sender's own and a span of this
+/// trace.
+pub fn sent_entry(alloc: Global, number: u64, sent: u64, trace: u64) -> Result<Arc<Entry>, Fail> {
+    entry(
+        alloc,
+        number,
+        Work::Batch(numbered_batch(alloc, sent, trace)?),
+    )
+}
+
 /// The limit that is handed in under the number, where it is one of those under which a limit is: 2 under
 /// each fourth number, but none under each twelfth.
 pub fn limit_under(number: u64) -> Option<u32> {
@@ -45,14 +62,29 @@ pub fn limit_under(number: u64) -> Option<u32> {
     }
 }
 
-/// The entries of seat 0 with the numbers from 1 to this one, limits among them.
+/// The batch that is handed in under the number, where no limit is. Under 5 and 19 it is the one of two numbers
+/// before, sent again; under 6 and 13 it has the sender's number of three before, and another span. Some have
+/// no number of the sender's own.
+pub fn batch_under(alloc: Global, number: u64) -> Result<Batch, Fail> {
+    match number % 7 {
+        5 => {
+            let old = number.saturating_sub(2);
+            numbered_batch(alloc, old, old)
+        }
+        6 => numbered_batch(alloc, number.saturating_sub(3), number),
+        0 | 1 => batch_of(alloc, number),
+        _ => numbered_batch(alloc, number, number),
+    }
+}
+
+/// The entries of seat 0 with the numbers from 1 to this one, limits and batches that are sent again among them.
 pub fn works_to(alloc: Global, last: u64) -> Result<Vec<Arc<Entry>>, Fail> {
     let mut entries = Vec::new(alloc);
     for before in 0..last {
         let number = before + 1;
         let next = match limit_under(number) {
             Some(limit) => entry(alloc, number, Work::TraceLimit(limit))?,
-            None => entry_of(alloc, number)?,
+            None => entry(alloc, number, Work::Batch(batch_under(alloc, number)?))?,
         };
         entries.push(next)?;
     }

@@ -1,6 +1,7 @@
 //! Tests of the two copies, their passes and receipts.
 //!
 //! * `rows`: worked rows, one call after another.
+//! * `sent_again`: batches that are sent again.
 //! * `machine`: the same steps on the stepped machine and on the two copies.
 //! * `threads`: three threads that read beside one that writes.
 //! * `entries`: what they hand in.
@@ -12,5 +13,7 @@ mod entries;
 mod machine;
 #[cfg(test)]
 mod rows;
+#[cfg(test)]
+mod sent_again;
 #[cfg(test)]
 mod threads;

@@ -1,8 +1,8 @@
 ghost use Rattle.std.specs.Prelude.{◌≡◌};
 
-use crate::entries::{batch_of, limit_under, limits_of, works_to};
+use crate::entries::{batch_under, limit_under, limits_of, works_to};
 use jaeger_model::TraceId;
-use read_side::{Keeper, Opened, Pass, StoreName, open};
+use read_side::{Keeper, Opened, Pass, Reading, StoreName, open};
 use schedule_core::{Outcome, Step, play};
 use std::alloc::Global;
 use std::hash::RandomState;
@@ -13,11 +13,22 @@ use std::sync::{Arc, Wait};
 use std::test::*;
 use trace_model::{Entry, Limits, Query, Refusal};
 
-/// Number n of each list is what stood in the store when n entries were published: the front, and the answers
-/// to both questions, as text.
-type Looks = Vec<(u64, String)>;
+/// The place of what was handed in, or why it was refused.
+type Told = Result<u64, Refusal>;
 
-/// How many entries are admitted.
+/// What came of what was handed in, how many entries were published then, and the answer of the store to a
+/// question, as text.
+#[derive(Drop)]
+struct Look {
+    told: Told,
+    front: u64,
+    answer: String,
+}
+
+/// By what was handed in.
+type Looks = Vec<Look>;
+
+/// How many entries are handed in.
 const LAST: u64 = 20;
 
 fn question(before: u64) -> Query {
@@ -38,13 +49,13 @@ fn hand_in(alloc: Global, number: u64) -> Result<Step, Fail> {
     match limit_under(number) {
         Some(limit) => Ok(Step::Limit { seat, limit }),
         None => {
-            let batch = batch_of(alloc, number)?;
+            let batch = batch_under(alloc, number)?;
             Ok(Step::Put { seat, batch })
         }
     }
 }
 
-/// The steps by which a machine admits one more entry and a reader looks at what is shown then.
+/// The steps by which a machine is handed one more entry and a reader looks at what is shown then.
 fn steps_of(alloc: Global, before: u64) -> Result<Vec<Step>, Fail> {
     let query = question(before);
     let mut steps = Vec::new(alloc);
@@ -57,7 +68,7 @@ fn steps_of(alloc: Global, before: u64) -> Result<Vec<Step>, Fail> {
     Ok(steps)
 }
 
-/// The looks of a machine to which so many entries are admitted.
+/// The looks of a machine that is handed so many entries.
 fn machine_looks(
     alloc: Global,
     keys: RandomState,
@@ -73,18 +84,30 @@ fn machine_looks(
     looks_of(alloc, play(alloc, keys, steps, limits)?)
 }
 
-/// What was answered, of these outcomes.
+/// What was told and answered, of these outcomes. A job that is taken is published at once, as the last one.
 fn looks_of(alloc: Global, outcomes: Vec<Outcome>) -> Result<Looks, Fail> {
     let mut looks = Vec::new(alloc);
+    let mut told = None;
     for outcome in outcomes {
-        if let Outcome::Answered { front, answer } = outcome {
-            looks.push((front, format!(in alloc; "{answer:?}")?))?;
+        match outcome {
+            Outcome::Again { place, .. } => told = Some(Ok(place)),
+            Outcome::Refused(why) => told = Some(Err(why)),
+            Outcome::Answered { front, answer } => {
+                let told = told.take().unwrap_or(Ok(front));
+                let answer = format!(in alloc; "{answer:?}")?;
+                looks.push(Look {
+                    told,
+                    front,
+                    answer,
+                })?;
+            }
+            _ => {}
         }
     }
     Ok(looks)
 }
 
-/// The looks of a pass of two copies to which the same entries are admitted.
+/// The looks of a pass of two copies that are handed the same entries.
 fn copies_look<N: StoreName, R: Wait>(
     rt: &R,
     alloc: Global,
@@ -98,16 +121,28 @@ fn copies_look<N: StoreName, R: Wait>(
     };
     let mut before = 0;
     for entry in entries {
-        let _receipt = keeper.admit(rt, entry)?;
-        let reading = pass.read(&question(before))?;
-        let answer = reading.answer;
-        let Ok(text) = format!(in alloc; "{answer:?}") else {
+        let told = match keeper.admit(rt, entry) {
+            Ok(receipt) => Ok(receipt.place().unwrap_or(0)),
+            Err(why) => Err(why),
+        };
+        let Reading { front, answer } = pass.read(&question(before))?;
+        let Ok(answer) = format!(in alloc; "{answer:?}") else {
             return Err(Refusal::NoMemory);
         };
-        looks.push((reading.front, text))?;
+        looks.push(Look {
+            told,
+            front,
+            answer,
+        })?;
         before = before.saturating_add(1);
     }
     Ok(looks)
+}
+
+/// What was told of what was handed in under the number.
+fn told_under(looks: &[Look], number: usize) -> Option<Told> {
+    let look = looks.get(number.saturating_sub(1))?;
+    Some(look.told)
 }
 
 #[test]
@@ -132,11 +167,15 @@ fn followed<N: StoreName, R: Wait + Abort + RandomSource>(
     let seen = copies_look(rt, alloc, &mut keeper, &mut passes, entries);
     keeper.close(rt);
     assert_eq!(rt; wanted.len() as u64, LAST);
+    assert!(rt; told_under(&wanted, 5) == Some(Ok(3)) && told_under(&wanted, 19) == Some(Ok(14)));
+    let conflict = Refusal::Conflict { place: 3 };
+    assert!(rt; told_under(&wanted, 6) == Some(Err(conflict)));
     match seen {
         Ok(looks) => {
             for (look, wanted) in looks.iter().zip(wanted.iter()) {
-                assert_eq!(rt; look.0, wanted.0);
-                assert!(rt; look.1 == wanted.1);
+                assert!(rt; look.told == wanted.told);
+                assert_eq!(rt; look.front, wanted.front);
+                assert!(rt; look.answer == wanted.answer);
             }
             assert_eq!(rt; looks.len() as u64, LAST);
         }

@@ -16,7 +16,7 @@ use trace_model::{Answer, Entry, Limits, Query, Refusal};
 type Seen<T> = Result<T, Refusal>;
 
 /// Admits the entries in order, and gives the receipts.
-fn admit_all<N: StoreName, R: Wait>(
+pub fn admit_all<N: StoreName, R: Wait>(
     rt: &R,
     alloc: Global,
     keeper: &mut Keeper<N>,

@@ -38,7 +38,7 @@ pub fn open<N: StoreName>(
 {
     let history: Log<N> = Log::new(name);
     let mut passes = Vec::with_capacity(alloc, readers)?;
-    let journal = Journal::new(alloc, limits)?;
+    let journal = Journal::new(alloc, keys, limits)?;
     let first = Side::new(SpanStore::open(alloc, keys, limits)?, history.seen());
     let second = Side::new(SpanStore::open(alloc, keys, limits)?, history.seen());
     let writer: Copies<N> = Writer::new(alloc, first, second, readers)?;

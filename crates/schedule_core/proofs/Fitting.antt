@@ -13,7 +13,9 @@ use Rattle.trace_model.specs.declared.entry.Work.TheVariants as brings
 use Rattle.trace_model.specs.declared.entry.Entry.{Entry}
 use Rattle.trace_model.specs.declared.limits.Limits.{Limits}
 use Rattle.trace_model.specs.Histories.{span_count, IsLegal}
+use Rattle.trace_model.specs.Resending.{sent_before}
 use Rattle.trace_model.specs.Refusals.{has_room}
+use Rattle.trace_model.proofs.Admissions.{not_sent}
 use Rattle.trace_model.proofs.Legality.{legal_empty, legal_push}
 use Rattle.trace_model.proofs.Prefixes.{prefix_self, prefix_trans, prefix_append}
 use Rattle.schedule_core.specs.declared.step.Step.{Step}
@@ -75,15 +77,16 @@ longer_prefix a n h p = elim (nat_le (length a) (length (take n h))) as (λ b. I
 -- ---- jobs
 
 legal_taken : (limits : Limits) (m : Machine) (job : Entry) (rest : List Entry) → Fits limits m → m.waiting ≡ job ∷ rest
-    → has_room m.limits (accepted m) job ≡ true
+    → sent_before (accepted m) job ≡ None → has_room m.limits (accepted m) job ≡ true
     → IsLegal limits (accepted m ++ job ∷ [])
-legal_taken limits m job rest fits e room =
+legal_taken limits m job rest fits e unsent room =
     let within : has_room limits (accepted m) job ≡ true = subst (λ l. has_room l (accepted m) job ≡ true) fits.bounds room in
     let spans = span_count (accepted m) + length (spans_brought job.work) in
     let parts = and_parts (nat_le (length (accepted m) + 1) limits.batches) (nat_le spans limits.spans) within in
     let batches = leb-true (length (accepted m) + 1) limits.batches parts.0 in
     legal_push limits (accepted m) job fits.legal
     (numbered_above (accepted m) rest m.numbers job (subst (λ w. IsNumbered (accepted m) w m.numbers) e fits.numbered))
+    (not_sent (accepted m) job unsent)
     (omega arith)
     (leb-true spans limits.spans parts.1)
 
@@ -104,14 +107,14 @@ step_fits limits m fits = on_step m (λ s t. Fits limits t.machine) (record {
     numbered = numbered_put (accepted m) m.waiting m.numbers (record { seat = seat; number = last + 1; work = brings.TraceLimit n }) last fits.numbered e refl;
     readers = fits.readers;
   };
-  taken = λ job rest e room. record {
+  taken = λ job rest e unsent room. record {
     bounds = fits.bounds;
-    legal = subst (IsLegal limits) (append_assoc m.history m.pending (job ∷ [])) (legal_taken limits m job rest fits e room);
+    legal = subst (IsLegal limits) (append_assoc m.history m.pending (job ∷ [])) (legal_taken limits m job rest fits e unsent room);
     numbered = subst (λ a. IsNumbered a rest m.numbers) (append_assoc m.history m.pending (job ∷ []))
         (numbered_taken (accepted m) rest m.numbers job (subst (λ w. IsNumbered (accepted m) w m.numbers) e fits.numbered));
     readers = fits.readers;
   };
-  dropped = λ job rest e. record {
+  dropped = λ job rest o e says. record {
     bounds = fits.bounds;
     legal = fits.legal;
     numbered = numbered_dropped (accepted m) rest m.numbers job (subst (λ w. IsNumbered (accepted m) w m.numbers) e fits.numbered);

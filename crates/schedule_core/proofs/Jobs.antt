@@ -42,11 +42,16 @@ passes_taken m n job w a = record {
   waits = λ js vs. ap (λ l. drop (length (true ∷ vs)) (l ++ js)) (sym w);
 }
 
-passes_dropped : (m n : Machine) (job : Entry) → m.waiting ≡ job ∷ n.waiting → accepted n ≡ accepted m → Passes m n [] (false ∷ [])
-passes_dropped m n job w a = record {
+passes_out : (m n : Machine) (job : Entry) → m.waiting ≡ job ∷ n.waiting → accepted n ≡ accepted m → Passes m n [] (false ∷ [])
+passes_out m n job w a = record {
   accepts = λ js vs. ap (λ l. l ++ kept (n.waiting ++ js) vs) a ∙ ap (λ l. accepted m ++ kept (l ++ js) (false ∷ vs)) (sym w);
   waits = λ js vs. ap (λ l. drop (length (false ∷ vs)) (l ++ js)) (sym w);
 }
+
+passes_dropped : (m n : Machine) (job : Entry) (jobs : List Entry) (verdicts : List Bool) → m.waiting ≡ job ∷ n.waiting → accepted n ≡ accepted m
+    → jobs ≡ [] → verdicts ≡ false ∷ [] → Passes m n jobs verdicts
+passes_dropped m n job jobs verdicts w a j v =
+    subst (λ vs. Passes m n jobs vs) (sym v) (subst (λ js. Passes m n js (false ∷ [])) (sym j) (passes_out m n job w a))
 
 passes_shown : (m n : Machine) → accepted n ≡ accepted m → n.waiting ≡ m.waiting → Passes m n [] []
 passes_shown m n a w = record {
@@ -59,8 +64,8 @@ step_passes m = on_step m (λ s t. Passes m t.machine (job_of s t.outcome) (verd
   silent = λ s o quiet. passes_silent m (job_of s o) (verdict_of s o) quiet.job quiet.verdict;
   put = λ seat batch last e. passes_put m _ (record { seat = seat; number = last + 1; work = brings.Batch batch }) refl refl;
   limited = λ seat n last e. passes_put m _ (record { seat = seat; number = last + 1; work = brings.TraceLimit n }) refl refl;
-  taken = λ job rest e room. passes_taken m _ job e (sym (append_assoc m.history m.pending (job ∷ [])));
-  dropped = λ job rest e. passes_dropped m _ job e refl;
+  taken = λ job rest e unsent room. passes_taken m _ job e (sym (append_assoc m.history m.pending (job ∷ [])));
+  dropped = λ job rest o e says. passes_dropped m _ job _ _ e refl says.job says.verdict;
   shown = passes_shown m _ (append-nil (accepted m)) refl;
   entered = λ r reader e. passes_shown m _ refl refl;
   answered = λ r query reader v e is. passes_shown m _ refl refl;
@@ -116,8 +121,8 @@ step_numbers m before numbered = on_step m (λ s t. IsNumbered before (job_of s 
   silent = λ s o quiet. subst (λ js. IsNumbered before js m.numbers) (sym quiet.job) numbered;
   put = λ seat batch last e. numbered_put before [] m.numbers (record { seat = seat; number = last + 1; work = brings.Batch batch }) last numbered e refl;
   limited = λ seat n last e. numbered_put before [] m.numbers (record { seat = seat; number = last + 1; work = brings.TraceLimit n }) last numbered e refl;
-  taken = λ job rest e room. numbered;
-  dropped = λ job rest e. numbered;
+  taken = λ job rest e unsent room. numbered;
+  dropped = λ job rest o e says. subst (λ js. IsNumbered before js m.numbers) (sym says.job) numbered;
   shown = numbered;
   entered = λ r reader e. numbered;
   answered = λ r query reader v e is. numbered;

@@ -46,8 +46,8 @@ step_of_other reader m = on_step m (λ s t. is_of reader s ≡ false → StandsA
   silent = λ s o quiet other. record { bounds = refl; place = refl };
   put = λ seat batch last e other. record { bounds = refl; place = refl };
   limited = λ seat n last e other. record { bounds = refl; place = refl };
-  taken = λ job rest e room other. record { bounds = refl; place = refl };
-  dropped = λ job rest e other. record { bounds = refl; place = refl };
+  taken = λ job rest e unsent room other. record { bounds = refl; place = refl };
+  dropped = λ job rest o e says other. record { bounds = refl; place = refl };
   shown = λ other. record { bounds = refl; place = refl };
   entered = λ r at e other. others_set m r reader _ (eqb-false r reader other);
   answered = λ r query at v e is other. record { bounds = refl; place = refl };

@@ -36,8 +36,8 @@ step_names m = on_step m (λ s t. Names m t.machine (reported_by s t.outcome)) (
   silent = λ s o quiet. subst (Names m m) (sym quiet.name) (names_same m m refl);
   put = λ seat batch last e. names_same m _ refl;
   limited = λ seat n last e. names_same m _ refl;
-  taken = λ job rest e room. names_more m _ job (sym (append_assoc m.history m.pending (job ∷ [])));
-  dropped = λ job rest e. names_same m _ refl;
+  taken = λ job rest e unsent room. names_more m _ job (sym (append_assoc m.history m.pending (job ∷ [])));
+  dropped = λ job rest o e says. subst (Names m _) (sym says.name) (names_same m _ refl);
   shown = names_same m _ (append-nil (accepted m));
   entered = λ r reader e. names_same m _ refl;
   answered = λ r query reader v e is. names_same m _ refl;
@@ -99,8 +99,8 @@ step_counts m k = on_step m (λ s t. Counts k m.numbers t.machine.numbers (job_o
   silent = λ s o quiet. counts_none k m.numbers (job_of s o) quiet.job;
   put = λ seat batch last e. counts_put k m.numbers (record { seat = seat; number = last + 1; work = brings.Batch batch }) last e refl;
   limited = λ seat n last e. counts_put k m.numbers (record { seat = seat; number = last + 1; work = brings.TraceLimit n }) last e refl;
-  taken = λ job rest e room. counts_none k m.numbers [] refl;
-  dropped = λ job rest e. counts_none k m.numbers [] refl;
+  taken = λ job rest e unsent room. counts_none k m.numbers [] refl;
+  dropped = λ job rest o e says. counts_none k m.numbers _ says.job;
   shown = counts_none k m.numbers [] refl;
   entered = λ r reader e. counts_none k m.numbers [] refl;
   answered = λ r query reader v e is. counts_none k m.numbers [] refl;

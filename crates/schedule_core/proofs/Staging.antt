@@ -1,25 +1,32 @@
 -- The machine over two copies goes on as the machine does.
-use Rattle.std.proofs.Common.{◌≡◌, ℕ, ◌+◌, ◌<◌, ◌≤◌, Bool, true, false, List, [], ◌∷◌, ◌++◌, length, map, take, Option, Some, None, inl, inr, refl, sym, ap, ◌∙◌, subst, append_assoc, append-nil, arith}
-use Rattle.std.specs.Prelude.{cond, not, if◌then◌else◌, nat_lt, option_map, IfSome, IfOk, OnErr, Result, Ok, Err, replicate, slice_index, slice_get, slice_set}
+use Rattle.std.proofs.Common.{◌≡◌, ℕ, suc, ◌+◌, ◌<◌, ◌≤◌, Bool, true, false, List, [], ◌∷◌, ◌++◌, length, map, take, Option, Some, None, inl, inr, refl, sym, ap, ◌∙◌, subst, append_assoc, append-nil, arith}
+use Rattle.std.specs.Prelude.{cond, get_or, not, if◌then◌else◌, nat_lt, option_map, IfSome, Result, Ok, Err, replicate, slice_index, slice_get, slice_set}
 use Rattle.std.specs.List.{All, position, position_or_len}
 use Rattle.std.specs.Option.{option_map_or}
-use Rattle.std.proofs.lemmas.Bool.{ltb-false, lt-ltb, false≢true}
+use Rattle.std.proofs.lemmas.Bool.{ltb-false, lt-leb, lt-ltb, false≢true}
 use Rattle.std.proofs.lemmas.List.{take-append-le, length-append, length-map, map-set}
 use Rattle.std.proofs.lemmas.List.Elements.{All-nil, All-replicate, All-cons, All-head, All-tail, All-push, All-set, All-weaker, All-from_get_or}
 use Rattle.std.proofs.lemmas.List.Sums.{fails_before_first}
 use Rattle.std.proofs.lemmas.List.Recursion.{is_position_or_len}
+use Rattle.trace_model.specs.declared.admission.Admission.{Admission}
+use Rattle.trace_model.specs.declared.admission.Admission.TheVariants.{Added, Resent}
 use Rattle.trace_model.specs.declared.entry.Entry.{Entry}
 use Rattle.trace_model.specs.declared.entry.Work.{Work}
 use Rattle.trace_model.specs.declared.limits.Limits.{Limits}
-use Rattle.trace_model.specs.Histories.{last_number}
-use Rattle.trace_model.specs.Refusals.{has_room}
+use Rattle.trace_model.specs.declared.refusal.Refusal.{Refusal}
+use Rattle.trace_model.specs.declared.refusal.Refusal.TheVariants.{JournalFull, Stale, Conflict}
+use Rattle.trace_model.specs.Works.{same_work}
+use Rattle.trace_model.specs.Histories.{last_number, span_count}
+use Rattle.trace_model.specs.Resending.{sent_before}
+use Rattle.trace_model.specs.Refusals.{has_room, repeated, admitted_anew, admission}
+use Rattle.trace_model.proofs.Admissions.{admission_repeated, admission_anew}
 use Rattle.schedule_core.specs.declared.outcome.Outcome.{Outcome}
 use Rattle.schedule_core.specs.declared.outcome.Outcome.TheVariants.{Held, Published}
 use Rattle.schedule_core.specs.declared.readers.Inside.{Inside}
 use Rattle.schedule_core.specs.declared.readers.Place.{Place}
-use Rattle.schedule_core.specs.Machine.{Machine, Reader, Stepped, Visit, holds, published, publishes, publishes_by, with_reader}
+use Rattle.schedule_core.specs.Machine.{Machine, Reader, Stepped, Visit, drops, outcome_by, judged, takes_by, takes, holds, published, publishes, publishes_by, with_reader}
 use Rattle.schedule_core.specs.Numbering.{IsNumbered}
-use Rattle.schedule_core.specs.Copied.{Copied, turned, with_pending}
+use Rattle.schedule_core.specs.Copied.{Copied, after_admission, turned, with_pending}
 use Rattle.schedule_core.specs.Queued.{Queued, number_after, next_number, queued}
 use Rattle.schedule_core.specs.Standing.{is_held, visit_at, reader_at, Visits, Stands}
 use Rattle.schedule_core.specs.Staged.{IsStaged, Verdict, machine_of, verdict}
@@ -71,33 +78,81 @@ staged_dropped c q fronts places e s = record {
   standing = s.standing;
 }
 
-pub staged_judged : (c now : Copied) (q next : Queued) (fronts : List ℕ) (places : List Place) (e : Entry) (o : Outcome)
-    → IsStaged c q fronts places → q ≡ record next { waiting = e ∷ next.waiting }
-    → record { outcome = o; copies = now } ≡ verdict c e (has_room c.limits (c.history ++ c.pending) e)
-    → IsStaged now next fronts places
-staged_judged c now q next fronts places e o s is judged =
-    let front = subst (λ x. IsStaged c x fronts places) is s in
-    subst (λ x. IsStaged x next fronts places) (sym (ap (λ (v : Verdict). v.copies) judged))
-    (elim (has_room c.limits (c.history ++ c.pending) e) as (λ b. IsStaged (verdict c e b).copies next fronts places) [
-      | true ↦ staged_taken c next fronts places e front
-      | false ↦ staged_dropped c next fronts places e front
-    ])
+pub staged_judged : (c : Copied) (q : Queued) (fronts : List ℕ) (places : List Place) (e : Entry) (answer : Result Admission Refusal)
+    → IsStaged c (record q { waiting = e ∷ q.waiting }) fronts places → IsStaged (after_admission c e answer) q fronts places
+staged_judged c q fronts places e (Ok Added) s = staged_taken c q fronts places e s
+staged_judged c q fronts places e (Ok (Resent place)) s = staged_dropped c q fronts places e s
+staged_judged c q fronts places e (Err why) s = staged_dropped c q fronts places e s
 
-pub staged_after : {E : Type 0} (c now : Copied) (q next : Queued) (fronts : List ℕ) (places : List Place) (e : Entry) (r : Result Outcome E)
+pub staged_after : (c now : Copied) (q next : Queued) (fronts : List ℕ) (places : List Place) (e : Entry) (o : Outcome) (answer : Result Admission Refusal)
     → IsStaged c q fronts places → q ≡ record next { waiting = e ∷ next.waiting }
-    → IfOk r (λ o. record { outcome = o; copies = now } ≡ verdict c e (has_room c.limits (c.history ++ c.pending) e))
-    → OnErr r (now ≡ c)
+    → record { outcome = o; copies = now } ≡ verdict c e answer
     → IsStaged now next fronts places
-staged_after c now q next fronts places e (Ok o) s is ok err = staged_judged c now q next fronts places e o s is ok
-staged_after c now q next fronts places e (Err x) s is ok err =
-    subst (λ k. IsStaged k next fronts places) (sym err) (staged_dropped c next fronts places e (subst (λ x. IsStaged c x fronts places) is s))
+staged_after c now q next fronts places e o answer s is judged =
+    subst (λ x. IsStaged x next fronts places) (sym (ap (λ (v : Verdict). v.copies) judged))
+    (staged_judged c next fronts places e answer (subst (λ x. IsStaged c x fronts places) is s))
+
+-- ---- a job as the machine takes it
+
+-- the job is judged, and the machine sees what has become of it
+abbrev shown : Copied → Queued → List ℕ → List Place → Entry → Result Admission Refusal → Stepped
+shown c q fronts places e answer = record { outcome = outcome_by e answer; machine = machine_of (after_admission c e answer) q fronts places }
+
+-- of a batch that was sent before nothing is added
+repeat_alike : (c : Copied) (q : Queued) (fronts : List ℕ) (places : List Place) (e : Entry) (before : ℕ)
+    → shown c q fronts places e (repeated (c.history ++ c.pending) e before)
+    ≡ drops (machine_of c (record q { waiting = e ∷ q.waiting }) fronts places) q.waiting (outcome_by e (repeated (c.history ++ c.pending) e before))
+repeat_alike c q fronts places e before =
+    elim (same_work e.work (get_or (c.history ++ c.pending) before e).work)
+    as (λ b. shown c q fronts places e (if b then Ok (Resent (suc before)) else Err (Conflict (suc before)))
+    ≡ drops (machine_of c (record q { waiting = e ∷ q.waiting }) fronts places) q.waiting (outcome_by e (if b then Ok (Resent (suc before)) else Err (Conflict (suc before))))) [
+      | true ↦ refl
+      | false ↦ refl
+    ]
+
+-- a number above those of its seat is not stale
+above_anew : (limits : Limits) (h : List Entry) (e : Entry) → last_number e.seat h < e.number
+    → admitted_anew limits h e ≡ (if has_room limits h e then Ok Added else Err (JournalFull (length h) (span_count h)))
+above_anew limits h e above =
+    ap (λ b. if b then Err (Stale (last_number e.seat h)) else if has_room limits h e then Ok Added else Err (JournalFull (length h) (span_count h)))
+    (lt-leb e.number (last_number e.seat h) above)
+
+anew_alike : (c : Copied) (q : Queued) (fronts : List ℕ) (places : List Place) (e : Entry) → last_number e.seat (c.history ++ c.pending) < e.number
+    → shown c q fronts places e (admitted_anew c.limits (c.history ++ c.pending) e)
+    ≡ judged (machine_of c (record q { waiting = e ∷ q.waiting }) fronts places) e q.waiting (has_room c.limits (c.history ++ c.pending) e)
+anew_alike c q fronts places e above =
+    let h = c.history ++ c.pending in
+    ap (λ answer. shown c q fronts places e answer) (above_anew c.limits h e above)
+    ∙ elim (has_room c.limits h e) as (λ b. shown c q fronts places e (if b then Ok Added else Err (JournalFull (length h) (span_count h)))
+    ≡ judged (machine_of c (record q { waiting = e ∷ q.waiting }) fronts places) e q.waiting b) [
+      | true ↦ refl
+      | false ↦ refl
+    ]
+
+judged_alike : (c : Copied) (q : Queued) (fronts : List ℕ) (places : List Place) (e : Entry) (o : Option ℕ) → sent_before (c.history ++ c.pending) e ≡ o
+    → last_number e.seat (c.history ++ c.pending) < e.number
+    → shown c q fronts places e (admission c.limits (c.history ++ c.pending) e)
+    ≡ takes_by (machine_of c (record q { waiting = e ∷ q.waiting }) fronts places) e q.waiting o
+judged_alike c q fronts places e None at above =
+    ap (λ answer. shown c q fronts places e answer) (admission_anew c.limits (c.history ++ c.pending) e at) ∙ anew_alike c q fronts places e above
+judged_alike c q fronts places e (Some before) at above =
+    ap (λ answer. shown c q fronts places e answer) (admission_repeated c.limits (c.history ++ c.pending) e before at)
+    ∙ repeat_alike c q fronts places e before
 
 -- its number is above those of its seat
-pub front_above : (c : Copied) (q next : Queued) (fronts : List ℕ) (places : List Place) (e : Entry)
-    → IsStaged c q fronts places → q ≡ record next { waiting = e ∷ next.waiting } → last_number e.seat (c.history ++ c.pending) < e.number
-front_above c q next fronts places e s is =
+front_above : (c : Copied) (q : Queued) (fronts : List ℕ) (places : List Place) (e : Entry)
+    → IsStaged c (record q { waiting = e ∷ q.waiting }) fronts places → last_number e.seat (c.history ++ c.pending) < e.number
+front_above c q fronts places e s = numbered_above (c.history ++ c.pending) q.waiting q.numbers e s.numbered
+
+pub taken_alike : (c now : Copied) (q next : Queued) (fronts : List ℕ) (places : List Place) (e : Entry) (o : Outcome)
+    → IsStaged c q fronts places → q ≡ record next { waiting = e ∷ next.waiting }
+    → record { outcome = o; copies = now } ≡ verdict c e (admission c.limits (c.history ++ c.pending) e)
+    → record { outcome = o; machine = machine_of now next fronts places } ≡ takes (machine_of c q fronts places) q.waiting
+taken_alike c now q next fronts places e o s is judged =
     let front = subst (λ x. IsStaged c x fronts places) is s in
-    numbered_above (c.history ++ c.pending) next.waiting next.numbers e front.numbered
+    ap (λ (v : Verdict). record { outcome = v.outcome; machine = machine_of v.copies next fronts places }) judged
+    ∙ judged_alike c next fronts places e (sent_before (c.history ++ c.pending) e) refl (front_above c next fronts places e front)
+    ∙ ap (λ (x : Queued). takes (machine_of c x fronts places) x.waiting) (sym is)
 
 -- ---- readers
 

@@ -1,19 +1,23 @@
 -- What a step can do: what holds in each of these cases holds of every step.
-use Rattle.std.proofs.Common.{◌≡◌, ℕ, ◌+◌, Bool, true, false, List, [], ◌∷◌, length, take, Option, Some, None, refl}
-use Rattle.std.specs.Prelude.{slice_get, nat_lt, if◌then◌else◌, nat_le}
+use Rattle.std.proofs.Common.{◌≡◌, ℕ, suc, ◌+◌, Bool, true, false, List, [], ◌∷◌, length, take, Option, Some, None, refl}
+use Rattle.std.specs.Prelude.{get_or, slice_get, nat_lt, if◌then◌else◌, nat_le, Ok, Err}
 use Rattle.std.specs.Option.{option_map_or}
 use Rattle.std.specs.List.{position}
 use Rattle.jaeger_model.specs.declared.batch.Batch.{Batch}
+use Rattle.trace_model.specs.declared.admission.Admission.TheVariants.{Resent}
 use Rattle.trace_model.specs.declared.entry.Entry.{Entry}
 use Rattle.trace_model.specs.declared.entry.Work.TheVariants as brings
 use Rattle.trace_model.specs.declared.limits.Limits.{Limits}
 use Rattle.trace_model.specs.declared.query.Query.{Query}
-use Rattle.trace_model.specs.Refusals.{has_room}
+use Rattle.trace_model.specs.declared.refusal.Refusal.TheVariants.{Conflict}
+use Rattle.trace_model.specs.Works.{same_work}
+use Rattle.trace_model.specs.Resending.{sent_before}
+use Rattle.trace_model.specs.Refusals.{has_room, repeated}
 use Rattle.schedule_core.specs.declared.step.Step.{Step}
 use Rattle.schedule_core.specs.declared.step.Step.TheVariants as ask
 use Rattle.schedule_core.specs.declared.outcome.Outcome.{Outcome}
-use Rattle.schedule_core.specs.declared.outcome.Outcome.TheVariants.{Idle, Published, Held, Left, Inside, Outside, Unknown}
-use Rattle.schedule_core.specs.Machine.{Machine, Reader, Visit, Stepped, stays, accepted, handed_in, puts, judged, takes, holds, published, publishes_by, with_reader, enters, reads, longer, learns_list, learns, leaves, front_of, step}
+use Rattle.schedule_core.specs.declared.outcome.Outcome.TheVariants.{Again, Refused, Idle, Published, Held, Left, Inside, Outside, Unknown}
+use Rattle.schedule_core.specs.Machine.{Machine, Reader, Visit, Stepped, stays, accepted, handed_in, puts, full, drops, outcome_by, judged, takes_by, takes, holds, published, publishes_by, with_reader, enters, reads, longer, learns_list, learns, leaves, front_of, step}
 use Rattle.schedule_core.specs.Runs.{job_of, verdict_of, reported_by, front_in, IsOf}
 
 -- the step changed nothing, and its outcome reports nothing
@@ -24,15 +28,24 @@ pub record Silent (s : Step) (o : Outcome) : Type 0 where
   pub front : front_in o ≡ []
   pub answer : (limits : Limits) (h : List Entry) → IsOf limits h s o
 
+-- the outcome of a job that was taken reports that it was not accepted, and nothing else
+pub record Drops (o : Outcome) : Type 0 where
+  pub job : job_of ask.Take o ≡ []
+  pub verdict : verdict_of ask.Take o ≡ false ∷ []
+  pub name : reported_by ask.Take o ≡ []
+  pub front : front_in o ≡ []
+  pub answer : (limits : Limits) (h : List Entry) → IsOf limits h ask.Take o
+
 pub record StepCases (m : Machine) (P : Step → Stepped → Type 0) : Type 0 where
   pub silent : (s : Step) (o : Outcome) → Silent s o → P s (stays m o)
   pub put : (seat : ℕ) (batch : Batch) (last : ℕ) → slice_get m.numbers seat ≡ Some last
       → P (ask.Put seat batch) (handed_in m seat (brings.Batch batch) (last + 1))
   pub limited : (seat n : ℕ) (last : ℕ) → slice_get m.numbers seat ≡ Some last
       → P (ask.Limit seat n) (handed_in m seat (brings.TraceLimit n) (last + 1))
-  pub taken : (job : Entry) (rest : List Entry) → m.waiting ≡ job ∷ rest → has_room m.limits (accepted m) job ≡ true
+  pub taken : (job : Entry) (rest : List Entry) → m.waiting ≡ job ∷ rest → sent_before (accepted m) job ≡ None
+      → has_room m.limits (accepted m) job ≡ true
       → P ask.Take (judged m job rest true)
-  pub dropped : (job : Entry) (rest : List Entry) → m.waiting ≡ job ∷ rest → P ask.Take (judged m job rest false)
+  pub dropped : (job : Entry) (rest : List Entry) (o : Outcome) → m.waiting ≡ job ∷ rest → Drops o → P ask.Take (drops m rest o)
   pub shown : P ask.Publish (record { outcome = Published (length (accepted m)); machine = published m })
   pub entered : (r : ℕ) (reader : Reader) → slice_get m.readers r ≡ Some reader → P (ask.Enter r) (enters m r None)
   pub answered : (r : ℕ) (query : Query) (reader : Reader) (v : Visit) → slice_get m.readers r ≡ Some reader → reader.inside ≡ Some v
@@ -68,14 +81,36 @@ module _ (m : Machine) (P : Step → Stepped → Type 0) (c : StepCases m P) whe
         | false ↦ quiet (ask.Limit seat n) Unknown refl refl refl refl (λ l h. tt)
       ]
 
-  on_verdict : (job : Entry) (rest : List Entry) (b : Bool) → m.waiting ≡ job ∷ rest → has_room m.limits (accepted m) job ≡ b
+  refused : (job : Entry) (rest : List Entry) (o : Outcome) → m.waiting ≡ job ∷ rest → job_of ask.Take o ≡ [] → verdict_of ask.Take o ≡ false ∷ []
+      → reported_by ask.Take o ≡ [] → front_in o ≡ [] → ((limits : Limits) (h : List Entry) → IsOf limits h ask.Take o)
+      → P ask.Take (drops m rest o)
+  refused job rest o e no_job verdict name front answer =
+      c.dropped job rest o e (record { job = no_job; verdict = verdict; name = name; front = front; answer = answer })
+
+  on_verdict : (job : Entry) (rest : List Entry) (b : Bool) → m.waiting ≡ job ∷ rest → sent_before (accepted m) job ≡ None
+      → has_room m.limits (accepted m) job ≡ b
       → P ask.Take (judged m job rest b)
-  on_verdict job rest true e room = c.taken job rest e room
-  on_verdict job rest false e room = c.dropped job rest e
+  on_verdict job rest true e unsent room = c.taken job rest e unsent room
+  on_verdict job rest false e unsent room = refused job rest (Refused (full m)) e refl refl refl refl (λ l h. tt)
+
+  -- the job's batch was sent before, with the same spans or with others
+  on_repeat : (job : Entry) (rest : List Entry) (before : ℕ) → m.waiting ≡ job ∷ rest
+      → P ask.Take (drops m rest (outcome_by job (repeated (accepted m) job before)))
+  on_repeat job rest before e =
+      elim (same_work job.work (get_or (accepted m) before job).work)
+      as (λ b. P ask.Take (drops m rest (outcome_by job (if b then Ok (Resent (suc before)) else Err (Conflict (suc before)))))) [
+        | true ↦ refused job rest (Again job.seat job.number (suc before)) e refl refl refl refl (λ l h. tt)
+        | false ↦ refused job rest (Refused (Conflict (suc before))) e refl refl refl refl (λ l h. tt)
+      ]
+
+  on_sent : (job : Entry) (rest : List Entry) (o : Option ℕ) → m.waiting ≡ job ∷ rest → sent_before (accepted m) job ≡ o
+      → P ask.Take (takes_by m job rest o)
+  on_sent job rest None e unsent = on_verdict job rest (has_room m.limits (accepted m) job) e unsent refl
+  on_sent job rest (Some before) e sent = on_repeat job rest before e
 
   on_take : (w : List Entry) → m.waiting ≡ w → P ask.Take (takes m w)
   on_take [] e = quiet ask.Take Idle refl refl refl refl (λ l h. tt)
-  on_take (job ∷ rest) e = on_verdict job rest (has_room m.limits (accepted m) job) e refl
+  on_take (job ∷ rest) e = on_sent job rest (sent_before (accepted m) job) e refl
 
   -- ---- publishes
   on_publish : (first : Option ℕ) → P ask.Publish (publishes_by m first)

@@ -1,8 +1,11 @@
 -- What is accepted, and how much of it two copies of a store hold.
-use Rattle.std.specs.Prelude.{◌≡◌, [], ◌∷◌, ◌++◌, List}
+use Rattle.std.specs.Prelude.{◌≡◌, [], ◌∷◌, ◌++◌, List, Result, Ok, Err}
 use mathlib.Core.List.{IsPrefix}
+use Rattle.trace_model.specs.declared.admission.Admission.{Admission}
+use Rattle.trace_model.specs.declared.admission.Admission.TheVariants.{Added, Resent}
 use Rattle.trace_model.specs.declared.entry.Entry.{Entry}
 use Rattle.trace_model.specs.declared.limits.Limits.{Limits}
+use Rattle.trace_model.specs.declared.refusal.Refusal.{Refusal}
 use Rattle.trace_model.specs.Held.{Held}
 use Rattle.trace_model.specs.Histories.{IsLegal}
 
@@ -26,6 +29,12 @@ all_of c = record { limits = c.limits; entries = c.history ++ c.pending }
 
 abbrev pub with_pending : Copied → Entry → Copied
 with_pending c e = record c { pending = c.pending ++ e ∷ [] }
+
+-- the entry is pending where it was added, and nothing has changed where it was not
+abbrev pub after_admission : Copied → Entry → Result Admission Refusal → Copied
+after_admission c e (Ok Added) = with_pending c e
+after_admission c e (Ok (Resent place)) = c
+after_admission c e (Err why) = c
 
 -- the copies have changed their parts, and the new one holds all
 abbrev pub turned : Copied → Copied

@@ -1,7 +1,9 @@
 -- The stepped machine. No copies, indexes or threads stand in it.
-use Rattle.std.specs.Prelude.{ℕ, ◌+◌, ◌-◌, Bool, true, false, List, [], ◌∷◌, ◌++◌, length, take, Option, Some, None, slice_set, replicate, if◌then◌else◌, nat_lt, nat_le, slice_get}
+use Rattle.std.specs.Prelude.{ℕ, ◌+◌, ◌-◌, Bool, true, false, List, [], ◌∷◌, ◌++◌, length, take, Option, Some, None, Result, Ok, Err, slice_set, replicate, if◌then◌else◌, nat_lt, nat_le, slice_get}
 use Rattle.std.specs.List.{position}
 use Rattle.std.specs.Option.{option_map_or}
+use Rattle.trace_model.specs.declared.admission.Admission.{Admission}
+use Rattle.trace_model.specs.declared.admission.Admission.TheVariants.{Added, Resent}
 use Rattle.trace_model.specs.declared.entry.Entry.{Entry}
 use Rattle.trace_model.specs.declared.entry.Work.{Work}
 use Rattle.trace_model.specs.declared.entry.Work.TheVariants as brings
@@ -10,12 +12,13 @@ use Rattle.trace_model.specs.declared.query.Query.{Query}
 use Rattle.trace_model.specs.declared.refusal.Refusal.{Refusal}
 use Rattle.trace_model.specs.declared.refusal.Refusal.TheVariants.{JournalFull}
 use Rattle.trace_model.specs.Histories.{span_count}
-use Rattle.trace_model.specs.Refusals.{has_room}
+use Rattle.trace_model.specs.Resending.{sent_before}
+use Rattle.trace_model.specs.Refusals.{has_room, repeated}
 use Rattle.trace_model.specs.Answers.{answer}
 use Rattle.schedule_core.specs.declared.step.Step.{Step}
 use Rattle.schedule_core.specs.declared.step.Step.TheVariants as ask
 use Rattle.schedule_core.specs.declared.outcome.Outcome.{Outcome}
-use Rattle.schedule_core.specs.declared.outcome.Outcome.TheVariants.{Put, Taken, Refused, Idle, Published, Held, Entered, Answered, Learnt, Left, Inside, Outside, Unknown}
+use Rattle.schedule_core.specs.declared.outcome.Outcome.TheVariants.{Put, Taken, Again, Refused, Idle, Published, Held, Entered, Answered, Learnt, Left, Inside, Outside, Unknown}
 
 -- the list that a reader entered, and how many publishes had been done then
 pub record Visit : Type 0 where
@@ -81,15 +84,30 @@ limits_by m seat n last = if nat_le n 1000000 then puts m seat (brings.TraceLimi
 abbrev pub full : Machine → Refusal
 full m = JournalFull (length (accepted m)) (span_count (accepted m))
 
+-- the first job is dropped
+abbrev pub drops : Machine → List Entry → Outcome → Stepped
+drops m rest o = record { outcome = o; machine = record m { waiting = rest } }
+
 -- the first job goes to pending if no limit is passed by history and pending with it, and is dropped otherwise
 abbrev pub judged : Machine → Entry → List Entry → Bool → Stepped
 judged m job rest true = record { outcome = Taken job.seat job.number; machine = record m { waiting = rest; pending = m.pending ++ job ∷ [] } }
-judged m job rest false = record { outcome = Refused (full m); machine = record m { waiting = rest } }
+judged m job rest false = drops m rest (Refused (full m))
+
+-- how the outcome reports what has become of a job
+abbrev pub outcome_by : Entry → Result Admission Refusal → Outcome
+outcome_by job (Ok Added) = Taken job.seat job.number
+outcome_by job (Ok (Resent place)) = Again job.seat job.number place
+outcome_by job (Err why) = Refused why
+
+-- a job whose batch was sent before, behind so many entries, is dropped; any other one is judged by the limits
+abbrev pub takes_by : Machine → Entry → List Entry → Option ℕ → Stepped
+takes_by m job rest (Some before) = drops m rest (outcome_by job (repeated (accepted m) job before))
+takes_by m job rest None = judged m job rest (has_room m.limits (accepted m) job)
 
 -- by the jobs that wait
 abbrev pub takes : Machine → List Entry → Stepped
 takes m [] = stays m Idle
-takes m (job ∷ rest) = judged m job rest (has_room m.limits (accepted m) job)
+takes m (job ∷ rest) = takes_by m job rest (sent_before (accepted m) job)
 
 -- ---- publishes
 

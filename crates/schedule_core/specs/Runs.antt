@@ -4,12 +4,12 @@ use Rattle.std.specs.List.{All}
 use Rattle.trace_model.specs.declared.entry.Entry.{Entry}
 use Rattle.trace_model.specs.declared.entry.Work.TheVariants as brings
 use Rattle.trace_model.specs.declared.limits.Limits.{Limits}
-use Rattle.trace_model.specs.declared.refusal.Refusal.TheVariants.{JournalFull}
+use Rattle.trace_model.specs.declared.refusal.Refusal.TheVariants.{JournalFull, Conflict}
 use Rattle.trace_model.specs.Answers.{answer}
 use Rattle.schedule_core.specs.declared.step.Step.{Step}
 use Rattle.schedule_core.specs.declared.step.Step.TheVariants as ask
 use Rattle.schedule_core.specs.declared.outcome.Outcome.{Outcome}
-use Rattle.schedule_core.specs.declared.outcome.Outcome.TheVariants.{Put, Taken, Refused, Entered, Answered, Learnt}
+use Rattle.schedule_core.specs.declared.outcome.Outcome.TheVariants.{Put, Taken, Again, Refused, Entered, Answered, Learnt}
 
 -- what each step and its outcome report, one after the other
 abbrev pub along : {A : Type 0} → (Step → Outcome → List A) → List Step → List Outcome → List A
@@ -31,10 +31,12 @@ job_of (ask.Put seat batch) (Put number) = record { seat = seat; number = number
 job_of (ask.Limit seat n) (Put number) = record { seat = seat; number = number; work = brings.TraceLimit n } ∷ []
 job_of s o = []
 
--- a job was taken and accepted, or refused
+-- a job was taken and accepted; or its batch was sent before, or it was refused
 abbrev pub verdict_of : Step → Outcome → List Bool
 verdict_of s (Taken seat number) = true ∷ []
+verdict_of s (Again seat number place) = false ∷ []
 verdict_of s (Refused (JournalFull batches spans)) = false ∷ []
+verdict_of s (Refused (Conflict place)) = false ∷ []
 verdict_of s o = []
 
 -- those with a verdict that is true

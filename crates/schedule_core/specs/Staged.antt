@@ -1,15 +1,14 @@
 -- The machine over two copies.
-use Rattle.std.specs.Prelude.{ℕ, ◌≤◌, Bool, true, false, List, ◌++◌, length, map}
+use Rattle.std.specs.Prelude.{ℕ, ◌≤◌, List, ◌++◌, length, map, Result}
 use Rattle.std.specs.List.{All}
+use Rattle.trace_model.specs.declared.admission.Admission.{Admission}
 use Rattle.trace_model.specs.declared.entry.Entry.{Entry}
-use Rattle.trace_model.specs.declared.refusal.Refusal.TheVariants.{JournalFull}
-use Rattle.trace_model.specs.Histories.{span_count}
+use Rattle.trace_model.specs.declared.refusal.Refusal.{Refusal}
 use Rattle.schedule_core.specs.declared.outcome.Outcome.{Outcome}
-use Rattle.schedule_core.specs.declared.outcome.Outcome.TheVariants.{Taken, Refused}
 use Rattle.schedule_core.specs.declared.readers.Place.{Place}
-use Rattle.schedule_core.specs.Machine.{Machine}
+use Rattle.schedule_core.specs.Machine.{Machine, outcome_by}
 use Rattle.schedule_core.specs.Numbering.{IsNumbered}
-use Rattle.schedule_core.specs.Copied.{Copied, with_pending}
+use Rattle.schedule_core.specs.Copied.{Copied, after_admission}
 use Rattle.schedule_core.specs.Queued.{Queued}
 use Rattle.schedule_core.specs.Standing.{Stands, reader_at}
 
@@ -35,7 +34,6 @@ pub record Verdict : Type 0 where
   pub outcome : Outcome
   pub copies : Copied
 
--- by whether there is room
-abbrev pub verdict : Copied → Entry → Bool → Verdict
-verdict c e true = record { outcome = Taken e.seat e.number; copies = with_pending c e }
-verdict c e false = record { outcome = Refused (JournalFull (length (c.history ++ c.pending)) (span_count (c.history ++ c.pending))); copies = c }
+-- by what becomes of it where all that is accepted stands
+abbrev pub verdict : Copied → Entry → Result Admission Refusal → Verdict
+verdict c e answer = record { outcome = outcome_by e answer; copies = after_admission c e answer }

@@ -1,15 +1,16 @@
 //! What is accepted, and two copies of a store that hold beginnings of it. One copy is shown; the other
 //! is brought up to date, and they change their parts.
 
-ghost use Rattle.std.specs.Prelude.{◌≡◌, ◌++◌, [], length, map, Some, None, OnOk, OnErr, IfOk, IfErr};
+ghost use Rattle.std.specs.Prelude.{◌≡◌, [], length, map, Ok, OnOk, OnErr, IfOk, IfErr};
 ghost use Rattle.std.specs.Arc.{arc_value};
 ghost use mathlib.Core.List.{IsPrefix};
 ghost use Rattle.trace_model.specs.Answers.{answer};
 ghost use Rattle.trace_model.specs.Histories.{IsLegal};
 ghost use Rattle.trace_model.specs.Refusals.{followed_by};
+ghost use Rattle.trace_model.specs.declared.admission.Admission.TheVariants.{Added};
 ghost use Rattle.trace_model.specs.declared.refusal.Refusal.TheVariants.{NoMemory};
-ghost use Rattle.arrival_journal.specs.Journals.{refusal_by};
-ghost use Rattle.schedule_core.specs.Copied.{all_of, turned, with_pending};
+ghost use Rattle.arrival_journal.specs.Journals.{admission_by};
+ghost use Rattle.schedule_core.specs.Copied.{after_admission, all_of, turned};
 
 use arrival_journal::Journal;
 use span_store::SpanStore;
@@ -17,7 +18,7 @@ use std::alloc::{AllocError, Global};
 use std::hash::RandomState;
 use std::marker::Model;
 use std::sync::Arc;
-use trace_model::{Answer, Entry, Limits, Query, Refusal};
+use trace_model::{Admission, Answer, Entry, Limits, Query, Refusal};
 
 /// Two copies of a store, and what is accepted and not in them yet.
 #[derive(Drop)]
@@ -51,7 +52,7 @@ impl Copies {
         ensures { IfOk result (λ copies.
             copies ≡ record { limits = limits; before = []; history = []; pending = [] }) }
     {
-        let accepted = Journal::new(alloc, limits)?;
+        let accepted = Journal::new(alloc, keys, limits)?;
         let _legal = accepted.len();
         let shown = SpanStore::open(alloc, keys, limits)?;
         let spare = SpanStore::open(alloc, keys, limits)?;
@@ -69,21 +70,24 @@ impl Copies {
         self.shown.len()
     }
 
-    /// Accepts an entry, which is pending then.
+    /// Accepts an entry, which is pending then. Where its batch was sent before with the same spans, nothing has
+    /// changed, and the answer has that place.
     ///
     /// # Errors
     ///
-    /// The refusal by what is accepted, pending entries too ([`Refusal::Stale`], [`Refusal::JournalFull`]).
-    /// Nothing has changed then.
-    pub fn admit(&mut self, entry: Arc<Entry>) -> Result<(), Refusal>
-        ensures admissible { OnOk result (refusal_by (all_of self.old) (arc_value entry) ≡ None) }
-        ensures admitted { OnOk result (self.new ≡ with_pending self.old (arc_value entry)) }
-        ensures unchanged { OnErr result (self.new ≡ self.old) }
-        ensures reason { IfErr result (λ why.
-            Some why ≡ refusal_by (all_of self.old) (arc_value entry)) }
+    /// The refusal by what is accepted, pending entries too ([`Refusal::Conflict`], [`Refusal::Stale`],
+    /// [`Refusal::JournalFull`]). Nothing has changed then.
+    pub fn admit(&mut self, entry: Arc<Entry>) -> Result<Admission, Refusal>
+        ensures answer { result ≡ admission_by (all_of self.old) (arc_value entry) }
+        ensures admitted { self.new ≡ after_admission self.old (arc_value entry)
+            (admission_by (all_of self.old) (arc_value entry)) }
     {
-        self.accepted.admit(entry)?;
-        Ok(())
+        let entry = self.accepted.hashed(entry);
+        let admission = self.accepted.judge(&entry)?;
+        if admission == Admission::Added {
+            self.accepted.append(entry);
+        }
+        Ok(admission)
     }
 
     /// Makes all that is accepted the history.
@@ -127,7 +131,7 @@ impl Copies {
 
 /// Applies an entry that may follow to the store, which is unchanged where the entry can't be copied.
 fn add(store: &mut SpanStore, entry: &Arc<Entry>) -> Result<(), AllocError>
-    requires { refusal_by store.old (arc_value entry.now) ≡ None }
+    requires { admission_by store.old (arc_value entry.now) ≡ Ok Added }
     ensures added { OnOk result (store.new ≡ followed_by store.old (arc_value entry.now)) }
     ensures unchanged { OnErr result (store.new ≡ store.old) }
 {

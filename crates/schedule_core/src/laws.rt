@@ -43,8 +43,8 @@ pub fn a_look_stays_where_it_entered()
         (step (at_last (new_machine limits) steps) (ReadValue reader query)).outcome }
 {}
 
-/// What is accepted, published or not, is the jobs taken that were not refused, in the order in which they
-/// were handed in, each once.
+/// What is accepted, published or not, is the jobs taken that were neither refused nor sent before, in the order
+/// in which they were handed in, each once.
 pub fn taken_jobs_are_accepted()
     ensures { (limits : LimitsValue) (steps : List StepValue) →
         accepted (at_last (new_machine limits) steps) ≡

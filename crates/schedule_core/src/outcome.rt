@@ -7,6 +7,9 @@ pub enum Outcome {
     Put { number: u64 },
     /// The job of that seat and number was accepted.
     Taken { seat: u16, number: u64 },
+    /// The batch of that seat's job of that number was sent before with the same spans, and stands at this
+    /// place, counted from 1 along the history and what is pending behind it. Nothing was added.
+    Again { seat: u16, number: u64, place: u64 },
     /// The job was refused, or the machine has found no memory.
     Refused(Refusal),
     /// No job waits.

@@ -11,8 +11,8 @@ use trace_model::Limits;
 
 /// The outcomes of the steps, in order, from a machine in which nothing has happened. They don't depend on
 /// the keys. What holds of every run holds of the steps up to the first that found no memory: the history only
-/// grows, each answer is the plain store's of a beginning of it, and accepted are the jobs taken and not refused,
-/// in order, each once.
+/// grows, each answer is the plain store's of a beginning of it, and accepted are the jobs taken, in order, each
+/// once, but those that were refused or sent before.
 ///
 /// # Errors
 ///

@@ -1,11 +1,10 @@
 //! The machine over two copies. Readers enter the one that is shown; the other one is turned to the
 //! readers by a publish, which no reader may hold up.
 
-ghost use Rattle.std.specs.Prelude.{◌≡◌, ◌<◌, IfOk, OnErr, length, slice_get, take};
+ghost use Rattle.std.specs.Prelude.{◌≡◌, IfOk, length, slice_get, take};
 ghost use Rattle.std.specs.Arc.{arc_value};
 ghost use Rattle.trace_model.specs.Answers.{answer};
-ghost use Rattle.trace_model.specs.Histories.{last_number};
-ghost use Rattle.trace_model.specs.Refusals.{has_room};
+ghost use Rattle.arrival_journal.specs.Journals.{admission_by};
 ghost use Rattle.schedule_core.specs.Copied.{all_of};
 ghost use Rattle.schedule_core.specs.Staged.{verdict};
 ghost use Rattle.schedule_core.specs.Standing.{Visits};
@@ -21,7 +20,7 @@ use std::alloc::{AllocError, Global};
 use std::hash::RandomState;
 use std::marker::Model;
 use std::sync::Arc;
-use trace_model::{Answer, Entry, Limits, Query, Work};
+use trace_model::{Admission, Answer, Entry, Limits, Query, Work};
 
 /// A limit on the traces that are shown is no greater.
 const MOST_TRACES: u32 = 1_000_000;
@@ -87,12 +86,12 @@ impl Stage {
         self.put(seat, Work::TraceLimit(limit))
     }
 
-    fn take(&mut self) -> Result<Outcome, AllocError>
-        ensures { IfOk result (λ o. record { outcome = o; machine = self.new } ≡
-            takes self.old self.old.waiting) }
+    fn take(&mut self) -> Outcome
+        ensures { record { outcome = result; machine = self.new } ≡
+            takes self.old self.old.waiting }
     {
         let Some(job) = self.seats.take() else {
-            return Ok(Outcome::Idle);
+            return Outcome::Idle;
         };
         judge(&mut self.copies, job)
     }
@@ -218,7 +217,7 @@ impl Stage {
         match step {
             Step::Put { seat, batch } => self.put(seat, Work::Batch(batch)),
             Step::Limit { seat, limit } => self.limit(seat, limit),
-            Step::Take => self.take(),
+            Step::Take => Ok(self.take()),
             Step::Publish => self.publish(),
             Step::Enter { reader } => Ok(self.enter(reader)),
             Step::Read { reader, query } => self.read(reader, &query),
@@ -228,19 +227,20 @@ impl Stage {
     }
 }
 
-/// Accepts a job whose number is above those of its seat, or refuses it where a limit would be passed.
-fn judge(copies: &mut Copies, job: Arc<Entry>) -> Result<Outcome, AllocError>
-    requires above { last_number (arc_value job).seat (all_of copies.old).entries
-        < (arc_value job).number }
-    ensures verdict { IfOk result (λ o. record { outcome = o; copies = copies.new } ≡
-        verdict copies.old (arc_value job)
-        (has_room copies.old.limits (all_of copies.old).entries (arc_value job))) }
-    ensures unchanged { OnErr result (copies.new ≡ copies.old) }
+/// Accepts a job, unless its batch was sent before or what is accepted refuses it.
+fn judge(copies: &mut Copies, job: Arc<Entry>) -> Outcome
+    ensures { record { outcome = result; copies = copies.new } ≡
+        verdict copies.old (arc_value job) (admission_by (all_of copies.old) (arc_value job)) }
 {
     let (seat, number) = (job.seat, job.number);
     match copies.admit(job) {
-        Ok(()) => Ok(Outcome::Taken { seat, number }),
-        Err(why) => Ok(Outcome::Refused(why)),
+        Ok(Admission::Added) => Outcome::Taken { seat, number },
+        Ok(Admission::Resent { place }) => Outcome::Again {
+            seat,
+            number,
+            place,
+        },
+        Err(why) => Outcome::Refused(why),
     }
 }
 

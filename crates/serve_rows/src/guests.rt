@@ -2,7 +2,8 @@
 
 use crate::clients::{ask, hears, parts};
 use crate::requests::{
-    ACCEPTED, BATCH, HUGE, NUMBERED, ONE_SERVICE, POST, POST_NUMBERED, SERVICES, joined,
+    ACCEPTED, BATCH, CONFLICT, HUGE, NUMBERED, ONE_SERVICE, ONE_SPAN, POST, POST_NUMBERED,
+    RENUMBERED, SERVICES, TRACE, joined,
 };
 use std::alloc::Global;
 use std::io;
@@ -22,6 +23,10 @@ pub enum Guests {
     OneTooMany,
     /// One hands the same numbered batch in twice.
     Repeats,
+    /// Two hand the same numbered batch in at the same time.
+    RepeatAtOnce,
+    /// One hands a numbered batch in, another one with its number, and the first again.
+    Conflicts,
     /// What one connection hands in the other finds; both are open before.
     TwoConnections,
     /// Two ask at the same time.
@@ -47,6 +52,8 @@ impl Guests {
             Guests::TwoSessions => two_sessions(rt, alloc, address),
             Guests::OneTooMany => one_too_many(rt, alloc, address),
             Guests::Repeats => repeats(rt, alloc, address),
+            Guests::RepeatAtOnce => repeat_at_once(rt, alloc, address),
+            Guests::Conflicts => conflicts(rt, alloc, address),
             Guests::TwoConnections => two_connections(rt, alloc, address),
             Guests::TwoAtOnce => two_at_once(rt, alloc, address),
             Guests::Eight => eight(rt, alloc, address),
@@ -110,7 +117,51 @@ fn repeats<R: Net<Stream = TcpStream, Listener = TcpListener>>(
     let post = joined(alloc, &[POST_NUMBERED, NUMBERED])?;
     Ok(
         ask(alloc, &mut stream, post.as_slice(), ACCEPTED)?
-            && ask(alloc, &mut stream, post.as_slice(), ACCEPTED)?,
+            && ask(alloc, &mut stream, post.as_slice(), ACCEPTED)?
+            && ask(alloc, &mut stream, TRACE, ONE_SPAN)?,
+    )
+}
+
+fn hands_in_numbered<R: Net<Stream = TcpStream, Listener = TcpListener>>(
+    rt: &R,
+    alloc: Global,
+    address: SocketAddr,
+) -> io::Result<bool> {
+    let mut stream = TcpStream::connect(rt, address)?;
+    let post = joined(alloc, &[POST_NUMBERED, NUMBERED])?;
+    Ok(
+        ask(alloc, &mut stream, post.as_slice(), ACCEPTED)?
+            && ask(alloc, &mut stream, TRACE, ONE_SPAN)?,
+    )
+}
+
+fn repeat_at_once<R: Threads + Net<Stream = TcpStream, Listener = TcpListener> + Sync>(
+    rt: &R,
+    alloc: Global,
+    address: SocketAddr,
+) -> io::Result<bool> {
+    let (one, other) = join(
+        rt,
+        || matches!(hands_in_numbered(rt, alloc, address), Ok(true)),
+        || matches!(hands_in_numbered(rt, alloc, address), Ok(true)),
+    );
+    Ok(one && other)
+}
+
+fn conflicts<R: Net<Stream = TcpStream, Listener = TcpListener>>(
+    rt: &R,
+    alloc: Global,
+    address: SocketAddr,
+) -> io::Result<bool> {
+    let mut stream = TcpStream::connect(rt, address)?;
+    let first = joined(alloc, &[POST_NUMBERED, NUMBERED])?;
+    let other = joined(alloc, &[POST_NUMBERED, RENUMBERED])?;
+    Ok(
+        ask(alloc, &mut stream, first.as_slice(), ACCEPTED)?
+            && ask(alloc, &mut stream, other.as_slice(), CONFLICT)?
+            && ask(alloc, &mut stream, TRACE, ONE_SPAN)?
+            && ask(alloc, &mut stream, first.as_slice(), ACCEPTED)?
+            && ask(alloc, &mut stream, TRACE, ONE_SPAN)?,
     )
 }
 

@@ -2,7 +2,10 @@
 
 ghost use Rattle.std.specs.Prelude.{◌≡◌};
 
-use crate::requests::{BATCH, CUT, DELETE, NOWHERE, POST, SERVICES, TRACE, UNTYPED, joined};
+use crate::requests::{
+    BATCH, CUT, DELETE, NOWHERE, NUMBERED, POST, POST_NUMBERED, RENUMBERED, SERVICES, TRACE,
+    UNTYPED, joined,
+};
 use direct_store::Direct;
 use http_session::session;
 use intake::{Books, Clerk, Desk, desk};
@@ -132,5 +135,18 @@ fn pipe_through_live(rt: HostRuntime) -> Result<(), Fail> {
     assert!(rt; is_same(&rt, alloc, many, &[CUT, SERVICES])?);
     assert!(rt; is_same(&rt, alloc, one, &[POST, BATCH, POST, BATCH, SERVICES])?);
     assert!(rt; is_same(&rt, alloc, many, &[POST, BATCH, TRACE, SERVICES])?);
+    Ok(())
+}
+
+#[test]
+fn resent_through_live(rt: HostRuntime) -> Result<(), Fail> {
+    let alloc = rt.alloc();
+    let many = Limits::new(1000, 100_000, 0, 0).expect(&rt, "limits");
+    let one = Limits::new(1, 100_000, 0, 0).expect(&rt, "limits");
+    let first = joined(alloc, &[POST_NUMBERED, NUMBERED])?;
+    let other = joined(alloc, &[POST_NUMBERED, RENUMBERED])?;
+    let (first, other) = (first.as_slice(), other.as_slice());
+    assert!(rt; is_same(&rt, alloc, many, &[first, first, other, TRACE])?);
+    assert!(rt; is_same(&rt, alloc, one, &[first, first, POST, BATCH, TRACE])?);
     Ok(())
 }

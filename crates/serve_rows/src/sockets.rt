@@ -79,3 +79,27 @@ fn a_batch_sent_twice(rt: HostRuntime) -> Result<(), Fail> {
     assert!(rt; outcome.is_well(b"\nserved 1\nbooks 2 0 0\n"));
     Ok(())
 }
+
+#[test]
+fn a_batch_sent_again_to_a_full_store(rt: HostRuntime) -> Result<(), Fail> {
+    let options = options(&rt, 1, 1, 10, 1);
+    let outcome = visited(&rt, rt.alloc(), &options, &NoGate, Guests::Repeats)?;
+    assert!(rt; outcome.is_well(b"\nserved 1\nbooks 2 0 0\n"));
+    Ok(())
+}
+
+#[test]
+fn a_batch_sent_twice_at_once(rt: HostRuntime) -> Result<(), Fail> {
+    let options = options(&rt, 2, 2, 10, 1);
+    let outcome = visited(&rt, rt.alloc(), &options, &NoGate, Guests::RepeatAtOnce)?;
+    assert!(rt; outcome.is_well(b"\nserved 2\nbooks 2 0 0\n"));
+    Ok(())
+}
+
+#[test]
+fn a_number_used_for_another_batch(rt: HostRuntime) -> Result<(), Fail> {
+    let options = options(&rt, 1, 1, 10, 100);
+    let outcome = visited(&rt, rt.alloc(), &options, &NoGate, Guests::Conflicts)?;
+    assert!(rt; outcome.is_well(b"\nserved 1\nbooks 2 1 0\n"));
+    Ok(())
+}

@@ -22,6 +22,26 @@ pub(crate) const SERVICES: &[u8] = b"GET /api/services HTTP/1.1\r\n\r\n";
 pub(crate) const ANSWERS: &[u8] =
     b"HTTP/1.1 202 Accepted\r\nContent-Length: 0\r\n\r\nHTTP/1.1 200 OK\r\nContent-Type: application/json\r\nContent-Length: 59\r\n\r\n{\"data\":[\"a\"],\"errors\":null,\"limit\":0,\"offset\":0,\"total\":1}";
 
+/// The head of a batch that has a number too.
+const POST_NUMBERED: &[u8] =
+    b"POST /api/traces HTTP/1.1\r\nContent-Type: application/x-thrift\r\nContent-Length: 115\r\n\r\n";
+
+/// What is answered to a batch with a number, the same batch, and one with its number and other spans.
+const TWO_ACCEPTED: &[u8] =
+    b"HTTP/1.1 202 Accepted\r\nContent-Length: 0\r\n\r\nHTTP/1.1 202 Accepted\r\nContent-Length: 0\r\n\r\nHTTP/1.1 409 Conflict\r\nContent-Type: application/json\r\nContent-Length: 85\r\n\r\n{\"data\":null,\"errors\":[{\"code\":409,\"msg\":\"conflict\"}],\"limit\":0,\"offset\":0,\"total\":0}";
+
+/// The batch with the number 1, handed in three times; the last time its span takes 51 microseconds.
+fn sent_again(alloc: Global) -> Result<Vec<u8>, Fail> {
+    let mut bytes = Vec::new(alloc);
+    for duration in [50, 50, 51] {
+        bytes.extend_from_slice(POST_NUMBERED)?;
+        bytes.extend_from_slice(&BATCH[..101])?;
+        bytes.push(duration)?;
+        bytes.extend_from_slice(b"\x00\x0a\x00\x03\x00\x00\x00\x00\x00\x00\x00\x01\x00")?;
+    }
+    Ok(bytes)
+}
+
 /// A batch that is handed in, and then a look at the services.
 fn batch_and_services(alloc: Global) -> Result<Vec<u8>, Fail> {
     let mut bytes = Vec::new(alloc);
@@ -68,6 +88,31 @@ fn one_byte_a_call(rt: HostRuntime) -> Result<(), Fail> {
                 })
         );
         assert_eq!(rt; output.as_slice(), ANSWERS);
+    }
+    Ok(())
+}
+
+#[test]
+fn one_entry_of_a_batch_sent_again(rt: HostRuntime) -> Result<(), Fail> {
+    let alloc = rt.alloc();
+    let bytes = sent_again(alloc)?;
+    for step in [1, 10_000] {
+        let (ended, output, entries) = played(
+            &rt,
+            alloc,
+            bytes.as_slice(),
+            (step, 0),
+            (10_000, step),
+        )?;
+        assert!(rt;
+            ended
+                == Ok(Ended {
+                    answered: 3,
+                    clean: true
+                })
+        );
+        assert_eq!(rt; output.as_slice(), TWO_ACCEPTED);
+        assert_eq!(rt; entries, 1);
     }
     Ok(())
 }

@@ -1,13 +1,14 @@
 -- What is kept beside the entries is kept.
-use Rattle.std.proofs.Common.{◌≡◌, ℕ, ◌+◌, ◌≤◌, [], ◌∷◌, ◌++◌, length, map, None, sym, ap, subst, ◌∙◌, arith}
+use Rattle.std.proofs.Common.{◌≡◌, ℕ, ◌+◌, ◌^◌, ◌<◌, ◌≤◌, [], ◌∷◌, ◌++◌, length, map, Ok, sym, ap, subst, ◌∙◌, arith}
 use Rattle.jaeger_model.specs.declared.ids.TraceId.{TraceId}
 use Rattle.trace_model.specs.declared.entry.Entry.{Entry}
+use Rattle.trace_model.specs.declared.admission.Admission.TheVariants.{Added}
 use Rattle.trace_model.specs.Held.{Held}
 use Rattle.trace_model.specs.Histories.{events, span_count}
 use Rattle.trace_model.specs.Works.{spans_brought}
+use Rattle.trace_model.proofs.Admissions.{MayFollow, IsSaid, admission_says}
 use Rattle.trace_model.proofs.Legality.{span_count_push}
-use Rattle.arrival_journal.specs.Journals.{refusal_by}
-use Rattle.arrival_journal.proofs.Following.{may_follow}
+use Rattle.arrival_journal.specs.Journals.{admission_by}
 use Rattle.trace_ring.specs.Windows.{Window}
 use Rattle.trace_model.specs.Refusals.{followed_by}
 use Rattle.trace_model.specs.Searching.{traces}
@@ -45,15 +46,25 @@ kept_more old held e newest newest' spots spots' index index' reported reported'
       placed = subst (λ (v : Held). IsPlaced v reported') back placed;
     }
 
--- the spans of an entry that may follow have room, and so have their traces
+-- the spans of an entry that may follow are within the limit
+spans_within : (held : Held) (e : Entry) → admission_by held e ≡ Ok Added → span_count held.entries + length (spans_brought e.work) ≤ held.limits.spans
+spans_within held e may =
+    let follows : MayFollow held.limits held.entries e = subst (IsSaid held.limits held.entries e) may (admission_says held.limits held.entries e) in
+    follows.spans
+
+-- they can be counted
+pub spans_fit : (held : Held) (e : Entry) → admission_by held e ≡ Ok Added → length (spans_brought e.work) < 2 ^ 32
+spans_fit held e may = omega (arith, spans_within held e may, held.limits.within)
+
+-- they have room, and so have their traces
 pub kept_room : (held : Held) (e : Entry) (newest : Window) (spots : Assembled) (index : Names) (reported : Reported) → IsKept held newest spots index reported
-    → refusal_by held e ≡ None → (length newest.seen + length (spans_brought e.work) ≤ newest.room) × (spots.used + length (spans_brought e.work) ≤ spots.room)
+    → admission_by held e ≡ Ok Added → (length newest.seen + length (spans_brought e.work) ≤ newest.room) × (spots.used + length (spans_brought e.work) ≤ spots.room)
 kept_room held e newest spots index reported k may =
     let room = k.room in
     let few = k.few in
     let spots_room = k.spots_room in
     let spots_used = k.spots_used in
-    let most = (may_follow held.limits held.entries e may).spans in
+    let most = spans_within held e may in
     (omega arith, omega arith)
 
 -- the ring is within the limit in force

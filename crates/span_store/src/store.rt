@@ -1,7 +1,6 @@
-ghost use Rattle.std.specs.Prelude.{◌≡◌, ◌==◌, [], map, length, Some, None, OnOk, OnErr, IfOk, IfErr};
+ghost use Rattle.std.specs.Prelude.{◌≡◌, ◌+◌, ◌==◌, [], map, length, Ok, IfOk, IfErr};
 ghost use Rattle.std.specs.Arc.{arc_value};
 ghost use Rattle.std.specs.Bool.{OnFalse};
-ghost use Rattle.std.specs.Result.{result_err};
 ghost use Rattle.trace_model.specs.declared.query.Query.TheVariants as ask;
 ghost use Rattle.trace_model.specs.declared.refusal.Refusal.TheVariants.{NoMemory};
 ghost use Rattle.trace_model.specs.Answers.{answer, shown_as};
@@ -9,8 +8,9 @@ ghost use Rattle.trace_model.specs.Histories.{IsLegal, events};
 ghost use Rattle.trace_model.specs.Linking.{links};
 ghost use Rattle.trace_model.specs.Searching.{traces, found_in};
 ghost use Rattle.trace_model.specs.Showing.{ring};
-ghost use Rattle.trace_model.specs.Refusals.{followed_by};
-ghost use Rattle.arrival_journal.specs.Journals.{refusal_by};
+ghost use Rattle.trace_model.specs.declared.admission.Admission.TheVariants.{Added};
+ghost use Rattle.trace_model.specs.Refusals.{followed_by, with_admitted};
+ghost use Rattle.arrival_journal.specs.Journals.{admission_by, place_by};
 ghost use Rattle.trace_assembly.specs.Located.{located, shown_spots};
 ghost use Rattle.trace_adjust.specs.Hosts.{ShareProcesses};
 ghost use Rattle.journal_traces.specs.Given.{given_traces};
@@ -23,6 +23,7 @@ use arrival_names::ArrivalNames;
 use find_traces::Wanted;
 use jaeger_model::{Placed, Seen, Seq, Text, TraceId};
 use journal_traces::{Candidates, gather, ring_ids, see_within, spots_along};
+use sent_batches::HashedEntry;
 use service_places::ServicePlaces;
 use span_steps::all_unadjusted;
 use std::alloc::{AllocError, Global};
@@ -31,7 +32,7 @@ use std::marker::Model;
 use std::sync::Arc;
 use trace_adjust::adjusted;
 use trace_assembly::{Assembly, Spots};
-use trace_model::{Answer, Entry, Find, Limits, Query, Refusal, Shown};
+use trace_model::{Admission, Answer, Entry, Find, Limits, Query, Refusal, Shown};
 use trace_ring::Ring;
 
 /// The accepted entries of one store, and quick answers from them.
@@ -72,7 +73,7 @@ impl SpanStore {
     {
         Ok(SpanStore {
             alloc,
-            journal: Journal::new(alloc, limits)?,
+            journal: Journal::new(alloc, keys, limits)?,
             ring: Ring::with_room(alloc, keys, limits.traces, limits.spans)?,
             assembly: Assembly::with_room(alloc, keys, limits.spans)?,
             names: ArrivalNames::with_room(alloc, keys, limits.batches, limits.spans)?,
@@ -109,43 +110,57 @@ impl SpanStore {
         self.journal.is_empty()
     }
 
-    /// Says whether the entry may follow.
+    /// Adds an entry at the end and gives its place, the first one being 1. Where its batch was sent before
+    /// with the same spans nothing is added, and the place is that of the entry that has it. It takes no
+    /// memory.
     ///
     /// # Errors
     ///
-    /// The one of [`apply`](Self::apply).
-    pub fn judge(&self, entry: &Entry) -> Result<(), Refusal>
-        ensures { result_err result ≡ refusal_by self.now entry.now }
-    {
-        self.journal.judge(entry)
-    }
-
-    /// Adds an entry at the end and gives its place, the first one being 1. It takes no memory.
-    ///
-    /// # Errors
-    ///
-    /// An entry is refused where its number is not above the last one of its seat
+    /// An entry is refused where its batch was sent before with other spans ([`Refusal::Conflict`], with
+    /// the place of the entry that has it), then where its number is not above the last one of its seat
     /// ([`Refusal::Stale`]), then where it or its spans would pass a limit
     /// ([`Refusal::JournalFull`], with the counts now held), and for nothing else. A refusal leaves
     /// the store as it was.
     pub fn apply(&mut self, entry: Arc<Entry>) -> Result<u64, Refusal>
-        ensures admissible { OnOk result (refusal_by self.old (arc_value entry) ≡ None) }
-        ensures applied { OnOk result (self.new ≡ followed_by self.old (arc_value entry)) }
-        ensures place { IfOk result (λ place. place ≡ length self.new.entries) }
-
-        ensures unchanged { OnErr result (self.new ≡ self.old) }
-        ensures reason { IfErr result (λ why. Some why ≡ refusal_by self.old (arc_value entry)) }
-
+        ensures place { result ≡ place_by self.old (arc_value entry) }
+        ensures applied { self.new ≡ with_admitted self.old (arc_value entry)
+            (admission_by self.old (arc_value entry)) }
         ensures legal { IsLegal self.new.limits self.new.entries }
     {
-        self.journal.judge(&entry)?;
+        let entry = self.journal.hashed(entry);
+        self.apply_hashed(entry)
+    }
+
+    /// The same of an entry with the hash of its batch, which isn't taken again where the keys are the same.
+    ///
+    /// # Errors
+    ///
+    /// Those of [`apply`](Self::apply).
+    pub fn apply_hashed(&mut self, entry: HashedEntry) -> Result<u64, Refusal>
+        ensures place { result ≡ place_by self.old entry }
+        ensures applied { self.new ≡ with_admitted self.old entry (admission_by self.old entry) }
+        ensures legal { IsLegal self.new.limits self.new.entries }
+    {
+        match self.journal.judge(&entry)? {
+            Admission::Added => Ok(self.add(entry)),
+            Admission::Resent { place } => Ok(place),
+        }
+    }
+
+    /// Adds an entry that may follow and gives its place.
+    fn add(&mut self, entry: HashedEntry) -> u64
+        requires { admission_by self.old entry ≡ Ok Added }
+        ensures added { self.new ≡ followed_by self.old entry }
+        ensures place { result ≡ length self.old.entries + 1 }
+        ensures legal { IsLegal self.new.limits self.new.entries }
+    {
         let place = self.journal.len() + 1;
-        follow(&entry, place, &mut self.ring, &mut self.assembly);
+        follow(entry.entry(), place, &mut self.ring, &mut self.assembly);
         self.journal.append(entry);
         let entries = self.journal.entries();
         self.reported.add(entries);
         self.names.add(entries, &self.reported);
-        Ok(place)
+        place
     }
 
     /// The traces that are shown, the one opened longest ago first.

@@ -6,7 +6,7 @@ use Rattle.trace_model.specs.declared.answer.Answer.{Answer}
 use Rattle.trace_model.specs.RefusalTexts.{refusal_text}
 use Rattle.query_json.specs.Trees.{answer_tree}
 use Rattle.schedule_core.specs.declared.outcome.Outcome.{Outcome}
-use Rattle.schedule_core.specs.declared.outcome.Outcome.TheVariants.{Put, Taken, Refused, Idle, Published, Held, Entered, Answered, Learnt, Left, Inside, Outside, Unknown}
+use Rattle.schedule_core.specs.declared.outcome.Outcome.TheVariants.{Put, Taken, Again, Refused, Idle, Published, Held, Entered, Answered, Learnt, Left, Inside, Outside, Unknown}
 
 -- the body of the HTTP response that gives the answer: for a trace that isn't found, that of the error
 abbrev pub json_of : Answer → List ℕ
@@ -15,6 +15,7 @@ json_of answer = compact_text (answer_tree answer)
 abbrev pub outcome_line : Outcome → List ℕ
 outcome_line (Put number) = codes "put " ++ decimal number
 outcome_line (Taken seat number) = codes "taken " ++ (decimal seat ++ (codes " " ++ decimal number))
+outcome_line (Again seat number place) = codes "again " ++ (decimal seat ++ (codes " " ++ (decimal number ++ (codes " " ++ decimal place))))
 outcome_line (Refused refusal) = codes "refused " ++ refusal_text refusal
 outcome_line Idle = codes "idle"
 outcome_line (Published front) = codes "published " ++ decimal front

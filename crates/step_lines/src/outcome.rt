@@ -30,6 +30,11 @@ pub fn outcome_text(alloc: Global, outcome: &Outcome) -> Result<String, AllocErr
     match outcome {
         Outcome::Put { number } => format!(in alloc; "put {number}"),
         Outcome::Taken { seat, number } => format!(in alloc; "taken {seat} {number}"),
+        Outcome::Again {
+            seat,
+            number,
+            place,
+        } => format!(in alloc; "again {seat} {number} {place}"),
         Outcome::Refused(refusal) => format!(in alloc; "refused {refusal}"),
         Outcome::Idle => String::from_str(alloc, "idle"),
         Outcome::Published { front } => format!(in alloc; "published {front}"),

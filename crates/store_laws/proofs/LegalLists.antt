@@ -1,16 +1,15 @@
--- A history is legal with one more entry exactly where nothing refuses it, and its beginnings are legal; its splits.
-use Rattle.std.proofs.Common.{◌≡◌, ℕ, ◌+◌, ◌<◌, ◌≤◌, Bool, ◌&&◌, true, false, Some, None, List, [], ◌∷◌, ◌++◌, length, refl, sym, ap, ◌∙◌, subst, append_assoc, arith, length-append}
-use Rattle.std.specs.Prelude.{nat_le, ◌==◌, ◌↔◌, if◌then◌else◌}
+-- A history is legal with one more entry exactly where that is added, and its beginnings are legal; its splits.
+use Rattle.std.proofs.Common.{◌≡◌, ℕ, ◌+◌, ◌<◌, ◌≤◌, List, [], ◌∷◌, ◌++◌, length, refl, sym, ap, ◌∙◌, subst, append_assoc, arith, length-append}
+use Rattle.std.specs.Prelude.{◌==◌, ◌↔◌, Ok}
 use Rattle.std.proofs.lemmas.List.{append-nil}
-use Rattle.std.proofs.lemmas.Bool.{false≢true, le-leb, lt-leb, leb-true, leb-false}
 use Rattle.trace_model.specs.declared.entry.Entry.{Entry}
 use Rattle.trace_model.specs.declared.limits.Limits.{Limits}
-use Rattle.trace_model.specs.declared.refusal.Refusal.{Refusal}
-use Rattle.trace_model.specs.declared.refusal.Refusal.TheVariants.{JournalFull, Stale}
-use Rattle.trace_model.specs.Refusals.{refusal_of, has_room}
+use Rattle.trace_model.specs.declared.admission.Admission.TheVariants.{Added}
+use Rattle.trace_model.specs.Refusals.{admission}
 use Rattle.trace_model.specs.Works.{spans_brought}
 use Rattle.trace_model.specs.Histories.{last_number, span_count, IsLegal, AboveEach, RisesAfter}
-use Rattle.trace_model.proofs.Legality.{rises_pushed, above_last, above_each, span_count_push, legal_push, rises_front, legal_front}
+use Rattle.trace_model.proofs.Admissions.{MayFollow, IsSaid, admission_says, follows_added}
+use Rattle.trace_model.proofs.Legality.{sent_once_pushed, rises_pushed, above_last, above_each, span_count_push, legal_push, rises_front, legal_front}
 use Rattle.store_laws.specs.Splits.{RisesBySplits}
 use mathlib.Core.List.{IsPrefix}
 
@@ -22,55 +21,22 @@ legal_prefix limits h k p l = legal_front limits h p.0 (subst (IsLegal limits) (
 pub legal_pushed : (limits : Limits) (h : List Entry) (e : Entry) → IsLegal limits (h ++ e ∷ []) → last_number e.seat h < e.number
 legal_pushed limits h e l = let a = rises_pushed [] h e l.rising in above_last e h a.0 a.1
 
-both_true : (a b : Bool) → (a && b) ≡ true → (a ≡ true) × (b ≡ true)
-both_true true b e = (refl, e)
-both_true false b e = absurd (false≢true e)
-
-both_is : (a b : Bool) → a ≡ true → b ≡ true → (a && b) ≡ true
-both_is a b e f = ap (λ x. x && b) e ∙ f
-
--- nothing is refused where the first test fails and the second holds
-none_refused : (a b : Bool) (x y : Refusal) → a ≡ false → b ≡ true → (if a then Some x else if b then None else Some y) ≡ None
-none_refused false true x y e f = refl
-none_refused false false x y e f = absurd (false≢true f)
-none_refused true b x y e f = absurd (false≢true (sym e))
-
-refused_none : (a b : Bool) (x y : Refusal) → (if a then Some x else if b then None else Some y) ≡ None → (a ≡ false) × (b ≡ true)
-refused_none false true x y e = (refl, refl)
-refused_none false false x y e = absurd cc
-refused_none true b x y e = absurd cc
-
--- an entry above its seat's last number, for which there is room, is refused by nothing
-pub taken : (limits : Limits) (h : List Entry) (e : Entry) → last_number e.seat h < e.number → length h < limits.batches → span_count h + length (spans_brought e.work) ≤ limits.spans → refusal_of limits h e ≡ None
-taken limits h e n b s =
-    none_refused (nat_le e.number (last_number e.seat h)) (has_room limits h e) _ _ (lt-leb e.number (last_number e.seat h) n)
-    (both_is (nat_le (length h + 1) limits.batches) _ (le-leb (length h + 1) limits.batches (omega arith)) (le-leb (span_count h + length (spans_brought e.work)) limits.spans s))
-
-pub record MayFollow (limits : Limits) (h : List Entry) (e : Entry) : Type 0 where
-  pub number : last_number e.seat h < e.number
-  pub batches : length h < limits.batches
-  pub spans : span_count h + length (spans_brought e.work) ≤ limits.spans
-
--- what it says that nothing refuses an entry
-pub may_follow : (limits : Limits) (h : List Entry) (e : Entry) → refusal_of limits h e ≡ None → MayFollow limits h e
-may_follow limits h e none =
-    let tests = refused_none (nat_le e.number (last_number e.seat h)) (has_room limits h e) (Stale (last_number e.seat h)) (JournalFull (length h) (span_count h)) none in
-    let room = both_true (nat_le (length h + 1) limits.batches) (nat_le (span_count h + length (spans_brought e.work)) limits.spans) tests.1 in
-    record {
-      number = leb-false e.number (last_number e.seat h) tests.0;
-      batches = let b = leb-true (length h + 1) limits.batches room.0 in omega arith;
-      spans = leb-true (span_count h + length (spans_brought e.work)) limits.spans room.1;
-    }
-
--- a legal list stays legal with an entry that nothing refuses
-pub legal_snoc : (limits : Limits) (h : List Entry) (e : Entry) → IsLegal limits h → refusal_of limits h e ≡ None → IsLegal limits (h ++ e ∷ [])
-legal_snoc limits h e l none = let f = may_follow limits h e none in legal_push limits h e l f.number f.batches f.spans
+-- a legal list stays legal with an entry that is added
+pub legal_snoc : (limits : Limits) (h : List Entry) (e : Entry) → IsLegal limits h → admission limits h e ≡ Ok Added → IsLegal limits (h ++ e ∷ [])
+legal_snoc limits h e l added =
+    let f : MayFollow limits h e = subst (IsSaid limits h e) added (admission_says limits h e) in
+    legal_push limits h e l f.rises f.unsent f.batches f.spans
 
 -- and with no other
-pub snoc_legal : (limits : Limits) (h : List Entry) (e : Entry) → IsLegal limits (h ++ e ∷ []) → refusal_of limits h e ≡ None
+pub snoc_legal : (limits : Limits) (h : List Entry) (e : Entry) → IsLegal limits (h ++ e ∷ []) → admission limits h e ≡ Ok Added
 snoc_legal limits h e l =
     let b = l.batches in let s = l.spans in
-    taken limits h e (legal_pushed limits h e l) (omega (arith, length-append h (e ∷ []))) (omega (arith, span_count_push h e))
+    follows_added limits h e (record {
+      rises = legal_pushed limits h e l;
+      unsent = sent_once_pushed [] h e l.sent_once;
+      batches = omega (arith, length-append h (e ∷ []));
+      spans = omega (arith, span_count_push h e);
+    })
 
 -- ---- splits
 -- an entry of a rising list is above all in front of it
@@ -109,7 +75,7 @@ pub never_twice : (limits : Limits) (before : List Entry) (e : Entry) (between a
 never_twice limits before e between after l = let n = numbers_rise limits before e between e after l refl in omega arith
 
 -- ---- both ways
-pub legal_more : (limits : Limits) (h : List Entry) (e : Entry) → IsLegal limits h → (IsLegal limits (h ++ e ∷ []) ↔ (refusal_of limits h e ≡ None))
+pub legal_more : (limits : Limits) (h : List Entry) (e : Entry) → IsLegal limits h → (IsLegal limits (h ++ e ∷ []) ↔ (admission limits h e ≡ Ok Added))
 legal_more limits h e l = (snoc_legal limits h e, legal_snoc limits h e l)
 
 pub rises_by_splits : (h : List Entry) → (RisesAfter [] h ↔ RisesBySplits h)

@@ -11,7 +11,25 @@ pub(crate) fn id(low: u64) -> TraceId {
     TraceId { high: 0, low }
 }
 
-/// What the seat handed in under the number: these spans of the service.
+/// What the seat handed in under the number: these spans of the service, sent under this `seqNo`.
+pub(crate) fn sent_entry(
+    alloc: Global,
+    (seat, number): (u16, u64),
+    seq_no: Option<i64>,
+    service: &str,
+    spans: Vec<Span>,
+) -> Result<Arc<Entry>, AllocError> {
+    let mut batch = batch(alloc, service, spans)?;
+    batch.seq_no = seq_no;
+    let entry = Entry {
+        seat,
+        number,
+        work: Work::Batch(batch),
+    };
+    Ok(Arc::new(alloc, entry)?)
+}
+
+/// What the seat handed in under the number: these spans of the service, without a `seqNo`.
 pub(crate) fn entry(
     alloc: Global,
     seat: u16,
@@ -19,13 +37,7 @@ pub(crate) fn entry(
     service: &str,
     spans: Vec<Span>,
 ) -> Result<Arc<Entry>, AllocError> {
-    let batch = batch(alloc, service, spans)?;
-    let entry = Entry {
-        seat,
-        number,
-        work: Work::Batch(batch),
-    };
-    Ok(Arc::new(alloc, entry)?)
+    sent_entry(alloc, (seat, number), None, service, spans)
 }
 
 /// The limit of traces that seat 0 handed in under the number.

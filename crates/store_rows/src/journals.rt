@@ -1,19 +1,30 @@
-use crate::entries::entry;
+use crate::entries::sent_entry;
 use arrival_journal::Journal;
 use std::alloc::{AllocError, Global};
+use std::hash::RandomState;
 use std::process::Abort;
 use std::sync::Arc;
 use std::test::*;
-use trace_model::{Entry, Limits, Refusal};
+use trace_model::{Admission, Entry, Limits, Refusal};
 use trace_samples::span;
 
-/// An entry with so many spans.
-fn entry_of(alloc: Global, seat: u16, number: u64, count: u64) -> Result<Arc<Entry>, AllocError> {
+/// An entry with so many spans, sent under this `seqNo`.
+fn sent(
+    alloc: Global,
+    name: (u16, u64),
+    seq_no: Option<i64>,
+    count: u64,
+) -> Result<Arc<Entry>, AllocError> {
     let mut spans = Vec::new(alloc);
     for id in 0..count {
         spans.push(span(alloc, 1, id)?)?;
     }
-    entry(alloc, seat, number, "a", spans)
+    sent_entry(alloc, name, seq_no, "a", spans)
+}
+
+/// An entry with so many spans.
+fn entry_of(alloc: Global, seat: u16, number: u64, count: u64) -> Result<Arc<Entry>, AllocError> {
+    sent(alloc, (seat, number), None, count)
 }
 
 /// The journal's answer. A refusal must leave the journal as it was.
@@ -32,7 +43,7 @@ fn answer(rt: &impl Abort, journal: &mut Journal, entry: Arc<Entry>) -> Result<u
 fn admits_in_order(rt: HostRuntime) -> Result<(), Fail> {
     let alloc = rt.alloc();
     let limits = Limits::new(4, 5, 0, 0).expect(&rt, "limits");
-    let mut journal = Journal::new(alloc, limits)?;
+    let mut journal = Journal::new(alloc, RandomState::new(&rt)?, limits)?;
     let full = |batches, spans| Err(Refusal::JournalFull { batches, spans });
     for (seat, number, spans, want) in [
         (7, 0, 0, Err(Refusal::Stale { last: 0 })),
@@ -56,17 +67,48 @@ fn admits_in_order(rt: HostRuntime) -> Result<(), Fail> {
     Ok(())
 }
 
+/// Batches that were sent before, among others: they are judged by that first.
+#[test]
+fn answers_repeats(rt: HostRuntime) -> Result<(), Fail> {
+    let alloc = rt.alloc();
+    let limits = Limits::new(3, 9, 0, 0).expect(&rt, "limits");
+    let mut journal = Journal::new(alloc, RandomState::new(&rt)?, limits)?;
+    let full = |batches, spans| Err(Refusal::JournalFull { batches, spans });
+    let conflict = |place| Err(Refusal::Conflict { place });
+    for (name, seq_no, spans, want) in [
+        ((0, 1), Some(7), 1, Ok(1)),
+        ((0, 1), Some(7), 1, Ok(1)),
+        ((1, 5), Some(7), 1, Ok(1)),
+        ((0, 1), Some(7), 2, conflict(1)),
+        ((1, 1), None, 1, Ok(2)),
+        ((1, 1), None, 1, Err(Refusal::Stale { last: 1 })),
+        ((0, 2), Some(0), 1, Ok(3)),
+        ((2, 1), Some(0), 1, Ok(3)),
+        ((2, 1), Some(0), 0, conflict(3)),
+        ((2, 1), Some(-1), 1, full(3, 3)),
+        ((2, 1), None, 1, full(3, 3)),
+    ] {
+        let got = answer(&rt, &mut journal, sent(alloc, name, seq_no, spans)?);
+        assert_eq!(rt; got, want, "{name:?}, {seq_no:?}");
+    }
+    assert_eq!(rt; journal.len(), 3);
+    Ok(())
+}
+
 #[test]
 fn one_of_each(rt: HostRuntime) -> Result<(), Fail> {
     let alloc = rt.alloc();
     let limits = Limits::new(1, 1, 0, 0).expect(&rt, "limits");
-    let mut journal = Journal::new(alloc, limits)?;
+    let mut journal = Journal::new(alloc, RandomState::new(&rt)?, limits)?;
     assert!(rt; journal.is_empty());
-    let first = entry_of(alloc, 0, 1, 1)?;
-    assert_eq!(rt; journal.judge(&first), Ok(()));
+    let first = journal.hashed(entry_of(alloc, 0, 1, 1)?);
+    let copy = first.try_clone()?;
+    assert_eq!(rt; copy.entry().number, 1);
+    assert_eq!(rt; copy.into_entry().seat, 0);
+    assert_eq!(rt; journal.judge(&first), Ok(Admission::Added));
     journal.append(first);
     assert!(rt; !journal.is_empty());
-    let second = entry_of(alloc, 1, 1, 0)?;
+    let second = journal.hashed(entry_of(alloc, 1, 1, 0)?);
     let full = Err(Refusal::JournalFull {
         batches: 1,
         spans: 1,

@@ -1,7 +1,7 @@
 //! Entries, questions and answers, and what a history of entries answers, as definitions over the
 //! plain list.
 //!
-//! * `limits`, `entry`, `refusal`: what is kept, and why an entry is turned away.
+//! * `limits`, `entry`, `admission`, `refusal`: what is kept, and why an entry is turned away.
 //! * `query`, `answer`: what can be asked, and what is answered.
 //! * `clock`: what the spans below a span are given of its host's clock.
 //!
@@ -9,6 +9,7 @@
 //! crate `store_laws` says in the subject's own words what it comes to.
 #![tactic(auto)]
 
+mod admission;
 mod answer;
 mod clock;
 mod entry;
@@ -16,6 +17,7 @@ mod limits;
 mod query;
 mod refusal;
 
+pub use admission::Admission;
 pub use answer::{Answer, Link, Operation, Shown};
 pub use clock::Clock;
 pub use entry::{Entry, Work};

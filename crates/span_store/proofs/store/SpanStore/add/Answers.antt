@@ -1,53 +1,62 @@
-use Rattle.std.proofs.Common.{arith, subst, map, ◌∙◌, rules, ◌≡◌, ◌+◌, ◌≤◌, ap, None, List, [], ◌∷◌, ◌++◌, length}
+use Rattle.std.proofs.Common.{arith, subst, map, ◌∙◌, rules, ◌≡◌, ◌+◌, ◌^◌, ◌<◌, ◌≤◌, ap, Ok, List, [], ◌∷◌, ◌++◌, length}
 use Rattle.std.specs.Arc.{arc_value}
 use Rattle.std.specs.Global.{Global}
+use Rattle.trace_model.specs.declared.admission.Admission.TheVariants.{Added}
 use Rattle.trace_model.specs.declared.entry.Entry.{Entry}
 use Rattle.trace_model.specs.Held.{Held}
 use Rattle.trace_model.specs.Histories.{span_count}
 use Rattle.trace_model.specs.Refusals.{followed_by}
 use Rattle.trace_model.specs.Works.{spans_brought}
-use Rattle.arrival_journal.specs.Journals.{refusal_by}
+use Rattle.arrival_journal.specs.Journals.{admission_by}
 use Rattle.trace_assembly.specs.Rows.{spots_of}
 use Rattle.trace_assembly.specs.Located.{located}
 use Rattle.arrival_names.specs.Kept.{IsKept as NamesKept}
 use Rattle.arrival_names.proofs.Numbering.{length-arrivals}
 use Rattle.service_places.specs.Reported.{IsKept as PlacesKept}
 use Rattle.span_store.specs.Kept.{Follows, IsNamed, IsPlaced}
-use Rattle.span_store.proofs.Keeping.{Grows, kept_more, kept_room, kept_within}
-use Rattle.span_store.proofs.store.SpanStore.apply.Goals as goal
+use Rattle.span_store.proofs.Keeping.{Grows, kept_more, kept_room, kept_within, spans_fit}
+use Rattle.span_store.proofs.store.SpanStore.add.Goals as goal
 
 pub follow-requires-clause-within : goal.follow-requires-clause-within
 follow-requires-clause-within c =
     let was = c.self.inside in
     kept_within was.journal.held was.ring was.assembly was.names was.reported c.self.invariant
 
+pub follow-requires-clause-fits : goal.follow-requires-clause-fits
+follow-requires-clause-fits c =
+    let was = c.self.inside in
+    let e : Entry = c.args.entry in
+    let may : admission_by was.journal.held e ≡ Ok Added = ap (λ (v : Held). admission_by v e) c.self.view_is ∙ c.requires in
+    let fits : length (spans_brought e.work) < 2 ^ 32 = spans_fit was.journal.held e may in
+    search rules
+
 pub follow-requires-clause-ring_room : goal.follow-requires-clause-ring_room
 follow-requires-clause-ring_room c =
     let was = c.self.inside in
-    let e : Entry = arc_value c.args.entry in
-    let may : refusal_by was.journal.held e ≡ None = search rules in
+    let e : Entry = c.args.entry in
+    let may : admission_by was.journal.held e ≡ Ok Added = ap (λ (v : Held). admission_by v e) c.self.view_is ∙ c.requires in
     let room : length was.ring.seen + length (spans_brought e.work) ≤ was.ring.room = (kept_room was.journal.held e was.ring was.assembly was.names was.reported c.self.invariant may).0 in
     search rules
 
 pub follow-requires-clause-assembly_room : goal.follow-requires-clause-assembly_room
 follow-requires-clause-assembly_room c =
     let was = c.self.inside in
-    let e : Entry = arc_value c.args.entry in
-    let may : refusal_by was.journal.held e ≡ None = search rules in
+    let e : Entry = c.args.entry in
+    let may : admission_by was.journal.held e ≡ Ok Added = ap (λ (v : Held). admission_by v e) c.self.view_is ∙ c.requires in
     let room : was.assembly.used + length (spans_brought e.work) ≤ was.assembly.room = (kept_room was.journal.held e was.ring was.assembly was.names was.reported c.self.invariant may).1 in
     search rules
 
 pub invariant_of-self : goal.invariant_of-self
 invariant_of-self c =
     let was = c.self.inside in
-    let e : Entry = arc_value c.args.entry in
+    let e : Entry = c.args.entry in
     let held : c.append.new.self.held ≡ followed_by was.journal.held e = c.append.ensures.appended in
     let place : c.len-place.result + 1 ≡ length was.journal.held.entries + 1 = ap (λ k. k + 1) c.len-place.ensures.length in
     let n = was.journal.held.limits.traces in
     let h = was.journal.held.entries in
     let here = c.follow.ensures.follows n h place c.self.invariant.follows in
     let follows : Follows n (located (h ++ e ∷ [])) c.follow.new.ring (spots_of c.follow.new.assembly) =
-    subst (λ (x : Entry). Follows n (located (h ++ x ∷ [])) c.follow.new.ring (spots_of c.follow.new.assembly)) c.deref-2.ensures here in
+    subst (λ (x : Entry). Follows n (located (h ++ x ∷ [])) c.follow.new.ring (spots_of c.follow.new.assembly)) (c.deref.ensures ∙ c.entry.ensures) here in
     let seen : length c.follow.new.ring.seen ≤ length was.ring.seen + length (spans_brought e.work) = search rules in
     let used : c.follow.new.assembly.used ≡ was.assembly.used + length (spans_brought e.work) = search rules in
     let grows : Grows was.ring c.follow.new.ring was.assembly c.follow.new.assembly (length (spans_brought e.work)) = record {
@@ -73,7 +82,7 @@ invariant_of-self c =
 pub add-requires-2-clause-numbers : goal.add-requires-2-clause-numbers
 add-requires-2-clause-numbers c =
     let was = c.self.inside in
-    let held : c.append.new.self.held ≡ followed_by was.journal.held (arc_value c.args.entry) = c.append.ensures.appended in
+    let held : c.append.new.self.held ≡ followed_by was.journal.held (c.args.entry) = c.append.ensures.appended in
     let within = c.append.ensures.legal.spans in
     let most = ap (λ (v : Held). v.limits.spans) held in
     let count = length-arrivals (map (arc_value {X = Entry} {Z = Global}) c.entries-entries.result.now) ∙ ap span_count c.entries-entries.ensures in
@@ -83,7 +92,7 @@ add-requires-2-clause-numbers c =
 pub add-requires-2-clause-index : goal.add-requires-2-clause-index
 add-requires-2-clause-index c =
     let was = c.self.inside in
-    let held : c.append.new.self.held ≡ followed_by was.journal.held (arc_value c.args.entry) = c.append.ensures.appended in
+    let held : c.append.new.self.held ≡ followed_by was.journal.held (c.args.entry) = c.append.ensures.appended in
     let within = c.append.ensures.legal.spans in
     let most = ap (λ (v : Held). v.limits.spans) held in
     let count = length-arrivals (map (arc_value {X = Entry} {Z = Global}) c.entries-entries.result.now) ∙ ap span_count c.entries-entries.ensures in

@@ -1,0 +1,78 @@
+#!/usr/bin/env python3
+"""What a batch with a seqNo costs beside one without, by how many are sent.
+
+Each row is a run of the built program, `jaeger_one play`, on a script that hands in so many batches of one span:
+
+    new numbers     one process, each batch with the next number
+    one number      one number, processes whose 17 tags are the text `1` or the number 1, each another choice of these
+    again           one batch, sent again and again
+
+once with the numbers and once without them. With numbers, 'again' stores one batch. Times are processor time of the
+program, the least of some runs, less those of a script in which nothing is handed in.
+
+    bench/resent.py [--bin PATH] [--sizes 1000,10000,100000] [--runs 5]
+"""
+import argparse
+import os
+import tempfile
+
+from decode import ROOT, field, text
+from heavy import items, span
+from store import seconds
+
+CHOICES = 17
+
+
+def tag(key, is_number):
+    kind = b"\0\0\0\3" + field(10, 6) + (1).to_bytes(8, "big") if is_number else b"\0\0\0\0" + field(11, 3) + text("1")
+    return field(11, 1) + text(key) + field(8, 2) + kind + b"\0"
+
+
+def batch(choice, number):
+    """One span of a process with these kinds of tags, under the number where there is one."""
+    tags = [tag(f"k{n}", choice >> n & 1) for n in range(CHOICES)]
+    process = field(12, 1) + field(11, 1) + text("orders") + items(12, 2, tags) + b"\0"
+    spans = items(12, 2, [span(1)])
+    sent = b"" if number is None else field(10, 3) + number.to_bytes(8, "big")
+    return (process + spans + sent + b"\0").hex()
+
+
+WAYS = {
+    "new numbers": lambda n: (0, n),
+    "one number": lambda n: (n, 1),
+    "again": lambda n: (0, 1),
+}
+
+
+def script(way, size, is_numbered):
+    for sent in range(size):
+        choice, number = WAYS[way](sent)
+        yield f"put 0 {batch(choice, number if is_numbered else None)}\ntake\n"
+    yield "publish\n"
+
+
+def run(program, way, size, is_numbered, runs):
+    words = [program, "play", "--batches", "200000", "--spans", "200000"]
+    with tempfile.NamedTemporaryFile(mode="w") as file:
+        file.writelines(script(way, size, is_numbered))
+        file.flush()
+        return seconds(words, file.name, runs, 0)
+
+
+def main():
+    asked = argparse.ArgumentParser(description=__doc__, formatter_class=argparse.RawDescriptionHelpFormatter)
+    asked.add_argument("--bin", default=os.path.join(ROOT, "crates/jaeger_one/out/jaeger_one"))
+    asked.add_argument("--sizes", default="1000,10000,100000", help="batches handed in, 131,072 at most")
+    asked.add_argument("--runs", type=int, default=5)
+    options = asked.parse_args()
+    empty = run(options.bin, "again", 0, False, options.runs)
+    print(f"{'':>12} {'batches':>8} {'without':>8} {'with':>8} {'us a batch more':>16}")
+    for way in WAYS:
+        for size in [int(s) for s in options.sizes.split(",")]:
+            without = run(options.bin, way, size, False, options.runs) - empty
+            numbered = run(options.bin, way, size, True, options.runs) - empty
+            print(f"{way:>12} {size:>8} {without:>8.3f} {numbered:>8.3f} {(numbered - without) / size * 1e6:>16.2f}")
+
+
+if __name__ == "__main__":
+    main()

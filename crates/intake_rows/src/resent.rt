@@ -1,0 +1,138 @@
+//! A batch that a seat hands in once more.
+
+use crate::house::{House, batch};
+use intake::{Ack, Books, Clerk, Seat, Turn};
+use read_side::{Keeper, StoreName};
+use std::alloc::Global;
+use std::sync::Wait;
+use trace_model::Refusal;
+
+/// What a seat hands in, and what its ticket returns.
+struct Job {
+    /// The id of the batch's span.
+    id: u64,
+    /// The batch's number.
+    number: Option<i64>,
+    /// The place and the receipt's front, or the refusal.
+    wanted: Result<(u64, u64), Refusal>,
+}
+
+/// The jobs over a store with room for three batches. The numbers 0 and -1 count.
+const JOBS: [Job; 7] = [
+    Job {
+        id: 1,
+        number: Some(0),
+        wanted: Ok((1, 1)),
+    },
+    Job {
+        id: 2,
+        number: Some(-1),
+        wanted: Ok((2, 2)),
+    },
+    Job {
+        id: 1,
+        number: None,
+        wanted: Ok((3, 3)),
+    },
+    Job {
+        id: 1,
+        number: Some(0),
+        wanted: Ok((1, 3)),
+    },
+    Job {
+        id: 2,
+        number: Some(-1),
+        wanted: Ok((2, 3)),
+    },
+    Job {
+        id: 3,
+        number: Some(-1),
+        wanted: Err(Refusal::Conflict { place: 2 }),
+    },
+    Job {
+        id: 1,
+        number: None,
+        wanted: Err(Refusal::JournalFull {
+            batches: 3,
+            spans: 3,
+        }),
+    },
+];
+
+/// Hands the batch in and has it served.
+fn answered<N: StoreName, R: Wait>(
+    rt: &R,
+    alloc: Global,
+    seat: &mut Seat<N>,
+    clerk: &mut Clerk<N>,
+    keeper: &mut Keeper<N>,
+    job: &Job,
+) -> Result<(u64, u64), Refusal> {
+    let mut batch = batch(alloc, job.id)?;
+    batch.seq_no = job.number;
+    let ticket = match seat.submit(rt, alloc, batch) {
+        Ok(ticket) => ticket,
+        Err((why, _batch)) => return Err(why),
+    };
+    if !matches!(clerk.turn(rt, keeper), Ok(Turn::Served { .. })) {
+        return Err(Refusal::Stranger);
+    }
+    let Ack { receipt, place } = ticket.wait(rt)?;
+    Ok((place, receipt.front()))
+}
+
+/// The account of each job has the place that its ticket returned, or the refusal.
+fn are_booked<N: StoreName>(books: &Books<N>) -> bool {
+    let mut jobs = JOBS.iter();
+    for account in books.accounts.iter() {
+        let Some(job) = jobs.next() else {
+            return false;
+        };
+        let wanted = match job.wanted {
+            Ok((place, _front)) => Ok(place),
+            Err(why) => Err(why),
+        };
+        if account.answer != wanted {
+            return false;
+        }
+    }
+    jobs.next().is_none()
+}
+
+/// A batch that was sent before is acknowledged at its old place, where the store is full too, and counts as
+/// acknowledged. Another one with its number is refused, and adds nothing.
+pub(crate) fn a_resent_job_is_acknowledged<N: StoreName + Send + Sync, R: Wait>(
+    rt: &R,
+    alloc: Global,
+    house: House<N>,
+) -> bool {
+    let House {
+        mut keeper,
+        passes: _,
+        desk,
+        mut seats,
+        mut clerk,
+    } = house;
+    let Some(mut seat) = seats.pop() else {
+        keeper.close(rt);
+        return false;
+    };
+    let mut as_wanted = true;
+    for job in JOBS.iter() {
+        let answer = answered(rt, alloc, &mut seat, &mut clerk, &mut keeper, job);
+        as_wanted = as_wanted && answer == job.wanted;
+    }
+    desk.close(rt);
+    let books = clerk.run(rt, keeper);
+    let booked = are_booked(&books);
+    let Books {
+        keeper,
+        accounts: _,
+        acknowledged,
+        refused,
+        left,
+        inbox: _,
+    } = books;
+    keeper.close(rt);
+    as_wanted && booked && seat.handed() == 7 && (acknowledged, refused, left.len()) == (5, 2, 0)
+}

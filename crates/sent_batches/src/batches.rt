@@ -1,0 +1,122 @@
+//! The batches with a number of a list of entries.
+
+ghost use Rattle.std.specs.Prelude.{◌≡◌, ◌<◌, ◌≤◌, [], ◌∷◌, ◌++◌, true, map, length, IfOk};
+ghost use Rattle.std.specs.Arc.{arc_value};
+ghost use Rattle.trace_model.specs.Resending.{SentOnceAfter, sent_before};
+ghost use Rattle.trace_model.specs.Histories.{before_last};
+ghost use Rattle.trace_model.specs.declared.entry.Entry.{Entry as EntryValue};
+ghost use Rattle.sent_batches.specs.Sent.{IsKept, has_number, work_hash};
+
+use crate::hashed::HashedEntry;
+use crate::keys::BatchKeys;
+use crate::sought::SoughtBatch;
+use row_places::RowPlaces;
+use std::alloc::{AllocError, Global};
+use std::marker::Model;
+use std::sync::Arc;
+use trace_model::Entry;
+
+/// The batches with a number of a list of entries that grows at its end.
+#[derive(Drop)]
+pub struct SentBatches {
+    keys: BatchKeys,
+    /// Lead to the rows by the hashes.
+    places: RowPlaces,
+    /// By row the hash of its batch.
+    hashes: Vec<u64>,
+    /// By row how many entries stand before its own.
+    befores: Vec<u32>,
+}
+
+impl Model for SentBatches {
+    ghost use Rattle.std.specs.Prelude.{vec_capacity, ◌≤◌};
+    ghost use Rattle.sent_batches.specs.Sent.{Sent};
+
+    ghost Value = { Sent };
+
+    ghost view = { λ s. record { keys = s.keys; befores = s.befores.items; hashes = s.hashes.items; slots = s.places.slots; room = s.places.room } };
+
+    ghost invariant = { λ s. (s.places.room ≤ vec_capacity s.hashes)
+        × (s.places.room ≤ vec_capacity s.befores) };
+}
+
+impl SentBatches {
+    /// The batches of no entry, with room for so many.
+    ///
+    /// # Errors
+    ///
+    /// Out of memory, and nothing else.
+    pub fn with_room(alloc: Global, keys: BatchKeys, batches: u32) -> Result<Self, AllocError>
+        ensures kept { IfOk result (λ sent. IsKept [] sent) }
+        ensures room { IfOk result (λ sent. sent.room ≡ batches) }
+    {
+        let places = RowPlaces::with_room(alloc, batches)?;
+        let hashes = Vec::with_capacity(alloc, batches as usize)?;
+        let befores = Vec::with_capacity(alloc, batches as usize)?;
+        Ok(SentBatches {
+            keys,
+            places,
+            hashes,
+            befores,
+        })
+    }
+
+    /// The keys of the hash under which it finds batches.
+    pub fn keys(&self) -> BatchKeys
+        ensures { result ≡ self.now.keys }
+    {
+        self.keys
+    }
+
+    /// How many entries stand before the one that brought a batch of this entry's number and process; none
+    /// where no entry did, and where this one has no batch with a number.
+    pub fn find(&self, entries: &[Arc<Entry>], entry: &HashedEntry) -> Option<u32>
+        requires kept { IsKept (map arc_value entries.now) self.now }
+        requires once { SentOnceAfter [] (map arc_value entries.now) }
+        ensures { result ≡ sent_before (map arc_value entries.now) entry.now }
+    {
+        let batch = entry.entry().work.batch()?;
+        if batch.seq_no.is_none() {
+            return None;
+        }
+        let sought = SoughtBatch {
+            entries,
+            befores: &self.befores,
+            hashes: &self.hashes,
+            batch,
+        };
+        let row = self.places.find(entry.hash(self.keys), &sought)?;
+        Some(self.befores[row as usize])
+    }
+
+    /// Follows the list, which has one more entry at its end, with this hash where it has a batch with a
+    /// number. It takes no memory.
+    pub fn add(&mut self, entries: &[Arc<Entry>], hash: u64)
+        requires some { 0 < length entries.now }
+        requires kept { IsKept (before_last (map arc_value entries.now)) self.old }
+        requires room { length entries.now ≤ self.old.room }
+        requires hash { (e : EntryValue) →
+            map arc_value entries.now ≡ before_last (map arc_value entries.now) ++ e ∷ [] →
+            has_number e.work ≡ true → hash ≡ work_hash self.old.keys e.work }
+        ensures kept { IsKept (map arc_value entries.now) self.new }
+        ensures room { self.new.room ≡ self.old.room }
+        ensures keys { self.new.keys ≡ self.old.keys }
+    {
+        let before = entries.len() - 1;
+        let Some(batch) = entries[before].work.batch() else {
+            return;
+        };
+        if batch.seq_no.is_none() {
+            return;
+        }
+        let rows = SoughtBatch {
+            entries,
+            befores: &self.befores,
+            hashes: &self.hashes,
+            batch,
+        };
+        self.places.mark(hash, &rows);
+        self.hashes.push_reserved(hash);
+        self.befores.push_reserved(before as u32);
+    }
+}

@@ -1,0 +1,57 @@
+//! A batch that is sought among those of entries.
+
+ghost use Rattle.std.specs.Prelude.{◌≡◌};
+ghost use Rattle.trace_model.specs.Resending.{is_sent_as};
+
+use jaeger_model::Batch;
+use row_places::Sought;
+use std::sync::Arc;
+use trace_model::Entry;
+
+/// A batch that is sought by its number and its process among those of some entries.
+#[derive(Drop)]
+pub(crate) struct SoughtBatch<'a> {
+    pub(crate) entries: &'a [Arc<Entry>],
+    /// By row how many entries stand before its own.
+    pub(crate) befores: &'a [u32],
+    /// By row the hash of its batch.
+    pub(crate) hashes: &'a [u64],
+    pub(crate) batch: &'a Batch,
+}
+
+impl<'a> Sought for SoughtBatch<'a> {
+    ghost use Rattle.std.specs.Prelude.{map, get_or, ◌≡◌, length};
+    ghost use Rattle.std.specs.Arc.{arc_value};
+    ghost use Rattle.sent_batches.specs.Sent.{AreBehind, is_behind};
+
+    ghost can_read = { λ s. AreBehind (map arc_value s.entries.now) s.befores.now
+        × (length s.befores.now ≡ length s.hashes.now) };
+
+    ghost hashes = { λ s. s.hashes.now };
+
+    ghost is_sought = { λ s row. is_behind s.batch.now (map arc_value s.entries.now)
+        (get_or s.befores.now row 0) };
+
+    fn rows(&self) -> usize {
+        self.hashes.len()
+    }
+
+    fn hash_at(&self, row: usize) -> u64 {
+        self.hashes[row]
+    }
+
+    fn is_sought(&self, row: usize) -> bool {
+        let before = self.befores[row] as usize;
+        match self.entries[before].work.batch() {
+            Some(batch) => is_sent_as(self.batch, batch),
+            None => false,
+        }
+    }
+}
+
+/// Whether both batches have a number, which is the same, and the same process.
+fn is_sent_as(batch: &Batch, other: &Batch) -> bool
+    ensures { result ≡ is_sent_as batch.now other.now }
+{
+    batch.seq_no.is_some() && batch.seq_no == other.seq_no && batch.process == other.process
+}

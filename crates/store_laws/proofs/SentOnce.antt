@@ -1,0 +1,263 @@
+-- In a legal list no batch with a number stands twice, and how one that is handed in again is answered.
+use Rattle.std.proofs.Common.{◌≡◌, ℕ, suc, ◌+◌, ◌<◌, Bool, true, false, ◌&&◌, Option, Some, None, List, [], ◌∷◌, ◌++◌, length, fold, refl, sym, ap, ◌∙◌, subst, append_assoc, arith, add-one, inl, inr, get_or, zero, ◌≤◌}
+use Rattle.std.specs.Prelude.{◌||◌, Result, Ok, Err, position, slice_get, nat_le, if◌then◌else◌}
+use Rattle.std.specs.Option.{is_some}
+use Rattle.std.specs.List.{list_any}
+use Rattle.std.proofs.lemmas.Bool.{false≢true, leb-true, leb-false}
+use Rattle.std.proofs.lemmas.List.{append-nil}
+use Rattle.std.proofs.lemmas.List.Folds.{list_any-append, list_any_at}
+use Rattle.std.proofs.lemmas.List.Quantifiers.{position-Some}
+use Rattle.std.proofs.lemmas.List.Sums.{fold-append}
+use Rattle.jaeger_model.specs.declared.batch.Batch.{Batch}
+use Rattle.jaeger_model.specs.Same.{same_number, same_number-decides, same_process, same_process-decides}
+use Rattle.trace_model.specs.declared.admission.Admission.{Admission}
+use Rattle.trace_model.specs.declared.admission.Admission.TheVariants.{Added, Resent}
+use Rattle.trace_model.specs.declared.entry.Entry.{Entry}
+use Rattle.trace_model.specs.declared.entry.Work.{Work}
+use Rattle.trace_model.specs.declared.entry.Work.TheVariants as brings
+use Rattle.trace_model.specs.declared.limits.Limits.{Limits}
+use Rattle.trace_model.specs.declared.refusal.Refusal.{Refusal}
+use Rattle.trace_model.specs.declared.refusal.Refusal.TheVariants.{Conflict}
+use Rattle.trace_model.specs.Histories.{IsLegal}
+use Rattle.trace_model.specs.Resending.{is_sent_as, resends, is_sent, SentOnceAfter, AnswersFor}
+use Rattle.trace_model.specs.Refusals.{admission, admitted_anew}
+use Rattle.trace_model.specs.Works.{same_work, same_work-decides}
+use Rattle.trace_model.specs.Refusals.{with_admitted}
+use Rattle.trace_model.specs.Places.{entry_at}
+use Rattle.trace_model.proofs.Admissions.{none_passes, IsAnswered, IsSaid, admission_says, admission_repeated, admission_anew, sent_nowhere}
+use Rattle.trace_model.proofs.Legality.{legal_empty}
+use Rattle.trace_model.proofs.Prefixes.{prefix_self, prefix_trans}
+use Rattle.store_laws.specs.Submits.{behind, history_of, StandsOnce}
+use Rattle.store_laws.proofs.LegalLists.{legal_snoc}
+use mathlib.Core.List.{IsPrefix}
+
+-- ---- batches of one process and number
+both : (a b : Bool) → (a && b) ≡ true → (a ≡ true) × (b ≡ true)
+both true b e = (refl, e)
+both false b e = absurd (false≢true e)
+
+both_is : (a b : Bool) → a ≡ true → b ≡ true → (a && b) ≡ true
+both_is a b e f = ap (λ x. x && b) e ∙ f
+
+-- the one has the number and the process of the other
+abbrev AreOne : Work → Work → Type 0
+AreOne (brings.Batch a) (brings.Batch b) = (a.seq_no ≡ b.seq_no) × (a.process ≡ b.process)
+AreOne v w = ⊥
+
+are_one : (v w : Work) → resends v w ≡ true → AreOne v w
+are_one (brings.Batch a) (brings.Batch b) e =
+    let parts = both (is_some a.seq_no) _ e in
+    let same = both (same_number a.seq_no b.seq_no) _ parts.1 in
+    ((same_number-decides a.seq_no b.seq_no).0 same.0, (same_process-decides a.process b.process).0 same.1)
+are_one (brings.Batch a) (brings.TraceLimit n) e = absurd (false≢true e)
+are_one (brings.TraceLimit m) (brings.Batch b) e = absurd (false≢true e)
+are_one (brings.TraceLimit m) (brings.TraceLimit n) e = absurd (false≢true e)
+
+-- a batch was sent as one exactly where it was sent as the other
+pub alike : (v w : Work) → resends v w ≡ true → (x : Work) → resends v x ≡ resends w x
+alike (brings.Batch a) (brings.Batch b) e (brings.Batch c) =
+    let o = are_one (brings.Batch a) (brings.Batch b) e in
+    ap (λ n. is_some n && (same_number n c.seq_no && same_process a.process c.process)) o.0
+    ∙ ap (λ p. is_some b.seq_no && (same_number b.seq_no c.seq_no && same_process p c.process)) o.1
+alike (brings.Batch a) (brings.Batch b) e (brings.TraceLimit n) = refl
+alike (brings.Batch a) (brings.TraceLimit n) e x = absurd (false≢true e)
+alike (brings.TraceLimit m) (brings.Batch b) e x = absurd (false≢true e)
+alike (brings.TraceLimit m) (brings.TraceLimit n) e x = absurd (false≢true e)
+
+back_true : (v w : Work) → resends v w ≡ true → resends w v ≡ true
+back_true (brings.Batch a) (brings.Batch b) e =
+    let o = are_one (brings.Batch a) (brings.Batch b) e in
+    let numbered = (both (is_some a.seq_no) _ e).0 in
+    both_is (is_some b.seq_no) _ (sym (ap is_some o.0) ∙ numbered)
+    (both_is (same_number b.seq_no a.seq_no) _ ((same_number-decides b.seq_no a.seq_no).1 (sym o.0)) ((same_process-decides b.process a.process).1 (sym o.1)))
+back_true (brings.Batch a) (brings.TraceLimit n) e = absurd (false≢true e)
+back_true (brings.TraceLimit m) (brings.Batch b) e = absurd (false≢true e)
+back_true (brings.TraceLimit m) (brings.TraceLimit n) e = absurd (false≢true e)
+
+back_false : (v w : Work) → resends v w ≡ false → resends w v ≡ false
+back_false v w e = elim (resends w v) as (λ b. resends w v ≡ b → b ≡ false) [
+  | true ↦ λ at. absurd (false≢true (sym e ∙ back_true w v at))
+  | false ↦ λ at. refl
+] refl
+
+-- ---- lists
+neither : (a b : Bool) → (a || b) ≡ false → (a ≡ false) × (b ≡ false)
+neither true b e = absurd (false≢true (sym e))
+neither false b e = (refl, e)
+
+either_is : (a b : Bool) → a ≡ false → b ≡ false → (a || b) ≡ false
+either_is a b e f = ap (λ x. x || b) e ∙ f
+
+-- what none of the list passes, none of its parts does
+pub none_passed : {X : Type 0} (p : X → Bool) (front : List X) (x : X) (rest : List X) → list_any p (front ++ x ∷ rest) ≡ false → (list_any p front ≡ false) × (p x ≡ false) × (list_any p rest ≡ false)
+none_passed p front x rest e =
+    let parts = neither (list_any p front) _ (sym (list_any-append p front (x ∷ rest)) ∙ e) in
+    let last = neither (p x) _ parts.1 in (parts.0, last.0, last.1)
+
+at_split : {X : Type 0} (front : List X) (x : X) (rest : List X) (d : X) → get_or (front ++ x ∷ rest) (length front) d ≡ x
+at_split [] x rest d = refl
+at_split (y ∷ front) x rest d = at_split front x rest d
+
+in_front : {X : Type 0} (front rest : List X) (i : ℕ) (d : X) → i < length front → get_or (front ++ rest) i d ≡ get_or front i d
+in_front [] rest i d l = absurd (omega arith)
+in_front (y ∷ front) rest zero d l = refl
+in_front (y ∷ front) rest (suc i) d l = in_front front rest i d (omega arith)
+
+-- neither before nor behind
+only_there : (i n : ℕ) → (i < n → ⊥) → (n < i → ⊥) → i ≡ n
+only_there i n lt gt =
+    let le : i ≤ n = elim (nat_le i n) as (λ b. nat_le i n ≡ b → i ≤ n) [ true ↦ λ t. leb-true i n t | false ↦ λ f. absurd (gt (leb-false i n f)) ] refl in
+    let ge : n ≤ i = elim (nat_le n i) as (λ b. nat_le n i ≡ b → n ≤ i) [ true ↦ λ t. leb-true n i t | false ↦ λ f. absurd (lt (leb-false n i f)) ] refl in
+    omega arith
+
+-- the first that passes stands behind those of which none does
+first_passed : {X : Type 0} (p : X → Bool) (front : List X) (x : X) (rest : List X) → list_any p front ≡ false → p x ≡ true → position p (front ++ x ∷ rest) ≡ Some (length front)
+first_passed p front x rest none here = elim (position p (front ++ x ∷ rest)) as (λ o. position p (front ++ x ∷ rest) ≡ o → o ≡ Some (length front)) [
+  | None ↦ λ at. absurd (false≢true (sym (none_passed p front x rest (none_passes p (front ++ x ∷ rest) at)).1 ∙ here))
+  | Some i ↦ λ at.
+      let found = position-Some p (front ++ x ∷ rest) i x at in
+      let not_before : i < length front → ⊥ = λ l. false≢true (sym none ∙ list_any_at p front i x l (ap p (sym (in_front front (x ∷ rest) i x l)) ∙ found.1)) in
+      let not_behind : length front < i → ⊥ = λ l. false≢true (sym (found.2 (length front) l) ∙ (ap p (at_split front x rest x) ∙ here)) in
+      ap (λ n. Some n) (only_there i (length front) not_before not_behind)
+] refl
+
+-- ---- no batch stands twice
+pub sent_once_back : (before h rest : List Entry) → SentOnceAfter before (h ++ rest) → SentOnceAfter (before ++ h) rest
+sent_once_back before [] rest r = subst (λ l. SentOnceAfter l rest) (sym (append-nil before)) r
+sent_once_back before (e ∷ h) rest r = subst (λ l. SentOnceAfter l rest) (append_assoc before (e ∷ []) h) (sent_once_back (before ++ e ∷ []) h rest r.1)
+
+-- the entry behind the front was not sent before it
+sent_once_at : (limits : Limits) (front : List Entry) (d : Entry) (rest : List Entry) → IsLegal limits (front ++ d ∷ rest) → (is_sent front d ≡ false) × SentOnceAfter (front ++ d ∷ []) rest
+sent_once_at limits front d rest l = sent_once_back [] front (d ∷ rest) l.sent_once
+
+unsent_behind : (d e : Entry) → resends e.work d.work ≡ true → (front mid rest : List Entry) → SentOnceAfter (front ++ d ∷ mid) rest → is_sent rest e ≡ false
+unsent_behind d e s front mid [] r = refl
+unsent_behind d e s front mid (x ∷ rest) r =
+    let other = (none_passed (λ (y : Entry). resends x.work y.work) front d mid r.0).1 in
+    either_is (resends e.work x.work) _ (alike e.work d.work s x.work ∙ back_false x.work d.work other)
+    (unsent_behind d e s front (mid ++ x ∷ []) rest (subst (λ l. SentOnceAfter l rest) (append_assoc front (d ∷ mid) (x ∷ [])) r.1))
+
+-- of two entries of a legal list the later one was not sent as the other
+pub never_sent_twice : (limits : Limits) (before : List Entry) (d : Entry) (between : List Entry) (f : Entry) (after : List Entry)
+    → IsLegal limits (before ++ d ∷ (between ++ f ∷ after)) → resends f.work d.work ≡ false
+never_sent_twice limits before d between f after l =
+    let r : SentOnceAfter [] ((before ++ d ∷ between) ++ f ∷ after) = subst (SentOnceAfter []) (sym (append_assoc before (d ∷ between) (f ∷ after))) l.sent_once in
+    (none_passed (λ (y : Entry). resends f.work y.work) before d between (sent_once_back [] (before ++ d ∷ between) (f ∷ after) r).0).1
+
+-- ---- an entry that is handed in again
+-- no entry in front of the one that has its batch was sent as it
+unsent_in_front : (limits : Limits) (front : List Entry) (d : Entry) (rest : List Entry) (e : Entry) → IsLegal limits (front ++ d ∷ rest) → resends e.work d.work ≡ true → is_sent front e ≡ false
+unsent_in_front limits front d rest e l s = all_alike front (sent_once_at limits front d rest l).0
+  where
+    all_alike : (xs : List Entry) → is_sent xs d ≡ false → is_sent xs e ≡ false
+    all_alike [] n = refl
+    all_alike (x ∷ xs) n = let parts = neither (resends d.work x.work) _ n in either_is (resends e.work x.work) _ (alike e.work d.work s x.work ∙ parts.0) (all_alike xs parts.1)
+
+again_at : (limits : Limits) (front : List Entry) (d : Entry) (rest : List Entry) (e : Entry) → IsLegal limits (front ++ d ∷ rest) → resends e.work d.work ≡ true
+    → admission limits (front ++ d ∷ rest) e ≡ (if same_work e.work d.work then Ok (Resent (suc (length front))) else Err (Conflict (suc (length front))))
+again_at limits front d rest e l s =
+    admission_repeated limits (front ++ d ∷ rest) e (length front) (first_passed (λ (x : Entry). resends e.work x.work) front d rest (unsent_in_front limits front d rest e l s) s)
+    ∙ ap (λ (x : Entry). if same_work e.work x.work then Ok (Resent (suc (length front))) else Err (Conflict (suc (length front)))) (at_split front d rest e)
+
+pub repeat_is_answered : (limits : Limits) (front : List Entry) (d : Entry) (rest : List Entry) (e : Entry) → IsLegal limits (front ++ d ∷ rest) → resends e.work d.work ≡ true → d.work ≡ e.work
+    → admission limits (front ++ d ∷ rest) e ≡ Ok (Resent (length front + 1))
+repeat_is_answered limits front d rest e l s same =
+    again_at limits front d rest e l s
+    ∙ ap (λ (b : Bool). if b then Ok (Resent (suc (length front))) else Err (Conflict (suc (length front)))) ((same_work-decides e.work d.work).1 (sym same))
+    ∙ ap (λ n. Ok (Resent n)) (sym (add-one (length front)))
+
+pub damaged_is_refused : (limits : Limits) (front : List Entry) (d : Entry) (rest : List Entry) (e : Entry) → IsLegal limits (front ++ d ∷ rest) → resends e.work d.work ≡ true → (d.work ≡ e.work → ⊥)
+    → admission limits (front ++ d ∷ rest) e ≡ Err (Conflict (length front + 1))
+damaged_is_refused limits front d rest e l s other =
+    again_at limits front d rest e l s
+    ∙ ap (λ (b : Bool). if b then Ok (Resent (suc (length front))) else Err (Conflict (suc (length front)))) (differs (same_work e.work d.work) (λ t. other (sym ((same_work-decides e.work d.work).0 t))))
+    ∙ ap (λ n. Err (Conflict n)) (sym (add-one (length front)))
+  where
+    differs : (b : Bool) → (b ≡ true → ⊥) → b ≡ false
+    differs true n = absurd (n refl)
+    differs false n = refl
+
+-- what was sent nowhere before is judged by its number and the limits
+nowhere : (limits : Limits) (h : List Entry) (e : Entry) → ((x : Work) → resends e.work x ≡ false) → admission limits h e ≡ admitted_anew limits h e
+nowhere limits h e never = admission_anew limits h e (sent_nowhere h e (none h))
+  where
+    none : (xs : List Entry) → is_sent xs e ≡ false
+    none [] = refl
+    none (x ∷ xs) = either_is (resends e.work x.work) _ (never x.work) (none xs)
+
+unnumbered_never : (b : Batch) → b.seq_no ≡ None → (x : Work) → resends (brings.Batch b) x ≡ false
+unnumbered_never b none (brings.Batch c) = ap (λ n. is_some n && (same_number n c.seq_no && same_process b.process c.process)) none
+unnumbered_never b none (brings.TraceLimit n) = refl
+
+limit_never : (n : ℕ) (x : Work) → resends (brings.TraceLimit n) x ≡ false
+limit_never n (brings.Batch c) = refl
+limit_never n (brings.TraceLimit m) = refl
+
+pub unnumbered_anew : (limits : Limits) (h : List Entry) (e : Entry) (b : Batch) → e.work ≡ brings.Batch b → b.seq_no ≡ None → admission limits h e ≡ admitted_anew limits h e
+unnumbered_anew limits h e b is none = nowhere limits h e (λ x. ap (λ w. resends w x) is ∙ unnumbered_never b none x)
+
+pub limit_anew : (limits : Limits) (h : List Entry) (e : Entry) (n : ℕ) → e.work ≡ brings.TraceLimit n → admission limits h e ≡ admitted_anew limits h e
+limit_anew limits h e n is = nowhere limits h e (λ x. ap (λ w. resends w x) is ∙ limit_never n x)
+
+-- ---- entries that are handed in
+-- one more keeps the history legal, and its beginning
+behind_legal : (limits : Limits) (h : List Entry) (e : Entry) (r : Result Admission Refusal) → admission limits h e ≡ r → IsLegal limits h
+    → IsLegal limits (with_admitted (record { limits = limits; entries = h }) e r).entries × IsPrefix h (with_admitted (record { limits = limits; entries = h }) e r).entries
+behind_legal limits h e (Ok Added) at l = (legal_snoc limits h e l at, (e ∷ [], refl))
+behind_legal limits h e (Ok (Resent place)) at l = (l, prefix_self h)
+behind_legal limits h e (Err why) at l = (l, prefix_self h)
+
+-- and so do all that come
+later : (limits : Limits) (h es : List Entry) → IsLegal limits h → IsLegal limits (fold (behind limits) h es) × IsPrefix h (fold (behind limits) h es)
+later limits h [] l = (l, prefix_self h)
+later limits h (e ∷ es) l =
+    let next = behind_legal limits h e (admission limits h e) refl l in
+    let last = later limits (behind limits h e) es next.0 in
+    (last.0, prefix_trans h (behind limits h e) (fold (behind limits) (behind limits h e) es) next.1 last.1)
+
+-- the list in front of an entry, and the list behind it
+split_at : (h : List Entry) (n : ℕ) (d : Entry) → slice_get h n ≡ Some d → (front : List Entry) × (rest : List Entry) × (h ≡ front ++ d ∷ rest)
+split_at [] n d e = absurd cc
+split_at (x ∷ xs) zero d e = ([], xs, cc e)
+split_at (x ∷ xs) (suc n) d e = let r = split_at xs n d e in (x ∷ r.0, r.1, cc (r.2))
+
+split_place : (h : List Entry) (place : ℕ) (d : Entry) → entry_at h place ≡ Some d → (front : List Entry) × (rest : List Entry) × (h ≡ front ++ d ∷ rest)
+split_place h zero d e = absurd cc
+split_place h (suc n) d e = split_at h n d e
+
+once_by : (limits : Limits) (h front : List Entry) (d : Entry) (rest : List Entry) (e : Entry) → h ≡ front ++ d ∷ rest → IsLegal limits h → AnswersFor d e → resends e.work d.work ≡ true → StandsOnce h e
+once_by limits h front d rest e whole legal answers s =
+    let l : IsLegal limits (front ++ d ∷ rest) = subst (IsLegal limits) whole legal in
+    record {
+      front = front;
+      by = d;
+      rest = rest;
+      whole = whole;
+      answers = answers;
+      none_before = unsent_in_front limits front d rest e l s;
+      none_behind = unsent_behind d e s front [] rest (sent_once_at limits front d rest l).1;
+    }
+
+-- a history that begins with one in which it stands once
+once_since : (limits : Limits) (h front : List Entry) (d : Entry) (rest : List Entry) (e : Entry) (k : List Entry) → h ≡ front ++ d ∷ rest → IsPrefix h k → IsLegal limits k → AnswersFor d e → resends e.work d.work ≡ true → StandsOnce k e
+once_since limits h front d rest e k whole more legal answers s =
+    once_by limits k front d (rest ++ more.0) e (sym more.1 ∙ (ap (λ l. l ++ more.0) whole ∙ append_assoc front (d ∷ rest) more.0)) legal answers s
+
+once_at : (limits : Limits) (h : List Entry) (e : Entry) (r : Result Admission Refusal) (a : Admission) (k : List Entry) → admission limits h e ≡ r → r ≡ Ok a → resends e.work e.work ≡ true
+    → IsPrefix (with_admitted (record { limits = limits; entries = h }) e r).entries k → IsLegal limits k → StandsOnce k e
+once_at limits h e (Ok Added) a k at is numbered more legal = once_since limits (h ++ e ∷ []) h e [] e k refl more legal (inl refl) numbered
+once_at limits h e (Ok (Resent place)) a k at is numbered more legal =
+    let said : IsAnswered h e place = subst (IsSaid limits h e) at (admission_says limits h e) in
+    let split = split_place h place said.by said.stands in
+    once_since limits h split.0 said.by split.1 e k split.2 more legal (inr (said.resent, said.same)) said.resent
+once_at limits h e (Err why) a k at is numbered more legal = absurd cc
+
+pub stands_once : (limits : Limits) (before : List Entry) (e : Entry) (after : List Entry) (a : Admission)
+    → admission limits (history_of limits before) e ≡ Ok a → resends e.work e.work ≡ true → StandsOnce (history_of limits (before ++ e ∷ after)) e
+stands_once limits before e after a at numbered =
+    let h = history_of limits before in
+    let start = later limits [] before (legal_empty limits) in
+    let next = behind_legal limits h e (admission limits h e) refl start.0 in
+    let last = later limits (behind limits h e) after next.0 in
+    let joined : history_of limits (before ++ e ∷ after) ≡ fold (behind limits) (behind limits h e) after = fold-append (behind limits) [] before (e ∷ after) in
+    subst (λ k. StandsOnce k e) (sym joined) (once_at limits h e (admission limits h e) a (fold (behind limits) (behind limits h e) after) refl at numbered last.1 last.0)
