@@ -54,7 +54,8 @@ LiveSubmits limits s b (Err why) t =
     (t.known ≡ s.known)
     × (((t.seat ≡ s.seat) × IsNotTaken s.seat why) ⊎ (HandsIn s.seat b t.seat × IsUnacknowledged why))
 
--- the answer is the plain store's of the list that is known then, which begins with what was known
+-- the answer is the plain store's of the list that is known then, which is legal and begins with what was known;
+-- where memory ran out that list is legal too, and where the store is gone nothing has changed
 abbrev pub LiveReads : Limits → LiveValue → Query → Result Answer Refusal → LiveValue → Type 0
 LiveReads limits s q (Ok a) t =
     IsPrefix s.known t.known × (t.seat ≡ s.seat)
@@ -62,6 +63,7 @@ LiveReads limits s q (Ok a) t =
 LiveReads limits s q (Err why) t =
     IsPrefix s.known t.known × (t.seat ≡ s.seat)
     × ((why ≡ NoMemory) ⊎ (why ≡ Gone)) × (why ≡ Gone → t.known ≡ s.known)
+    × (why ≡ NoMemory → IsLegal limits t.known)
 
 -- ---- what that means for what is known
 

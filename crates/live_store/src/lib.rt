@@ -5,7 +5,7 @@
 //! relations of seat and list, so that the seat's list of jobs is known at a session's end.
 #![tactic(auto)]
 
-ghost use Rattle.std.specs.Prelude.{◌≡◌};
+ghost use Rattle.std.specs.Prelude.{◌≡◌, ◌⊎◌};
 ghost use mathlib.Core.List.{IsPrefix};
 
 use intake::Seat;
@@ -29,14 +29,14 @@ impl<N: StoreName> Model for Live<N> {
 
     ghost Value = { LiveValue };
 
-    ghost view = { λ l. record { seat = l.seat; known = l.pass } };
+    ghost view = { λ l. record { seat = l.seat; known = l.pass.known } };
 }
 
 impl<N: StoreName> Live<N> {
     /// Hands in by the seat, and reads by the pass.
     pub fn new(seat: Seat<N>, pass: Pass<N>) -> Live<N>
         ensures seat { result.seat ≡ seat }
-        ensures known { result.known ≡ pass }
+        ensures known { result.known ≡ pass.known }
     {
         Live { seat, pass }
     }
@@ -46,6 +46,8 @@ impl<N: StoreName> Live<N> {
         ensures seat { self.new.seat ≡ self.old.seat }
         ensures old { IsPrefix self.old.known self.new.known }
         ensures learnt { IsPrefix receipt.now.entries self.new.known }
+        ensures no_more { (self.new.known ≡ self.old.known) ⊎
+            (self.new.known ≡ receipt.now.entries) }
     {
         self.pass.learn(receipt);
     }
@@ -53,7 +55,7 @@ impl<N: StoreName> Live<N> {
     /// The seat, and the pass with all that it knew.
     pub fn into_parts(self) -> (Seat<N>, Pass<N>)
         ensures seat { result.0 ≡ self.seat }
-        ensures known { result.1 ≡ self.known }
+        ensures known { result.1.known ≡ self.known }
     {
         let Live { seat, pass } = self;
         (seat, pass)

@@ -3,12 +3,15 @@
 //! * `rows`: worked rows, one call after another.
 //! * `sent_again`: batches that are sent again.
 //! * `machine`: the same steps on the stepped machine and on the two copies.
+//! * `holding`: several reads of one list, beside one that writes.
 //! * `threads`: three threads that read beside one that writes.
 //! * `entries`: what they hand in.
 #![tactic(auto)]
 
 #[cfg(test)]
 mod entries;
+#[cfg(test)]
+mod holding;
 #[cfg(test)]
 mod machine;
 #[cfg(test)]

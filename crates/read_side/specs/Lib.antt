@@ -3,3 +3,5 @@ pub mod Rules
 pub mod Keepers
 pub mod Receipts
 pub mod Naming
+pub mod Passes
+pub mod Holding

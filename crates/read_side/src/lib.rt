@@ -3,17 +3,19 @@
 //!
 //! There is one published list of entries, which only grows at its end. The [`Keeper`] admits entries
 //! and publishes them; a [`Receipt`] vouches for the published list as it was then; a [`Pass`] reads.
-//! Contracts see a pass as the longest list that it knows. No call shortens that list, and each
-//! answer is the plain store's of a list that begins with it.
+//! Contracts see of a pass the list that it entered last, the longest that it knows, and whether it is
+//! inside. No call shortens the longest list, and each answer is the plain store's of a list that begins
+//! with it. A [`Held`] stays inside, so that all its answers are of one list.
 //!
 //! * `history`: the name of a store, and the log of all that was accepted.
 //! * `side`: one copy of the store, and what a publish changes in it.
 //! * `rule`: what holds of the copies and of their readers between any two steps.
 //! * `keeper`: the [`Keeper`]. `receipt`: the [`Receipt`].
-//! * `visitor`: what one reader knows, and its way into a copy and out. `pass`: the [`Pass`].
+//! * `visitor`: what one reader knows, and its way into a copy and out. `pass`: the [`Pass`]. `held`: the [`Held`].
 //! * `opening`: [`open`].
 #![tactic(auto)]
 
+mod held;
 mod history;
 mod keeper;
 mod opening;
@@ -23,6 +25,7 @@ mod rule;
 mod side;
 mod visitor;
 
+pub use held::Held;
 pub use history::{Opened, StoreName};
 pub use keeper::Keeper;
 pub use opening::open;

@@ -1,7 +1,8 @@
 //! Opening a store.
-ghost use Rattle.std.specs.Prelude.{◌≡◌, ◌≤◌, [], IfOk, IfErr, All, length};
+ghost use Rattle.std.specs.Prelude.{◌≡◌, ◌≤◌, IfOk, IfErr, All, length};
 ghost use Rattle.trace_model.specs.declared.refusal.Refusal.TheVariants.{NoMemory};
 ghost use Rattle.read_side.specs.Keepers.{no_entries};
+ghost use Rattle.read_side.specs.Passes.{new_pass};
 
 use crate::history::{Log, Opened, StoreName};
 use crate::keeper::{Copies, Keeper};
@@ -32,7 +33,7 @@ pub fn open<N: StoreName>(
     requires book { name.seen.book ≡ N.book }
     requires limits { limits ≡ N.limits }
     ensures keeper { IfOk result (λ r. r.0 ≡ no_entries) }
-    ensures passes { IfOk result (λ r. All (λ p. p ≡ []) r.1.items) }
+    ensures passes { IfOk result (λ r. All (λ p. p ≡ new_pass) r.1.items) }
     ensures count { IfOk result (λ r. length r.1.items ≡ readers) }
     ensures reason { IfErr result (λ why. why ≡ NoMemory) }
 {

@@ -1,14 +1,19 @@
 //! Reads of the published list.
-ghost use Rattle.std.specs.Prelude.{◌≡◌, ◌≤◌, ◌<◌, ◌⊎◌, [], length, OnOk, IfOk, IfErr, MatchResult, Err};
+ghost use Rattle.std.specs.Borrow.{RestsIfErr, sem};
+ghost use Rattle.std.specs.Prelude.{◌≡◌, ◌≤◌, ◌<◌, ◌⊎◌, length, true, false, OnOk, IfOk, IfErr, IsTrue, MatchBool, Err};
 ghost use mathlib.Core.List.{IsPrefix};
 ghost use Rattle.trace_model.specs.declared.refusal.Refusal.TheVariants.{NoMemory, Behind, Gone};
 ghost use Rattle.trace_model.specs.Histories.{IsLegal};
 ghost use Rattle.trace_model.specs.Answers.{answer};
+ghost use Rattle.read_side.specs.Passes.{with_inside, come_out};
+ghost use Rattle.read_side.specs.contracts.pass.Pass.{the_row};
 
+use crate::held::Held;
 use crate::history::StoreName;
 use crate::receipt::Receipt;
-use crate::visitor::Visitor;
+use crate::visitor::{Inside, Visitor};
 use std::marker::Model;
+use std::mem;
 use trace_model::{Answer, Query, Refusal};
 
 /// An answer, and how many entries the list has whose answer it is.
@@ -20,72 +25,122 @@ pub struct Reading {
 
 /// One reader of the store. None of its calls takes a lock or waits.
 ///
-/// Contracts see the longest list that it knows: one that it has read, or has learnt a receipt of. No
-/// call shortens it.
-#[derive(Drop)]
+/// Contracts see the list that it entered last, the longest that it knows (that one, or one that it has
+/// learnt a receipt of), and whether it is inside. No call shortens the longest. Each call leaves it outside,
+/// but for one that a [`Held`] comes of.
 pub struct Pass<N: StoreName> {
     visitor: Visitor<N>,
+    /// The copy that a [`Held`] is inside.
+    inside: Option<Inside<N>>,
 }
 
 impl<N: StoreName> Model for Pass<N> {
-    ghost use Rattle.std.specs.Prelude.{List};
-    ghost use Rattle.trace_model.specs.declared.entry.Entry.{Entry};
+    ghost use Rattle.std.specs.Prelude.{◌≡◌, IfSome, is_some};
+    ghost use Rattle.left_right.specs.Sides.{view as view_at};
+    ghost use Rattle.read_side.specs.Passes.{PassValue, with_inside};
 
-    ghost Value = { List Entry };
+    ghost Value = { PassValue };
 
-    ghost view = { λ p. p.visitor };
+    ghost view = { λ p. with_inside p.visitor (is_some p.inside) };
+
+    ghost invariant = { λ p. IfSome p.inside (λ i. (i.part.value.entries ≡ p.visitor.known)
+        × (i.part.value.limits ≡ N.limits) × (view_at i.place ≡ p.visitor.known)) };
+}
+
+impl<N: StoreName> Drop for Pass<N> {
+    fn drop(self) {
+        let Pass {
+            mut visitor,
+            inside,
+        } = self;
+        if let Some(inside) = inside {
+            visitor.leave(inside);
+        }
+    }
 }
 
 impl<N: StoreName> Pass<N> {
+    ghost use Rattle.read_side.specs.Holding.{pass_of, list_of, IsInside};
+
     /// A pass that knows the empty list alone.
     pub(crate) fn new(visitor: Visitor<N>) -> Pass<N>
-        ensures { result ≡ visitor }
+        ensures { result ≡ with_inside visitor false }
     {
-        Pass { visitor }
+        Pass {
+            visitor,
+            inside: None,
+        }
     }
 
     /// How many entries the longest list has that it knows.
     pub fn front(&self) -> u64
-        ensures { result ≡ length self.now }
+        ensures { result ≡ length self.now.known }
     {
         self.visitor.front()
     }
 
     /// Takes in the list of a receipt, which it knows from then on.
     pub fn learn(&mut self, receipt: &Receipt<N>)
-        ensures old { IsPrefix self.old self.new }
-        ensures learnt { IsPrefix receipt.now.entries self.new }
-        ensures no_more { (self.new ≡ self.old) ⊎ (self.new ≡ receipt.now.entries) }
+        ensures old { IsPrefix self.old.known self.new.known }
+        ensures learnt { IsPrefix receipt.now.entries self.new.known }
+        ensures no_more { (self.new.known ≡ self.old.known) ⊎
+            (self.new.known ≡ receipt.now.entries) }
+        ensures entered { self.new.entered ≡ self.old.entered }
+        ensures outside { self.new.is_inside ≡ false }
     {
+        self.leave();
         self.visitor.learn(receipt);
+    }
+
+    /// Enters the published list, which begins with all that the pass knows, and stays inside: until the
+    /// [`Held`] is left or dropped each of its reads is of this one list, and the pass knows it from then on.
+    /// It takes no memory.
+    ///
+    /// # Errors
+    ///
+    /// [`Refusal::Gone`] alone: the keeper was closed, and nothing has changed.
+    pub fn hold(&mut self) -> Result<Held<'_, N>, Refusal>
+        ensures same { IfOk result (λ h. (pass_of h).ghost_name ≡ self.entry.ghost_name) }
+        ensures inside { IfOk result (λ h. IsInside h) }
+        ensures later { IfOk result (λ h. IsPrefix self.old.known (list_of h)) }
+        ensures entered { IfOk result (λ h. (pass_of h).now.entered ≡ list_of h) }
+        ensures legal { IfOk result (λ h. IsLegal N.limits (list_of h)) }
+        ensures reason { IfErr result (λ why. why ≡ Gone) }
+        ensures* gone { sem 𝓛 (RestsIfErr (the_row N.row N.StoreName) self.entry
+            (λ h. (pass_of h).ghost_name) result (λ after. after ≡ come_out self.old)) }
+    {
+        if self.enter() {
+            Ok(Held::new(self))
+        } else {
+            Err(Refusal::Gone)
+        }
     }
 
     /// Asks the published list, which begins with all that the pass knows, and knows it from then on.
     ///
     /// # Errors
     ///
-    /// [`Refusal::NoMemory`]: the pass knows what it knew, and perhaps the list that it entered
-    /// ([`front`](Self::front) says). [`Refusal::Gone`]: the keeper was closed, and nothing has changed.
+    /// [`Refusal::NoMemory`]: the pass knows the list that it entered, which is legal, and nothing else has
+    /// changed. [`Refusal::Gone`]: the keeper was closed, and nothing has changed.
     pub fn read(&mut self, query: &Query) -> Result<Reading, Refusal>
-        ensures later { IsPrefix self.old self.new }
-        ensures legal { OnOk result (IsLegal N.limits self.new) }
-        ensures front { IfOk result (λ r. r.front ≡ length self.new) }
-        ensures answer { IfOk result (λ r. r.answer ≡ answer N.limits self.new query.now) }
+        ensures later { IsPrefix self.old.known self.new.known }
+        ensures entered { OnOk result (self.new.entered ≡ self.new.known) }
+        ensures legal { OnOk result (IsLegal N.limits self.new.known) }
+        ensures front { IfOk result (λ r. r.front ≡ length self.new.known) }
+        ensures answer { IfOk result (λ r. r.answer ≡ answer N.limits self.new.known query.now) }
 
         ensures reason { IfErr result (λ why. (why ≡ NoMemory) ⊎ (why ≡ Gone)) }
-        ensures gone { result ≡ Err Gone → self.new ≡ self.old }
+        ensures no_memory { result ≡ Err NoMemory →
+            (self.new.entered ≡ self.new.known) × IsLegal N.limits self.new.known }
+        ensures gone { result ≡ Err Gone → self.new ≡ come_out self.old }
+        ensures outside { self.new.is_inside ≡ false }
     {
-        let Some(inside) = self.visitor.enter() else {
+        let Ok(held) = self.hold() else {
             return Err(Refusal::Gone);
         };
-        let side = inside.get();
-        let front = side.len();
-        let answer = side.answer(query);
-        self.visitor.leave(inside);
-        match answer {
-            Ok(answer) => Ok(Reading { front, answer }),
-            Err(why) => Err(why),
-        }
+        let reading = held.read(query);
+        held.leave();
+        reading
     }
 
     /// Learns a receipt, enters anew, and says whether the front that the pass had seen before the call is
@@ -94,29 +149,80 @@ impl<N: StoreName> Pass<N> {
     /// # Errors
     ///
     /// [`Refusal::Behind`], with the longer front that it had seen. [`Refusal::Gone`]: the keeper was closed.
-    /// In each case the pass has learnt the receipt.
+    /// In each case the pass has learnt the receipt, and in each but the last it knows the list that it
+    /// entered, which is legal.
     pub fn settle(&mut self, receipt: &Receipt<N>) -> Result<(), Refusal>
-        ensures settled { OnOk result (length self.old ≤ length receipt.now.entries) }
-        ensures begins { OnOk result (IsPrefix self.old receipt.now.entries) }
+        ensures settled { OnOk result (length self.old.known ≤ length receipt.now.entries) }
+        ensures begins { OnOk result (IsPrefix self.old.known receipt.now.entries) }
 
-        ensures reason { IfErr result (λ why. (why ≡ Behind (length self.old)) ⊎ (why ≡ Gone)) }
-        ensures behind { result ≡ Err (Behind (length self.old)) →
-            length receipt.now.entries < length self.old }
+        ensures reason { IfErr result (λ why. (why ≡ Behind (length self.old.known)) ⊎ (why ≡ Gone)) }
+        ensures behind { result ≡ Err (Behind (length self.old.known)) →
+            length receipt.now.entries < length self.old.known }
 
-        ensures old { IsPrefix self.old self.new }
-        ensures learnt { IsPrefix receipt.now.entries self.new }
+        ensures old { IsPrefix self.old.known self.new.known }
+        ensures learnt { IsPrefix receipt.now.entries self.new.known }
+        ensures entered { OnOk result
+            ((self.new.entered ≡ self.new.known) × IsLegal N.limits self.new.known) }
+        ensures entered_behind { result ≡ Err (Behind (length self.old.known)) →
+            (self.new.entered ≡ self.new.known) × IsLegal N.limits self.new.known }
         ensures gone { result ≡ Err Gone →
-            (self.new ≡ self.old) ⊎ (self.new ≡ receipt.now.entries) }
+            (self.new.known ≡ self.old.known) ⊎ (self.new.known ≡ receipt.now.entries) }
+        ensures outside { self.new.is_inside ≡ false }
     {
         let front = self.visitor.front();
-        self.visitor.learn(receipt);
-        let Some(inside) = self.visitor.enter() else {
+        self.learn(receipt);
+        if !self.enter() {
             return Err(Refusal::Gone);
-        };
-        self.visitor.leave(inside);
+        }
+        self.leave();
         if front > receipt.front() {
             return Err(Refusal::Behind { front });
         }
         Ok(())
+    }
+
+    /// Enters the published copy, whose list begins with all that it knows. False, with nothing changed,
+    /// where the keeper is gone.
+    fn enter(&mut self) -> bool
+        ensures inside { self.new.is_inside ≡ result }
+        ensures later { MatchBool result (IsPrefix self.old.known self.new.known)
+            (self.new ≡ come_out self.old) }
+        ensures entered { IsTrue result → self.new.entered ≡ self.new.known }
+        ensures legal { IsTrue result → IsLegal N.limits self.new.known }
+    {
+        self.leave();
+        let Some(inside) = self.visitor.enter() else {
+            return false;
+        };
+        match mem::replace(&mut self.inside, Some(inside)) {
+            None => {}
+            Some(_) => unreachable!(),
+        }
+        true
+    }
+
+    /// Comes out again, where it is inside.
+    pub(crate) fn leave(&mut self)
+        ensures { self.new ≡ come_out self.old }
+    {
+        if let Some(inside) = self.inside.take() {
+            self.visitor.leave(inside);
+        }
+    }
+
+    /// Asks the list that it is inside.
+    pub(crate) fn asked(&self, query: &Query) -> Result<Reading, Refusal>
+        requires inside { self.now.is_inside ≡ true }
+        ensures front { IfOk result (λ r. r.front ≡ length self.now.known) }
+        ensures answer { IfOk result (λ r. r.answer ≡ answer N.limits self.now.known query.now) }
+        ensures reason { IfErr result (λ why. why ≡ NoMemory) }
+    {
+        let Some(inside) = &self.inside else {
+            unreachable!();
+        };
+        let side = inside.get();
+        let front = side.len();
+        let answer = side.answer(query)?;
+        Ok(Reading { front, answer })
     }
 }

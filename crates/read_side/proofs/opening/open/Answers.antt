@@ -1,6 +1,6 @@
 use Rattle.std.proofs.Common.{rules, ◌≡◌, ◌∙◌, ◌+◌, ap, sym, subst, [], List}
 use Rattle.std.specs.List.{All}
-use Rattle.trace_model.specs.declared.entry.Entry.{Entry}
+use Rattle.read_side.specs.Passes.{PassValue, new_pass}
 use Rattle.read_side.proofs.Steps.{admits, all_snoc, starts}
 use Rattle.read_side.proofs.opening.open.Goals as goal
 
@@ -13,16 +13,16 @@ reader-requires g c = admits _ _
 
 pub loop-made-init : goal.loop-made-init
 loop-made-init g c =
-    let none : All (λ (p : List Entry). p ≡ []) [] = search rules in (
-      (let P : List (List Entry) → Type 0 = λ z. All (λ p. p ≡ []) z in subst P (sym c.in_ok-passes.ensures.items) none),
+    let none : All (λ (p : PassValue). p ≡ new_pass) [] = search rules in (
+      (let P : List PassValue → Type 0 = λ z. All (λ p. p ≡ new_pass) z in subst P (sym c.in_ok-passes.ensures.items) none),
       c.in_ok-passes.ensures.len,
       c.in_ok-passes.ensures.capacity,
     )
 
 pub loop-made-preserved : goal.loop-made-preserved
 loop-made-preserved g c =
-    let empty : c.new-pass.result ≡ [] = search rules in (
-      (let P : List (List Entry) → Type 0 = λ z. All (λ p. p ≡ []) z in subst P (sym c.push_reserved.ensures.items) (all_snoc (λ p. p ≡ []) _ _ c.loop-made.invariant.0 empty)),
+    let empty : c.new-pass.result ≡ new_pass = search rules in (
+      (let P : List PassValue → Type 0 = λ z. All (λ p. p ≡ new_pass) z in subst P (sym c.push_reserved.ensures.items) (all_snoc (λ p. p ≡ new_pass) _ _ c.loop-made.invariant.0 empty)),
       c.push_reserved.ensures.len ∙ ap (λ n. n + 1) c.loop-made.invariant.1,
       rw c.push_reserved.ensures.capacity c.loop-made.invariant.2,
     )

@@ -1,0 +1,69 @@
+//! Several reads of one list.
+ghost use Rattle.std.specs.Prelude.{◌≡◌, length, true, IfOk, IfErr};
+ghost use Rattle.trace_model.specs.declared.refusal.Refusal.TheVariants.{NoMemory};
+ghost use Rattle.trace_model.specs.Answers.{answer};
+ghost use Rattle.read_side.specs.Passes.{come_out};
+
+use crate::history::StoreName;
+use crate::pass::{Pass, Reading};
+use trace_model::{Query, Refusal};
+
+/// A pass that stays inside the list that it entered.
+///
+/// While it is kept, the publish after the next one has to wait, and a forgotten one is kept for ever. Once it
+/// is left or dropped, the pass knows that list and is outside.
+pub struct Held<'a, N: StoreName> {
+    pass: &'a mut Pass<N>,
+}
+
+impl<'a, N: StoreName> Held<'a, N> {
+    ghost use Rattle.read_side.specs.Holding.{pass_of, list_of, IsInside};
+
+    /// Stays inside.
+    pub(crate) fn new(pass: &'a mut Pass<N>) -> Held<'a, N>
+        ensures same { (pass_of result).ghost_name ≡ pass.entry.ghost_name }
+        ensures held { (pass_of result).now ≡ pass.old }
+    {
+        Held { pass }
+    }
+
+    /// How many entries the list has that is held.
+    pub fn front(&self) -> u64
+        ensures { result ≡ length (list_of self.now) }
+    {
+        self.pass.front()
+    }
+
+    /// Asks the list that is held.
+    ///
+    /// # Errors
+    ///
+    /// [`Refusal::NoMemory`] alone.
+    pub fn read(&self, query: &Query) -> Result<Reading, Refusal>
+        requires inside { IsInside self.now }
+        ensures front { IfOk result (λ r. r.front ≡ length (list_of self.now)) }
+        ensures answer { IfOk result (λ r. r.answer ≡ answer N.limits (list_of self.now) query.now) }
+        ensures reason { IfErr result (λ why. why ≡ NoMemory) }
+    {
+        self.pass.asked(query)
+    }
+
+    /// Comes out. The pass then knows the list that was held. It takes no memory.
+    pub fn leave(self)
+        ensures { self.exit.0.now ≡ come_out (pass_of self.entry).now }
+    {
+        let Held { pass } = self;
+        pass.leave();
+    }
+}
+
+impl<N: StoreName> Drop for Held<'_, N> {
+    ghost use Rattle.read_side.specs.Holding.{pass_of};
+
+    fn drop(self)
+        ensures { self.exit.0.now ≡ come_out (pass_of self.entry).now }
+    {
+        let Self { pass } = self;
+        pass.leave();
+    }
+}
