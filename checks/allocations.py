@@ -1,5 +1,5 @@
 #!/usr/bin/env python3
-"""Each allocation of the built program refused in turn.
+"""Each allocation of the built program, and of some built tests, refused in turn.
 
 For `get` over the sample batches, and for `play` over a script: the run ends with status 5, and what it wrote is a beginning of what
 it writes with ample memory; or nothing has changed.
@@ -9,12 +9,19 @@ first responses; or one request is answered 500, and everything else as in a ses
 made, so a batch that was refused is nowhere and a batch that was accepted is found. The same for batches in chunks, which are
 answered as those by Content-Length.
 
-    checks/allocations.py [--bin PATH] [--every N]
+For each test of TESTS: it passes, or ends with an error since memory was short for what it needs itself. Each makes a
+call that finds no memory once more and compares what comes then, so a test that passes has seen either an answer or that
+memory ran out, and the right answer behind that. A pair of tests takes the same count of allocations: what the first
+one does beyond the second takes none.
 
-It needs Python 3 and a C compiler. The last line is `N passed, M failed`.
+    checks/allocations.py [--bin PATH] [--tests FOLDER] [--every N] [--only WORD]
+
+It needs Python 3, a C compiler, the built program, and the tests built by `rt test` in the folders of their crates. The
+last line is `N passed, M failed`.
 """
 import argparse
 import collections
+import itertools
 import os
 import subprocess
 import sys
@@ -36,23 +43,36 @@ QUERIES = [
 ]
 
 
+# The crate, the test, and one that takes as many allocations.
+TESTS = [
+    ("wire_rows", "batch_bytes::memory_for_a_batch", None),
+    ("piece_rows", "faults::memory_for_pieces", None),
+    ("piece_rows", "faults::sizes_beyond_the_bytes", "faults::bytes_before_a_size"),
+    ("store_rows", "stores::a_store_is_filled", "stores::a_store_is_opened"),
+    ("web_rows", "answers::memory_for_a_tree", None),
+    ("web_rows", "responses::memory_for_a_response", None),
+    ("session_rows", "pipes::memory_for_a_session", None),
+    ("read_rows", "rows::admit_all_or_nothing", None),
+]
+
 SCRIPT_END = ["publish", "learn 1 1", "enter 0", "publish", "publish", "leave 0", "enter 0", "leave 9", "bad", ""]
 
 
 class Program:
-    """The built program with the shim that refuses allocations."""
+    """A built program with the shim that refuses allocations."""
 
     def __init__(self, path, folder):
         self.path = path
         self.shim = os.path.join(folder, "refuse.so")
         self.count = os.path.join(folder, "count")
         source = os.path.join(ROOT, "checks", "refuse.c")
-        subprocess.run(["cc", "-O2", "-shared", "-fPIC", "-o", self.shim, source, "-ldl"], check=True)
+        if not os.path.exists(self.shim):
+            subprocess.run(["cc", "-O2", "-shared", "-fPIC", "-o", self.shim, source, "-ldl"], check=True)
 
-    def run(self, words, stdin, refuse=0):
+    def run(self, words, stdin, refuse=0, stderr=None):
         """Its status, its output, and how many allocations it made."""
         env = dict(os.environ, LD_PRELOAD=self.shim, REFUSE_AT=str(refuse), REFUSE_COUNT=self.count)
-        done = subprocess.run([self.path, *words], input=stdin, stdout=subprocess.PIPE, env=env)
+        done = subprocess.run([self.path, *words], input=stdin, stdout=subprocess.PIPE, stderr=stderr, env=env)
         with open(self.count) as file:
             return done.returncode, done.stdout, int(file.read())
 
@@ -130,6 +150,32 @@ def pipe_ends(program, requests, whole, number):
     return "status 5" if status == 5 else "a response 500" if refused else "same"
 
 
+def test_ends(tests, name, number=0):
+    """How a test ends: "passed", "an error" (it could not go on itself) or "wrong", and how many allocations it made."""
+    status, output, count = tests.run([name], b"", number, subprocess.STDOUT)
+    if status == 0:
+        return ("passed" if b"test result: ok" in output else "wrong"), count
+    return ("an error" if b"its result gives status" in output else "wrong"), count
+
+
+def test_cases(folder, only, built):
+    """Yields what cases() yields, of each test; the counts of a pair are compared by one run more."""
+    for crate, name, as_many in TESTS:
+        if only not in f"{crate}::{name}":
+            continue
+        path = f"{built}/{crate}_tests" if built else f"{ROOT}/crates/{crate}/out/{crate}_tests"
+        tests = Program(path, folder)
+        ends, count = test_ends(tests, name)
+        assert ends == "passed", (crate, name, ends)
+        yield f"{crate} {name}", count, lambda n, t=tests, it=name: test_ends(t, it, n)[0]
+        if as_many:
+            other = test_ends(tests, as_many)
+            kind = "as many" if other == ("passed", count) else "wrong"
+            print(f"{crate} {as_many}: {other[1]} allocations, {kind}")
+            if kind == "wrong":
+                yield f"{crate} {as_many}", 1, lambda n: "wrong"
+
+
 def cases(program):
     for name in ["first.hex", "shop.hex", "apache.hex", "faults.hex"]:
         stdin = sample(name)
@@ -155,11 +201,13 @@ def main():
     asked = argparse.ArgumentParser(description=__doc__, formatter_class=argparse.RawDescriptionHelpFormatter)
     asked.add_argument("--bin", default=os.path.join(ROOT, "crates/jaeger_one/out/jaeger_one"))
     asked.add_argument("--every", type=int, default=1, help="only each N-th allocation")
+    asked.add_argument("--tests", help="the folder of the built tests, if not those of their crates")
+    asked.add_argument("--only", default="", help="only tests whose name has this word, and nothing of the program")
     options = asked.parse_args()
     passed = failed = 0
     with tempfile.TemporaryDirectory() as folder:
-        program = Program(options.bin, folder)
-        for name, count, ends in cases(program):
+        of_program = [] if options.only else cases(Program(options.bin, folder))
+        for name, count, ends in itertools.chain(of_program, test_cases(folder, options.only, options.tests)):
             seen = collections.Counter(ends(number) for number in range(1, count + 1, options.every))
             print(f"{name}: {count} allocations;", ", ".join(f"{kind} {seen[kind]}" for kind in sorted(seen)))
             failed += seen["wrong"]

@@ -1,5 +1,5 @@
 -- The steps of a feeder.
-use Rattle.std.proofs.Common.{◌≡◌, ℕ, List, [], ◌∷◌, ◌++◌, length, eqb, Result, Ok, Err, true, false, not, refl, ap, sym, ◌∙◌, arith, append-nil}
+use Rattle.std.proofs.Common.{◌≡◌, ◌≢◌, ℕ, List, [], ◌∷◌, ◌++◌, length, eqb, Result, Ok, Err, true, false, not, refl, ap, sym, ◌∙◌, arith, append-nil}
 use Rattle.std.proofs.lemmas.Bool.{ne_eqb}
 use Rattle.thrift_binary.specs.declared.fault.WireError.TheVariants.{Truncated, BadLength, BadType, TooDeep, BadBool, BadText}
 use Rattle.thrift_binary.specs.Reading.{◌>>=◌}
@@ -10,7 +10,7 @@ use Rattle.jaeger_model.specs.declared.batch.Batch.{Batch}
 use Rattle.batch_codec.specs.declared.batch.BatchSlots.{BatchSlots}
 use Rattle.batch_codec.specs.declared.fault.DecodeError.{DecodeError}
 use Rattle.batch_codec.specs.declared.fault.DecodeError.TheVariants.{Wire, Missing, BadEnum, Trailing, Memory}
-use Rattle.batch_codec.specs.Decoding.{Reading, Fails}
+use Rattle.batch_codec.specs.Decoding.{Reading, Fails, Gives}
 use Rattle.batch_codec.specs.Gathered.{no_batch}
 use Rattle.batch_codec.specs.BatchReading.{take_batch, batch_from, batch_at, at_end, decoded}
 use Rattle.batch_feeder.specs.declared.fields.Step.{Step}
@@ -20,7 +20,7 @@ use Rattle.batch_feeder.specs.declared.feeder.State.TheVariants as state
 use Rattle.batch_feeder.specs.Continuing.{Faults}
 use Rattle.batch_feeder.specs.Fields.{struct_at, struct_from}
 use Rattle.batch_feeder.specs.Batches.{batch_continues}
-use Rattle.batch_feeder.specs.Feeding.{answers_of, is_truncated, is_short, settled, IsSettled, HasNoFault, Taken, Ends, Advances}
+use Rattle.batch_feeder.specs.Feeding.{answers_of, is_truncated, is_short, settled, IsSettled, HasNoFault, HasRefused, Repeats, Taken, Ends, Advances}
 use Rattle.batch_feeder.proofs.ContinuingAgain.{faults-inside}
 
 -- a state of a struct as a reading
@@ -56,6 +56,30 @@ want_is BadEnum h = absurd cc
 want_is Trailing h = absurd cc
 want_is Memory h = absurd cc
 
+short-is : {A : Type 0} (r : Result A DecodeError) → is_short r ≡ true → r ≡ Err (Wire Truncated)
+short-is (Ok x) h = absurd cc
+short-is (Err e) h = ap (λ d. Err d) (want_is e h)
+
+-- ---- the same refusal again
+
+same_fault : (e f : DecodeError) → ◌≡◌ {A = Result Batch DecodeError} (Err e) (Err f) → e ≡ f
+same_fault e f h = cc
+
+-- what is refused now was refused before
+pub refused-repeats : (a : List ℕ → Result Batch DecodeError) (w : List ℕ) (e : DecodeError) → a w ≡ Err e → Repeats a e
+refused-repeats a w e h before refused = same_fault before e (sym (refused.all w) ∙ h)
+
+-- nothing was refused before
+pub none-refused : (a : List ℕ → Result Batch DecodeError) (w : List ℕ) → HasNoFault (a w) → (e : DecodeError) → HasRefused a e → ⊥
+none-refused a w sound e refused = refused.no_want (rw (refused.all w) at sound)
+
+pub none-repeats : (a : List ℕ → Result Batch DecodeError) (w : List ℕ) (e : DecodeError) → HasNoFault (a w) → Repeats a e
+none-repeats a w e sound before refused = absurd (none-refused a w sound before refused)
+
+pub short-sound : (r : Result Batch DecodeError) → r ≡ Err (Wire Truncated) → HasNoFault r
+short-sound (Ok b) h = tt
+short-sound (Err e) h = same_fault e (Wire Truncated) h
+
 -- ---- the start
 
 module _ (s : BatchSlots) (step : Step BatchHeld) (fresh : (w : List ℕ) → reads s step w ≡ struct_at take_batch no_batch batch_from w) where
@@ -70,9 +94,18 @@ module _ (s : BatchSlots) (step : Step BatchHeld) (fresh : (w : List ℕ) → re
 -- ---- a piece
 
 module _ (now : State) (s : BatchSlots) (step : Step BatchHeld) (is : now ≡ state.Reading (record { slots = s; step = step })) where
-  pub reading-faults : (p : List ℕ) (e : DecodeError) → Faults (reads s step) p e → Faults (answers_of now) p e × (e ≡ Wire Truncated → ⊥)
+  reading-inside : (p : List ℕ) (e : DecodeError) → Faults (reads s step) p e → Faults (answers_of now) p e
   unfolding answers_of
-  reading-faults p e g = rw is (faults-inside at_end (reads s step) p e g, faults-apart (reads s step) p e g)
+  reading-inside p e g = rw is (faults-inside at_end (reads s step) p e g)
+
+  pub reading-ends : IsSettled now → answers_of now [] ≡ Err (Wire Truncated)
+  unfolding answers_of settled
+  reading-ends h =
+      let k : is_short (reads s step []) ≡ true = rw is at h in
+      rw (is, short-is (reads s step []) k) refl
+
+  pub reading-faults : IsSettled now → (p : List ℕ) (e : DecodeError) → Faults (reads s step) p e → Faults (answers_of now) p e × (e ≢ Wire Truncated) × Repeats (answers_of now) e
+  reading-faults h p e g = (reading-inside p e g, faults-apart (reads s step) p e g, none-repeats (answers_of now) [] e (short-sound (answers_of now []) (reading-ends h)))
 
   pub reading-waits : (t : BatchSlots) (next : Step BatchHeld) (p v : List ℕ) → NeedsMore (Wire Truncated) (reads s step) (reads t next) p v → Taken (answers_of now) (answers_of (state.Reading (record { slots = t; step = next }))) p × IsSettled (state.Reading (record { slots = t; step = next }))
   unfolding answers_of settled
@@ -101,7 +134,11 @@ ends now next b p v (Ok x) is g none = rw is (record { same = λ rest. rw none a
   where
     whole : answers_of now p ≡ Ok b → HasNoFault (answers_of now p)
     whole h = rw h tt
-ends now next b p v (Err e) is g (trailing, some) = rw trailing (λ n. record { same = λ rest. g.same rest ∙ some_left v some rest b; no_want = λ h. absurd (let k : Trailing ≡ Wire Truncated = h in cc) }, λ h. absurd (let k : Trailing ≡ Wire Truncated = h in cc))
+ends now next b p v (Err e) is g (trailing, some) = rw trailing (
+  λ n. record { same = λ rest. g.same rest ∙ some_left v some rest b; no_want = λ h. absurd (let k : Trailing ≡ Wire Truncated = h in cc) },
+  λ h. absurd (let k : Trailing ≡ Wire Truncated = h in cc),
+  refused-repeats (answers_of now) (p ++ []) Trailing (g.same [] ∙ some_left v some [] b),
+)
 
 -- ---- a refusal
 
@@ -113,25 +150,15 @@ pub refused-answers : (now : State) (e : DecodeError) (rest : List ℕ) → now 
 unfolding answers_of
 refused-answers now e rest is = rw is refl
 
-pub refused-faults : (now : State) (e : DecodeError) (p : List ℕ) → now ≡ state.Refused e → IsSettled now → Faults (answers_of now) p e × (e ≡ Wire Truncated → ⊥)
+pub refused-faults : (now : State) (e : DecodeError) (p : List ℕ) → now ≡ state.Refused e → IsSettled now → Faults (answers_of now) p e × (e ≢ Wire Truncated) × Repeats (answers_of now) e
 unfolding answers_of settled
 refused-faults now e p is h =
-    rw is (λ n. record { same = λ rest. refl; no_want = apart (rw is at h) }, apart (rw is at h))
+    rw is (λ n. record { same = λ rest. refl; no_want = apart (rw is at h) }, apart (rw is at h), refused-repeats (answers_of (state.Refused e)) [] e refl)
   where
     apart : not (is_truncated e) ≡ true → e ≡ Wire Truncated → ⊥
     apart k t = let q : false ≡ true = rw t at k in absurd cc
 
 -- ---- no more bytes
-
-short-is : {A : Type 0} (r : Result A DecodeError) → is_short r ≡ true → r ≡ Err (Wire Truncated)
-short-is (Ok x) h = absurd cc
-short-is (Err e) h = ap (λ d. Err d) (want_is e h)
-
-pub reading-ends : (now : State) (s : BatchSlots) (step : Step BatchHeld) → now ≡ state.Reading (record { slots = s; step = step }) → IsSettled now → answers_of now [] ≡ Err (Wire Truncated)
-unfolding answers_of settled
-reading-ends now s step is h =
-    let k : is_short (reads s step []) ≡ true = rw is at h in
-    rw (is, short-is (reads s step []) k) refl
 
 pub whole-ends : (now : State) (b : Batch) → now ≡ state.Whole b → answers_of now [] ≡ Ok b
 unfolding answers_of
@@ -143,6 +170,10 @@ gives-err r (Wire x) h = h
 gives-err r (Missing p i) h = h
 gives-err r BadEnum h = h
 gives-err r Trailing h = h
+
+pub gives-same : (r s : Result Batch DecodeError) → r ≡ s → Gives r s
+gives-same (Ok x) s h = sym h
+gives-same (Err e) s h = gives-err s e (sym h)
 
 pub fails-unless : (r : Result Batch DecodeError) (e : DecodeError) → ((e ≡ Memory → ⊥) → r ≡ Err e) → Fails e r
 fails-unless r Memory h = tt

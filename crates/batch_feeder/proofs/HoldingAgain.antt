@@ -17,7 +17,8 @@ use Rattle.batch_feeder.specs.Batches.{batch_continues}
 use Rattle.batch_feeder.specs.declared.feeder.State.{State}
 use Rattle.batch_feeder.specs.declared.feeder.State.TheVariants as state
 use Rattle.batch_feeder.specs.LeastBytes.{least, least_bytes, behind_head, IsPart, AreQuiet}
-use Rattle.batch_feeder.specs.Feeding.{answers_of, HasNoFault, IsBetweenFields, Holds, Taken, Refuses, Feeds, Keeps}
+use Rattle.batch_feeder.specs.Feeding.{answers_of, HasNoFault, IsBetweenFields, Holds, Taken, Refuses, Feeds}
+use Rattle.batch_feeder.proofs.FeedingAgain.{short-sound, none-repeats}
 
 abbrev Answer : Type 0
 Answer = List ℕ → Result Batch DecodeError
@@ -40,17 +41,12 @@ empty-quiet (b ∷ w) lt = absurd (omega arith)
 pub holds-none : (s : State) (n : ℕ) (rest : 0 < n → IsBetweenFields s) → n ≤ 1 → Holds s [] n
 holds-none s n rest le = record { none = λ z. refl; is_between_fields = rest; quiet = nothing-quiet n le }
 
--- nothing is looked at before bytes have come that show no fault
-short-has-no-fault : (r : Result Batch DecodeError) → r ≡ Err (Wire Truncated) → HasNoFault r
-short-has-no-fault (Ok b) h = tt
-short-has-no-fault (Err e) h = let k : e ≡ Wire Truncated = cc in k
-
 module _ (s : State) (w : List ℕ) (n : ℕ) (h : Holds s w n) where
   -- what is answered of bytes that wait
   pub byte-taken : (b : ℕ) (next : List ℕ) → 0 < n → IsBetweenFields s → IsPart next → next ≡ w ++ b ∷ [] → Taken (λ v. answers_of s (w ++ v)) (λ v. answers_of s (next ++ v)) (b ∷ [])
   byte-taken b next some rest part is = record {
     same = λ v. rw is (ap (answers_of s) (sym (append_assoc w (b ∷ []) v)));
-    sound = short-has-no-fault _ (rw is at (rest next part));
+    sound = short-sound _ (rw is at (rest next part));
   }
 
   pub byte-begun : (b m : ℕ) (next seen : List ℕ) → 0 < n → 0 < m → seen ≡ next → AreQuiet seen m → next ≡ w ++ b ∷ [] → Taken (λ v. answers_of s (w ++ v)) (λ v. answers_of s (next ++ v)) (b ∷ [])
@@ -58,6 +54,10 @@ module _ (s : State) (w : List ℕ) (n : ℕ) (h : Holds s w n) where
 
   pub ends-short : 0 < n → answers_of s (w ++ []) ≡ Err (Wire Truncated)
   ends-short some = rw append-nil (h.is_between_fields some w (rw append-nil at (h.quiet [] some)))
+
+  -- what waits shows no fault
+  pub wanted-sound : 0 < n → HasNoFault (answers_of s (w ++ []))
+  wanted-sound some = short-sound (answers_of s (w ++ [])) (ends-short some)
 
   pub whole-waits-not : (b : Batch) → s ≡ state.Whole b → w ≡ []
   unfolding answers_of
@@ -71,9 +71,26 @@ module _ (s : State) (w : List ℕ) (n : ℕ) (h : Holds s w n) where
       by (suc m) z = absurd (none (omega (arith, z)))
 
 -- what waits is read behind a byte
-pub feeds-behind : (old new : Answer) (w next p : List ℕ) (r : Result (Unit {0}) DecodeError) → next ≡ w ++ p → Feeds old new next r → Feeds (λ v. old (w ++ v)) new p r
-feeds-behind old new w next p (Ok x) is g = record { same = λ v. ap old (sym (append_assoc w p v)) ∙ ap (λ u. old (u ++ v)) (sym is) ∙ g.same v; sound = rw (← is) g.sound }
-feeds-behind old new w next p (Err e) is g = record { faults = λ n. record { same = λ v. ap old (sym (append_assoc w p v)) ∙ ap (λ u. old (u ++ v)) (sym is) ∙ (g.faults n).same v; no_want = (g.faults n).no_want }; stays = g.stays }
+pub feeds-behind : (old new : Answer) (w next p : List ℕ) (r : Result (Unit {0}) DecodeError) → HasNoFault (old (w ++ [])) → next ≡ w ++ p → Feeds old new next r → Feeds (λ v. old (w ++ v)) new p r
+feeds-behind old new w next p (Ok x) sound is g = record { same = λ v. ap old (sym (append_assoc w p v)) ∙ ap (λ u. old (u ++ v)) (sym is) ∙ g.same v; sound = rw (← is) g.sound }
+feeds-behind old new w next p (Err e) sound is g = record {
+  faults = λ n. record { same = λ v. ap old (sym (append_assoc w p v)) ∙ ap (λ u. old (u ++ v)) (sym is) ∙ (g.faults n).same v; no_want = (g.faults n).no_want };
+  repeats = none-repeats (λ v. old (w ++ v)) [] e sound;
+  stays = g.stays;
+}
+
+-- what waited was read before
+pub feeds-then : (old mid new : Answer) (p : List ℕ) (r : Result (Unit {0}) DecodeError) → ((rest : List ℕ) → old rest ≡ mid rest) → Feeds mid new p r → Feeds old new p r
+feeds-then old mid new p (Ok x) same g = record { same = λ rest. same (p ++ rest) ∙ g.same rest; sound = rw (same p) g.sound }
+feeds-then old mid new p (Err e) same g = record {
+  faults = λ n. record { same = λ rest. same (p ++ rest) ∙ (g.faults n).same rest; no_want = (g.faults n).no_want };
+  repeats = λ before h. g.repeats before (record { all = λ rest. sym (same rest) ∙ h.all rest; no_want = h.no_want });
+  stays = g.stays;
+}
+
+-- nothing waits
+pub feeds-plain : (old new : Answer) (w p : List ℕ) (r : Result (Unit {0}) DecodeError) → w ≡ [] → Feeds old new p r → Feeds (λ v. old (w ++ v)) (λ v. new (w ++ v)) p r
+feeds-plain old new w p r none g = rw none g
 
 -- ---- how many bytes are wanted
 
@@ -126,9 +143,13 @@ whole-holds s w n b h is here = rw (whole-waits-not s w n h b is) here
 
 -- ---- one byte
 
--- memory ran out, or another fault that isn't want of bytes
-pub gave-up : (old new : Answer) (p : List ℕ) → ((w : List ℕ) → new w ≡ Err Memory) → Refuses old new p Memory
-gave-up old new p stays = record { faults = λ n. absurd (n refl); stays = stays }
+-- memory ran out, where nothing was refused before
+pub gave-up : (old new : Answer) (p : List ℕ) → HasNoFault (old []) → ((w : List ℕ) → new w ≡ Err Memory) → Refuses old new p Memory
+gave-up old new p sound stays = record {
+  faults = λ n. absurd (n refl);
+  repeats = none-repeats old [] Memory sound;
+  stays = record { all = stays; no_want = λ h. absurd (let k : Memory ≡ Wire Truncated = h in cc) };
+}
 
 pub reading-between_fields : (now : State) (s : BatchSlots) (step : Step BatchHeld) → now ≡ state.Reading (record { slots = s; step = step }) → (w : List ℕ) → struct_from take_batch batch_continues batch_from s step w ≡ Err (Wire Truncated) → answers_of now w ≡ Err (Wire Truncated)
 unfolding answers_of
@@ -137,5 +158,5 @@ reading-between_fields now s step is w h = rw is (rw h refl)
 -- ---- bytes that waited
 
 -- what waits was read with a byte behind it
-pub feeds-last : (old new : Answer) (w next spent : List ℕ) (b : ℕ) (r : Result (Unit {0}) DecodeError) → next ≡ w ++ b ∷ [] → spent ≡ [] → Feeds old new next r → Feeds (λ v. old (w ++ v)) (λ v. new (spent ++ v)) (b ∷ []) r
-feeds-last old new w next spent b r is none g = rw none (feeds-behind old new w next (b ∷ []) r is g)
+pub feeds-last : (old new : Answer) (w next spent : List ℕ) (b : ℕ) (r : Result (Unit {0}) DecodeError) → HasNoFault (old (w ++ [])) → next ≡ w ++ b ∷ [] → spent ≡ [] → Feeds old new next r → Feeds (λ v. old (w ++ v)) (λ v. new (spent ++ v)) (b ∷ []) r
+feeds-last old new w next spent b r sound is none g = rw none (feeds-behind old new w next (b ∷ []) r sound is g)

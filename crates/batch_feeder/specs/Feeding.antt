@@ -1,5 +1,5 @@
 -- What a feeder answers.
-use Rattle.std.specs.Prelude.{◌≡◌, ◌<◌, ℕ, List, [], ◌++◌, Result, Ok, Err, Bool, true, false, not}
+use Rattle.std.specs.Prelude.{◌≡◌, ◌≢◌, ◌<◌, ℕ, List, [], ◌++◌, Result, Ok, Err, Bool, true, false, not}
 use Rattle.thrift_binary.specs.declared.fault.WireError.TheVariants.{Truncated, BadLength, BadType, TooDeep, BadBool, BadText}
 use Rattle.thrift_binary.specs.Reading.{◌>>=◌}
 use Rattle.jaeger_model.specs.declared.batch.Batch.{Batch}
@@ -67,11 +67,21 @@ pub record Taken (old new : List ℕ → Result Batch DecodeError) (piece : List
   pub same : (rest : List ℕ) → old (piece ++ rest) ≡ new rest
   pub sound : HasNoFault (old piece)
 
--- There is this fault, whatever follows, which isn't want of bytes; of running out of memory nothing is said. From now
--- on it is the answer.
+-- it has refused: whatever follows, this fault is the answer, and it isn't want of bytes
+pub record HasRefused (answers : List ℕ → Result Batch DecodeError) (e : DecodeError) : Type 0 where
+  pub all : (rest : List ℕ) → answers rest ≡ Err e
+  pub no_want : e ≢ Wire Truncated
+
+-- where it has refused before, this is the same refusal
+abbrev pub Repeats : (List ℕ → Result Batch DecodeError) → DecodeError → Type 0
+Repeats old e = (before : DecodeError) → HasRefused old before → before ≡ e
+
+-- There is this fault, whatever follows, which isn't want of bytes; of running out of memory it is said that nothing
+-- was refused before. From now on it is the answer.
 pub record Refuses (old new : List ℕ → Result Batch DecodeError) (piece : List ℕ) (e : DecodeError) : Type 0 where
   pub faults : Faults old piece e
-  pub stays : (rest : List ℕ) → new rest ≡ Err e
+  pub repeats : Repeats old e
+  pub stays : HasRefused new e
 
 abbrev pub Feeds : (List ℕ → Result Batch DecodeError) → (List ℕ → Result Batch DecodeError) → List ℕ → Result (Unit {0}) DecodeError → Type 0
 Feeds old new piece (Ok x) = Taken old new piece
@@ -90,4 +100,4 @@ Ends w (Err e) = (e ≡ Trailing) × (w ≡ [] → ⊥)
 -- the same of the state, before a refusal is kept
 abbrev pub Advances : State → State → List ℕ → Result (Unit {0}) DecodeError → Type 0
 Advances old new piece (Ok x) = Taken (answers_of old) (answers_of new) piece × IsSettled new
-Advances old new piece (Err e) = Faults (answers_of old) piece e × (e ≡ Wire Truncated → ⊥)
+Advances old new piece (Err e) = Faults (answers_of old) piece e × (e ≢ Wire Truncated) × Repeats (answers_of old) e

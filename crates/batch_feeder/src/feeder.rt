@@ -208,7 +208,8 @@ impl Feeder {
     /// # Errors
     ///
     /// The first fault of the bytes so far, as soon as its last byte has come, unless it is that they may be too few;
-    /// or [`DecodeError::Memory`]. It is answered from now on.
+    /// or [`DecodeError::Memory`]. It is answered from now on, whatever comes: memory doesn't run out for a feeder that
+    /// has refused.
     pub fn feed(&mut self, alloc: Global, piece: &[u8]) -> Result<(), DecodeError>
         ensures feeds { Feeds (answers self.old) (answers self.new) piece.now result }
     {
@@ -270,11 +271,14 @@ impl Feeder {
         }
     }
 
-    /// Takes the last byte that is wanted.
+    /// Takes the last byte that is wanted, or one where none is, which takes no memory to be kept.
     fn feed_last(&mut self, alloc: Global, byte: u8) -> Result<(), DecodeError>
         requires { self.old.wanted ≤ 1 }
         ensures feeds { Feeds (answers self.old) (answers self.new) (byte ∷ []) result }
     {
+        if self.wanted == 0 {
+            return advance_or_refuse(&mut self.state, &mut self.wanted, alloc, &[byte]);
+        }
         match self.waiting.push(byte) {
             Err(_) => self.give_up(DecodeError::Memory),
             Ok(()) => {
@@ -337,13 +341,14 @@ impl Feeder {
         result
     }
 
-    /// What decoding answers of the pieces: the batch that they spell, all of the bytes, or the first fault.
+    /// What decoding answers of the pieces: the batch that they spell, all of the bytes, or the first fault. It takes
+    /// no memory.
     ///
     /// # Errors
     ///
-    /// The first fault from left to right, or [`DecodeError::Memory`].
+    /// What [`Feeder::feed`] refused, where it did; otherwise that the bytes are too few.
     pub fn finish(self) -> Result<Batch, DecodeError>
-        ensures gives { Gives result (answers self []) }
+        ensures gives { result ≡ answers self [] }
     {
         let state = self.state;
         match state {

@@ -6,4 +6,5 @@ pub mod Once
 pub mod Taking
 pub mod Ends
 pub mod Waits
+pub mod Rooms
 pub mod Awaited

@@ -1,10 +1,11 @@
 -- How reads join.
-use Rattle.std.proofs.Common.{◌≡◌, ℕ, ◌+◌, Bool, List, [], ◌++◌, length, Option, sym, ap, ◌∙◌, subst, arith, inl, inr, append_assoc, append-nil, length-append}
+use Rattle.std.proofs.Common.{◌≡◌, ℕ, ◌+◌, Bool, List, [], ◌++◌, length, Option, sym, ap, ◌∙◌, subst, arith, append_assoc, append-nil, length-append}
 use Rattle.std.proofs.KnownBytes.{Consumes-trans, Consumes-nil}
-use Rattle.http_requests.specs.Waiting.{Source, ReadsWhile}
-use Rattle.http_requests.specs.Receiving.{Received, ReadsOn, ReadsOnWhile, IsRead, Stops, put_back}
+use Rattle.http_requests.specs.Waiting.{Source, counted, ReadsWhile}
+use Rattle.http_requests.specs.Receiving.{Received, ReadsOn, ReadsOnWhile, IsRead, Halts, StopsWhile, put_back}
 use Rattle.http_requests.proofs.Waits.{no_read, one_read, reads_in_turn, reads_behind}
 use Rattle.http_requests.specs.declared.received.Interrupted.{Interrupted}
+use Rattle.http_requests.specs.declared.received.Interrupted.TheVariants.{Reading, Memory}
 
 pub nothing_read : (input : Option (List ℕ)) (r : Received) → ReadsOn input input r r
 nothing_read input r = record {
@@ -26,15 +27,6 @@ reads_join in0 in1 in2 a b c first second =
       least = omega (arith, first.least, second.least, long);
       most = omega (arith, first.most, second.most, long);
       end = λ knows. second.end (first.end knows);
-    }
-
-pub reads_then_stops : (in0 in1 in2 : Option (List ℕ)) (failed : Bool) (a b : Received) (why : Interrupted) → ReadsOn in0 in1 a b → Stops in1 in2 failed b why → Stops in0 in2 failed a why
-reads_then_stops in0 in1 in2 failed a b why first stop =
-    let long : length (first.more ++ stop.more) ≡ length first.more + length stop.more = length-append first.more stop.more in
-    record {
-      more = first.more ++ stop.more;
-      read = Consumes-trans in0 in1 in2 first.more stop.more first.read stop.read;
-      least = λ e. elim (stop.least e) [ inl f ↦ inl f | inr l ↦ inr (omega (arith, first.least, long)) ];
     }
 
 -- ---- with what was taken in front
@@ -77,15 +69,6 @@ regroup a b text more in0 in1 reads = record {
 pub takes_join : (in0 in1 in2 : Option (List ℕ)) (a b c : Received) (text more : List ℕ) → ReadsOn in0 in1 a (put_back text b) → ReadsOn in1 in2 b (put_back more c) → ReadsOn in0 in2 a (put_back (text ++ more) c)
 takes_join in0 in1 in2 a b c text more first second = regroup a c text more in0 in2 (takes_then_reads in0 in1 in2 a b (put_back more c) text first second)
 
-pub takes_then_stops : (in0 in1 in2 : Option (List ℕ)) (failed : Bool) (a b : Received) (text : List ℕ) (why : Interrupted) → ReadsOn in0 in1 a (put_back text b) → Stops in1 in2 failed b why → Stops in0 in2 failed a why
-takes_then_stops in0 in1 in2 failed a b text why first stop =
-    let long : length (first.more ++ stop.more) ≡ length first.more + length stop.more = length-append first.more stop.more in
-    record {
-      more = first.more ++ stop.more;
-      read = Consumes-trans in0 in1 in2 first.more stop.more first.read stop.read;
-      least = λ e. elim (stop.least e) [ inl f ↦ inl f | inr l ↦ inr (omega (arith, first.least, long)) ];
-    }
-
 -- and one more from the beginning of what is there
 pub takes_more : (in0 in1 : Option (List ℕ)) (a b : Received) (text more rest : List ℕ) → ReadsOn in0 in1 a (put_back text b) → b.held ≡ more ++ rest → ReadsOn in0 in1 a (put_back (text ++ more) (record b { held = rest }))
 takes_more in0 in1 a b text more rest reads cut = record {
@@ -101,25 +84,25 @@ takes_more in0 in1 a b text more rest reads cut = record {
 
 module _ {R : Type 0} (source : Source R) where
   pub nothing_yet : (Awaits : List ℕ → Type 0) (s : R) (r : Received) → ReadsOnWhile source Awaits s s r r
-  nothing_yet Awaits s r = record { on = nothing_read (source.remaining s) r; waits = no_read source.gives Awaits s r.held }
+  nothing_yet Awaits s r = record { on = nothing_read (source.remaining s) r; waits = no_read (counted source.gives) Awaits (s, r.left) r.held }
 
   pub once : (Awaits : List ℕ → Type 0) (s t : R) (a b : Received) → Awaits a.held → ReadsOn (source.remaining s) (source.remaining t) a b → IsRead source.gives s t a b
       → ReadsOnWhile source Awaits s t a b
-  once Awaits s t a b awaits on read = record { on = on; waits = one_read source.gives Awaits s t a.held b.held read.0 awaits read.1 read.2 }
+  once Awaits s t a b awaits on read = record { on = on; waits = one_read (counted source.gives) Awaits (s, a.left) (t, b.left) a.held b.held read.0 awaits (read.1, read.3) read.2 }
 
   -- seen from the beginning of what was taken before
   pub front_then : (Awaits More : List ℕ → Type 0) (s m t : R) (a b c : Received) (text : List ℕ) → ((h : List ℕ) → More h → Awaits (text ++ h))
       → ReadsOnWhile source Awaits s m a (put_back text b) → ReadsOnWhile source More m t b c → ReadsOnWhile source Awaits s t a (put_back text c)
   front_then Awaits More s m t a b c text more first second = record {
     on = takes_then_reads (source.remaining s) (source.remaining m) (source.remaining t) a b c text first.on second.on;
-    waits = reads_in_turn source.gives Awaits s m t a.held (text ++ b.held) (text ++ c.held) first.waits
-        (reads_behind source.gives More Awaits text more m t b.held c.held second.waits);
+    waits = reads_in_turn (counted source.gives) Awaits (s, a.left) (m, b.left) (t, c.left) a.held (text ++ b.held) (text ++ c.held) first.waits
+        (reads_behind (counted source.gives) More Awaits text more (m, b.left) (t, c.left) b.held c.held second.waits);
   }
 
   pub then_on : (Awaits : List ℕ → Type 0) (s m t : R) (a b c : Received) → ReadsOnWhile source Awaits s m a b → ReadsOnWhile source Awaits m t b c → ReadsOnWhile source Awaits s t a c
   then_on Awaits s m t a b c first second = record {
     on = reads_join (source.remaining s) (source.remaining m) (source.remaining t) a b c first.on second.on;
-    waits = reads_in_turn source.gives Awaits s m t a.held b.held c.held first.waits second.waits;
+    waits = reads_in_turn (counted source.gives) Awaits (s, a.left) (m, b.left) (t, c.left) a.held b.held c.held first.waits second.waits;
   }
 
   pub front_join : (Awaits More : List ℕ → Type 0) (s m t : R) (a b c : Received) (text more : List ℕ) → ((h : List ℕ) → More h → Awaits (text ++ h))
@@ -128,7 +111,7 @@ module _ {R : Type 0} (source : Source R) where
       let all = front_then Awaits More s m t a b (put_back more c) text behind first second in
       record {
         on = regroup a c text more (source.remaining s) (source.remaining t) all.on;
-        waits = subst (λ (l : List ℕ). ReadsWhile source.gives Awaits s t a.held l) (sym (append_assoc text more c.held)) all.waits;
+        waits = subst (λ (l : List ℕ). ReadsWhile (counted source.gives) Awaits (s, a.left) (t, c.left) a.held l) (sym (append_assoc text more c.held)) all.waits;
       }
 
   -- one more text from the beginning of what is there
@@ -136,16 +119,49 @@ module _ {R : Type 0} (source : Source R) where
       → ReadsOnWhile source Awaits s t a (put_back (text ++ more) (record b { held = rest }))
   front_more Awaits s t a b text more rest reads cut = record {
     on = takes_more (source.remaining s) (source.remaining t) a b text more rest reads.on cut;
-    waits = subst (λ (l : List ℕ). ReadsWhile source.gives Awaits s t a.held l) (ap (λ l. text ++ l) cut ∙ sym (append_assoc text more rest)) reads.waits;
+    waits = subst (λ (l : List ℕ). ReadsWhile (counted source.gives) Awaits (s, a.left) (t, b.left) a.held l) (ap (λ l. text ++ l) cut ∙ sym (append_assoc text more rest)) reads.waits;
   }
 
   pub front_taken : (Awaits : List ℕ → Type 0) (s t : R) (a b : Received) (text rest : List ℕ) → ReadsOnWhile source Awaits s t a b → b.held ≡ text ++ rest
       → ReadsOnWhile source Awaits s t a (put_back text (record b { held = rest }))
   front_taken Awaits s t a b text rest reads cut = record {
     on = takes_front (source.remaining s) (source.remaining t) a b text rest reads.on cut;
-    waits = subst (λ (l : List ℕ). ReadsWhile source.gives Awaits s t a.held l) cut reads.waits;
+    waits = subst (λ (l : List ℕ). ReadsWhile (counted source.gives) Awaits (s, a.left) (t, b.left) a.held l) cut reads.waits;
   }
 
   -- who awaits less awaits this
   pub widened : (Awaits More : List ℕ → Type 0) (s t : R) (a b : Received) → ((h : List ℕ) → More h → Awaits h) → ReadsOnWhile source More s t a b → ReadsOnWhile source Awaits s t a b
-  widened Awaits More s t a b more reads = record { on = reads.on; waits = reads_behind source.gives More Awaits [] more s t a.held b.held reads.waits }
+  widened Awaits More s t a b more reads = record { on = reads.on; waits = reads_behind (counted source.gives) More Awaits [] more (s, a.left) (t, b.left) a.held b.held reads.waits }
+
+  -- ---- calls that ended in an error
+
+  -- more was awaited of what is there, and one more read gave nothing
+  pub stops_there : (Awaits : List ℕ → Type 0) (s m t : R) (failed : Bool) (a b : Received) (bytes : List ℕ) (why : Interrupted) → ReadsOnWhile source Awaits s m a b → bytes ≡ b.held → Awaits bytes
+      → Halts source m t failed b why → StopsWhile source Awaits s t failed a why
+  stops_there Awaits s m t failed a b bytes why reads are awaits last = record { here = b; before = m; reads = reads; awaits = subst Awaits are awaits; last = last }
+
+  pub halts_put_back : (s t : R) (failed : Bool) (r : Received) (text : List ℕ) (why : Interrupted) → Halts source s t failed r why → Halts source s t failed (put_back text r) why
+  halts_put_back s t failed r text Reading last = last
+  halts_put_back s t failed r text Memory last = last
+
+  -- what was awaited behind a text, seen from the beginning of the text
+  pub stops_behind : (Awaits More : List ℕ → Type 0) (s m t : R) (failed : Bool) (a b : Received) (text : List ℕ) (why : Interrupted) → ((h : List ℕ) → More h → Awaits (text ++ h))
+      → ReadsOnWhile source Awaits s m a (put_back text b) → StopsWhile source More m t failed b why → StopsWhile source Awaits s t failed a why
+  stops_behind Awaits More s m t failed a b text why more first stops = record {
+    here = put_back text stops.here;
+    before = stops.before;
+    reads = front_then Awaits More s m stops.before a b stops.here text more first stops.reads;
+    awaits = more stops.here.held stops.awaits;
+    last = halts_put_back stops.before t failed stops.here text why stops.last;
+  }
+
+  -- who awaits less awaits this
+  pub widened_stop : (Awaits More : List ℕ → Type 0) (s t : R) (failed : Bool) (a : Received) (why : Interrupted) → ((h : List ℕ) → More h → Awaits h) → StopsWhile source More s t failed a why
+      → StopsWhile source Awaits s t failed a why
+  widened_stop Awaits More s t failed a why more stops = record {
+    here = stops.here;
+    before = stops.before;
+    reads = widened Awaits More s stops.before a stops.here more stops.reads;
+    awaits = more stops.here.held stops.awaits;
+    last = stops.last;
+  }

@@ -1,8 +1,7 @@
 -- How a body is taken, piece by piece.
-use Rattle.std.proofs.Common.{All, ◌≡◌, ℕ, ◌+◌, ◌-◌, ◌≤◌, ◌<◌, ◌==◌, ◌&&◌, Bool, true, false, List, [], ◌∷◌, ◌++◌, length, take, drop, replicate, Option, Result, Ok, Err, IfOk, IfErr, OnErr, refl, sym, ap, ◌∙◌, subst, arith, inl, inr, append_assoc, append-nil, length-append}
+use Rattle.std.proofs.Common.{All, ◌≡◌, ℕ, ◌+◌, ◌-◌, ◌≤◌, ◌<◌, ◌==◌, ◌&&◌, Bool, true, false, List, [], ◌∷◌, ◌++◌, length, take, drop, replicate, Result, Ok, Err, IfOk, IfErr, refl, sym, ap, ◌∙◌, subst, arith, inl, inr, append_assoc, append-nil, length-append}
 use Rattle.std.proofs.lemmas.Grind.{flat_map-append}
 use Rattle.std.proofs.lemmas.Bool.Decides.{nat_tests}
-use Rattle.std.proofs.lemmas.Result.{on_err_weaker}
 use Rattle.std.proofs.lemmas.List.{take-append-drop, length-take-le, length-replicate, drop_all}
 use Rattle.std.proofs.lemmas.List.Elements.{All-append, All-cons, All-nil}
 use Rattle.std.specs.Io.KnownBytes.{IsAtEnd}
@@ -13,16 +12,15 @@ use Rattle.chunked_bodies.proofs.Sizes.{zero_line, zero_line_is}
 use Rattle.chunked_bodies.proofs.Behind.{lacks_behind, behind_chunks, no_line, no_content, no_trailer}
 use Rattle.http_requests.specs.declared.asked.TheConstants.{MOST_BODY_BYTES}
 use Rattle.http_requests.specs.Requests.{IsShorter, AwaitsChunks, AwaitsBody}
-use Rattle.http_requests.specs.Waiting.{Source, StopsWhile}
-use Rattle.http_requests.specs.Receiving.{KnowsItsEnd, Received, ReadsOn, ReadsOnWhile, IsRead, Stops, put_back}
+use Rattle.http_requests.specs.Waiting.{Source}
+use Rattle.http_requests.specs.Receiving.{KnowsItsEnd, Received, ReadsOn, ReadsOnWhile, IsRead, Halts, StopsWhile, put_back}
 use Rattle.http_requests.specs.declared.received.Interrupted.{Interrupted}
 use Rattle.http_requests.specs.Sinks.{Takings, TakesNothing, TakesJoined}
 use Rattle.http_requests.specs.Bodies.{Takes, Misses, AwaitsLine, AwaitsRest, IsLineEnd, begins_line_end, may_begin_line_end, TakesOrMisses, Gathers, Gathered, TakesContent, TakesContentOr, Fails, ChunksSoFar, TakesBody, BreaksBody, ReadsBody}
 use Rattle.http_requests.specs.declared.asked.BodyLength.TheVariants.{Bytes, Chunked, Unreadable, TooLarge}
 use Rattle.http_requests.specs.declared.asked.Breach.TheVariants as breach
 use Rattle.http_requests.proofs.Ends.{cut_before}
-use Rattle.http_requests.proofs.Waits.{waits_then_stops, widened_stop, awaited_then_stops}
-use Rattle.http_requests.proofs.Readings.{takes_then_stops, nothing_yet, once, then_on, front_then, front_join, front_more, front_taken, widened}
+use Rattle.http_requests.proofs.Readings.{nothing_yet, once, then_on, front_then, front_join, front_more, front_taken, widened, halts_put_back, stops_there, stops_behind, widened_stop}
 
 -- ---- nothing of a kind
 
@@ -46,12 +44,6 @@ pub reads_more : {R : Type 0} (source : Source R) (Awaits : List ℕ → Type 0)
     → Awaits bytes → ReadsOn (source.remaining m) (source.remaining t) here new → IsRead source.gives m t here new → ReadsOnWhile source Awaits s t old new
 reads_more source Awaits s m t old here new bytes so are awaits on read =
     then_on source Awaits s m t old here new so (once source Awaits m t here new (subst Awaits are awaits) on read)
-
--- no more could be had, where more was awaited of what is there
-pub stops_more : {R : Type 0} (source : Source R) (Awaits : List ℕ → Type 0) (s m t : R) (failed : Bool) (old here : Received) (bytes : List ℕ) → ReadsOnWhile source Awaits s m old here
-    → bytes ≡ here.held → Awaits bytes → StopsWhile source (λ h. h ≡ here.held) m t failed here.held → StopsWhile source Awaits s t failed old.held
-stops_more source Awaits s m t failed old here bytes so are awaits stops =
-    awaited_then_stops source Awaits s m t failed old.held here.held so.waits (subst Awaits are awaits) stops
 
 -- ---- bytes gathered
 
@@ -117,16 +109,12 @@ module _ {S R : Type 0} (takes : Takings S) (source : Source R) where
     pub gather_step : length bytes < left → ReadsOn (source.remaining m) (source.remaining t) mid new → IsRead source.gives m t mid new → Gathered takes source s t old new before later size (left - length bytes)
     gather_step short on read = gather_on s m t old mid new before later size (left - length bytes) (piece short) none_left (omega (arith, short)) on read
 
-    pub gather_stops : length bytes < left → (failed : Bool) (why : Interrupted) → Stops (source.remaining m) (source.remaining t) failed mid why → Stops (source.remaining s) (source.remaining t) failed old why
-    gather_stops short failed why stops =
-        takes_then_stops (source.remaining s) (source.remaining m) (source.remaining t) failed old mid (piece short).content why (piece short).reads.on stops
-
-    pub gather_stops_in_turn : length bytes < left → (failed : Bool) → StopsWhile source (λ h. h ≡ mid.held) m t failed mid.held → StopsWhile source (IsShorter size) s t failed old.held
-    gather_stops_in_turn short failed stops =
+    pub gather_stops : length bytes < left → (failed : Bool) (why : Interrupted) → Halts source m t failed mid why → StopsWhile source (IsShorter size) s t failed old why
+    gather_stops short failed why last =
         let so_far = piece short in
-        let few : (h : List ℕ) → h ≡ mid.held → IsShorter size (so_far.content ++ h) =
-        λ h e. omega (arith, so_far.sum, short, length-append so_far.content h, ap length e, ap length none_left) in
-        waits_then_stops source (IsShorter size) (λ h. h ≡ mid.held) so_far.content few s m t failed old.held mid.held so_far.reads.waits stops
+        let few : IsShorter size (so_far.content ++ mid.held) = omega (arith, so_far.sum, short, length-append so_far.content mid.held, ap length none_left) in
+        stops_there source (IsShorter size) s m t failed old (put_back so_far.content mid) (so_far.content ++ mid.held) why so_far.reads refl few
+        (halts_put_back source m t failed mid so_far.content why last)
 
     pub gather_end : length bytes < left → IsAtEnd (source.remaining m) → Gathers takes source s m old mid before later size false
     gather_end short at_end = gather_short s m old mid before later size (left - length bytes) (piece short) none_left (omega (arith, short)) at_end
@@ -230,18 +218,14 @@ module _ {S R : Type 0} (takes : Takings S) (source : Source R) (s m t : R) (old
   content_then (Ok false) g e = content_open g e
   content_then (Err why) g e = tt
 
-  pub content_stops : (failed : Bool) → StopsWhile source (IsShorter size) s m failed old.held → StopsWhile source (AwaitsRest (IsContent size)) s m failed old.held
-  content_stops failed stops = widened_stop source (AwaitsRest (IsContent size)) (IsShorter size) s m failed old.held shorter stops
+  pub content_stops : (failed : Bool) (why : Interrupted) → StopsWhile source (IsShorter size) s m failed old why → StopsWhile source (AwaitsRest (IsContent size)) s m failed old why
+  content_stops failed why stops = widened_stop source (AwaitsRest (IsContent size)) (IsShorter size) s m failed old why shorter stops
 
-  pub end_stops : (failed : Bool) (r : Result Bool Interrupted) → Gathers takes source s m old here before after size true → OnErr r (StopsWhile source (AwaitsRest IsLineEnd) m t failed here.held)
-      → OnErr r (StopsWhile source (AwaitsRest (IsContent size)) s t failed old.held)
-  end_stops failed r g stops = on_err_weaker r (λ stopped.
-      waits_then_stops source (AwaitsRest (IsContent size)) (AwaitsRest IsLineEnd) g.content (end_awaited g.content (g.whole refl)) s m t failed old.held here.held (first g).waits stopped) stops
-
-pub if_err_stops : (in0 in1 in2 : Option (List ℕ)) (failed : Bool) (old here : Received) (text : List ℕ) (r : Result Bool Interrupted) → ReadsOn in0 in1 old (put_back text here)
-    → IfErr r (λ why. Stops in1 in2 failed here why) → IfErr r (λ why. Stops in0 in2 failed old why)
-if_err_stops in0 in1 in2 failed old here text (Ok b) reads stops = tt
-if_err_stops in0 in1 in2 failed old here text (Err why) reads stops = takes_then_stops in0 in1 in2 failed old here text why reads stops
+  pub end_stops : (failed : Bool) (r : Result Bool Interrupted) → Gathers takes source s m old here before after size true → IfErr r (λ why. StopsWhile source (AwaitsRest IsLineEnd) m t failed here why)
+      → IfErr r (λ why. StopsWhile source (AwaitsRest (IsContent size)) s t failed old why)
+  end_stops failed (Ok b) g stops = tt
+  end_stops failed (Err why) g stops =
+      stops_behind source (AwaitsRest (IsContent size)) (AwaitsRest IsLineEnd) s m t failed old here g.content why (end_awaited g.content (g.whole refl)) (first g) stops
 
 -- ---- chunks
 
@@ -268,8 +252,8 @@ module _ {S R : Type 0} (takes : Takings S) (source : Source R) (s m t : R) (old
         (sym (append_assoc lines cut.0 zero_line) ∙ ap (λ l. l ++ zero_line) (sym cut.1) ∙ sym (append-nil (texts so.chunks ++ zero_line)));
   }
 
-  pub size_stops : (failed : Bool) → StopsWhile source AwaitsLine m t failed here.held → StopsWhile source AwaitsChunks s t failed old.held
-  size_stops failed stops = waits_then_stops source AwaitsChunks AwaitsLine (texts so.chunks) line_awaited s m t failed old.held here.held so.reads.waits stops
+  pub size_stops : (failed : Bool) (why : Interrupted) → StopsWhile source AwaitsLine m t failed here why → StopsWhile source AwaitsChunks s t failed old why
+  size_stops failed why stops = stops_behind source AwaitsChunks AwaitsLine s m t failed old here (texts so.chunks) why line_awaited so.reads stops
 
   pub no_size : Misses source AwaitsLine m t here behind IsSomeSizeLine → ReadsBody takes source s t old behind before now Chunked (Err breach.Body)
   no_size miss =
@@ -358,9 +342,9 @@ module _ {S R : Type 0} (takes : Takings S) (source : Source R) (s m t : R) (old
           }
 
       module _ (u : R) (new : Received) where
-        pub chunk_stops : (failed : Bool) → StopsWhile source (AwaitsRest (IsContent size)) t u failed behind.held → StopsWhile source AwaitsChunks s u failed old.held
-        chunk_stops failed stops =
-            waits_then_stops source AwaitsChunks (AwaitsRest (IsContent size)) (texts so.chunks ++ line.text) content_awaited s t u failed old.held behind.held with_line.waits stops
+        pub chunk_stops : (failed : Bool) (why : Interrupted) → StopsWhile source (AwaitsRest (IsContent size)) t u failed behind why → StopsWhile source AwaitsChunks s u failed old why
+        chunk_stops failed why stops =
+            stops_behind source AwaitsChunks (AwaitsRest (IsContent size)) s t u failed old behind (texts so.chunks ++ line.text) why content_awaited with_line stops
 
         pub fails_content : Fails source t u behind new (IsContent size) → BreaksBody source s u old new Chunked breach.Body
         fails_content f =
@@ -394,9 +378,9 @@ module _ {S R : Type 0} (takes : Takings S) (source : Source R) (s m t : R) (old
           (inl (record { chunks = so.chunks; last = line.text; each = so.each; last_is = line.is; text_is = refl; small = omega (arith, so.sum) })) (sym e);
     }
 
-    pub trailer_stops : (failed : Bool) → StopsWhile source (HasNone IsTrailer) t u failed behind.held → StopsWhile source AwaitsChunks s u failed old.held
-    trailer_stops failed stops =
-        waits_then_stops source AwaitsChunks (HasNone IsTrailer) (texts so.chunks ++ line.text) trailer_awaited s t u failed old.held behind.held (with_line 0 line).waits stops
+    pub trailer_stops : (failed : Bool) (why : Interrupted) → StopsWhile source (HasNone IsTrailer) t u failed behind why → StopsWhile source AwaitsChunks s u failed old why
+    trailer_stops failed why stops =
+        stops_behind source AwaitsChunks (HasNone IsTrailer) s t u failed old behind (texts so.chunks ++ line.text) why trailer_awaited (with_line 0 line) stops
 
     pub fails_trailer : Misses source (HasNone IsTrailer) t u behind new IsTrailer → ReadsBody takes source s u old new before now Chunked (Err breach.Body)
     fails_trailer miss =

@@ -1,6 +1,6 @@
 -- Reads that were made while something was awaited, one after the other.
-use Rattle.std.proofs.Common.{◌≡◌, ℕ, List, [], ◌∷◌, ◌++◌, Bool, Result, Ok, Err, OnErr, refl, sym, ap, subst, inl, inr, append_assoc}
-use Rattle.http_requests.specs.Waiting.{Gives, Source, GivesWhile, ReadsWhile, FailsToRead, StopsWhile}
+use Rattle.std.proofs.Common.{◌≡◌, ℕ, ◌+◌, List, [], ◌∷◌, ◌++◌, length, Result, Ok, Err, OnErr, refl, sym, ap, subst, arith, append_assoc}
+use Rattle.http_requests.specs.Waiting.{Gives, counted, GivesWhile, ReadsWhile}
 
 module _ {R : Type 0} (gives : Gives R) where
   pub no_read : (Awaits : List ℕ → Type 0) (s : R) (bytes : List ℕ) → ReadsWhile gives Awaits s s bytes bytes
@@ -36,40 +36,24 @@ module _ {R : Type 0} (gives : Gives R) where
       → ReadsWhile gives Awaits s t a b → ReadsWhile gives More s t (front ++ a) (front ++ b)
   reads_behind Awaits More front more s t a b reads = record { pieces = reads.pieces; each = each_behind Awaits More front more reads.pieces s t a b reads.each }
 
+-- ---- with the reads that may still be made
+
+module _ {R : Type 0} (gives : Gives R) (Awaits : List ℕ → Type 0) where
+  uncounted_each : (ps : List (List ℕ)) (s t : R × ℕ) (old new : List ℕ) → GivesWhile (counted gives) Awaits s t old new ps → GivesWhile gives Awaits s.0 t.0 old new ps × (t.1 + length ps ≡ s.1)
+  uncounted_each [] s t old new each = ((ap (λ (p : R × ℕ). p.0) each.0, each.1), omega (arith, ap (λ (p : R × ℕ). p.1) each.0))
+  uncounted_each (p ∷ ps) s t old new each =
+      let rest = uncounted_each ps each.1 t (old ++ p) new each.3 in
+      ((each.0, each.1.0, each.2.0, rest.0), omega (arith, rest.1, each.2.1))
+
+  -- the reads alone, and how many there were
+  pub uncounted : (s t : R) (n m : ℕ) (old new : List ℕ) → ReadsWhile (counted gives) Awaits (s, n) (t, m) old new → (reads : ReadsWhile gives Awaits s t old new) × (m + length reads.pieces ≡ n)
+  uncounted s t n m old new reads =
+      let all = uncounted_each reads.pieces (s, n) (t, m) old new reads.each in
+      (record { pieces = reads.pieces; each = all.0 }, all.1)
+
 -- ---- calls that ended in an error
 
 -- what holds anyway holds where there is an error
 pub any_err : {T E P : Type 0} (r : Result T E) → P → OnErr r P
 any_err (Ok x) p = tt
 any_err (Err e) p = p
-
-module _ {R : Type 0} (source : Source R) where
-  -- all reads gave something
-  pub stops_there : (Awaits : List ℕ → Type 0) (s t : R) (failed : Bool) (old here : List ℕ) → ReadsWhile source.gives Awaits s t old here → StopsWhile source Awaits s t failed old
-  stops_there Awaits s t failed old here reads = record { held = here; before = t; waits = reads; last = inl refl }
-
-  -- the only read failed
-  pub stops_failed : (Awaits : List ℕ → Type 0) (s t : R) (failed : Bool) (old : List ℕ) → Awaits old → FailsToRead source s t failed → StopsWhile source Awaits s t failed old
-  stops_failed Awaits s t failed old awaits fails = record { held = old; before = s; waits = no_read source.gives Awaits s old; last = inr (awaits, fails) }
-
-  -- what was awaited behind a text, seen from the beginning of the text
-  pub waits_then_stops : (Awaits More : List ℕ → Type 0) (front : List ℕ) → ((h : List ℕ) → More h → Awaits (front ++ h)) → (s m t : R) (failed : Bool) (old held : List ℕ)
-      → ReadsWhile source.gives Awaits s m old (front ++ held) → StopsWhile source More m t failed held → StopsWhile source Awaits s t failed old
-  waits_then_stops Awaits More front more s m t failed old held reads stops = record {
-    held = front ++ stops.held;
-    before = stops.before;
-    waits = reads_in_turn source.gives Awaits s m stops.before old (front ++ held) (front ++ stops.held) reads
-        (reads_behind source.gives More Awaits front more m stops.before held stops.held stops.waits);
-    last = elim stops.last [ inl same ↦ inl same | inr failed ↦ inr (more stops.held failed.0, failed.1) ];
-  }
-
-  -- who awaits less awaits this
-  pub widened_stop : (Awaits More : List ℕ → Type 0) (s t : R) (failed : Bool) (old : List ℕ) → ((h : List ℕ) → More h → Awaits h) → StopsWhile source More s t failed old
-      → StopsWhile source Awaits s t failed old
-  widened_stop Awaits More s t failed old more stops = waits_then_stops Awaits More [] more s s t failed old old (no_read source.gives Awaits s old) stops
-
-  -- more was awaited of the bytes that were there
-  pub awaited_then_stops : (Awaits : List ℕ → Type 0) (s m t : R) (failed : Bool) (old here : List ℕ) → ReadsWhile source.gives Awaits s m old here → Awaits here
-      → StopsWhile source (λ h. h ≡ here) m t failed here → StopsWhile source Awaits s t failed old
-  awaited_then_stops Awaits s m t failed old here reads awaits stops =
-      waits_then_stops Awaits (λ h. h ≡ here) [] (λ h e. subst Awaits (sym e) awaits) s m t failed old here reads stops

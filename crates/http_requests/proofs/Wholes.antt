@@ -1,7 +1,7 @@
 -- A head at the beginning of bytes, and the body behind it.
-use Rattle.std.proofs.Common.{◌≡◌, ℕ, ◌+◌, ◌-◌, ◌==◌, ◌||◌, ◌≤◌, ◌<◌, Bool, true, false, List, ◌++◌, [], length, take, drop, map, slice_range, Option, refl, sym, ap, ◌∙◌, subst, arith, inl, inr, append_assoc, append-nil, length-append}
+use Rattle.std.proofs.Common.{◌≡◌, ℕ, ◌+◌, ◌-◌, ◌==◌, ◌||◌, ◌≤◌, ◌<◌, Bool, true, false, List, ◌++◌, [], length, take, drop, map, slice_range, refl, sym, ap, ◌∙◌, subst, arith, inl, inr, append_assoc, length-append}
 use Rattle.std.specs.Io.KnownBytes.{IsAtEnd}
-use Rattle.std.proofs.lemmas.List.{drop-append-le, take-append-le, length-drop}
+use Rattle.std.proofs.lemmas.List.{drop-append-le, take-append-le, take-append-drop, length-drop}
 use Rattle.std.proofs.Math.Seq.{take-append_seam}
 use Rattle.httparse.specs.Grammar.{RequestHead, print_request}
 use Rattle.httparse.specs.Spans.{header_bytes}
@@ -11,14 +11,14 @@ use Rattle.http_requests.specs.Heads.{TakesHead, IsWholeHead, AwaitsHead}
 use Rattle.http_requests.specs.declared.asked.Method.{Method}
 use Rattle.http_requests.specs.Asked.{asked_by, pairs_of, method_of, has_batch_type, closes_by}
 use Rattle.http_requests.specs.Requests.{HasBody, BodyBreaks, BreaksBehind, IsBroken, AwaitsBody, AwaitsRequest}
-use Rattle.http_requests.specs.Waiting.{Source, ReadsWhile, StopsWhile}
-use Rattle.http_requests.specs.Receiving.{Received, ReadsOn, ReadsOnWhile, put_back, FindsHead, FindsNone, TakesRequest, FindsBreach}
+use Rattle.http_requests.specs.Waiting.{Source}
+use Rattle.http_requests.specs.Receiving.{Received, ReadsOnWhile, StopsWhile, put_back, FindsHead, FindsNone, TakesRequest, FindsBreach}
 use Rattle.http_requests.specs.Sinks.{Takings}
 use Rattle.http_requests.specs.Bodies.{TakesBody, BreaksBody}
 use Rattle.http_requests.specs.declared.asked.BodyLength.{BodyLength}
 use Rattle.http_requests.specs.declared.asked.Breach.{Breach}
-use Rattle.http_requests.proofs.Waits.{waits_then_stops, stops_there}
-use Rattle.http_requests.proofs.Readings.{takes_front, front_join, widened}
+use Rattle.http_requests.specs.declared.received.Interrupted.{Interrupted}
+use Rattle.http_requests.proofs.Readings.{front_join, front_taken, widened, stops_behind}
 use Rattle.http_requests.specs.Framing.{Frames}
 use Rattle.http_requests.specs.declared.asked.Breach.TheVariants as breach
 use Rattle.http_requests.specs.declared.asked.Request.{Request}
@@ -52,35 +52,35 @@ head_cut bytes len h takes fits =
     let is : len ≡ length (print_request h) = omega (arith, whole, fits, length-drop len bytes) in
     ap (take len) takes.reads.1 ∙ ap (λ k. take k (print_request h ++ drop len bytes)) is ∙ take-append_seam (print_request h) (drop len bytes)
 
--- the head of a request, with nothing behind it
-head_alone : (bytes rest : List ℕ) (h : RequestHead) → TakesHead bytes h rest → TakesHead (print_request h) h []
-head_alone bytes rest h takes = record { reads = (takes.reads.0, sym (append-nil (print_request h))); size = takes.size; fields = takes.fields }
-
-pub finds_head : (in0 in1 : Option (List ℕ)) (old here behind : Received) (bytes again cleared taken : List ℕ) (len : ℕ) (r : Request) (size : BodyLength)
-    → ReadsOn in0 in1 old here → Frames bytes len r size → bytes ≡ here.held → again ≡ here.held → cleared ≡ [] → taken ≡ cleared ++ take len again
-    → behind ≡ record here { held = drop len here.held } → FindsHead in0 in1 old behind taken r size
-finds_head in0 in1 old here behind bytes again cleared taken len r size first framed are are_again none taken_is behind_is =
+pub finds_head : {R : Type 0} (source : Source R) (s t : R) (old here : Received) (bytes : List ℕ) (len : ℕ) (r : Request) (size : BodyLength)
+    → ReadsOnWhile source AwaitsHead s t old here → Frames bytes len r size → bytes ≡ here.held → FindsHead source s t old here r len size
+finds_head source s t old here bytes len r size reads framed are =
     let frames : Frames here.held len r size = subst (λ (l : List ℕ). Frames l len r size) are framed in
-    let head_is : taken ≡ print_request frames.head = taken_is ∙ (λ i. none i ++ take len (are_again i)) ∙ head_cut here.held len frames.head frames.takes frames.fits in
-    let taken_behind : ReadsOn in0 in1 old (put_back (print_request frames.head) behind) =
-    subst (λ (b : Received). ReadsOn in0 in1 old (put_back (print_request frames.head) b)) (sym behind_is)
-    (takes_front in0 in1 old here (print_request frames.head) (drop len here.held) first frames.takes.reads.1) in
     record {
-      is = record { head = frames.head; is = frames.takes.reads.0; bytes_are = head_is; describes = frames.describes };
-      takes = subst (λ (l : List ℕ). TakesHead l frames.head []) (sym head_is) (head_alone here.held (drop len here.held) frames.head frames.takes);
+      is = record { head = frames.head; is = frames.takes.reads.0; bytes_are = head_cut here.held len frames.head frames.takes frames.fits; describes = frames.describes };
+      takes = frames.takes;
+      inside = frames.fits;
       size_is = frames.size_is;
-      reads = subst (λ (l : List ℕ). ReadsOn in0 in1 old (put_back l behind)) (sym head_is) taken_behind;
+      reads = reads;
     }
 
--- ---- the body behind the head
+-- a request is awaited where a head is
+pub awaits_more : {R : Type 0} (source : Source R) (s t : R) (old new : Received) → ReadsOnWhile source AwaitsHead s t old new → ReadsOnWhile source AwaitsRequest s t old new
+awaits_more source s t old new reads = widened source AwaitsRequest AwaitsHead s t old new (λ h awaits. inl awaits) reads
 
-module _ {R : Type 0} (source : Source R) (s m t : R) (old behind new : Received) (bytes : List ℕ) (r : Request) (size : BodyLength)
-    (found : FindsHead (source.remaining s) (source.remaining m) old behind bytes r size) (waits : ReadsWhile source.gives AwaitsHead s m old.held (bytes ++ behind.held)) where
+-- ---- the body behind the head, which was taken
+
+module _ {R : Type 0} (source : Source R) (s m t : R) (old here behind new : Received) (r : Request) (len : ℕ) (size : BodyLength)
+    (found : FindsHead source s m old here r len size) (behind_is : behind ≡ record here { held = drop len here.held }) where
+  abbrev bytes : List ℕ
+  bytes = take len here.held
+
   head_then : (text : List ℕ) → TakesHead (bytes ++ text) (found.is).head text
   head_then text = record { reads = (found.takes.reads.0, ap (λ l. l ++ text) found.is.bytes_are); size = found.takes.size; fields = found.takes.fields }
 
-  head_read : ReadsOnWhile source AwaitsRequest s m old (put_back bytes behind)
-  head_read = widened source AwaitsRequest AwaitsHead s m old (put_back bytes behind) (λ h awaits. inl awaits) (record { on = found.reads; waits = waits })
+  pub head_read : ReadsOnWhile source AwaitsRequest s m old (put_back bytes behind)
+  head_read = subst (λ (b : Received). ReadsOnWhile source AwaitsRequest s m old (put_back bytes b)) (sym behind_is)
+      (front_taken source AwaitsRequest s m old here bytes (drop len here.held) (awaits_more source s m old here found.reads) (sym (take-append-drop len here.held)))
 
   -- the body is awaited behind the head
   body_awaited : (h : List ℕ) → AwaitsBody size h → AwaitsRequest (bytes ++ h)
@@ -91,12 +91,8 @@ module _ {R : Type 0} (source : Source R) (s m t : R) (old behind new : Received
   behind_head text second = front_join source AwaitsRequest (AwaitsBody size) s m t old behind new bytes text body_awaited head_read second
 
   -- no more could be had of the body
-  pub body_stops : (failed : Bool) → StopsWhile source (AwaitsBody size) m t failed behind.held → StopsWhile source AwaitsRequest s t failed old.held
-  body_stops failed stops = waits_then_stops source AwaitsRequest (AwaitsBody size) bytes body_awaited s m t failed old.held behind.held head_read.waits stops
-
-  -- nothing was read behind the head
-  pub head_stops : (failed : Bool) → StopsWhile source AwaitsRequest s m failed old.held
-  head_stops failed = stops_there source AwaitsRequest s m failed old.held (bytes ++ behind.held) head_read.waits
+  pub body_stops : (failed : Bool) (why : Interrupted) → StopsWhile source (AwaitsBody size) m t failed behind why → StopsWhile source AwaitsRequest s t failed old why
+  body_stops failed why stops = stops_behind source AwaitsRequest (AwaitsBody size) s m t failed old behind bytes why body_awaited head_read stops
 
   pub takes_request : {S : Type 0} (takes : Takings S) (before after : S) (body : TakesBody takes source m t behind new before after size)
       → TakesRequest source s t old new (found.is).head body.body
@@ -123,13 +119,8 @@ module _ {R : Type 0} (source : Source R) (s m t : R) (old behind new : Received
   finds_breach why b = record { text = bytes ++ b.text; reads = behind_head b.text b.reads; broken = breaks why b }
 
 -- no head is no request
-pub none_is_breach : {R : Type 0} (source : Source R) (s t : R) (old new : Received) → FindsNone (source.remaining s) (source.remaining t) old new
-    → ReadsWhile source.gives AwaitsHead s t old.held new.held → FindsBreach source s t old new breach.Head
-none_is_breach source s t old new none waits = record {
-  text = [];
-  reads = widened source AwaitsRequest AwaitsHead s t old new (λ h awaits. inl awaits) (record { on = none.reads; waits = waits });
-  broken = none.broken;
-}
+pub none_is_breach : {R : Type 0} (source : Source R) (s t : R) (old new : Received) → FindsNone source s t old new → FindsBreach source s t old new breach.Head
+none_is_breach source s t old new none = record { text = []; reads = awaits_more source s t old new none.reads; broken = none.broken }
 
 -- who stopped with fewer bytes than asked for has found the end
 pub short_ends : (ended : Bool) (count n : ℕ) → (ended ≡ false → count ≤ n) → n < count → ended ≡ true

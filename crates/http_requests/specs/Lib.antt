@@ -4,6 +4,8 @@ pub mod Asked
 pub mod Requests
 pub mod Framing
 pub mod Waiting
+pub mod Rooms
+pub mod Pieces
 pub mod Receiving
 pub mod Searching
 pub mod Sinks

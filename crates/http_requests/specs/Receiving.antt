@@ -1,12 +1,12 @@
 -- What reading on does to the bytes received, and what one look for the head of a request finds.
-use Rattle.std.specs.Prelude.{◌≡◌, ℕ, ◌+◌, ◌*◌, ◌≤◌, ◌⊎◌, Bool, true, if◌then◌else◌, List, [], ◌++◌, length, Option, Result, Ok, Err}
+use Rattle.std.specs.Prelude.{◌≡◌, ℕ, ◌+◌, ◌*◌, ◌≤◌, ◌⊎◌, Bool, true, false, if◌then◌else◌, List, [], ◌++◌, length, take, drop, Option, Result, Ok, Err}
 use Rattle.std.specs.Io.KnownBytes.{Consumes, IsAtEnd}
 use Rattle.httparse.specs.Grammar.{RequestHead}
-use Rattle.http_requests.specs.declared.received.TheConstants.{PIECE}
+use Rattle.http_requests.specs.declared.room.TheConstants.{PIECE}
 use Rattle.http_requests.specs.Heads.{TakesHead, AwaitsHead}
 use Rattle.http_requests.specs.Asked.{body_length}
 use Rattle.http_requests.specs.Requests.{Spells, IsHeadOf, IsBroken, AwaitsRequest}
-use Rattle.http_requests.specs.Waiting.{Gives, Source, ReadsWhile}
+use Rattle.http_requests.specs.Waiting.{Gives, Source, counted, ReadsWhile, FailsToRead}
 use Rattle.http_requests.specs.declared.asked.BodyLength.{BodyLength}
 use Rattle.http_requests.specs.declared.asked.Breach.{Breach}
 use Rattle.http_requests.specs.declared.asked.Breach.TheVariants as breach
@@ -39,12 +39,6 @@ pub record ReadsOn (in0 in1 : Option (List ℕ)) (old new : Received) : Type 0 w
   pub most : length more + PIECE * new.left ≤ PIECE * old.left
   pub end : KnowsItsEnd old.ended in0 → KnowsItsEnd new.ended in1
 
--- No more could be had: memory ran out, the input failed, or all reads were made.
-pub record Stops (in0 in1 : Option (List ℕ)) (failed : Bool) (old : Received) (why : Interrupted) : Type 0 where
-  pub more : List ℕ
-  pub read : Consumes in0 in1 more
-  pub least : why ≡ Reading → (failed ≡ true) ⊎ (turns old ≤ length more)
-
 -- whether the input has failed is as it was, unless reading it stopped the call
 abbrev pub SameUnlessReading : {A : Type 0} → Bool → Bool → Result A Interrupted → Type 0
 SameUnlessReading failed0 failed1 (Ok x) = failed1 ≡ failed0
@@ -57,48 +51,55 @@ put_back text r = record r { held = text ++ r.held }
 
 -- one read was made, and gave what the bytes received grew by
 abbrev pub IsRead : {R : Type 0} → Gives R → R → R → Received → Received → Type 0
-IsRead gives s t old new = (piece : List ℕ) × gives s piece t × (new.held ≡ old.held ++ piece)
+IsRead gives s t old new =
+    (piece : List ℕ) × gives s piece t × (new.held ≡ old.held ++ piece) × (new.left + 1 ≡ old.left)
 
--- Some reads were made, each while more was awaited of the bytes received by then.
+-- Some reads were made, each while more was awaited of the bytes received by then, and each takes one of those that may
+-- be made.
 pub record ReadsOnWhile {R : Type 0} (source : Source R) (Awaits : List ℕ → Type 0) (s t : R) (old new : Received) : Type 0 where
   pub on : ReadsOn (source.remaining s) (source.remaining t) old new
-  pub waits : ReadsWhile source.gives Awaits s t old.held new.held
+  pub waits : ReadsWhile (counted source.gives) Awaits (s, old.left) (t, new.left) old.held new.held
 
--- The head of a request was taken from the beginning: its bytes, what was reported of it, and how long the body is
--- that it says follows. The body is what follows.
-pub record FindsHead (in0 in1 : Option (List ℕ)) (old new : Received) (bytes : List ℕ) (r : Request) (size : BodyLength) : Type 0 where
-  pub is : IsHeadOf bytes r
-  pub takes : TakesHead bytes is.head []
+-- Why one more read gave nothing: memory ran out before it, all reads had been made, or it failed.
+abbrev pub Halts : {R : Type 0} → Source R → R → R → Bool → Received → Interrupted → Type 0
+Halts source s t failed here Memory = t ≡ s
+Halts source s t failed here Reading =
+    ((t ≡ s) × (here.left ≡ 0) × (here.ended ≡ false)) ⊎ FailsToRead source s t failed
+
+-- A call that ended in an error: some reads were made, each while more was awaited of the bytes received by then. More
+-- was awaited still, and one more read gave nothing.
+pub record StopsWhile {R : Type 0} (source : Source R) (Awaits : List ℕ → Type 0) (s t : R) (failed : Bool) (old : Received) (why : Interrupted) : Type 0 where
+  pub here : Received
+  pub before : R
+  pub reads : ReadsOnWhile source Awaits s before old here
+  pub awaits : Awaits here.held
+  pub last : Halts source before t failed here why
+
+-- The head of a request stands at the beginning: how many bytes it has, what was reported of it, and how long the body
+-- is that it says follows. Each read for it was made while a head was awaited.
+pub record FindsHead {R : Type 0} (source : Source R) (s t : R) (old new : Received) (r : Request) (len : ℕ) (size : BodyLength) : Type 0 where
+  pub is : IsHeadOf (take len new.held) r
+  pub takes : TakesHead new.held is.head (drop len new.held)
+  pub inside : len ≤ length new.held
   pub size_is : size ≡ body_length is.head
-  pub reads : ReadsOn in0 in1 old (put_back bytes new)
+  pub reads : ReadsOnWhile source AwaitsHead s t old new
 
 -- nothing is left
-pub record FindsEnd (in0 in1 : Option (List ℕ)) (old new : Received) : Type 0 where
-  pub reads : ReadsOn in0 in1 old new
-  pub at_end : IsAtEnd in1
+pub record FindsEnd {R : Type 0} (source : Source R) (s t : R) (old new : Received) : Type 0 where
+  pub reads : ReadsOnWhile source AwaitsHead s t old new
+  pub at_end : IsAtEnd (source.remaining t)
   pub nothing : new.held ≡ []
 
 -- what is left begins with no head
-pub record FindsNone (in0 in1 : Option (List ℕ)) (old new : Received) : Type 0 where
-  pub reads : ReadsOn in0 in1 old new
-  pub broken : IsBroken (IsAtEnd in1) new.held breach.Head
+pub record FindsNone {R : Type 0} (source : Source R) (s t : R) (old new : Received) : Type 0 where
+  pub reads : ReadsOnWhile source AwaitsHead s t old new
+  pub broken : IsBroken (IsAtEnd (source.remaining t)) new.held breach.Head
 
 -- what one look for the head of a request finds
-abbrev pub Finds : Option (List ℕ) → Option (List ℕ) → Received → Received → List ℕ → Next → Type 0
-Finds in0 in1 old new bytes (One r size) = FindsHead in0 in1 old new bytes r size
-Finds in0 in1 old new bytes Clean = FindsEnd in0 in1 old new
-Finds in0 in1 old new bytes Broken = FindsNone in0 in1 old new
-
--- the bytes that were taken with it
-abbrev pub taken_with : Next → List ℕ → List ℕ
-taken_with (One r size) bytes = bytes
-taken_with Clean bytes = []
-taken_with Broken bytes = []
-
--- each read for the head of a request was made while a head was awaited
-abbrev pub WaitsForHead : {R : Type 0} → Gives R → R → R → Received → Received → List ℕ → Next → Type 0
-WaitsForHead gives s t old new bytes next =
-    ReadsWhile gives AwaitsHead s t old.held (taken_with next bytes ++ new.held)
+abbrev pub Finds : {R : Type 0} → Source R → R → R → Received → Received → Next → Type 0
+Finds source s t old new (One r len size) = FindsHead source s t old new r len size
+Finds source s t old new Clean = FindsEnd source s t old new
+Finds source s t old new Broken = FindsNone source s t old new
 
 -- ---- requests, of which the head was taken and then the body
 

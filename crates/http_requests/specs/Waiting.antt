@@ -1,5 +1,5 @@
 -- That an input is read only while something is awaited of it.
-use Rattle.std.specs.Prelude.{◌≡◌, ℕ, ◌⊎◌, Bool, true, List, [], ◌∷◌, ◌++◌, Option}
+use Rattle.std.specs.Prelude.{◌≡◌, ℕ, ◌+◌, Bool, true, List, [], ◌∷◌, ◌++◌, Option}
 use Rattle.std.specs.Io.KnownBytes.{Keeps}
 
 -- from which state of an input one read that gives these bytes leads to which
@@ -13,6 +13,10 @@ pub record Source (R : Type 0) : Type 1 where
 
 abbrev pub source_of : {R : Type 0} → (R → Option (List ℕ)) → Gives R → Source R
 source_of remaining gives = record { remaining = remaining; gives = gives }
+
+-- the same of an input with the reads that may still be made: each takes one
+abbrev pub counted : {R : Type 0} → Gives R → Gives (R × ℕ)
+counted gives s piece t = gives s.0 piece t.0 × (t.1 + 1 ≡ s.1)
 
 -- The reads that gave these pieces, one after the other: before each of them more was awaited of the
 -- bytes received by then.
@@ -30,11 +34,3 @@ pub record ReadsWhile {R : Type 0} (gives : Gives R) (Awaits : List ℕ → Type
 -- A read that failed was made: it gave nothing, and the input remembers it.
 abbrev pub FailsToRead : {R : Type 0} → Source R → R → R → Bool → Type 0
 FailsToRead source s t failed = (failed ≡ true) × Keeps (source.remaining s) (source.remaining t)
-
--- The reads of a call that ended in an error, one after the other: before each of them, and before the
--- one that failed if one did, more was awaited of the bytes received by then.
-pub record StopsWhile {R : Type 0} (source : Source R) (Awaits : List ℕ → Type 0) (s t : R) (failed : Bool) (old : List ℕ) : Type 0 where
-  pub held : List ℕ
-  pub before : R
-  pub waits : ReadsWhile source.gives Awaits s before old held
-  pub last : (t ≡ before) ⊎ (Awaits held × FailsToRead source before t failed)

@@ -1,8 +1,8 @@
-ghost use Rattle.std.specs.Prelude.{◌≡◌, ◌≤◌, IfOk, IfErr, OnErr, length, take};
+ghost use Rattle.std.specs.Prelude.{◌≡◌, ◌≤◌, IfOk, IfErr, length, take};
 ghost use Rattle.chunked_bodies.specs.Chunks.{IsTrailer, IsContent, HasNone};
 ghost use Rattle.http_requests.specs.Requests.{IsShorter, AwaitsBody};
-ghost use Rattle.http_requests.specs.Waiting.{source_of, StopsWhile};
-ghost use Rattle.http_requests.specs.Receiving.{KnowsItsEnd, Stops, SameUnlessReading};
+ghost use Rattle.http_requests.specs.Waiting.{source_of};
+ghost use Rattle.http_requests.specs.Receiving.{KnowsItsEnd, StopsWhile, SameUnlessReading};
 ghost use Rattle.http_requests.specs.Bodies.{TrailerWhenDue, TakesSize, TakesOrMisses, AwaitsLine, AwaitsRest, IsLineEnd, begins_line_end, may_begin_line_end, Gathers, TakesContentOr, ReadsBody};
 ghost use Rattle.http_requests.specs.declared.asked.BodyLength.TheVariants.{Chunked};
 
@@ -24,10 +24,8 @@ fn gather<R: Input, S: Sink>(
     requires end { KnowsItsEnd received.old.ended (R.remaining input.old) }
     ensures gathers { IfOk result (Gathers S.takes (source_of R.remaining R.gives)
         input.old input.new received.old received.new sink.old sink.new size) }
-    ensures err { IfErr result (λ why. Stops (R.remaining input.old) (R.remaining input.new)
-        (R.has_failed input.new) received.old why) }
-    ensures stops_in_turn { OnErr result (StopsWhile (source_of R.remaining R.gives)
-        (IsShorter size) input.old input.new (R.has_failed input.new) received.old.held) }
+    ensures err { IfErr result (λ why. StopsWhile (source_of R.remaining R.gives)
+        (IsShorter size) input.old input.new (R.has_failed input.new) received.old why) }
     ensures same { SameUnlessReading (R.has_failed input.old) (R.has_failed input.new) result }
 {
     let mut left = size;
@@ -68,10 +66,8 @@ fn take_line_end<R: Input>(input: &mut R, received: &mut Received) -> Result<boo
     requires end { KnowsItsEnd received.old.ended (R.remaining input.old) }
     ensures takes { IfOk result (TakesOrMisses (source_of R.remaining R.gives)
         (AwaitsRest IsLineEnd) input.old input.new received.old received.new IsLineEnd) }
-    ensures err { IfErr result (λ why. Stops (R.remaining input.old) (R.remaining input.new)
-        (R.has_failed input.new) received.old why) }
-    ensures stops_in_turn { OnErr result (StopsWhile (source_of R.remaining R.gives)
-        (AwaitsRest IsLineEnd) input.old input.new (R.has_failed input.new) received.old.held) }
+    ensures err { IfErr result (λ why. StopsWhile (source_of R.remaining R.gives)
+        (AwaitsRest IsLineEnd) input.old input.new (R.has_failed input.new) received.old why) }
     ensures same { SameUnlessReading (R.has_failed input.old) (R.has_failed input.new) result }
 {
     'looks: loop {
@@ -95,10 +91,8 @@ fn take_size<R: Input>(input: &mut R, received: &mut Received) -> Result<Option<
     requires end { KnowsItsEnd received.old.ended (R.remaining input.old) }
     ensures takes { IfOk result (TakesSize (source_of R.remaining R.gives) input.old input.new
         received.old received.new) }
-    ensures err { IfErr result (λ why. Stops (R.remaining input.old) (R.remaining input.new)
-        (R.has_failed input.new) received.old why) }
-    ensures stops_in_turn { OnErr result (StopsWhile (source_of R.remaining R.gives)
-        AwaitsLine input.old input.new (R.has_failed input.new) received.old.held) }
+    ensures err { IfErr result (λ why. StopsWhile (source_of R.remaining R.gives)
+        AwaitsLine input.old input.new (R.has_failed input.new) received.old why) }
     ensures same { SameUnlessReading (R.has_failed input.old) (R.has_failed input.new) result }
 {
     'looks: loop {
@@ -136,10 +130,8 @@ fn take_trailer<R: Input>(input: &mut R, received: &mut Received) -> Result<bool
     requires end { KnowsItsEnd received.old.ended (R.remaining input.old) }
     ensures takes { IfOk result (TakesOrMisses (source_of R.remaining R.gives)
         (HasNone IsTrailer) input.old input.new received.old received.new IsTrailer) }
-    ensures err { IfErr result (λ why. Stops (R.remaining input.old) (R.remaining input.new)
-        (R.has_failed input.new) received.old why) }
-    ensures stops_in_turn { OnErr result (StopsWhile (source_of R.remaining R.gives)
-        (HasNone IsTrailer) input.old input.new (R.has_failed input.new) received.old.held) }
+    ensures err { IfErr result (λ why. StopsWhile (source_of R.remaining R.gives)
+        (HasNone IsTrailer) input.old input.new (R.has_failed input.new) received.old why) }
     ensures same { SameUnlessReading (R.has_failed input.old) (R.has_failed input.new) result }
 {
     let mut seen = 0;
@@ -172,10 +164,8 @@ fn take_content<R: Input, S: Sink>(
     requires end { KnowsItsEnd received.old.ended (R.remaining input.old) }
     ensures takes { IfOk result (TakesContentOr S.takes (source_of R.remaining R.gives)
         input.old input.new received.old received.new sink.old sink.new size) }
-    ensures err { IfErr result (λ why. Stops (R.remaining input.old) (R.remaining input.new)
-        (R.has_failed input.new) received.old why) }
-    ensures stops_in_turn { OnErr result (StopsWhile (source_of R.remaining R.gives)
-        (AwaitsRest (IsContent size)) input.old input.new (R.has_failed input.new) received.old.held) }
+    ensures err { IfErr result (λ why. StopsWhile (source_of R.remaining R.gives)
+        (AwaitsRest (IsContent size)) input.old input.new (R.has_failed input.new) received.old why) }
     ensures same { SameUnlessReading (R.has_failed input.old) (R.has_failed input.new) result }
 {
     if gather(input, received, sink, size)? {
@@ -194,10 +184,8 @@ fn read_chunks<R: Input, S: Sink>(
     requires end { KnowsItsEnd received.old.ended (R.remaining input.old) }
     ensures body { IfOk result (ReadsBody S.takes (source_of R.remaining R.gives)
         input.old input.new received.old received.new sink.old sink.new Chunked) }
-    ensures err { IfErr result (λ why. Stops (R.remaining input.old) (R.remaining input.new)
-        (R.has_failed input.new) received.old why) }
-    ensures stops_in_turn { OnErr result (StopsWhile (source_of R.remaining R.gives)
-        (AwaitsBody Chunked) input.old input.new (R.has_failed input.new) received.old.held) }
+    ensures err { IfErr result (λ why. StopsWhile (source_of R.remaining R.gives)
+        (AwaitsBody Chunked) input.old input.new (R.has_failed input.new) received.old why) }
     ensures same { SameUnlessReading (R.has_failed input.old) (R.has_failed input.new) result }
 {
     let mut left = MOST_BODY_BYTES;
@@ -228,7 +216,7 @@ fn read_chunks<R: Input, S: Sink>(
 ///
 /// # Errors
 ///
-/// The input failed, or memory ran out.
+/// The input failed, or memory ran out for what is read at once, before it was read.
 pub fn read_body<R: Input, S: Sink>(
     input: &mut R,
     received: &mut Received,
@@ -238,10 +226,8 @@ pub fn read_body<R: Input, S: Sink>(
     requires end { KnowsItsEnd received.old.ended (R.remaining input.old) }
     ensures body { IfOk result (ReadsBody S.takes (source_of R.remaining R.gives)
         input.old input.new received.old received.new sink.old sink.new size) }
-    ensures err { IfErr result (λ why. Stops (R.remaining input.old) (R.remaining input.new)
-        (R.has_failed input.new) received.old why) }
-    ensures stops_in_turn { OnErr result (StopsWhile (source_of R.remaining R.gives)
-        (AwaitsBody size) input.old input.new (R.has_failed input.new) received.old.held) }
+    ensures err { IfErr result (λ why. StopsWhile (source_of R.remaining R.gives)
+        (AwaitsBody size) input.old input.new (R.has_failed input.new) received.old why) }
     ensures same { SameUnlessReading (R.has_failed input.old) (R.has_failed input.new) result }
 {
     match size {

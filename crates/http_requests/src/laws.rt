@@ -5,7 +5,8 @@ ghost use Rattle.std.specs.Prelude.{◌≡◌, ℕ, List, [], ◌++◌};
 ghost use Rattle.httparse.specs.Grammar.{RequestHead as RequestHeadValue, NeverHasRequest};
 ghost use Rattle.http_requests.specs.declared.head.TheConstants.{MOST_HEAD_BYTES, MOST_FIELDS};
 ghost use Rattle.http_requests.specs.declared.asked.TheConstants.{MOST_BODY_BYTES};
-ghost use Rattle.http_requests.specs.declared.received.TheConstants.{MOST_READS, PIECE};
+ghost use Rattle.http_requests.specs.declared.received.TheConstants.{MOST_READS};
+ghost use Rattle.http_requests.specs.declared.room.TheConstants.{PIECE};
 ghost use Rattle.http_requests.specs.Heads.{TakesHead, EndsLine};
 ghost use Rattle.http_requests.specs.Requests.{Spells, IsBroken, AwaitsRequest};
 ghost use Rattle.http_requests.specs.declared.asked.Breach.{Breach as BreachValue};
@@ -18,7 +19,7 @@ pub fn a_session_has_these_limits()
     ensures fields { MOST_FIELDS ≡ 64 }
     ensures body { MOST_BODY_BYTES ≡ 4194304 }
     ensures reads { MOST_READS ≡ 1099511627776 }
-    ensures piece { PIECE ≡ 4096 }
+    ensures piece { PIECE ≡ 16384 }
 {}
 
 /// At the beginning of the bytes stands one head, with one rest.

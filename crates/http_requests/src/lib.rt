@@ -12,6 +12,7 @@
 //! * `asked`: what a session asks of a head: method, target, how long the body is, whether it closes.
 //! * `bodies`: taking a body, by its length or in chunks.
 //! * `received`: the bytes that were read and are not taken yet.
+//! * `room`: the room that they lie in, which is used again.
 //! * `line_ends`: whether a line ends in bytes.
 //! * `reading`: the head of the next request of an input.
 //! * `sink`: what a body is put into.
@@ -26,10 +27,12 @@ pub mod laws;
 mod line_ends;
 mod reading;
 mod received;
+mod room;
 mod sink;
 
 pub use asked::{BodyLength, Breach, Method, Request};
 pub use bodies::read_body;
 pub use reading::{Next, next_head};
-pub use received::{Interrupted, MOST_READS, PIECE, Received};
+pub use received::{Interrupted, MOST_READS, Received};
+pub use room::PIECE;
 pub use sink::Sink;

@@ -1,9 +1,8 @@
-ghost use Rattle.std.specs.Prelude.{◌≡◌, ◌≤◌, ◌+◌, [], true, false, IfOk, IfErr, OnOk, OnErr, length, drop};
-ghost use Rattle.std.specs.Io.KnownBytes.{IsAtEnd};
+ghost use Rattle.std.specs.Prelude.{◌≤◌, IfOk, IfErr, OnOk, length};
 ghost use Rattle.http_requests.specs.declared.head.TheConstants.{MOST_FIELDS};
 ghost use Rattle.http_requests.specs.Heads.{AwaitsHead};
-ghost use Rattle.http_requests.specs.Waiting.{source_of, StopsWhile};
-ghost use Rattle.http_requests.specs.Receiving.{KnowsItsEnd, ReadsOnWhile, Stops, Finds, WaitsForHead, SameUnlessReading};
+ghost use Rattle.http_requests.specs.Waiting.{source_of};
+ghost use Rattle.http_requests.specs.Receiving.{KnowsItsEnd, ReadsOnWhile, StopsWhile, Finds, SameUnlessReading};
 ghost use Rattle.http_requests.specs.Searching.{SearchFinds};
 
 use crate::asked::{BodyLength, Request, frame};
@@ -18,8 +17,8 @@ const FIELD_ROOM: usize = 65;
 /// What stood at the beginning of the bytes received, after reading as far as it takes.
 #[derive(Clone, Copy, Debug)]
 pub enum Next {
-    /// The head of a request, and how long the body is by it.
-    One(Request, BodyLength),
+    /// The head of a request, how many bytes it has, and how long the body is by it.
+    One(Request, usize, BodyLength),
     /// Nothing, and the input has ended.
     Clean,
     /// No head, and none can come.
@@ -37,7 +36,6 @@ enum Found {
 }
 
 /// Reads until a head stands at the beginning, or none can.
-#[tactic(auto, using(crate::proofs::Readings::reads_then_stops))]
 fn find_head<R: Input>(
     input: &mut R,
     received: &mut Received,
@@ -49,10 +47,8 @@ fn find_head<R: Input>(
         input.old input.new received.old received.new) }
     ensures found { IfOk result (λ found.
         SearchFinds (R.remaining input.new) received.new.held headers.new found) }
-    ensures err { IfErr result (λ why. Stops (R.remaining input.old) (R.remaining input.new)
-        (R.has_failed input.new) received.old why) }
-    ensures stops_in_turn { OnErr result (StopsWhile (source_of R.remaining R.gives)
-        AwaitsHead input.old input.new (R.has_failed input.new) received.old.held) }
+    ensures err { IfErr result (λ why. StopsWhile (source_of R.remaining R.gives)
+        AwaitsHead input.old input.new (R.has_failed input.new) received.old why) }
     ensures same { SameUnlessReading (R.has_failed input.old) (R.has_failed input.new) result }
 {
     let mut seen = 0;
@@ -71,29 +67,20 @@ fn find_head<R: Input>(
     }
 }
 
-/// Reads until the head of a request stood at the beginning of the bytes received, or there is none: the input
-/// has ended, or no continuation begins with one. The head is taken from the bytes, and its bytes are put in
-/// the place of what `head` held; the body is what follows, for [`read_body`](crate::read_body). It reads
-/// nothing of an input that has ended, nor where the bytes received decide: a head stands at their beginning, or
-/// no continuation of the lines received whole begins with one.
+/// Reads until the head of a request stands at the beginning of the bytes received, or there is none: the input
+/// has ended, or no continuation begins with one. Once the caller has taken the head, the body is what follows, for
+/// [`read_body`](crate::read_body). It reads nothing of an input that has ended, nor where the bytes received decide:
+/// a head stands at their beginning, or no continuation of the lines received whole begins with one.
 ///
 /// # Errors
 ///
-/// The input failed, or memory ran out.
-pub fn next_head<R: Input>(
-    input: &mut R,
-    received: &mut Received,
-    head: &mut Vec<u8>,
-) -> Result<Next, Interrupted>
+/// The input failed, or memory ran out for what is read at once, before it was read.
+pub fn next_head<R: Input>(input: &mut R, received: &mut Received) -> Result<Next, Interrupted>
     requires end { KnowsItsEnd received.old.ended (R.remaining input.old) }
-    ensures found { IfOk result (λ next. Finds (R.remaining input.old) (R.remaining input.new)
-        received.old received.new head.new.items next) }
-    ensures waits { IfOk result (λ next. WaitsForHead R.gives input.old input.new
-        received.old received.new head.new.items next) }
-    ensures err { IfErr result (λ why. Stops (R.remaining input.old) (R.remaining input.new)
-        (R.has_failed input.new) received.old why) }
-    ensures stops_in_turn { OnErr result (StopsWhile (source_of R.remaining R.gives)
-        AwaitsHead input.old input.new (R.has_failed input.new) received.old.held) }
+    ensures found { IfOk result (Finds (source_of R.remaining R.gives) input.old input.new
+        received.old received.new) }
+    ensures err { IfErr result (λ why. StopsWhile (source_of R.remaining R.gives)
+        AwaitsHead input.old input.new (R.has_failed input.new) received.old why) }
     ensures same { SameUnlessReading (R.has_failed input.old) (R.has_failed input.new) result }
 {
     let mut headers = [EMPTY_HEADER_SPAN; FIELD_ROOM];
@@ -103,8 +90,5 @@ pub fn next_head<R: Input>(
         Found::End | Found::Never => return Ok(Next::Broken),
     };
     let (request, size) = frame(received.as_slice(), &headers, spans);
-    head.clear();
-    head.extend_from_slice(&received.as_slice()[..spans.len])?;
-    received.take(spans.len);
-    Ok(Next::One(request, size))
+    Ok(Next::One(request, spans.len, size))
 }

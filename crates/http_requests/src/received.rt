@@ -1,16 +1,14 @@
 ghost use Rattle.std.specs.Prelude.{◌≡◌, ◌≤◌, ◌+◌, [], false, IfErr, OnOk, OnErr, length, drop};
-ghost use Rattle.http_requests.specs.Waiting.{source_of, StopsWhile};
-ghost use Rattle.http_requests.specs.Receiving.{ReadsOn, IsRead, Stops, SameUnlessReading};
+ghost use Rattle.http_requests.specs.Waiting.{source_of};
+ghost use Rattle.http_requests.specs.Receiving.{ReadsOn, IsRead, Halts, SameUnlessReading};
 
+use crate::room::Room;
 use session_devices::Input;
 use std::alloc::{AllocError, Global};
 use std::marker::Model;
 
 /// How many reads one session makes at most; one more counts as a failed one.
 pub const MOST_READS: u64 = 1_099_511_627_776;
-
-/// How many bytes one read asks for.
-pub const PIECE: usize = 4096;
 
 /// Why no more bytes could be had.
 #[derive(Clone, Copy, Debug, PartialEq, Eq)]
@@ -35,21 +33,18 @@ impl From<AllocError> for Interrupted {
 /// and whether the input has ended.
 #[derive(Drop)]
 pub struct Received {
-    bytes: Vec<u8>,
-    at: usize,
+    room: Room,
     left: u64,
     ended: bool,
 }
 
 impl Model for Received {
-    ghost use Rattle.std.specs.Prelude.{◌≤◌, drop, vec_len};
     ghost use Rattle.http_requests.specs.Receiving.{Received as ReceivedValue};
+    ghost use Rattle.http_requests.specs.Rooms.{held};
 
     ghost Value = { ReceivedValue };
 
-    ghost view = { λ s. record { held = drop s.at s.bytes.items; left = s.left; ended = s.ended } };
-
-    ghost invariant = { λ s. s.at ≤ vec_len s.bytes };
+    ghost view = { λ s. record { held = held s.room; left = s.left; ended = s.ended } };
 }
 
 impl Received {
@@ -58,8 +53,7 @@ impl Received {
         ensures { result ≡ record { held = []; left = MOST_READS; ended = false } }
     {
         Received {
-            bytes: Vec::new(alloc),
-            at: 0,
+            room: Room::new(alloc),
             left: MOST_READS,
             ended: false,
         }
@@ -69,7 +63,7 @@ impl Received {
     pub fn as_slice(&self) -> &[u8]
         ensures { result.now ≡ self.now.held }
     {
-        &self.bytes.as_slice()[self.at..]
+        self.room.as_slice()
     }
 
     /// Whether a read has found the end of the input.
@@ -84,45 +78,28 @@ impl Received {
         requires { count ≤ length self.old.held }
         ensures { self.new ≡ record self.old { held = drop count self.old.held } }
     {
-        self.at += count;
+        self.room.take(count);
     }
 
-    /// Moves what is left to the beginning. It came with the last read, so that no byte is moved twice.
-    fn compact(&mut self)
-        ensures { self.new ≡ self.old }
-    {
-        if self.at > 0 {
-            let left = self.bytes.len() - self.at;
-            self.bytes.copy_within(self.at.., 0);
-            self.bytes.truncate(left);
-            self.at = 0;
-        }
-    }
-
-    /// Makes one read, of an input that has not ended.
+    /// Makes one read, of an input that has not ended. Memory is taken before it: a read's bytes always find room.
     pub(crate) fn read_on<R: Input>(&mut self, input: &mut R) -> Result<(), Interrupted>
         requires { self.old.ended ≡ false }
         ensures ok { OnOk result (ReadsOn (R.remaining input.old) (R.remaining input.new)
             self.old self.new) }
         ensures read { OnOk result (IsRead R.gives input.old input.new self.old self.new) }
-        ensures err { IfErr result (λ why. Stops (R.remaining input.old) (R.remaining input.new)
+        ensures err { IfErr result (λ why. Halts (source_of R.remaining R.gives) input.old input.new
             (R.has_failed input.new) self.old why) }
-        ensures stops_in_turn { OnErr result (StopsWhile (source_of R.remaining R.gives)
-            (λ held. held ≡ self.old.held) input.old input.new (R.has_failed input.new)
-            self.old.held) }
+        ensures unchanged { OnErr result (self.new ≡ self.old) }
         ensures same { SameUnlessReading (R.has_failed input.old) (R.has_failed input.new) result }
         ensures fewer { OnOk result (self.new.left + 1 ≡ self.old.left) }
     {
         if self.left == 0 {
             return Err(Interrupted::Reading);
         }
-        self.compact();
-        let mut piece = [0u8; PIECE];
-        let count = match input.read(&mut piece) {
-            Ok(count) => count,
-            Err(_) => return Err(Interrupted::Reading),
+        self.room.make_room()?;
+        let Ok(count) = self.room.read_from(input) else {
+            return Err(Interrupted::Reading);
         };
-        self.bytes.extend_from_slice(&piece[..count])?;
         self.left -= 1;
         self.ended = count == 0;
         Ok(())

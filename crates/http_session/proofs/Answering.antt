@@ -1,7 +1,7 @@
 -- One request that was heard, answered.
 use Rattle.std.proofs.Common.{◌≡◌, ◌≢◌, ℕ, ◌+◌, ◌*◌, ◌<◌, ◌||◌, Bool, true, false, List, ◌++◌, length, Option, Err, refl, sym, ap, ◌∙◌, subst, arith, length-append}
 use Rattle.std.specs.Io.KnownBytes.{Appends}
-use Rattle.http_requests.specs.declared.received.TheConstants.{PIECE}
+use Rattle.http_requests.specs.declared.room.TheConstants.{PIECE}
 use Rattle.http_requests.specs.Waiting.{Source}
 use Rattle.http_requests.specs.Receiving.{Received, put_back}
 use Rattle.http_requests.proofs.Once.{request_is_some}

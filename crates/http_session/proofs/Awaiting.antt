@@ -1,8 +1,8 @@
 -- How reads in turn go on.
-use Rattle.std.proofs.Common.{◌≡◌, ℕ, Bool, List, [], ◌++◌, refl, sym, ap, ◌∙◌, subst, append_assoc, append-nil}
+use Rattle.std.proofs.Common.{◌≡◌, ℕ, List, [], ◌++◌, refl, sym, ap, ◌∙◌, subst, append_assoc, append-nil}
 use Rattle.http_requests.specs.Requests.{AwaitsRequest}
-use Rattle.http_requests.specs.Waiting.{Gives, Source, ReadsWhile, StopsWhile}
-use Rattle.http_requests.proofs.Waits.{no_read, reads_in_turn, reads_behind, waits_then_stops}
+use Rattle.http_requests.specs.Waiting.{Gives, ReadsWhile}
+use Rattle.http_requests.proofs.Waits.{no_read, reads_in_turn, reads_behind}
 use Rattle.http_session.specs.Sessions.{Exchange, texts}
 use Rattle.http_session.specs.InTurn.{AwaitsNext, ReadsInTurn}
 
@@ -38,10 +38,3 @@ module _ {R : Type 0} (gives : Gives R) where
   -- one more was answered, and the session stays open
   pub taken_with : (s t : R) (opens more : List Exchange) (taken : List ℕ) → ReadsInTurn gives s t opens taken → ReadsInTurn gives s t (opens ++ more) taken
   taken_with s t opens more taken waits = reads_behind gives (AwaitsNext opens) (AwaitsNext (opens ++ more)) [] (with_more opens more) s t [] taken waits
-
--- no more could be read for the request behind them
-pub stopped_on : {R : Type 0} (source : Source R) (s m t : R) (failed : Bool) (opens : List Exchange) (taken held : List ℕ) → ReadsInTurn source.gives s m opens taken → taken ≡ texts opens ++ held
-    → StopsWhile source AwaitsRequest m t failed held → StopsWhile source (AwaitsNext opens) s t failed []
-stopped_on source s m t failed opens taken held first split stops =
-    waits_then_stops source (AwaitsNext opens) AwaitsRequest (texts opens) (behind_all opens) s m t failed [] held
-    (subst (λ (l : List ℕ). ReadsWhile source.gives (AwaitsNext opens) s m [] l) split first) stops

@@ -4,7 +4,7 @@ use Rattle.jaeger_model.specs.declared.batch.Batch.{Batch as Reported}
 use Rattle.batch_codec.specs.BatchReading.{decoded}
 use Rattle.batch_codec.specs.declared.fault.DecodeError.{DecodeError}
 use Rattle.batch_codec.specs.declared.fault.DecodeError.TheVariants.{Memory, Wire, Missing, BadEnum, Trailing}
-use Rattle.batch_feeder.specs.Feeding.{Feeds}
+use Rattle.batch_feeder.specs.Feeding.{HasRefused, Feeds}
 use Rattle.batch_feeder.specs.Continuing.{Faults}
 use Rattle.http_session.specs.Verdicts.{JudgesBatch}
 use Rattle.http_session.specs.Questions.{JudgesRead}
@@ -15,12 +15,12 @@ use Rattle.http_session.specs.declared.verdict.Verdict.TheVariants.{Submit, Ask,
 
 module _ (old new : List ℕ → Result Reported DecodeError) (piece : List ℕ) where
   -- a fault that isn't that memory ran out is the bytes'
-  keeps : (e : DecodeError) → (e ≡ Memory → ⊥) → Faults old piece e → ((rest : List ℕ) → new rest ≡ Err e) → Follows old piece new
-  keeps e some faults stays = inl (λ rest. (faults some).same rest ∙ sym (stays rest))
+  keeps : (e : DecodeError) → (e ≡ Memory → ⊥) → Faults old piece e → HasRefused new e → Follows old piece new
+  keeps e some faults stays = inl (λ rest. (faults some).same rest ∙ sym (stays.all rest))
 
   pub fed : (r : Result (Unit {0}) DecodeError) → Feeds old new piece r → Follows old piece new
   fed (Ok x) taken = inl taken.same
-  fed (Err Memory) refuses = inr refuses.stays
+  fed (Err Memory) refuses = inr (refuses.stays, refuses.repeats)
   fed (Err (Wire e)) refuses = keeps (Wire e) (λ m. absurd (cc m)) refuses.faults refuses.stays
   fed (Err (Missing p i)) refuses = keeps (Missing p i) (λ m. absurd (cc m)) refuses.faults refuses.stays
   fed (Err BadEnum) refuses = keeps BadEnum (λ m. absurd (cc m)) refuses.faults refuses.stays
@@ -32,9 +32,9 @@ module _ (old new : List ℕ → Result Reported DecodeError) (body : List ℕ) 
 
   pub judged : (v : Verdict) → Follows old body new → JudgesRead (new []) v → JudgesBatch true body v
   judged (Submit b) (inl same) is = (refl, sym (all same) ∙ is)
-  judged (Submit b) (inr want) is = absurd (cc (want [], is))
+  judged (Submit b) (inr want) is = absurd (cc (want.0.all [], is))
   judged (Say (BatchRefused f)) (inl same) is = (refl, sym (all same) ∙ is.0)
-  judged (Say (BatchRefused f)) (inr want) is = absurd (is.1 (cc (want [], is.0)))
+  judged (Say (BatchRefused f)) (inr want) is = absurd (is.1 (cc (want.0.all [], is.0)))
   judged (Say NoMemory) follows is = refl
   judged (Say UnsupportedType) follows is = absurd is
   judged (Say NoSuchPath) follows is = absurd is

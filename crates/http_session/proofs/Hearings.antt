@@ -1,28 +1,29 @@
 -- A request that was heard: its head, and then its body.
-use Rattle.std.proofs.Common.{◌≡◌, ℕ, Bool, List, ◌++◌, Option, Result, Ok, Err, IfOk, IfErr, sym, ap, subst, inl}
+use Rattle.std.proofs.Common.{◌≡◌, ℕ, Bool, List, take, drop, Result, Ok, Err, IfOk, IfErr, sym, ap, subst, inl}
 use Rattle.http_requests.specs.Asked.{Asked, asked_by}
-use Rattle.http_requests.specs.Heads.{AwaitsHead}
 use Rattle.http_requests.specs.Requests.{AwaitsRequest}
-use Rattle.http_requests.specs.Waiting.{Source, ReadsWhile}
+use Rattle.http_requests.specs.Waiting.{Source}
 use Rattle.http_requests.specs.Sinks.{Takings}
-use Rattle.http_requests.specs.Receiving.{Received, ReadsOn, Stops, SameUnlessReading, FindsHead, FindsEnd}
+use Rattle.http_requests.specs.Receiving.{Received, StopsWhile, SameUnlessReading, FindsHead, FindsEnd}
 use Rattle.http_requests.specs.Bodies.{TakesBody, ReadsBody}
 use Rattle.http_requests.specs.declared.asked.BodyLength.{BodyLength}
 use Rattle.http_requests.specs.declared.asked.Request.{Request}
 use Rattle.http_requests.specs.declared.asked.Breach.{Breach}
 use Rattle.http_requests.specs.declared.received.Interrupted.{Interrupted}
 use Rattle.http_requests.specs.declared.received.Interrupted.TheVariants as why
-use Rattle.http_requests.proofs.Readings.{widened}
-use Rattle.http_requests.proofs.Wholes.{takes_request}
-use Rattle.http_session.specs.Verdicts.{Judges, asked_of}
+use Rattle.http_requests.proofs.Wholes.{awaits_more, takes_request}
+use Rattle.http_session.specs.Verdicts.{Judges, AsksQuery, asked_of}
 use Rattle.http_session.specs.Questions.{Decides, Asks}
-use Rattle.http_session.specs.Hearing.{reported_behind, HearsBody, HearsWhole, HearsOne, HearsEnd}
+use Rattle.http_session.specs.Hearing.{reported_behind, HearsBody, HearsWhole, HearsOne, HearsEnd, HearsNoQuery, HearsNothing}
 use Rattle.http_session.specs.declared.question.Question.{Question}
 use Rattle.http_session.specs.declared.verdict.Verdict.{Verdict}
 use Rattle.http_session.proofs.Texts.{asked_is}
 
-module _ {R : Type 0} (source : Source R) (s m t : R) (old behind new : Received) (bytes : List ℕ) (r : Request) (size : BodyLength)
-    (found : FindsHead (source.remaining s) (source.remaining m) old behind bytes r size) (waits : ReadsWhile source.gives AwaitsHead s m old.held (bytes ++ behind.held)) where
+module _ {R : Type 0} (source : Source R) (s m t : R) (old here behind new : Received) (r : Request) (len : ℕ) (size : BodyLength)
+    (found : FindsHead source s m old here r len size) (behind_is : behind ≡ record here { held = drop len here.held }) where
+  abbrev bytes : List ℕ
+  bytes = take len here.held
+
   pub hears_one : (q : Question) (v : Verdict) → Asks (asked_of bytes r) q → HearsWhole source m t behind new size q v → HearsOne source s t old new v r.closes
   hears_one q v asks whole =
       let takes : Question → List ℕ → Question → Type 0 = λ s w t. Decides s w v in
@@ -31,19 +32,28 @@ module _ {R : Type 0} (source : Source R) (s m t : R) (old behind new : Received
       record {
         head = (found.is).head;
         body = whole.body;
-        request = takes_request source s m t old behind new bytes r size found waits takes q q body;
+        request = takes_request source s m t old here behind new r len size found behind_is takes q q body;
         judged = subst (λ (a : Asked). Judges a whole.body v) (sym same) (asks whole.body v whole.decides);
         closes_is = ap (λ (a : Asked). a.closes) (sym same);
       }
 
--- nothing is left of an input that has ended
-pub hears_end : {R : Type 0} (source : Source R) (s t : R) (old new : Received) → FindsEnd (source.remaining s) (source.remaining t) old new
-    → ReadsWhile source.gives AwaitsHead s t old.held new.held → HearsEnd source s t old new
-hears_end source s t old new found waits = record {
-  reads = widened source AwaitsRequest AwaitsHead s t old new (λ h awaits. inl awaits) (record { on = found.reads; waits = waits });
-  at_end = found.at_end;
-  nothing = found.nothing;
+-- there was no memory for the query that it asks
+pub hears_no_query : {R : Type 0} (source : Source R) (s t : R) (old here : Received) (r : Request) (len : ℕ) (size : BodyLength) → FindsHead source s t old here r len size
+    → AsksQuery (asked_of (take len here.held) r) → HearsNoQuery source s t old
+hears_no_query source s t old here r len size found asks = record {
+  here = here;
+  reads = awaits_more source s t old here found.reads;
+  query = record { head = (found.is).head; after = drop len here.held; takes = found.takes; asks = subst AsksQuery (sym (asked_is (take len here.held) r found.is)) asks };
 }
+
+-- nothing is left of an input that has ended
+pub hears_end : {R : Type 0} (source : Source R) (s t : R) (old new : Received) → FindsEnd source s t old new → HearsEnd source s t old new
+hears_end source s t old new found = record { reads = awaits_more source s t old new found.reads; at_end = found.at_end; nothing = found.nothing }
+
+-- no more could be had
+pub hears_nothing : {R : Type 0} (source : Source R) (s t : R) (failed : Bool) (old : Received) (why : Interrupted) → StopsWhile source AwaitsRequest s t failed old why → HearsNothing source s t failed old why
+hears_nothing source s t failed old why.Reading stops = stops
+hears_nothing source s t failed old why.Memory stops = inl stops
 
 -- ---- the verdict behind a body
 
@@ -65,7 +75,3 @@ reported_same v failed0 failed1 (Ok (Ok x)) same = same
 reported_same v failed0 failed1 (Ok (Err breach)) same = same
 reported_same v failed0 failed1 (Err why.Memory) same = same
 reported_same v failed0 failed1 (Err why.Reading) same = same
-
--- memory ran out, after so much was read
-pub stops_for_memory : (in0 in1 : Option (List ℕ)) (failed : Bool) (old new : Received) → ReadsOn in0 in1 old new → Stops in0 in1 failed old why.Memory
-stops_for_memory in0 in1 failed old new reads = record { more = reads.more; read = reads.read; least = λ e. absurd (cc e) }

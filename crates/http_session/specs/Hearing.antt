@@ -1,16 +1,17 @@
 -- What is heard of a request.
-use Rattle.std.specs.Prelude.{◌≡◌, ℕ, Bool, List, [], Result, Ok, Err}
+use Rattle.std.specs.Prelude.{◌≡◌, ℕ, ◌⊎◌, Bool, List, [], Result, Ok, Err}
 use Rattle.std.specs.Io.KnownBytes.{IsAtEnd}
 use Rattle.httparse.specs.Grammar.{RequestHead}
 use Rattle.http_requests.specs.Asked.{asked_by}
 use Rattle.http_requests.specs.Requests.{HasBody, AwaitsBody, AwaitsRequest}
 use Rattle.http_requests.specs.Waiting.{Source}
-use Rattle.http_requests.specs.Receiving.{Received, ReadsOnWhile, put_back, TakesRequest, FindsBreach}
+use Rattle.http_requests.specs.Receiving.{Received, ReadsOnWhile, StopsWhile, put_back, TakesRequest, FindsBreach}
 use Rattle.http_requests.specs.Bodies.{BreaksBody}
 use Rattle.http_requests.specs.declared.asked.BodyLength.{BodyLength}
 use Rattle.http_requests.specs.declared.asked.Breach.{Breach}
 use Rattle.http_requests.specs.declared.received.Interrupted.{Interrupted}
-use Rattle.http_session.specs.Verdicts.{Judges}
+use Rattle.http_requests.specs.declared.received.Interrupted.TheVariants.{Reading, Memory}
+use Rattle.http_session.specs.Verdicts.{Judges, BeginsWithQuery}
 use Rattle.http_session.specs.Questions.{Decides}
 use Rattle.http_session.specs.declared.question.Question.{Question}
 use Rattle.http_session.specs.declared.verdict.Verdict.{Verdict}
@@ -48,6 +49,19 @@ pub record HearsEnd {R : Type 0} (source : Source R) (s t : R) (old new : Receiv
   pub reads : ReadsOnWhile source AwaitsRequest s t old new
   pub at_end : IsAtEnd (source.remaining t)
   pub nothing : new.held ≡ []
+
+-- memory ran out for the query whose head stood at the beginning of the bytes received; each read was made while a request
+-- was awaited
+pub record HearsNoQuery {R : Type 0} (source : Source R) (s t : R) (old : Received) : Type 0 where
+  pub here : Received
+  pub reads : ReadsOnWhile source AwaitsRequest s t old here
+  pub query : BeginsWithQuery here.held
+
+-- no more could be had of the request that was awaited, or memory ran out for a query
+abbrev pub HearsNothing : {R : Type 0} → Source R → R → R → Bool → Received → Interrupted → Type 0
+HearsNothing source s t failed old Reading = StopsWhile source AwaitsRequest s t failed old Reading
+HearsNothing source s t failed old Memory =
+    StopsWhile source AwaitsRequest s t failed old Memory ⊎ HearsNoQuery source s t old
 
 abbrev pub Hears : {R : Type 0} → Source R → R → R → Received → Received → Heard → Type 0
 Hears source s t old new (One v closes) = HearsOne source s t old new v closes

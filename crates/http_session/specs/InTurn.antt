@@ -1,8 +1,8 @@
 -- That a session reads only while the request is awaited that it answers next.
-use Rattle.std.specs.Prelude.{◌≡◌, ℕ, Bool, List, [], ◌++◌, Option}
+use Rattle.std.specs.Prelude.{◌≡◌, ℕ, ◌⊎◌, Bool, List, [], ◌++◌, length, Option}
 use Rattle.http_requests.specs.Requests.{AwaitsRequest}
-use Rattle.http_requests.specs.Waiting.{Gives, Source, ReadsWhile, StopsWhile}
-use Rattle.http_session.specs.Sessions.{Exchange, texts, Submits, Reads, EndsAs, Due, none_yet, due, due_parting, FailsAs}
+use Rattle.http_requests.specs.Waiting.{Gives, Source, ReadsWhile, FailsToRead}
+use Rattle.http_session.specs.Sessions.{Exchange, texts, Submits, Reads, EndsAs, FailsAs}
 use Rattle.http_session.specs.declared.exchanges.SessionError.{SessionError}
 
 -- The bytes received are these requests up to some place, and a rest of which the next one is awaited: no
@@ -21,12 +21,13 @@ pub record AwaitsNext (opens : List Exchange) (bytes : List ℕ) : Type 0 where
 abbrev pub ReadsInTurn : {R : Type 0} → Gives R → R → R → List Exchange → List ℕ → Type 0
 ReadsInTurn gives s t opens taken = ReadsWhile gives (AwaitsNext opens) s t [] taken
 
--- The same of a session that failed. Where a response was due, no read had failed; otherwise one may have, as the last,
--- and the next request was awaited before it too.
-abbrev pub ReadsInTurnUpTo : {R : Type 0} → Source R → R → R → Bool → List Exchange → List ℕ → Due → Type 0
-ReadsInTurnUpTo source s t failed opens taken none_yet = StopsWhile source (AwaitsNext opens) s t failed []
-ReadsInTurnUpTo source s t failed opens taken (due x) = ReadsInTurn source.gives s t opens taken
-ReadsInTurnUpTo source s t failed opens taken (due_parting b) = ReadsInTurn source.gives s t opens taken
+-- The same of a session that failed, in which so many reads gave something, or the end. One more may have failed, as the
+-- last.
+pub record ReadsInTurnUpTo {R : Type 0} (source : Source R) (s t : R) (failed : Bool) (opens : List Exchange) (taken : List ℕ) (made : ℕ) : Type 0 where
+  pub before : R
+  pub reads : ReadsInTurn source.gives s before opens taken
+  pub count : length reads.pieces ≡ made
+  pub last : (t ≡ before) ⊎ FailsToRead source before t failed
 
 -- ---- sessions
 
@@ -37,4 +38,4 @@ EndsInTurn submits reads source i0 i1 out0 out1 s t answered clean =
 abbrev pub FailsInTurn : {S R : Type 0} → Submits S → Reads S → Source R → R → R → Option (List ℕ) → Option (List ℕ) → S → S → Bool → Bool → SessionError → Type 0
 FailsInTurn submits reads source i0 i1 out0 out1 s t in_failed out_failed error =
     (fails : FailsAs submits reads (source.remaining i0) (source.remaining i1) out0 out1 s t in_failed out_failed error)
-    × ReadsInTurnUpTo source i0 i1 in_failed fails.opens fails.taken fails.next
+    × ReadsInTurnUpTo source i0 i1 in_failed fails.opens fails.taken fails.made

@@ -20,11 +20,11 @@ Decides Batch body v = JudgesBatch true body v
 abbrev pub Asks : Asked → Question → Type 0
 Asks a q = (body : List ℕ) (v : Verdict) → Decides q body v → Judges a body v
 
--- a batch that was read, or the fault; memory may be wanting for it
+-- a batch that was read, or why there is none
 abbrev pub JudgesRead : Result BatchValue DecodeError → Verdict → Type 0
 JudgesRead read (Submit b) = read ≡ Ok b
 JudgesRead read (Say (BatchRefused f)) = (read ≡ Err f) × (f ≢ Memory)
-JudgesRead read (Say NoMemory) = Unit {0}
+JudgesRead read (Say NoMemory) = read ≡ Err Memory
 JudgesRead read (Say UnsupportedType) = ⊥
 JudgesRead read (Say NoSuchPath) = ⊥
 JudgesRead read (Say (NotAllowed e)) = ⊥

@@ -9,11 +9,11 @@ use Rattle.trace_model.specs.declared.answer.Answer.{Answer}
 use Rattle.trace_model.specs.declared.refusal.Refusal.{Refusal}
 use Rattle.http_requests.specs.declared.received.TheConstants.{MOST_READS}
 use Rattle.http_requests.specs.Asked.{asked_by}
-use Rattle.http_requests.specs.Requests.{Spells, IsBroken}
+use Rattle.http_requests.specs.Requests.{Spells, IsBroken, AwaitsRequest}
 use Rattle.http_requests.specs.declared.received.Interrupted.{Interrupted}
 use Rattle.http_requests.specs.declared.received.Interrupted.TheVariants as why
 use Rattle.http_requests.specs.declared.asked.Breach.{Breach}
-use Rattle.http_session.specs.Verdicts.{Judges}
+use Rattle.http_session.specs.Verdicts.{Judges, BeginsWithQuery}
 use Rattle.http_session.specs.Replies.{closes, takes_no_memory, response_of}
 use Rattle.http_session.specs.declared.verdict.Verdict.{Verdict}
 use Rattle.http_session.specs.declared.verdict.Verdict.TheVariants.{Submit, Ask, Say}
@@ -137,10 +137,18 @@ exchange_due none_yet = []
 exchange_due (due x) = x ∷ []
 exchange_due (due_parting b) = []
 
-abbrev pub IsDue : Type 0 → List ℕ → Due → Type 0
-IsDue AtEnd rest none_yet = Unit {0}
-IsDue AtEnd rest (due x) = IsExchange x
-IsDue AtEnd rest (due_parting b) = IsBroken AtEnd rest b
+-- Nothing was due: the next request was awaited, or memory ran out for a query whose head stood at the beginning. A request
+-- that came whole and hands in a batch is answered, whatever memory there is.
+abbrev pub NothingWasDue : Cause → List ℕ → Type 0
+NothingWasDue Reading rest = AwaitsRequest rest
+NothingWasDue Writing rest = ⊥
+NothingWasDue Memory rest = AwaitsRequest rest ⊎ BeginsWithQuery rest
+
+-- where a response was due, nothing was read before it was written
+abbrev pub IsDue : Type 0 → Cause → List ℕ → Due → Type 0
+IsDue AtEnd cause rest none_yet = NothingWasDue cause rest
+IsDue AtEnd cause rest (due x) = IsExchange x × (cause ≢ Reading)
+IsDue AtEnd cause rest (due_parting b) = IsBroken AtEnd rest b × (cause ≢ Reading)
 
 abbrev pub bytes_due : Due → List ℕ
 bytes_due none_yet = []
@@ -153,12 +161,13 @@ is_spared none_yet = false
 is_spared (due x) = takes_no_memory x.reply
 is_spared (due_parting b) = false
 
--- each cause comes only with its device, or with the limit of reads, and with no failure of another device
-abbrev pub IsCause : Cause → Bool → Bool → List ℕ → Type 0
-IsCause Reading in_failed out_failed taken =
-    ((in_failed ≡ true) ⊎ (MOST_READS ≤ length taken)) × (out_failed ≡ false)
-IsCause Writing in_failed out_failed taken = (out_failed ≡ true) × (in_failed ≡ false)
-IsCause Memory in_failed out_failed taken = (in_failed ≡ false) × (out_failed ≡ false)
+-- each cause comes only with its device, or where all reads were made, each of which gave a byte; and with no failure of
+-- another device
+abbrev pub IsCause : Cause → Bool → Bool → List ℕ → ℕ → Type 0
+IsCause Reading in_failed out_failed taken made =
+    ((in_failed ≡ true) ⊎ ((made ≡ MOST_READS) × (MOST_READS ≤ length taken))) × (out_failed ≡ false)
+IsCause Writing in_failed out_failed taken made = (out_failed ≡ true) × (in_failed ≡ false)
+IsCause Memory in_failed out_failed taken made = (in_failed ≡ false) × (out_failed ≡ false)
 
 -- A session that failed: the responses before are written whole, the next one as far as is reported. The
 -- store has gone on by the exchange that is due, so an accepted batch stays accepted. Running out of memory holds
@@ -171,12 +180,13 @@ pub record FailsAs {S : Type 0} (submits : Submits S) (reads : Reads S) (in0 in1
   pub read : Consumes in0 in1 taken
   pub split : taken ≡ texts (opens ++ exchange_due next) ++ rest
   pub each : All IsOpen opens
-  pub next_is : IsDue (IsAtEnd in1) rest next
+  pub next_is : IsDue (IsAtEnd in1) error.cause rest next
   pub run : Run submits reads s (opens ++ exchange_due next) t
   pub within : error.written ≤ length (bytes_due next)
   pub written : Appends out0 out1 (responses opens ++ take error.written (bytes_due next))
   pub count : error.answered ≡ length opens
-  pub cause : IsCause error.cause in_failed out_failed taken
+  pub made : ℕ  -- how many reads gave something, or the end
+  pub cause : IsCause error.cause in_failed out_failed taken made
   pub unwritten : error.cause ≢ Writing → error.written ≡ 0
   pub spared : is_spared next ≡ true → error.cause ≢ Memory
 

@@ -1,8 +1,9 @@
 -- A session between two requests.
 use Rattle.std.specs.Prelude.{◌≡◌, ℕ, ◌+◌, ◌*◌, ◌≤◌, List, ◌++◌, length, All, Option}
 use Rattle.std.specs.Io.KnownBytes.{Consumes, Appends}
-use Rattle.http_requests.specs.declared.received.TheConstants.{MOST_READS, PIECE}
-use Rattle.http_requests.specs.Waiting.{Source}
+use Rattle.http_requests.specs.declared.received.TheConstants.{MOST_READS}
+use Rattle.http_requests.specs.declared.room.TheConstants.{PIECE}
+use Rattle.http_requests.specs.Waiting.{Source, counted}
 use Rattle.http_requests.specs.Receiving.{Received, KnowsItsEnd, turns}
 use Rattle.http_session.specs.Sessions.{Exchange, IsOpen, texts, responses, Submits, Reads, Run}
 use Rattle.http_session.specs.InTurn.{ReadsInTurn}
@@ -12,7 +13,7 @@ pub record SoFar {S R : Type 0} (submits : Submits S) (reads : Reads S) (source 
   pub taken : List ℕ
   pub opens : List Exchange
   pub read : Consumes (source.remaining i0) (source.remaining i1) taken
-  pub waits : ReadsInTurn source.gives i0 i1 opens taken
+  pub waits : ReadsInTurn (counted source.gives) (i0, MOST_READS) (i1, received.left) opens taken
   pub split : taken ≡ texts opens ++ received.held
   pub each : All IsOpen opens
   pub run : Run submits reads s opens t

@@ -2,7 +2,9 @@
 use Rattle.std.specs.Prelude.{◌≡◌, ℕ, ◌⊎◌, Bool, true, false, List, slice_range, Result, Ok, Err}
 use Rattle.batch_codec.specs.BatchReading.{decoded}
 use Rattle.trace_model.specs.declared.query.Query.{Query}
-use Rattle.http_requests.specs.Asked.{Asked}
+use Rattle.httparse.specs.Grammar.{RequestHead}
+use Rattle.http_requests.specs.Asked.{Asked, asked_by}
+use Rattle.http_requests.specs.Heads.{TakesHead}
 use Rattle.http_requests.specs.declared.asked.Method.{Method}
 use Rattle.http_requests.specs.declared.asked.Method.TheVariants.{Get, Post, Other}
 use Rattle.http_requests.specs.declared.asked.Request.{Request}
@@ -59,6 +61,17 @@ pub record AtEndpoint (a : Asked) (Then : Endpoint → List ℕ → Type 0) : Ty
   pub part : List ℕ
   pub path : IsPath endpoint part (path_of a.target)
   pub next : Then endpoint part
+
+-- a GET of an endpoint: a query, or a parameter that can't be read
+abbrev pub AsksQuery : Asked → Type 0
+AsksQuery a = AtEndpoint a (λ e part. a.method ≡ Get)
+
+-- such a head stands at the beginning
+pub record BeginsWithQuery (bytes : List ℕ) : Type 0 where
+  pub head : RequestHead
+  pub after : List ℕ
+  pub takes : TakesHead bytes head after
+  pub asks : AsksQuery (asked_by head)
 
 -- by the method: a query, a batch, or none that the endpoint takes
 abbrev pub JudgesMethod : Asked → List ℕ → Verdict → Endpoint → List ℕ → Type 0

@@ -8,7 +8,7 @@ ghost use Rattle.http_session.specs.InTurn.{ReadsInTurn, ReadsInTurnUpTo, EndsIn
 ghost use Rattle.http_session.specs.Related.{Related, nothing_seen};
 
 use crate::hearing::{Heard, hear};
-use crate::reply::Reply;
+use crate::reply::{Reply, Response};
 use crate::send::send;
 use crate::verdict::Verdict;
 use http_requests::{Interrupted, Received};
@@ -116,6 +116,22 @@ fn speak<W: Output>(output: &mut W, response: &[u8]) -> Result<(), Silence>
     }
 }
 
+/// Writes the head of a response and then its body, and takes no memory.
+fn speak_whole<W: Output>(output: &mut W, response: &Response) -> Result<(), Silence>
+    ensures says { Says (W.contents output.old) (W.contents output.new) (W.has_failed output.old)
+        (W.has_failed output.new) (response.now.head.items ++ response.now.body.items) result }
+    ensures writing { IfErr result (λ e. e.cause ≡ Writing) }
+{
+    speak(output, response.head.as_slice())?;
+    match send(output, response.body.as_slice()) {
+        Ok(()) => Ok(()),
+        Err(written) => Err(Silence {
+            written: response.head.len() + written,
+            cause: Cause::Writing,
+        }),
+    }
+}
+
 /// Writes the response of a reply; it takes no memory where that is 202 or 500.
 fn say<W: Output>(alloc: Global, output: &mut W, reply: &Reply, close: bool) -> Result<(), Silence>
     ensures says { Says (W.contents output.old) (W.contents output.new) (W.has_failed output.old)
@@ -125,13 +141,13 @@ fn say<W: Output>(alloc: Global, output: &mut W, reply: &Reply, close: bool) -> 
     if let Some(bytes) = reply.fixed(close) {
         return speak(output, bytes);
     }
-    let Ok(bytes) = reply.response(alloc, close) else {
+    let Ok(response) = reply.response(alloc, close) else {
         return Err(Silence {
             written: 0,
             cause: Cause::Memory,
         });
     };
-    speak(output, bytes.as_slice())
+    speak_whole(output, &response)
 }
 
 /// Answers the requests of the input one after the other.
@@ -218,8 +234,9 @@ fn run_session<T, R: Input, W: Output, B: Backend<T>>(
 /// # Errors
 ///
 /// A device failed, the input was to be read more often than a session may (`http_requests::MOST_READS`), or
-/// memory ran out for a head, a body, a query, or a response other than 202 and 500. A batch that was
-/// accepted before stays so.
+/// memory ran out: for what is read at once, while a request was awaited, for a query, or for a response other than
+/// 202 and 500. A batch that came whole is answered, with 500 where memory ran out for it. A batch that was accepted
+/// before stays so.
 pub fn session<T, R: Input, W: Output, B: Backend<T>>(
     rt: &T,
     alloc: Global,
@@ -246,7 +263,7 @@ pub fn session<T, R: Input, W: Output, B: Backend<T>>(
         × Related (B.knows backend.old) (B.limits backend.old) nothing_seen
         (fails.opens ++ exchange_due fails.next)
         × ReadsInTurnUpTo (source_of R.remaining R.gives) input.old input.new
-        (R.has_failed input.new) fails.opens fails.taken fails.next) }
+        (R.has_failed input.new) fails.opens fails.taken fails.made) }
 {
     let Ok(router) = endpoints(alloc) else {
         return Err(SessionError {

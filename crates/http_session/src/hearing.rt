@@ -1,14 +1,14 @@
 //! The requests of an input, heard one after the other: a head, what it asks, and the body as it comes.
 
-ghost use Rattle.std.specs.Prelude.{◌≡◌, ℕ, List, [], IfOk, IfErr, OnErr};
+ghost use Rattle.std.specs.Prelude.{◌≡◌, ℕ, List, [], IfOk, IfErr};
 ghost use Rattle.batch_codec.specs.BatchReading.{decoded};
 ghost use Rattle.batch_feeder.specs.Answers.{answers};
 ghost use Rattle.query_http.specs.Paths.{endpoint_rows};
-ghost use Rattle.http_requests.specs.Requests.{AwaitsBody, AwaitsRequest};
-ghost use Rattle.http_requests.specs.Waiting.{source_of, StopsWhile};
-ghost use Rattle.http_requests.specs.Receiving.{KnowsItsEnd, Stops, SameUnlessReading};
+ghost use Rattle.http_requests.specs.Requests.{AwaitsBody};
+ghost use Rattle.http_requests.specs.Waiting.{source_of};
+ghost use Rattle.http_requests.specs.Receiving.{KnowsItsEnd, StopsWhile, SameUnlessReading};
 ghost use Rattle.http_session.specs.Questions.{JudgesRead};
-ghost use Rattle.http_session.specs.Hearing.{reported_behind, HearsBody, Hears};
+ghost use Rattle.http_session.specs.Hearing.{reported_behind, HearsBody, HearsNothing, Hears};
 
 use crate::question::{Question, question_of};
 use crate::verdict::{Remark, Verdict};
@@ -119,10 +119,8 @@ fn hear_body<R: Input>(
     requires end { KnowsItsEnd received.old.ended (R.remaining input.old) }
     ensures heard { IfOk result (HearsBody (source_of R.remaining R.gives) input.old input.new
         received.old received.new size question) }
-    ensures err { IfErr result (λ why. Stops (R.remaining input.old) (R.remaining input.new)
-        (R.has_failed input.new) received.old why) }
-    ensures stops_in_turn { OnErr result (StopsWhile (source_of R.remaining R.gives)
-        (AwaitsBody size) input.old input.new (R.has_failed input.new) received.old.held) }
+    ensures err { IfErr result (λ why. StopsWhile (source_of R.remaining R.gives)
+        (AwaitsBody size) input.old input.new (R.has_failed input.new) received.old why) }
     ensures same { SameUnlessReading (R.has_failed input.old) (R.has_failed input.new) result }
 {
     match question {
@@ -143,7 +141,7 @@ fn hear_body<R: Input>(
 ///
 /// # Errors
 ///
-/// The input failed, or memory ran out for a head, a query or what is read at once.
+/// The input failed, or memory ran out: for what is read at once, before it was read, or for a query.
 pub(crate) fn hear<R: Input>(
     alloc: Global,
     router: &Router<Endpoint>,
@@ -154,19 +152,18 @@ pub(crate) fn hear<R: Input>(
     requires end { KnowsItsEnd received.old.ended (R.remaining input.old) }
     ensures heard { IfOk result (Hears (source_of R.remaining R.gives) input.old input.new
         received.old received.new) }
-    ensures err { IfErr result (λ why. Stops (R.remaining input.old) (R.remaining input.new)
-        (R.has_failed input.new) received.old why) }
-    ensures stops_in_turn { OnErr result (StopsWhile (source_of R.remaining R.gives)
-        AwaitsRequest input.old input.new (R.has_failed input.new) received.old.held) }
+    ensures err { IfErr result (λ why. HearsNothing (source_of R.remaining R.gives)
+        input.old input.new (R.has_failed input.new) received.old why) }
     ensures same { SameUnlessReading (R.has_failed input.old) (R.has_failed input.new) result }
 {
-    let mut head = Vec::new(alloc);
-    let (request, size) = match next_head(input, received, &mut head)? {
-        Next::One(request, size) => (request, size),
+    let (request, length, size) = match next_head(input, received)? {
+        Next::One(request, length, size) => (request, length, size),
         Next::Clean => return Ok(Heard::Clean),
         Next::Broken => return Ok(Heard::Broken(Breach::Head)),
     };
-    let question = question_of(alloc, router, head.as_slice(), &request)?;
+    let head = &received.as_slice()[..length];
+    let question = question_of(alloc, router, head, &request)?;
+    received.take(length);
     match hear_body(alloc, input, received, size, question)? {
         Ok(verdict) => Ok(Heard::One(verdict, request.closes)),
         Err(breach) => Ok(Heard::Broken(breach)),

@@ -22,5 +22,5 @@ mod send;
 mod verdict;
 
 pub use exchanges::{Cause, Ended, SessionError, session};
-pub use reply::Reply;
+pub use reply::{Reply, Response};
 pub use verdict::{Remark, Verdict};

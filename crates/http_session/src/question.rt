@@ -1,10 +1,9 @@
 ghost use Rattle.std.specs.Prelude.{◌≡◌, IfOk, OnErr, slice_range};
-ghost use Rattle.http_requests.specs.declared.asked.Method.TheVariants.{Get};
 ghost use Rattle.http_requests.specs.Requests.{IsHeadOf};
 ghost use Rattle.query_http.specs.Paths.{endpoint_rows};
 ghost use Rattle.query_http.specs.Forms.{pairs_of};
 ghost use Rattle.query_http.specs.Queries.{query_at};
-ghost use Rattle.http_session.specs.Verdicts.{JudgesQuery, asked_of};
+ghost use Rattle.http_session.specs.Verdicts.{JudgesQuery, AsksQuery, asked_of};
 ghost use Rattle.http_session.specs.Questions.{Asks};
 
 use crate::verdict::{Remark, Verdict};
@@ -68,7 +67,7 @@ pub(crate) fn question_of(
     requires routes { router.now ≡ endpoint_rows }
     requires whole { IsHeadOf head.now request.now }
     ensures asks { IfOk result (Asks (asked_of head.now request.now)) }
-    ensures memory { OnErr result (request.now.method ≡ Get) }
+    ensures memory { OnErr result (AsksQuery (asked_of head.now request.now)) }
 {
     let (path, form) = path_and_form(target_of(head, request));
     let Some((endpoint, part)) = find_endpoint(router, path) else {

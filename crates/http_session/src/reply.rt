@@ -1,12 +1,12 @@
-ghost use Rattle.std.specs.Prelude.{◌≡◌, IfOk, IfSome, is_some, string_bytes};
+ghost use Rattle.std.specs.Prelude.{◌≡◌, ◌++◌, IfOk, IfSome, is_some, string_bytes};
 ghost use Rattle.http_session.specs.Replies.{status_of, allow_of, body_of, closes, takes_no_memory, response_of, remark_message, remark_status, refusal_status, refusal_message, breach_status, breach_message};
 ghost use Rattle.http_session.specs.declared.reply.Reply.TheVariants as reply;
 
 use crate::fixed::{accepted, internal_error, out_of_memory};
 use crate::verdict::Remark;
 use http_requests::Breach;
-use query_http::{Endpoint, respond};
-use query_json::{answer_text, error_text};
+use query_http::{Endpoint, response_head};
+use query_json::{answer_bytes, error_bytes};
 use std::alloc::{AllocError, Global};
 use trace_model::{Answer, Refusal};
 
@@ -23,6 +23,13 @@ pub enum Reply {
     Said(Remark),
     /// There is no request to answer.
     Broken(Breach),
+}
+
+/// The bytes of a response: its head, and the body behind it.
+#[derive(Drop)]
+pub struct Response {
+    pub head: Vec<u8>,
+    pub body: Vec<u8>,
 }
 
 fn refusal_status(refusal: Refusal) -> u16
@@ -157,19 +164,19 @@ impl Reply {
     }
 
     /// The body of its response.
-    fn body(&self, alloc: Global) -> Result<String, AllocError>
-        ensures { IfOk result (λ s. string_bytes s ≡ body_of self.now) }
+    fn body(&self, alloc: Global) -> Result<Vec<u8>, AllocError>
+        ensures { IfOk result (λ v. v.items ≡ body_of self.now) }
     {
         let status = self.status();
         match self {
-            Reply::Accepted => Ok(String::new(alloc)),
-            Reply::Answered(answer) => answer_text(alloc, answer),
-            Reply::Refused(refusal) => error_text(alloc, status, refusal_message(*refusal)),
+            Reply::Accepted => Ok(Vec::new(alloc)),
+            Reply::Answered(answer) => answer_bytes(alloc, answer),
+            Reply::Refused(refusal) => error_bytes(alloc, status, refusal_message(*refusal)),
             Reply::Said(remark) => {
                 let message = remark_message(alloc, *remark)?;
-                error_text(alloc, status, message.as_str())
+                error_bytes(alloc, status, message.as_str())
             }
-            Reply::Broken(breach) => error_text(alloc, status, breach_message(*breach)),
+            Reply::Broken(breach) => error_bytes(alloc, status, breach_message(*breach)),
         }
     }
 
@@ -188,16 +195,17 @@ impl Reply {
         }
     }
 
-    /// The bytes of its response.
+    /// Its response.
     ///
     /// # Errors
     ///
     /// Out of memory, and nothing else.
     #[tactic(auto, unfolding(crate::specs::Replies::response_of))]
-    pub fn response(&self, alloc: Global, close: bool) -> Result<Vec<u8>, AllocError>
-        ensures { IfOk result (λ v. v.items ≡ response_of self.now close) }
+    pub fn response(&self, alloc: Global, close: bool) -> Result<Response, AllocError>
+        ensures { IfOk result (λ r. r.head.items ++ r.body.items ≡ response_of self.now close) }
     {
         let body = self.body(alloc)?;
-        respond(alloc, self.status(), body.as_bytes(), self.allow(), close)
+        let head = response_head(alloc, self.status(), body.as_slice(), self.allow(), close)?;
+        Ok(Response { head, body })
     }
 }

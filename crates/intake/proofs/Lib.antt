@@ -1,8 +1,10 @@
 pub mod Steps
 pub mod Judging
-pub mod Accounts
+pub mod Accounting
 pub mod Ends
 pub mod Runs
 pub mod Seating
 pub mod Places
 pub mod Taking
+pub mod Numbers
+pub mod Tallying

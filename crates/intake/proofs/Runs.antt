@@ -15,7 +15,7 @@ use Rattle.intake.specs.declared.clerk.Turn.TheVariants.{Idle, Served, Ended}
 use Rattle.intake.specs.declared.queue.EndedSeat.{EndedSeat}
 use Rattle.intake.specs.Turns.{ClerkValue, Accounted, Judged, Serves, IfServed, IfNotServed, IfNoJob, WasEmpty, account_of}
 use Rattle.intake.specs.Books.{JudgedInTurn, is_accepted, gained_jobs, AllAnswered, Ran}
-use Rattle.intake.proofs.Accounts.{accounted-snoc}
+use Rattle.intake.proofs.Accounting.{accounted-snoc}
 use Rattle.intake.proofs.Judging.{judged-accepted, judged-shown, judged-answered}
 
 pub judged-snoc : (limits : Limits) (k : Lists) (js : List Entry) (bs : List Account) (m : Lists) (j : Entry) (a : Account) (end : Lists) → JudgedInTurn limits k js bs m → Judged limits m j a.answer end → JudgedInTurn limits k (js ++ j ∷ []) (bs ++ a ∷ []) end

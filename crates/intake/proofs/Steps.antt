@@ -1,5 +1,5 @@
 -- The steps keep the rule of the queue.
-use Rattle.std.proofs.Common.{◌≡◌, ◌≢◌, ℕ, ◌+◌, ◌==◌, ◌<◌, ◌⊎◌, inl, inr, zero, suc, lt_of_not-le, Bool, true, false, cond, List, [], ◌∷◌, ◌++◌, length, set, refl, subst, sym, ap, ◌∙◌, ⊎_elim, append_assoc, arith, eq-eqb, ne_eqb}
+use Rattle.std.proofs.Common.{◌≡◌, ◌≢◌, ℕ, ◌+◌, ◌==◌, ◌<◌, ◌⊎◌, inl, inr, zero, suc, lt_of_not-le, Bool, true, false, cond, List, [], ◌∷◌, ◌++◌, length, set, refl, subst, sym, ap, ◌∙◌, ⊎_elim, append_assoc, arith, eq-eqb, ne_eqb, length-append}
 use Rattle.std.proofs.lemmas.List.{append-nil}
 use Rattle.std.proofs.lemmas.List.Elements.{filter-append}
 use Rattle.std.proofs.lemmas.Bool.Decides.{nat_tests}
@@ -10,31 +10,51 @@ use Rattle.atomic_table.proofs.Lists.{at_set, set_else}
 use Rattle.trace_model.specs.declared.entry.Entry.{Entry}
 use Rattle.intake.specs.declared.queue.QueueView.{QueueView}
 use Rattle.intake.specs.declared.queue.EndedSeat.{EndedSeat}
-use Rattle.intake.specs.Queues.{jobs_of, CountUp, FitsSeat, FitsClerk, AreEnded, Balanced, Puts, Takes, Queued, Waiting, AreWhole, first_view, one_more, new_seat, took_in, retired, spent}
+use Rattle.intake.specs.Queues.{jobs_of, CountUp, AllCountUp, FitsSeat, FitsClerk, AreEnded, Balanced, Puts, Takes, Queued, Waiting, AreWhole, first_view, one_more, new_seat, took_in, retired, spent}
+
+pub jobs_of-append : (s : ℕ) (xs ys : List Entry) → jobs_of s (xs ++ ys) ≡ jobs_of s xs ++ jobs_of s ys
+jobs_of-append s xs ys = filter-append (λ (j : Entry). j.seat == s) xs ys
+
+pub counted-left : (k : ℕ) (xs ys : List Entry) → CountUp k (xs ++ ys) → CountUp k xs
+counted-left k [] ys c = tt
+counted-left k (x ∷ xs) ys c = (c.0, counted-left (k + 1) xs ys c.1)
+
+-- the jobs of each seat are numbered from 1 on in the front part, where they are so in the whole
+pub counted-front : (handed : ℕ → List Entry) (front items : List Entry) → ((s : ℕ) → jobs_of s (front ++ items) ≡ handed s) → ((s : ℕ) → CountUp 1 (handed s)) → AllCountUp front
+counted-front handed front items same counts s =
+    counted-left 1 (jobs_of s front) (jobs_of s items) (subst (CountUp 1) (sym (same s) ∙ jobs_of-append s front items) (counts s))
+
+-- a seat of which some job was handed in has jobs
+pub some-of : (s : ℕ) (before : List Entry) (j : Entry) (after : List Entry) → j.seat ≡ s → jobs_of s (before ++ j ∷ after) ≡ [] → ⊥
+some-of s before j after is gone =
+    let here : jobs_of s (j ∷ after) ≡ j ∷ jobs_of s after = rw (eq-eqb j.seat s is) refl in
+    let all : jobs_of s before ++ (j ∷ jobs_of s after) ≡ [] = ap (λ z. jobs_of s before ++ z) (sym here) ∙ (sym (jobs_of-append s before (j ∷ after)) ∙ gone) in
+    let size = length-append (jobs_of s before) (j ∷ jobs_of s after) in
+    let nothing = ap length all in
+    absurd (omega (arith, size, nothing))
 
 pub takes : (pass : ℕ) (v : QueueView) → v.takes ≡ true → v.submits ≡ false → Pops Balanced pass v (Takes v)
 takes pass v may not j items views b at =
     let w = record v { taken = v.taken ++ j ∷ [] } in
     let taken = b.3 in
-    let mine = (b.6 pass v at).1 may in (
+    let mine = (b.6 pass v at).1 may in
+    let whole : (s : ℕ) → jobs_of s ((taken ++ j ∷ []) ++ items) ≡ b.2 s = λ s. ap (jobs_of s) (append_assoc taken (j ∷ []) items) ∙ b.4 s in
+    let made : j.seat < v.made = lt_of_not-le (λ le. some-of j.seat taken j items refl (b.4 j.seat ∙ (mine.2 j.seat (omega (arith, le))).1)) in (
       w,
       (
         b.0,
         b.1,
         b.2,
         taken ++ j ∷ [],
-        (λ s. ap (jobs_of s) (append_assoc taken (j ∷ []) items) ∙ b.4 s),
+        whole,
         b.5,
         (λ k u e. ⊎_elim
             (λ t. subst (λ (z : QueueView). FitsSeat b.1 b.2 k z × FitsClerk b.0 b.1 b.2 (taken ++ j ∷ []) k z) t.1 ((λ y. absurd (cc (y, not))), (λ y. (t.0 ∙ mine.0, ap (λ z. z ++ j ∷ []) mine.1, mine.2, mine.3))))
             (λ t. let f = b.6 k u t.1 in (f.0, (λ y. absurd (t.0 ((f.1 y).0 ∙ sym mine.0)))))
             (at_set views pass k w u e)),
       ),
-      refl,
+      (refl, made, subst (λ (z : List Entry). AllCountUp (z ++ j ∷ [])) (sym mine.1) (counted-front b.2 (taken ++ j ∷ []) items whole b.5)),
     )
-
-pub jobs_of-append : (s : ℕ) (xs ys : List Entry) → jobs_of s (xs ++ ys) ≡ jobs_of s xs ++ jobs_of s ys
-jobs_of-append s xs ys = filter-append (λ (j : Entry). j.seat == s) xs ys
 
 pub count-snoc : (n : ℕ) (js : List Entry) (j : Entry) → CountUp n js → j.number ≡ length js + n → CountUp n (js ++ j ∷ [])
 count-snoc n [] j h e = (omega (arith, e), tt)

@@ -5,46 +5,15 @@ use Rattle.std.proofs.lemmas.List.{append-nil, map-append}
 use Rattle.std.proofs.lemmas.List.Folds.{list_any-append}
 use Rattle.std.proofs.lemmas.Bool.Decides.{nat_tests}
 use Rattle.trace_model.specs.declared.entry.Entry.{Entry}
-use Rattle.trace_model.proofs.NameLaws.{any_map}
 use Rattle.intake.specs.declared.account.Account.{Account}
 use Rattle.intake.specs.declared.queue.EndedSeat.{EndedSeat}
 use Rattle.intake.specs.Queues.{jobs_of, CountUp, AreWhole}
-use Rattle.intake.specs.Turns.{Accounted}
-use Rattle.intake.specs.Books.{HasEnded, AllTaken, Balances, is_job, has_job, has_account, EachNeeded, MovesFor, StillEnded, StaysTaken}
-use Rattle.intake.proofs.Steps.{jobs_of-append}
+use Rattle.intake.specs.Books.{HasEnded, AllTaken, Balances, is_job, has_job, EachNeeded, MovesFor, StillEnded, StaysTaken}
+use Rattle.intake.proofs.Steps.{jobs_of-append, counted-left}
 use Rattle.intake.proofs.Ends.{whole-of, no-more}
 
-abbrev numbered : ℕ → List Entry → Bool
+abbrev pub numbered : ℕ → List Entry → Bool
 numbered n js = list_any (λ (j : Entry). j.number == n) js
-
--- a job has an account where it was judged
-pub job-by-account : (s n : ℕ) (js : List Entry) (accounts : List Account) → Accounted js accounts → has_account s n accounts ≡ has_job s n js
-job-by-account s n [] [] h = refl
-job-by-account s n [] (a ∷ rest) h = absurd h
-job-by-account s n (j ∷ js) [] h = absurd h
-job-by-account s n (j ∷ js) (a ∷ rest) h =
-    let f : ℕ → ℕ → Bool → Bool = λ x y b. ((x == s) && (y == n)) || b in
-    ap (λ x. f x a.number (has_account s n rest)) h.0
-    ∙ (ap (λ y. f j.seat y (has_account s n rest)) h.1 ∙ ap (f j.seat j.number) (job-by-account s n js rest h.2))
-
--- what was taken was judged or is left
-pub judged-or-left : (s n : ℕ) (taken : List Entry) (accounts : List Account) (left : List Entry) → Balances taken accounts left → (has_account s n accounts || has_job s n left) ≡ has_job s n taken
-judged-or-left s n taken accounts left b =
-    ap (λ z. z || has_job s n left) (job-by-account s n b.judged accounts b.each)
-    ∙ (sym (list_any-append (is_job s n) b.judged left) ∙ ap (has_job s n) (sym b.taken_is))
-
-pub by_number : (n : ℕ) (has : Bool) → (n == 0) ≡ true → true ≡ ((n == 0) || has)
-by_number n has is = ap (λ z. z || has) (sym is)
-
-pub by_account : (s n : ℕ) (taken : List Entry) (accounts : List Account) (left : List Entry) → Balances taken accounts left → (n == 0) ≡ false → has_account s n accounts ≡ true → true ≡ ((n == 0) || has_job s n taken)
-by_account s n taken accounts left b some is =
-    ap (λ z. z || has_job s n left) (sym is) ∙ (judged-or-left s n taken accounts left b ∙ ap (λ z. z || has_job s n taken) (sym some))
-
-pub by_left : {X : Type 0} (value : X → Entry) (s n : ℕ) (taken : List Entry) (accounts : List Account) (left : List X) → Balances taken accounts (map value left) → (n == 0) ≡ false → has_account s n accounts ≡ false
-    → list_any (λ (x : X). is_job s n (value x)) left ≡ ((n == 0) || has_job s n taken)
-by_left value s n taken accounts left b some is =
-    sym (any_map (is_job s n) value left)
-    ∙ (ap (λ z. z || has_job s n (map value left)) (sym is) ∙ (judged-or-left s n taken accounts (map value left) b ∙ ap (λ z. z || has_job s n taken) (sym some)))
 
 -- a job of the seat is one of the seat's jobs
 pub job-of-seat : (s n : ℕ) (js : List Entry) → has_job s n js ≡ numbered n (jobs_of s js)
@@ -75,10 +44,6 @@ counted-has k n (j ∷ js) c le lt = go (j.number == n) refl (λ more. counted-h
         (let at = c.0 in
         let other : k < n = grind (arith, nat_tests, is, at, le) in
         ap (λ z. z || numbered n js) is ∙ rest other)
-
-pub counted-left : (k : ℕ) (xs ys : List Entry) → CountUp k (xs ++ ys) → CountUp k xs
-counted-left k [] ys c = tt
-counted-left k (x ∷ xs) ys c = (c.0, counted-left (k + 1) xs ys c.1)
 
 -- where all jobs of a seat were taken its last one was
 pub last-among : (s : ℕ) (js taken : List Entry) → AllTaken s js taken → 0 < length js → has_job s (length js) taken ≡ true

@@ -88,11 +88,6 @@ is_job seat number j = (j.seat == seat) && (j.number == number)
 abbrev pub has_job : ℕ → ℕ → List Entry → Bool
 has_job seat number jobs = list_any (is_job seat number) jobs
 
--- one of these is of the seat's job with this number
-abbrev pub has_account : ℕ → ℕ → List Account → Bool
-has_account seat number accounts =
-    list_any (λ (a : Account). (a.seat == seat) && (a.number == number)) accounts
-
 -- each of these was taken while some job of the seat was not
 abbrev pub EachNeeded : ℕ → List Entry → List Entry → List Entry → Type 0
 EachNeeded seat jobs taken [] = Unit {0}

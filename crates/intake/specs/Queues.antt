@@ -1,5 +1,5 @@
 -- The rule of the queue: what is queued, what was taken, and what each seat and the clerk know of it.
-use Rattle.std.specs.Prelude.{◌≡◌, ℕ, ◌+◌, ◌==◌, ◌<◌, Bool, true, false, List, [], ◌∷◌, ◌++◌, filter}
+use Rattle.std.specs.Prelude.{◌≡◌, ℕ, ◌+◌, ◌==◌, ◌<◌, Bool, true, false, List, [], ◌∷◌, ◌++◌, filter, length, slice_index}
 use mathlib.Core.Option.{Option, some, none}
 use lib.ListN.{get_elem?}
 use Rattle.trace_model.specs.declared.entry.Entry.{Entry}
@@ -14,6 +14,16 @@ jobs_of seat jobs = filter (λ (j : Entry). j.seat == seat) jobs
 abbrev pub CountUp : ℕ → List Entry → Type 0
 CountUp n [] = Unit {0}
 CountUp n (j ∷ js) = (j.number ≡ n) × CountUp (n + 1) js
+
+-- of each seat the jobs among these are numbered from 1 on
+abbrev pub AllCountUp : List Entry → Type 0
+AllCountUp jobs = (s : ℕ) → CountUp 1 (jobs_of s jobs)
+
+-- so many seats were made, and of each one this is the number of its last job among the jobs, 0 where it has none
+pub record AreLast (made : ℕ) (jobs : List Entry) (numbers : List ℕ) : Type 0 where
+  pub one_for_each : length numbers ≡ made
+  pub counted : AllCountUp jobs
+  pub each : (s : ℕ) → slice_index numbers s ≡ length (jobs_of s jobs)
 
 abbrev pub queue_view : Bool → Bool → ℕ → ℕ → List Entry → List Entry → List EndedSeat → QueueView
 queue_view submits takes seat made handed taken ended =
@@ -63,9 +73,10 @@ Balanced items views =
 abbrev pub Puts : QueueView → Entry → QueueView → Type 0
 Puts v j w = w ≡ record v { handed = v.handed ++ j ∷ [] }
 
--- the job stands at the end of what was taken
+-- the job stands at the end of what was taken; it is of a seat that was made, and has that seat's next number
 abbrev pub Takes : QueueView → Entry → QueueView → Type 0
-Takes v j w = w ≡ record v { taken = v.taken ++ j ∷ [] }
+Takes v j w =
+    (w ≡ record v { taken = v.taken ++ j ∷ [] }) × (j.seat < v.made) × AllCountUp (v.taken ++ j ∷ [])
 
 -- a seat was made
 abbrev pub one_more : QueueView → QueueView

@@ -3,14 +3,10 @@
 use std::hint::spin_loop;
 use std::sync::Wait;
 use std::sync::atomic::{AtomicU64, Ordering};
-use std::thread::yield_now;
 
-/// How often one looks for a ring at once, before others are let go on between the looks.
-const QUICK_LOOKS: u32 = 100;
-
-/// How often one looks for a ring before one sleeps. A ring that comes so soon costs no sleep, and its
-/// ringer no wake.
-const LOOKS: u32 = 200;
+/// How often one looks for a ring before one sleeps, with a pause between the looks. A ring that comes so soon costs
+/// no sleep, and its ringer no wake.
+const LOOKS: u32 = 2_000;
 
 /// Counts its rings. Who has read the count before looking for work sleeps only until the next ring, so
 /// that no ring is missed.
@@ -45,15 +41,11 @@ impl Bell {
 
     /// Whether it rings while one looks for a ring.
     fn rings_soon(&self, rings: u64) -> bool {
-        for look in 0..LOOKS {
+        for _look in 0..LOOKS {
             if self.rings() != rings {
                 return true;
             }
-            if look < QUICK_LOOKS {
-                spin_loop();
-            } else {
-                yield_now();
-            }
+            spin_loop();
         }
         false
     }

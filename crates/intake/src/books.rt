@@ -1,12 +1,11 @@
 //! What the clerk leaves.
 
-ghost use Rattle.std.specs.Prelude.{◌≡◌, ◌⊎◌, ◌==◌, ◌||◌, true, false, map, IfErr, OnOk};
+ghost use Rattle.std.specs.Prelude.{◌≡◌, ◌⊎◌, true, false, map, IfErr, OnOk};
 ghost use Rattle.std.specs.Arc.{arc_value};
-ghost use Rattle.std.specs.List.{list_any};
 ghost use Rattle.trace_model.specs.declared.refusal.Refusal.TheVariants.{NoMemory};
-ghost use Rattle.intake.specs.Books.{Balances, HasEnded, AllTaken, MovesFor, StillEnded, StaysTaken, is_job, has_job};
+ghost use Rattle.intake.specs.Books.{Balances, HasEnded, AllTaken, MovesFor, StillEnded, StaysTaken, is_job};
 
-use crate::account::{Account, has_account};
+use crate::accounts::Accounts;
 use crate::inbox::Inbox;
 use crate::seat::Seat;
 use read_side::{Keeper, StoreName};
@@ -20,7 +19,7 @@ use trace_model::{Entry, Refusal};
 pub struct Books<N: StoreName> {
     pub keeper: Keeper<N>,
     /// One for each job that was judged, in the order taken.
-    pub accounts: Vec<Account>,
+    pub accounts: Accounts,
     /// How many were acknowledged.
     pub acknowledged: u64,
     /// How many were refused.
@@ -37,13 +36,6 @@ fn is_job(entry: &Entry, seat: u16, number: u64) -> bool
     entry.seat == seat && entry.number == number
 }
 
-/// Whether the seat's job with this number is among those that are left.
-fn has_job(left: &[Arc<Entry>], seat: u16, number: u64) -> bool
-    ensures { result ≡ list_any (λ j. is_job seat number (arc_value j)) left.now }
-{
-    left.iter().any(|job| is_job(job, seat, number))
-}
-
 impl<N: StoreName> Books<N> {
     /// Ends a seat of this desk, and moves jobs from the queue to `left` until the seat's last one was
     /// taken. Where it was taken before, judged or left, none is moved. After an error a further call goes
@@ -57,14 +49,14 @@ impl<N: StoreName> Books<N> {
     /// [`Refusal::NoMemory`]: the seat has ended, and what was moved stands in `left`.
     pub fn take_in<R: Wait>(&mut self, rt: &R, seat: &mut Seat<N>) -> Result<(), Refusal>
         requires desk { self.old.inbox.desk ≡ seat.old.desk }
-        requires books { Balances self.old.inbox.taken self.old.accounts.items
+        requires books { Balances self.old.inbox.taken self.old.accounts
             (map arc_value self.old.left.items) }
         requires seat { (seat.old.hands_in ≡ true)
             ⊎ HasEnded self.old.inbox.ended seat.old.seat seat.old.jobs }
 
         ensures seat { seat.new ≡ record seat.old { hands_in = false } }
         ensures desk { self.new.inbox.desk ≡ self.old.inbox.desk }
-        ensures accounts { self.new.accounts.items ≡ self.old.accounts.items }
+        ensures accounts { self.new.accounts ≡ self.old.accounts }
         ensures counts { (self.new.acknowledged ≡ self.old.acknowledged)
             × (self.new.refused ≡ self.old.refused) }
         ensures keeper { self.new.keeper ≡ self.old.keeper }
@@ -72,7 +64,7 @@ impl<N: StoreName> Books<N> {
         ensures moved { MovesFor seat.old.seat seat.old.jobs
             self.old.inbox.taken (map arc_value self.old.left.items)
             self.new.inbox.taken (map arc_value self.new.left.items) }
-        ensures books { Balances self.new.inbox.taken self.new.accounts.items
+        ensures books { Balances self.new.inbox.taken self.new.accounts
             (map arc_value self.new.left.items) }
 
         ensures ended { HasEnded self.new.inbox.ended seat.old.seat seat.old.jobs }
@@ -85,7 +77,7 @@ impl<N: StoreName> Books<N> {
     {
         self.inbox.end(seat);
         let (number, last) = (seat.number(), seat.handed());
-        if self.has_taken(number, last) {
+        if self.inbox.has_taken(number, last) {
             self.inbox.look();
             return Ok(());
         }
@@ -105,20 +97,5 @@ impl<N: StoreName> Books<N> {
             }
         }
         unreachable!()
-    }
-
-    /// Whether the seat's job with this number was judged or is left. There is no job with the number 0.
-    fn has_taken(&self, seat: u16, number: u64) -> bool
-        requires { Balances self.now.inbox.taken self.now.accounts.items
-            (map arc_value self.now.left.items) }
-        ensures { result ≡ ((number == 0) || has_job seat number self.now.inbox.taken) }
-    {
-        if number == 0 {
-            return true;
-        }
-        if has_account(self.accounts.as_slice(), seat, number) {
-            return true;
-        }
-        has_job(self.left.as_slice(), seat, number)
     }
 }

@@ -1,6 +1,6 @@
 //! The one that takes the jobs and has them judged.
 
-ghost use Rattle.std.specs.Prelude.{◌≡◌, map, [], IfOk, IfErr};
+ghost use Rattle.std.specs.Prelude.{◌≡◌, ◌≤◌, ◌^◌, map, [], length, IfOk, IfErr, OnErr};
 ghost use Rattle.std.specs.Arc.{arc_value};
 ghost use Rattle.trace_model.specs.declared.refusal.Refusal.TheVariants.{NoMemory};
 ghost use Rattle.read_side.specs.Receipts.{AnsweredAt};
@@ -8,7 +8,8 @@ ghost use Rattle.intake.specs.Seats.{IsUnacknowledged};
 ghost use Rattle.intake.specs.Turns.{IsNewInbox, IsNewClerk, Accounted, Judged, place_or_refusal, Serves, IfServed, IfNotServed, IfNoJob, WasEmpty};
 ghost use Rattle.intake.specs.Books.{Ran, Balances, acknowledged, refused};
 
-use crate::account::{Account, acknowledged};
+use crate::account::Account;
+use crate::accounts::Accounts;
 use crate::books::Books;
 use crate::inbox::Inbox;
 use crate::job::Reply;
@@ -18,7 +19,6 @@ use read_side::{Keeper, Receipt, StoreName};
 use std::alloc::Global;
 use std::marker::Model;
 use std::sync::{Arc, Wait};
-use std::thread::yield_now;
 use trace_model::{Entry, Refusal};
 
 /// What a turn did.
@@ -40,7 +40,7 @@ pub enum Turn {
 pub struct Clerk<N: StoreName> {
     inbox: Inbox<N>,
     ending: Ending<N>,
-    accounts: Vec<Account>,
+    accounts: Accounts,
     alloc: Global,
 }
 
@@ -61,9 +61,9 @@ impl<N: StoreName> Model for Clerk<N> {
 
     ghost Value = { ClerkValue };
 
-    ghost view = { λ c. clerk_value c.inbox c.accounts.items };
+    ghost view = { λ c. clerk_value c.inbox c.accounts };
 
-    ghost invariant = { λ c. Accounted c.inbox.taken c.accounts.items };
+    ghost invariant = { λ c. Accounted c.inbox.taken c.accounts };
 }
 
 /// Puts the receipt where there is room for it.
@@ -84,11 +84,11 @@ fn fill<N: StoreName, R: Wait>(
     unreachable!()
 }
 
-/// Has an entry judged. The room for its receipt was taken before.
+/// Has an entry judged. Where there is no room for a receipt it isn't admitted.
 fn judged<N: StoreName, R: Wait>(
     rt: &R,
+    alloc: Global,
     keeper: &mut Keeper<N>,
-    room: Arc<Receipt<N>>,
     entry: Arc<Entry>,
 ) -> Result<Ack<N>, Refusal>
     ensures judged { Judged N.limits keeper.old (arc_value entry)
@@ -97,6 +97,9 @@ fn judged<N: StoreName, R: Wait>(
         AnsweredAt (arc_value a.receipt).entries a.place (arc_value entry)) }
     ensures reason { IfErr result IsUnacknowledged }
 {
+    let Ok(room) = Arc::new(alloc, keeper.receipt()) else {
+        return Err(keeper.turn_away(entry));
+    };
     let receipt = keeper.admit(rt, entry)?;
     let Some(place) = receipt.place() else {
         unreachable!()
@@ -126,79 +129,81 @@ impl<N: StoreName> Clerk<N> {
         Clerk {
             inbox,
             ending: Ending { shared },
-            accounts: Vec::new(alloc),
+            accounts: Accounts::new(),
             alloc,
         }
     }
 
-    /// Takes one job, if there is one, has the keeper judge it, and answers its ticket.
+    /// Takes one job, if there is one, has the keeper judge it, and answers its ticket. A job for whose receipt
+    /// there is no memory is answered so, unless the keeper has another reason to refuse it.
+    ///
+    /// It takes no memory where there is no job.
     ///
     /// # Errors
     ///
-    /// [`Refusal::NoMemory`]: no job was taken.
+    /// [`Refusal::NoMemory`]: there are as many accounts as there may be, and no job was taken.
     pub fn turn<R: Wait>(&mut self, rt: &R, keeper: &mut Keeper<N>) -> Result<Turn, Refusal>
         ensures served { IfServed result
             (λ seat number. Serves N.limits self.old keeper.old seat number self.new keeper.new) }
         ensures unchanged { IfNotServed result ((self.new ≡ self.old) × (keeper.new ≡ keeper.old)) }
         ensures empty { IfNoJob result (WasEmpty self.old.ended self.old.taken) }
         ensures reason { IfErr result (λ why. why ≡ NoMemory) }
+        ensures full { OnErr result (2 ^ 62 ≤ length self.old.accounts) }
     {
-        if self.accounts.reserve(1).is_err() {
+        if self.accounts.is_full() {
             return Err(Refusal::NoMemory);
         }
-        let Ok(room) = Arc::new(self.alloc, keeper.receipt()) else {
-            return Err(Refusal::NoMemory);
-        };
         let closed = self.ending.shared.is_closed();
         let Some(job) = self.inbox.pop(rt) else {
             return Ok(if closed { Turn::Ended } else { Turn::Idle });
         };
         let (entry, named, cell) = job.split();
         let (seat, number) = (entry.seat, entry.number);
-        let answer = judged(rt, keeper, room, entry);
-        self.accounts.push_reserved(Account {
+        let answer = judged(rt, self.alloc, keeper, entry);
+        let account = Account {
             seat,
             number,
             answer: place_or_refusal(&answer),
-        });
+        };
+        self.accounts.add(rt, &account);
         let reply = Reply::new(named, answer);
         self.ending.shared.lay_down(rt, seat, &cell, reply);
         Ok(Turn::Served { seat, number })
     }
 
     /// What became of each job that it took.
-    pub fn accounts(&self) -> &[Account]
+    pub fn accounts(&self) -> &Accounts
         ensures same { result.now ≡ self.now.accounts }
         ensures each { Accounted self.now.taken self.now.accounts }
     {
-        self.accounts.as_slice()
+        &self.accounts
     }
 
     /// Serves until the desk is closed and the queue is empty, and leaves the books.
     ///
-    /// Where there is nothing to do it sleeps until a job is handed in. Where memory runs out it
-    /// tries again.
+    /// Where there is nothing to do, or there are as many accounts as there may be, it sleeps until a job is handed
+    /// in.
     pub fn run<R: Wait>(self, rt: &R, keeper: Keeper<N>) -> Books<N>
         ensures judged { Ran N.limits self.taken self.accounts keeper
-            result.inbox.taken result.accounts.items result.keeper }
-        ensures acknowledged { result.acknowledged ≡ acknowledged result.accounts.items }
-        ensures refused { result.refused ≡ refused result.accounts.items }
+            result.inbox.taken result.accounts result.keeper }
+        ensures acknowledged { result.acknowledged ≡ acknowledged result.accounts }
+        ensures refused { result.refused ≡ refused result.accounts }
         ensures left { result.left.items ≡ [] }
         ensures empty { WasEmpty result.inbox.ended result.inbox.taken }
         ensures desk { (result.inbox.desk ≡ self.desk) × (result.inbox.ended ≡ self.ended) }
-        ensures books { Balances result.inbox.taken result.accounts.items
+        ensures books { Balances result.inbox.taken result.accounts
             (map arc_value result.left.items) }
     {
         let mut clerk = self;
         let mut keeper = keeper;
-        let _each = clerk.accounts().len();
+        let _each = clerk.accounts().count();
         for _ in rt.forever() {
             let rings = clerk.ending.shared.jobs.rings();
             match clerk.turn(rt, &mut keeper) {
                 Ok(Turn::Ended) => return clerk.leave(keeper),
                 Ok(Turn::Served { .. }) => {}
                 Ok(Turn::Idle) => clerk.ending.shared.jobs.sleep(rt, rings),
-                Err(_) => yield_now(),
+                Err(_) => clerk.ending.shared.jobs.sleep(rt, rings),
             }
         }
         unreachable!()
@@ -208,14 +213,14 @@ impl<N: StoreName> Clerk<N> {
     /// back; their tickets get the answer that no reply comes, or that the desk was closed.
     pub fn leave(self, keeper: Keeper<N>) -> Books<N>
         ensures taken { result.inbox.taken ≡ self.taken }
-        ensures accounts { result.accounts.items ≡ self.accounts }
+        ensures accounts { result.accounts ≡ self.accounts }
         ensures keeper { result.keeper ≡ keeper }
         ensures each { Accounted self.taken self.accounts }
-        ensures acknowledged { result.acknowledged ≡ acknowledged result.accounts.items }
-        ensures refused { result.refused ≡ refused result.accounts.items }
+        ensures acknowledged { result.acknowledged ≡ acknowledged result.accounts }
+        ensures refused { result.refused ≡ refused result.accounts }
         ensures left { result.left.items ≡ [] }
         ensures desk { (result.inbox.desk ≡ self.desk) × (result.inbox.ended ≡ self.ended) }
-        ensures books { Balances result.inbox.taken result.accounts.items
+        ensures books { Balances result.inbox.taken result.accounts
             (map arc_value result.left.items) }
     {
         let Clerk {
@@ -225,13 +230,11 @@ impl<N: StoreName> Clerk<N> {
             alloc,
         } = self;
         drop(ending);
-        let acknowledged = acknowledged(accounts.as_slice());
-        let refused = accounts.len() as u64 - acknowledged;
         Books {
             keeper,
+            acknowledged: accounts.acknowledged(),
+            refused: accounts.refused(),
             accounts,
-            acknowledged,
-            refused,
             left: Vec::new(alloc),
             inbox,
         }

@@ -1,12 +1,12 @@
 //! The clerk's end of the queue.
 
-ghost use Rattle.std.specs.Prelude.{◌≡◌, ◌⊎◌, true, false, [], ◌∷◌, ◌++◌, List, MatchOption};
+ghost use Rattle.std.specs.Prelude.{◌≡◌, ◌⊎◌, ◌==◌, ◌||◌, true, false, [], ◌∷◌, ◌++◌, List, length, MatchOption};
 ghost use Rattle.std.specs.Arc.{arc_value};
 ghost use Rattle.crossbeam_queue.specs.Passes.{view, IsPassOf};
 ghost use Rattle.trace_model.specs.declared.entry.Entry.{Entry};
-ghost use Rattle.intake.specs.Queues.{AreWhole, ended_seat};
+ghost use Rattle.intake.specs.Queues.{AreLast, AreWhole, ended_seat, jobs_of};
 ghost use Rattle.intake.specs.Turns.{inbox_value, WasEmpty};
-ghost use Rattle.intake.specs.Books.{HasEnded, StillEnded};
+ghost use Rattle.intake.specs.Books.{HasEnded, StillEnded, has_job};
 
 use crate::job::Job;
 use crate::queue::{QueueEnd, TakeIn, TakeJob};
@@ -22,12 +22,15 @@ use std::sync::{Arc, Wait};
 pub struct Inbox<N: StoreName> {
     shared: Arc<Shared<N>>,
     end: QueueEnd<N>,
+    /// By seat, the number of its last job that was taken; 0 where none was.
+    last: Vec<u64>,
 }
 
 impl<N: StoreName> Model for Inbox<N> {
     ghost use Rattle.std.specs.Prelude.{◌≡◌, true, false};
     ghost use Rattle.std.specs.Arc.{arc_value};
     ghost use Rattle.crossbeam_queue.specs.Passes.{view as view_at, IsPassOf};
+    ghost use Rattle.intake.specs.Queues.{AreLast};
     ghost use Rattle.intake.specs.Turns.{InboxValue, inbox_value};
 
     ghost Value = { InboxValue };
@@ -35,16 +38,19 @@ impl<N: StoreName> Model for Inbox<N> {
     ghost view = { λ i. inbox_value i.end.table_id (view_at i.end) };
 
     ghost invariant = { λ i. IsPassOf (arc_value i.shared).queue i.end
-        × ((view_at i.end).takes ≡ true) × ((view_at i.end).submits ≡ false) };
+        × ((view_at i.end).takes ≡ true) × ((view_at i.end).submits ≡ false)
+        × AreLast (view_at i.end).made (view_at i.end).taken i.last.items };
 }
 
 impl<N: StoreName> Inbox<N> {
-    pub(crate) fn new(shared: Arc<Shared<N>>, end: QueueEnd<N>) -> Inbox<N>
+    /// The clerk's end, with the number of each seat's last job that was taken.
+    pub(crate) fn new(shared: Arc<Shared<N>>, end: QueueEnd<N>, last: Vec<u64>) -> Inbox<N>
         requires queue { IsPassOf (arc_value shared).queue end }
         requires clerk { ((view end).takes ≡ true) × ((view end).submits ≡ false) }
+        requires last { AreLast (view end).made (view end).taken last.items }
         ensures { result ≡ inbox_value end.table_id (view end) }
     {
-        Inbox { shared, end }
+        Inbox { shared, end, last }
     }
 
     /// Takes the next job, if there is one.
@@ -53,7 +59,28 @@ impl<N: StoreName> Inbox<N> {
             ((self.new ≡ self.old) × WasEmpty self.old.ended self.old.taken)
             (λ j. self.new ≡ record self.old { taken = self.old.taken ++ j ∷ [] }) }
     {
-        self.shared.queue.pop_as::<TakeJob, R>(rt, &mut self.end)
+        let job = self.shared.queue.pop_as::<TakeJob, R>(rt, &mut self.end)?;
+        let (seat, number) = job.name();
+        self.last[seat as usize] = number;
+        Some(job)
+    }
+
+    /// The number of the seat's last job that was taken; 0 where none was.
+    fn last_taken(&self, seat: u16) -> u64
+        ensures { result ≡ length (jobs_of seat self.now.taken) }
+    {
+        match self.last.get(seat as usize) {
+            Some(number) => *number,
+            None => 0,
+        }
+    }
+
+    /// Whether the seat's job with this number was taken. There is no job with the number 0.
+    pub(crate) fn has_taken(&self, seat: u16, number: u64) -> bool
+        ensures { result ≡ ((number == 0) || has_job seat number self.now.taken) }
+    {
+        let _counted = &self.last;
+        number <= self.last_taken(seat)
     }
 
     /// Takes in a seat's right to submit.

@@ -119,6 +119,13 @@ impl<N: StoreName> Job<N> {
         Ok(Job { entry, named, cell })
     }
 
+    /// The seat that handed it in, and its number there.
+    pub(crate) fn name(&self) -> (u16, u64)
+        ensures { (result.0 ≡ self.now.seat) × (result.1 ≡ self.now.number) }
+    {
+        (self.entry.seat, self.entry.number)
+    }
+
     /// The entry twice, and where its reply goes.
     pub(crate) fn split(self) -> (Arc<Entry>, Arc<Entry>, Arc<Cell<N>>)
         ensures entry { arc_value result.0 ≡ self }

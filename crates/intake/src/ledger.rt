@@ -2,7 +2,7 @@
 
 ghost use Rattle.std.specs.Prelude.{◌≡◌};
 
-use crate::account::Account;
+use crate::accounts::Accounts;
 use crate::books::Books;
 use crate::inbox::Inbox;
 use read_side::{Keeper, StoreName};
@@ -13,7 +13,7 @@ use trace_model::Entry;
 #[derive(Drop)]
 pub struct Ledger<N: StoreName> {
     /// One for each job that was judged, in the order taken.
-    pub accounts: Vec<Account>,
+    pub accounts: Accounts,
     /// How many were acknowledged.
     pub acknowledged: u64,
     /// How many were refused.
@@ -28,7 +28,7 @@ impl<N: StoreName> Books<N> {
     /// The keeper, and what the books have but for it.
     pub fn split(self) -> (Keeper<N>, Ledger<N>)
         ensures keeper { result.0 ≡ self.keeper }
-        ensures accounts { result.1.accounts.items ≡ self.accounts.items }
+        ensures accounts { result.1.accounts ≡ self.accounts }
         ensures acknowledged { result.1.acknowledged ≡ self.acknowledged }
         ensures refused { result.1.refused ≡ self.refused }
         ensures left { result.1.left.items ≡ self.left.items }
@@ -57,7 +57,7 @@ impl<N: StoreName> Ledger<N> {
     /// The books with their keeper.
     pub fn with(self, keeper: Keeper<N>) -> Books<N>
         ensures keeper { result.keeper ≡ keeper }
-        ensures accounts { result.accounts.items ≡ self.accounts.items }
+        ensures accounts { result.accounts ≡ self.accounts }
         ensures acknowledged { result.acknowledged ≡ self.acknowledged }
         ensures refused { result.refused ≡ self.refused }
         ensures left { result.left.items ≡ self.left.items }

@@ -10,13 +10,14 @@
 //! * `queue`: the queue, and the rule that holds between any two steps.
 //! * `job`: what is queued, and what is laid down for its ticket. `ticket`: the [`Ticket`].
 //! * `seat`: the [`Seat`]. `inbox`: the clerk's end of the queue.
-//! * `account`: what became of a job. `clerk`: the [`Clerk`]. `books`: what it leaves; `ledger`: the same but for the
+//! * `account`: what became of a job. `accounts`: the same of all. `clerk`: the [`Clerk`]. `books`: what it leaves; `ledger`: the same but for the
 //!   keeper.
 //! * `shared`: what all of them share. `bell`: how a sleeper is woken.
 //! * `opening`: [`desk`]. `closing`: the [`Desk`], which closes the queue.
 #![tactic(auto)]
 
 mod account;
+mod accounts;
 mod bell;
 mod books;
 mod clerk;
@@ -31,6 +32,7 @@ mod shared;
 mod ticket;
 
 pub use account::Account;
+pub use accounts::Accounts;
 pub use books::Books;
 pub use clerk::{Clerk, Turn};
 pub use closing::Desk;

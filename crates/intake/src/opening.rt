@@ -50,6 +50,7 @@ pub fn desk<N: StoreName>(
     let last = Mutex::new(Arc::new(alloc, first)?);
     let replies = bells(alloc, seats)?;
     let mut made = Vec::with_capacity(alloc, seats as usize)?;
+    let none_taken = vec![in alloc; 0; seats as usize]?;
     let (queue, mut end): (Queue<N>, QueueEnd<N>) = Queue::ruled(alloc, capacity)?;
     let shared = Arc::new(
         alloc,
@@ -68,6 +69,6 @@ pub fn desk<N: StoreName>(
         made.push_reserved(Seat::new(theirs, seat, number));
     }
     let desk = Desk::new(Arc::try_clone(&shared)?);
-    let inbox = Inbox::new(Arc::try_clone(&shared)?, end);
+    let inbox = Inbox::new(Arc::try_clone(&shared)?, end, none_taken);
     Ok((desk, made, Clerk::new(alloc, shared, inbox)))
 }

@@ -1,5 +1,5 @@
-//! Closing the books: four seats submit while a fifth thread closes the desk, or the clerk leaves while
-//! jobs wait. Nothing is lost.
+//! Closing the books: four seats submit while a fifth thread closes the desk, once each of them has a job in, or
+//! the clerk leaves while jobs wait. Nothing is lost.
 
 ghost use Rattle.std.specs.Prelude.{◌≡◌, true, map, All, IfSome};
 ghost use Rattle.std.specs.Arc.{arc_value};
@@ -8,7 +8,7 @@ ghost use Rattle.intake.specs.Seats.{IsNewSeat};
 ghost use Rattle.intake_rows.specs.Seats.{AllMayHandIn, Stays};
 
 use crate::house::batch;
-use intake::{Ack, Books, Clerk, Desk, Ledger, Seat, Ticket, Turn, desk};
+use intake::{Books, Clerk, Desk, Ledger, Seat, Ticket, Turn, desk};
 use read_side::{Keeper, Opened, StoreName, open};
 use std::alloc::Global;
 use std::hash::RandomState;
@@ -16,15 +16,19 @@ use std::marker::Brand;
 use std::process::Abort;
 use std::random::RandomSource;
 use std::sync::Wait;
+use std::sync::atomic::{AtomicU64, Ordering};
 use std::test::*;
 use std::thread::{Threads, join_mut, yield_now};
 use trace_model::{Limits, Refusal};
 
-/// How many batches a seat hands in at most.
+/// How often a seat tries to hand a batch in, from the first one that is in on.
 const MOST: u64 = 200;
 
 /// How many jobs the queue has room for.
 const ROOM: usize = 8;
+
+/// How often one who waits, for room or for the seats, lets others go on.
+const PATIENCE: u64 = 10_000_000;
 
 /// A seat, and a ticket for each job that it handed in, the first one for number 1.
 #[derive(Drop)]
@@ -33,11 +37,22 @@ struct Handed<N: StoreName> {
     tickets: Vec<Ticket<N>>,
 }
 
-/// Hands so many batches in, without waiting for an answer, or fewer where the desk is closed before.
-fn hand_in<N: StoreName, R: Wait>(rt: &R, alloc: Global, handed: &mut Handed<N>, most: u64)
+/// Tries so many times to hand a batch in, without waiting for an answer, the first time until there is room for it;
+/// fewer where the desk is closed before. The first one that is in is counted.
+fn hand_in<N: StoreName, R: Wait>(
+    rt: &R,
+    alloc: Global,
+    handed: &mut Handed<N>,
+    most: u64,
+    begun: &AtomicU64,
+)
     ensures { Stays handed.old.seat handed.new.seat }
 {
-    for id in 0..most {
+    let mut tries = 0u64;
+    for id in 0..PATIENCE {
+        if tries >= most {
+            break;
+        }
         if handed.tickets.reserve(1).is_err() {
             break;
         }
@@ -45,7 +60,12 @@ fn hand_in<N: StoreName, R: Wait>(rt: &R, alloc: Global, handed: &mut Handed<N>,
             break;
         };
         match handed.seat.submit(rt, alloc, batch) {
-            Ok(ticket) => handed.tickets.push_reserved(ticket),
+            Ok(ticket) => {
+                if handed.tickets.is_empty() {
+                    begun.fetch_add(1, Ordering::SeqCst);
+                }
+                handed.tickets.push_reserved(ticket);
+            }
             Err((why, _batch)) => {
                 if why == Refusal::Closed {
                     break;
@@ -53,11 +73,20 @@ fn hand_in<N: StoreName, R: Wait>(rt: &R, alloc: Global, handed: &mut Handed<N>,
                 yield_now();
             }
         }
+        if !handed.tickets.is_empty() {
+            tries = tries.saturating_add(1);
+        }
     }
 }
 
-/// Closes the desk after a while.
-fn close_soon<N: StoreName, R: Wait>(rt: &R, desk: &Desk<N>, turns: u64) {
+/// Closes the desk a while after each of the four seats has a job in.
+fn close_soon<N: StoreName, R: Wait>(rt: &R, desk: &Desk<N>, turns: u64, begun: &AtomicU64) {
+    for _ in 0..PATIENCE {
+        if begun.load(Ordering::SeqCst) == 4 {
+            break;
+        }
+        yield_now();
+    }
     for _ in 0..turns {
         yield_now();
     }
@@ -70,14 +99,15 @@ fn two_hand_in<N: StoreName + Send + Sync, R: Threads + Wait + Sync>(
     alloc: Global,
     a: &mut Handed<N>,
     b: &mut Handed<N>,
+    begun: &AtomicU64,
 )
     ensures a { Stays a.old.seat a.new.seat }
     ensures b { Stays b.old.seat b.new.seat }
 {
     join_mut(
         rt,
-        &mut || hand_in(rt, alloc, a, MOST),
-        &mut || hand_in(rt, alloc, b, MOST),
+        &mut || hand_in(rt, alloc, a, MOST, begun),
+        &mut || hand_in(rt, alloc, b, MOST, begun),
     );
 }
 
@@ -131,6 +161,7 @@ fn four_hand_in<N: StoreName + Send + Sync, R: Threads + Wait + Sync>(
     rt: &R,
     alloc: Global,
     four: &mut Four<N>,
+    begun: &AtomicU64,
 )
     ensures a { Stays four.old.a.seat four.new.a.seat }
     ensures b { Stays four.old.b.seat four.new.b.seat }
@@ -140,17 +171,19 @@ fn four_hand_in<N: StoreName + Send + Sync, R: Threads + Wait + Sync>(
     let Four { a, b, c, d } = four;
     join_mut(
         rt,
-        &mut || two_hand_in(rt, alloc, a, b),
-        &mut || two_hand_in(rt, alloc, c, d),
+        &mut || two_hand_in(rt, alloc, a, b, begun),
+        &mut || two_hand_in(rt, alloc, c, d, begun),
     );
 }
 
-/// The seats, and the desk, which is closed after so many turns.
+/// The seats, and the desk, which is closed so many turns after all of them have begun.
 #[derive(Drop)]
 struct Floor<N: StoreName> {
     four: Four<N>,
     desk: Desk<N>,
     turns: u64,
+    /// How many seats have a job in.
+    begun: AtomicU64,
 }
 
 /// The seats hand in, while one more thread closes the desk.
@@ -164,11 +197,17 @@ fn all_hand_in<N: StoreName + Send + Sync, R: Threads + Wait + Sync>(
     ensures c { Stays floor.old.four.c.seat floor.new.four.c.seat }
     ensures d { Stays floor.old.four.d.seat floor.new.four.d.seat }
 {
-    let Floor { four, desk, turns } = floor;
+    let Floor {
+        four,
+        desk,
+        turns,
+        begun,
+    } = floor;
+    let begun: &AtomicU64 = begun;
     join_mut(
         rt,
-        &mut || four_hand_in(rt, alloc, four),
-        &mut || close_soon(rt, desk, *turns),
+        &mut || four_hand_in(rt, alloc, four, begun),
+        &mut || close_soon(rt, desk, *turns, begun),
     );
 }
 
@@ -184,7 +223,7 @@ fn keep<N: StoreName, R: Wait>(rt: &R, office: &mut Office<N>)
     ensures desk { IfSome office.old.clerk (λ k.
         IfSome office.new.ledger (λ l. l.inbox.desk ≡ k.desk)) }
     ensures books { IfSome office.new.ledger (λ l.
-        Balances l.inbox.taken l.accounts.items (map arc_value l.left.items)) }
+        Balances l.inbox.taken l.accounts (map arc_value l.left.items)) }
 {
     office.ledger = None;
     let Some(clerk) = office.clerk.take() else {
@@ -210,7 +249,7 @@ fn all_day<N: StoreName + Send + Sync, R: Threads + Wait + Sync>(
     ensures desk { IfSome office.old.clerk (λ k.
         IfSome office.new.ledger (λ l. l.inbox.desk ≡ k.desk)) }
     ensures books { IfSome office.new.ledger (λ l.
-        Balances l.inbox.taken l.accounts.items (map arc_value l.left.items)) }
+        Balances l.inbox.taken l.accounts (map arc_value l.left.items)) }
     ensures a { Stays floor.old.four.a.seat floor.new.four.a.seat }
     ensures b { Stays floor.old.four.b.seat floor.new.four.b.seat }
     ensures c { Stays floor.old.four.c.seat floor.new.four.c.seat }
@@ -226,11 +265,11 @@ fn all_day<N: StoreName + Send + Sync, R: Threads + Wait + Sync>(
 /// Takes a seat in, once more where memory ran out.
 fn take_in<N: StoreName, R: Wait>(rt: &R, books: &mut Books<N>, seat: &mut Seat<N>)
     requires desk { books.old.inbox.desk ≡ seat.old.desk }
-    requires books { Balances books.old.inbox.taken books.old.accounts.items
+    requires books { Balances books.old.inbox.taken books.old.accounts
         (map arc_value books.old.left.items) }
     requires seat { seat.old.hands_in ≡ true }
     ensures desk { books.new.inbox.desk ≡ books.old.inbox.desk }
-    ensures books { Balances books.new.inbox.taken books.new.accounts.items
+    ensures books { Balances books.new.inbox.taken books.new.accounts
         (map arc_value books.new.left.items) }
 {
     for _ in rt.forever() {
@@ -248,47 +287,45 @@ fn is_left<N: StoreName>(books: &Books<N>, seat: u16, number: u64) -> bool {
         .any(|job| job.seat == seat && job.number == number)
 }
 
-/// Whether the account of the seat's job with this number has this answer.
-fn has_answer<N: StoreName>(
-    books: &Books<N>,
-    seat: u16,
-    number: u64,
-    answer: Result<u64, Refusal>,
-) -> bool {
-    books.accounts.iter().any(|a| a.seat == seat && a.number == number && a.answer == answer)
+/// How many tickets were answered by the store, and how.
+#[derive(Clone, Copy)]
+struct Answers {
+    acknowledged: u64,
+    refused: u64,
 }
 
-/// Whether the ticket has the answer of its job's account, or says that the desk was closed where its job is
-/// left.
+/// Whether the ticket says that the desk was closed just where its job is left. Another answer is counted.
 fn is_answered<N: StoreName, R: Wait>(
     rt: &R,
     books: &Books<N>,
     ticket: Ticket<N>,
     seat: u16,
     number: u64,
+    answers: &mut Answers,
 ) -> bool {
-    let answer = match ticket.wait(rt) {
-        Ok(Ack { receipt: _, place }) => Ok(place),
-        Err(why) => Err(why),
-    };
-    match answer {
-        Err(Refusal::Closed) => is_left(books, seat, number),
-        answer => has_answer(books, seat, number, answer),
+    let is_left = is_left(books, seat, number);
+    match ticket.wait(rt) {
+        Err(Refusal::Closed) => return is_left,
+        Ok(_) => answers.acknowledged = answers.acknowledged.saturating_add(1),
+        Err(_) => answers.refused = answers.refused.saturating_add(1),
     }
+    !is_left
 }
 
-/// Whether each ticket is answered by the books, and a further batch is turned away.
+/// Whether each ticket is answered by the books, and a further batch is turned away. The store's answers are
+/// counted.
 fn is_whole<N: StoreName, R: Wait>(
     rt: &R,
     alloc: Global,
     books: &Books<N>,
     handed: Handed<N>,
+    answers: &mut Answers,
 ) -> bool {
     let Handed { mut seat, tickets } = handed;
     let mut number = 0u64;
     for ticket in tickets {
         number = number.saturating_add(1);
-        if !is_answered(rt, books, ticket, seat.number(), number) {
+        if !is_answered(rt, books, ticket, seat.number(), number, answers) {
             return false;
         }
     }
@@ -312,14 +349,14 @@ fn close_books<N: StoreName, R: Wait>(rt: &R, books: Books<N>) {
 }
 
 /// Takes all seats in, and says how many jobs are left. None where some job that was handed in isn't in the
-/// books once, with its own answer.
+/// books once, with its own answer, or the counts of jobs, accounts and entries don't agree.
 fn left_over<N: StoreName, R: Wait>(
     rt: &R,
     alloc: Global,
     books: Books<N>,
     handed: Four<N>,
 ) -> Option<u64>
-    requires books { Balances books.inbox.taken books.accounts.items
+    requires books { Balances books.inbox.taken books.accounts
         (map arc_value books.left.items) }
     requires seats { AllMayHandIn books.inbox.desk handed.a.seat handed.b.seat
         handed.c.seat handed.d.seat }
@@ -341,13 +378,23 @@ fn left_over<N: StoreName, R: Wait>(
     }
     let left = books.left.len() as u64;
     let answered = books.acknowledged.saturating_add(books.refused);
-    let counted = all == answered.saturating_add(left);
-    let whole = is_whole(rt, alloc, &books, a)
-        && is_whole(rt, alloc, &books, b)
-        && is_whole(rt, alloc, &books, c)
-        && is_whole(rt, alloc, &books, d);
+    let counted = all == answered.saturating_add(left)
+        && books.keeper.receipt().front() == books.acknowledged;
+    let mut answers = Answers {
+        acknowledged: 0,
+        refused: 0,
+    };
+    let whole = is_whole(rt, alloc, &books, a, &mut answers)
+        && is_whole(rt, alloc, &books, b, &mut answers)
+        && is_whole(rt, alloc, &books, c, &mut answers)
+        && is_whole(rt, alloc, &books, d, &mut answers);
+    let booked = (answers.acknowledged, answers.refused) == (books.acknowledged, books.refused);
     close_books(rt, books);
-    if counted && whole { Some(left) } else { None }
+    if counted && whole && booked {
+        Some(left)
+    } else {
+        None
+    }
 }
 
 /// Two seats hand in five jobs, of which the clerk serves one; the desk is closed, and the clerk leaves: four
@@ -368,9 +415,10 @@ fn leaves<N: StoreName, R: Wait>(
         mut four,
         desk,
         turns: _,
+        begun,
     } = floor;
-    hand_in(rt, alloc, &mut four.a, 3);
-    hand_in(rt, alloc, &mut four.b, 2);
+    hand_in(rt, alloc, &mut four.a, 3, &begun);
+    hand_in(rt, alloc, &mut four.b, 2, &begun);
     let handed = (four.a.tickets.len() as u64).saturating_add(four.b.tickets.len() as u64);
     let served = matches!(clerk.turn(rt, &mut keeper), Ok(Turn::Served { .. }));
     desk.close(rt);
@@ -378,7 +426,15 @@ fn leaves<N: StoreName, R: Wait>(
     left_over(rt, alloc, books, four) == Some(handed.saturating_sub(served as u64))
 }
 
-/// The clerk serves while the seats hand in and the desk is closed: whether nothing is lost.
+/// Whether each seat has handed something in.
+fn have_begun<N: StoreName>(four: &Four<N>) -> bool {
+    [&four.a, &four.b, &four.c, &four.d]
+        .iter()
+        .all(|one| !one.tickets.is_empty())
+}
+
+/// The clerk serves while the seats hand in and the desk is closed: whether each seat had a job in, and nothing is
+/// lost.
 fn races<N: StoreName + Send + Sync, R: Threads + Wait + Sync>(
     rt: &R,
     alloc: Global,
@@ -403,7 +459,8 @@ fn races<N: StoreName + Send + Sync, R: Threads + Wait + Sync>(
     } = office;
     match (keeper, ledger) {
         (Some(keeper), Some(ledger)) => {
-            left_over(rt, alloc, ledger.with(keeper), floor.four).is_some()
+            let begun = have_begun(&floor.four);
+            left_over(rt, alloc, ledger.with(keeper), floor.four).is_some() && begun
         }
         (Some(keeper), None) => {
             keeper.close(rt);
@@ -416,7 +473,7 @@ fn races<N: StoreName + Send + Sync, R: Threads + Wait + Sync>(
 /// How a desk ends.
 #[derive(Clone, Copy)]
 enum Ending {
-    /// It is closed after so many turns, while four seats hand in and the clerk serves.
+    /// It is closed so many turns after each of four seats has a job in, while they hand in and the clerk serves.
     Race(u64),
     /// The clerk leaves while jobs wait.
     Leaves,
@@ -432,7 +489,7 @@ fn round<N: StoreName + Send + Sync, R: Threads + Wait + Abort + RandomSource + 
 ) -> Result<bool, Fail>
     requires { (name.seen.book ≡ N.book) × (limits ≡ N.limits) }
 {
-    let (mut keeper, _passes) = open::<N>(alloc, RandomState::new(rt)?, name, limits, 1)?;
+    let (mut keeper, _passes) = open::<N, _>(rt, alloc, RandomState::new(rt)?, name, limits, 1)?;
     let first = keeper.receipt();
     let (desk, seats, clerk) = match desk(alloc, first, ROOM, 4) {
         Ok(opened) => opened,
@@ -445,14 +502,25 @@ fn round<N: StoreName + Send + Sync, R: Threads + Wait + Abort + RandomSource + 
         keeper.close(rt);
         return Ok(false);
     };
+    let begun = AtomicU64::new(0);
     match ending {
         Ending::Race(turns) => {
-            let floor = Floor { four, desk, turns };
+            let floor = Floor {
+                four,
+                desk,
+                turns,
+                begun,
+            };
             Ok(races(rt, alloc, clerk, keeper, floor))
         }
         Ending::Leaves => {
             let turns = 0;
-            let floor = Floor { four, desk, turns };
+            let floor = Floor {
+                four,
+                desk,
+                turns,
+                begun,
+            };
             Ok(leaves(rt, alloc, clerk, keeper, floor))
         }
     }

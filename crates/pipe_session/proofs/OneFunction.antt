@@ -54,7 +54,7 @@ pub stopped : (bytes before out : List ℕ) (left : Option (List ℕ)) (s t : He
 stopped bytes before out None s t i o e fails memory = absurd fails.read
 stopped bytes before out (Some left) s t i o e fails memory =
     stops bytes s fails.opens fails.next (fails.rest ++ left) t fails.each
-    (stand bytes fails.taken fails.rest left s t (fails.opens ++ exchange_due fails.next) fails.read fails.split fails.run memory) (due_at fails.rest left fails.next fails.next_is)
+    (stand bytes fails.taken fails.rest left s t (fails.opens ++ exchange_due fails.next) fails.read fails.split fails.run memory) (due_at e.cause fails.rest left fails.next fails.next_is)
 
 pub a_beginning : (bytes : List ℕ) (s : Held) (w v : List ℕ) (t : Held) (n : ℕ) (c : Bool) → Failed bytes s w → Finished bytes s v t n c → IsPrefix w v
 a_beginning bytes s w v t n c failed finished =

@@ -1,5 +1,5 @@
 -- What a session wrote before memory ran out.
-use Rattle.std.proofs.Common.{◌≡◌, ℕ, ◌+◌, ◌≤◌, Bool, false, List, [], ◌∷◌, ◌++◌, length, refl, sym, ap, ◌∙◌, subst, arith, append_assoc, append-nil, length-append, Option, Some, None, All}
+use Rattle.std.proofs.Common.{◌≡◌, ℕ, ◌+◌, ◌≤◌, Bool, true, false, List, [], ◌∷◌, ◌++◌, length, refl, inl, sym, ap, ◌∙◌, subst, arith, append_assoc, append-nil, length-append, Option, Some, None, All}
 use Rattle.std.specs.Io.KnownBytes.{Consumes}
 use Rattle.std.proofs.lemmas.Bool.{false≢true}
 use Rattle.std.proofs.lemmas.List.Elements.{All-head, All-tail, All-cons, All-nil}
@@ -7,7 +7,8 @@ use Rattle.std.proofs.lemmas.Grind.{flat_map-append}
 use Rattle.trace_model.specs.Held.{Held}
 use Rattle.direct_store.specs.Exactly.{DirectSubmits, DirectReads}
 use Rattle.http_session.specs.Sessions.{Exchange, IsOpen, texts, Submits, Reads, Run, EndsAs, FailsAs, Ending, Ending.{clean, closing, broken}, last_of, parting, response_to, responses, Due, Due.{none_yet, due, due_parting}, exchange_due, bytes_due}
-use Rattle.http_session.specs.declared.exchanges.Cause.TheVariants.{Memory}
+use Rattle.http_requests.proofs.Ends.{no_bytes_await}
+use Rattle.http_session.specs.declared.exchanges.Cause.TheVariants.{Reading}
 use Rattle.http_session.specs.declared.exchanges.SessionError.{SessionError}
 use Rattle.pipe_session.specs.OneFunction.{NeverWants, Failed, WroteFirst}
 use Rattle.std.specs.Prelude.{take}
@@ -48,34 +49,41 @@ due_few (due_parting b) = omega arith
 responses_parts : (xs ys : List Exchange) → responses (xs ++ ys) ≡ responses xs ++ responses ys
 responses_parts xs ys = flat_map-append response_to xs ys
 
--- a session up to some exchange is one that failed there, and had written the responses before
+-- where nothing more was taken, all of it is left
+left_behind : (bytes front behind taken : List ℕ) (left : Option (List ℕ)) → Consumes (Some bytes) left taken → taken ≡ front ++ behind → (more : List ℕ) × (bytes ≡ front ++ more)
+left_behind bytes front behind taken None read split = absurd read
+left_behind bytes front behind taken (Some left) read split = (behind ++ left, read ∙ ap (λ (l : List ℕ). l ++ left) split ∙ append_assoc front behind left)
+
+-- a session up to some exchange is one whose input failed there, and had written the responses before
 stopped_there : (bytes before taken rest : List ℕ) (left : Option (List ℕ)) (s t : Held) (ys zs : List Exchange) → Consumes (Some bytes) left taken → taken ≡ texts (ys ++ zs) ++ rest → All IsOpen ys
     → Run DirectSubmits DirectReads s (ys ++ zs) t → NeverWants ys → Failed bytes s (responses ys)
 stopped_there bytes before taken rest left s t ys zs read split opens run memory =
     let parts = run_parts DirectSubmits DirectReads s ys zs t run in
     let alone : ys ≡ ys ++ [] = sym (append-nil ys) in
+    let cut : taken ≡ texts ys ++ (texts zs ++ rest) = split ∙ ap (λ (l : List ℕ). l ++ rest) (flat_map-append (λ (x : Exchange). x.text) ys zs) ∙ append_assoc (texts ys) (texts zs) rest in
+    let behind = left_behind bytes (texts ys) (texts zs ++ rest) taken left read cut in
     record {
       before = before;
-      left = left;
+      left = Some behind.0;
       held = parts.0;
-      in_failed = false;
+      in_failed = true;
       out_failed = false;
-      error = record { answered = length ys; written = 0; cause = Memory };
+      error = record { answered = length ys; written = 0; cause = Reading };
       fails = record {
-        taken = taken;
+        taken = texts ys;
         opens = ys;
         next = none_yet;
-        rest = texts zs ++ rest;
-        read = read;
-        split = split ∙ ap (λ (l : List ℕ). l ++ rest) (flat_map-append (λ (x : Exchange). x.text) ys zs) ∙ append_assoc (texts ys) (texts zs) rest
-            ∙ ap (λ (l : List Exchange). texts l ++ (texts zs ++ rest)) alone;
+        rest = [];
+        read = behind.1;
+        split = ap texts alone ∙ sym (append-nil (texts (ys ++ [])));
         each = opens;
-        next_is = tt;
+        next_is = inl no_bytes_await;
         run = subst (λ (l : List Exchange). Run DirectSubmits DirectReads s l parts.0) alone parts.1;
         within = omega arith;
         written = ap (λ (l : List ℕ). before ++ l) (sym (append-nil (responses ys)));
         count = refl;
-        cause = (refl, refl);
+        made = 0;
+        cause = (inl refl, refl);
         unwritten = λ _. refl;
         spared = λ e. absurd (false≢true e);
       };

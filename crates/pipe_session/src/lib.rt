@@ -49,7 +49,7 @@ pub fn pipe<R: Input, W: Output>(
         (W.has_failed output.new) f)
         × IsExact store.old (fails.opens ++ exchange_due fails.next) store.new
         × ReadsInTurnUpTo (source_of R.remaining R.gives) input.old input.new
-        (R.has_failed input.new) fails.opens fails.taken fails.next) }
+        (R.has_failed input.new) fails.opens fails.taken fails.made) }
 {
     match session(&(), alloc, input, output, store) {
         Ok(ended) => Ok(ended),

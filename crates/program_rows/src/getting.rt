@@ -1,7 +1,5 @@
-//! `get`, and the program's words.
+//! `get`.
 use crate::runs::{HEAD, LONGER, NONE, NUMBERED, OPEN, SPAN, TAIL, check};
-use program_run::run;
-use session_devices::Watched;
 use std::test::Fail;
 
 /// Words behind `get`, the pieces of the input, the status, the lines of the output.
@@ -91,44 +89,6 @@ const WORKED_ROWS: [Row; 18] = [
     ),
 ];
 
-/// Words behind the program's name that can't be used, or that ask for help.
-const UNUSABLE: [&[&str]; 34] = [
-    &[],
-    &["get"],
-    &["get", "1", "2"],
-    &["get", "--spans=0", "1"],
-    &["get", "1", "--spans", "0"],
-    &["get", "1", "--spans", "10000001"],
-    &["get", "1", "--batches", "0"],
-    &["get", "1", "--batches", "1000001"],
-    &["get", "1", "--batches="],
-    &["get", "1", "--batches", "1", "--batches", "2"],
-    &["--batches", "1", "get", "1"],
-    &["get", "1", "--traces"],
-    &["get", "1", "--traces", "-1"],
-    &["get", "1", "--traces", "x"],
-    &["get", "1", "--traces", "1000001"],
-    &["get", "1", "--max-skew", "9223372036854775808"],
-    &["get", "1", "--nope", "1"],
-    &["get", "1", "--workers", "4"],
-    &["get", "1", "-x"],
-    &["get", "--help"],
-    &["help"],
-    &["--help"],
-    &["nope"],
-    &["pipe", "extra"],
-    &["pipe", "--batches", "0"],
-    &["pipe", "--help"],
-    &["play", "extra"],
-    &["play", "--traces", "1000001"],
-    &["serve", "--port", "65536"],
-    &["serve", "--queue", "0"],
-    &["serve", "--queue", "4097"],
-    &["serve", "--sessions", "4294967296"],
-    &["serve", "--workers", "0"],
-    &["serve", "--workers", "65"],
-];
-
 #[test]
 fn worked_rows(rt: HostRuntime) -> Result<(), Fail> {
     let alloc = rt.alloc();
@@ -136,27 +96,6 @@ fn worked_rows(rt: HostRuntime) -> Result<(), Fail> {
         let mut all = vec![in alloc; "jaeger_one", "get"]?;
         all.extend_from_slice(words)?;
         check(&rt, alloc, all.as_slice(), input, status, output)?;
-    }
-    Ok(())
-}
-
-/// Each ends with the status 2; the texts are those of `clap`.
-#[test]
-fn unusable_words(rt: HostRuntime) -> Result<(), Fail> {
-    let alloc = rt.alloc();
-    for words in UNUSABLE {
-        let mut all = vec![in alloc; "jaeger_one"]?;
-        all.extend_from_slice(words)?;
-        let mut text = Vec::new(alloc);
-        let mut input = Watched::new("zz".as_bytes());
-        let status = run(
-            &rt,
-            alloc,
-            all.as_slice(),
-            &mut input,
-            &mut Watched::new(&mut text),
-        );
-        assert_eq!(&rt; status, 2, "{words:?}");
     }
     Ok(())
 }

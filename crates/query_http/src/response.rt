@@ -87,9 +87,33 @@ fn push_close(out: &mut Vec<u8>, close: bool) -> Result<(), AllocError>
     }
 }
 
-/// The bytes of a response: the status line, `Content-Type: application/json` where there is a body,
-/// `Content-Length`, `Allow` where the text of one is given, `Connection: close` where it closes, an
-/// empty line, and the body. A status outside the table has the reason of 500.
+/// The bytes of a response in front of its body: the status line, `Content-Type: application/json`
+/// where there is a body, `Content-Length`, `Allow` where the text of one is given,
+/// `Connection: close` where it closes, and an empty line. A status outside the table has the reason
+/// of 500.
+///
+/// # Errors
+///
+/// Out of memory, and nothing else.
+pub fn response_head(
+    alloc: Global,
+    status: u16,
+    body: &[u8],
+    allow: &str,
+    close: bool,
+) -> Result<Vec<u8>, AllocError>
+    ensures { IfOk result (λ v. v.items ++ body.now ≡ response status body.now allow.now close) }
+{
+    let mut out = status_line(alloc, status)?;
+    push_type(&mut out, body)?;
+    push_length(alloc, &mut out, body)?;
+    push_allow(&mut out, allow)?;
+    push_close(&mut out, close)?;
+    out.extend_from_slice(b"\r\n")?;
+    Ok(out)
+}
+
+/// The bytes of a response: its head ([`response_head`]), and then the body.
 ///
 /// # Errors
 ///
@@ -103,12 +127,7 @@ pub fn respond(
 ) -> Result<Vec<u8>, AllocError>
     ensures { IfOk result (λ v. v.items ≡ response status body.now allow.now close) }
 {
-    let mut out = status_line(alloc, status)?;
-    push_type(&mut out, body)?;
-    push_length(alloc, &mut out, body)?;
-    push_allow(&mut out, allow)?;
-    push_close(&mut out, close)?;
-    out.extend_from_slice(b"\r\n")?;
+    let mut out = response_head(alloc, status, body, allow, close)?;
     out.extend_from_slice(body)?;
     Ok(out)
 }

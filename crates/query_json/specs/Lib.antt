@@ -2,3 +2,4 @@ pub mod Naming
 pub mod Numbering
 pub mod Order
 pub mod Trees
+pub mod Writing

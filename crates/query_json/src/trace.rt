@@ -79,7 +79,7 @@ fn processes_json(alloc: Global, processes: &[&Process]) -> Result<Value, AllocE
 }
 
 /// The id of a trace, that of its first span.
-fn trace_id_text(alloc: Global, spans: &[Shown]) -> Result<String, AllocError>
+pub(crate) fn trace_id_text(alloc: Global, spans: &[Shown]) -> Result<String, AllocError>
     ensures { IfOk result (λ s. string_bytes s ≡ trace_id_text spans.now) }
 {
     match spans.first() {

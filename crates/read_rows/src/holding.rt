@@ -62,7 +62,7 @@ fn held_beside<N: StoreName + Send + Sync, R: Threads + Wait + Abort + RandomSou
     requires limits { limits ≡ N.limits }
 {
     let entries = entries_to(alloc, 2)?;
-    let (mut keeper, mut passes) = open::<N>(alloc, RandomState::new(rt)?, name, limits, 1)?;
+    let (mut keeper, mut passes) = open::<N, _>(rt, alloc, RandomState::new(rt)?, name, limits, 1)?;
     let Some(pass) = passes.pop() else {
         keeper.close(rt);
         panic!(rt; "a store that was opened for one reader has none");
@@ -105,7 +105,7 @@ fn held_before<N: StoreName, R: Wait + Abort + RandomSource>(
     requires limits { limits ≡ N.limits }
 {
     let (first, second) = (entry_of(alloc, 1)?, entry_of(alloc, 2)?);
-    let (mut keeper, mut passes) = open::<N>(alloc, RandomState::new(rt)?, name, limits, 1)?;
+    let (mut keeper, mut passes) = open::<N, _>(rt, alloc, RandomState::new(rt)?, name, limits, 1)?;
     let seen = match passes.first_mut() {
         Some(pass) => read_around(rt, &mut keeper, pass, first, second),
         None => Err(Refusal::Gone),
@@ -152,7 +152,7 @@ fn learnt_late<N: StoreName, R: Wait + Abort + RandomSource>(
 {
     let first = entry_of(alloc, 1)?;
     let (second, third) = (entry_of(alloc, 2)?, entry_of(alloc, 3)?);
-    let (mut keeper, mut passes) = open::<N>(alloc, RandomState::new(rt)?, name, limits, 1)?;
+    let (mut keeper, mut passes) = open::<N, _>(rt, alloc, RandomState::new(rt)?, name, limits, 1)?;
     let old = keeper.admit(rt, first);
     let both = (keeper.admit(rt, second), keeper.admit(rt, third));
     let seen = match (passes.first_mut(), &old) {

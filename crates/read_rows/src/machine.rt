@@ -11,22 +11,10 @@ use std::process::Abort;
 use std::random::RandomSource;
 use std::sync::{Arc, Wait};
 use std::test::*;
-use trace_model::{Entry, Limits, Query, Refusal};
+use trace_model::{Answer, Entry, Limits, Query, Refusal};
 
-/// The place of what was handed in, or why it was refused.
-type Told = Result<u64, Refusal>;
-
-/// What came of what was handed in, how many entries were published then, and the answer of the store to a
-/// question, as text.
-#[derive(Drop)]
-struct Look {
-    told: Told,
-    front: u64,
-    answer: String,
-}
-
-/// By what was handed in.
-type Looks = Vec<Look>;
+/// What is seen of a store, one line of text after another.
+type Lines = Vec<String>;
 
 /// How many entries are handed in.
 const LAST: u64 = 20;
@@ -55,94 +43,217 @@ fn hand_in(alloc: Global, number: u64) -> Result<Step, Fail> {
     }
 }
 
-/// The steps by which a machine is handed one more entry and a reader looks at what is shown then.
-fn steps_of(alloc: Global, before: u64) -> Result<Vec<Step>, Fail> {
+/// The steps by which a reader enters, asks and leaves.
+fn visit(steps: &mut Vec<Step>, reader: u32, before: u64) -> Result<(), Fail> {
     let query = question(before);
+    steps.push(Step::Enter { reader })?;
+    steps.push(Step::Read { reader, query })?;
+    steps.push(Step::Leave { reader })?;
+    Ok(())
+}
+
+/// The steps by which a machine is handed one more entry. Reader 6 is inside before it is taken, while it is pending
+/// and until it is published; reader 5 comes while it is pending and behind that; reader 7 learns of the publish and
+/// comes then.
+fn steps_of(alloc: Global, before: u64) -> Result<Vec<Step>, Fail> {
+    let number = before.saturating_add(1);
     let mut steps = Vec::new(alloc);
-    steps.push(hand_in(alloc, before.saturating_add(1))?)?;
+    steps.push(Step::Enter { reader: 6 })?;
+    steps.push(hand_in(alloc, number)?)?;
     steps.push(Step::Take)?;
+    let query = question(before);
+    steps.push(Step::Read { reader: 6, query })?;
+    visit(&mut steps, 5, before)?;
     steps.push(Step::Publish)?;
-    steps.push(Step::Enter { reader: 5 })?;
-    steps.push(Step::Read { reader: 5, query })?;
-    steps.push(Step::Leave { reader: 5 })?;
+    visit(&mut steps, 5, before)?;
+    let query = question(before);
+    steps.push(Step::Read { reader: 6, query })?;
+    steps.push(Step::Leave { reader: 6 })?;
+    let publish = u32::try_from(number).unwrap_or(0);
+    steps.push(Step::Learn { reader: 7, publish })?;
+    visit(&mut steps, 7, before)?;
     Ok(steps)
 }
 
-/// The looks of a machine that is handed so many entries.
-fn machine_looks(
+/// What is seen of a machine that is handed so many entries.
+fn machine_lines(
     alloc: Global,
     keys: RandomState,
     limits: Limits,
     last: u64,
-) -> Result<Looks, Fail> {
+) -> Result<Lines, Fail> {
     let mut steps = Vec::new(alloc);
     for before in 0..last {
         for step in steps_of(alloc, before)? {
             steps.push(step)?;
         }
     }
-    looks_of(alloc, play(alloc, keys, steps, limits)?)
+    lines_of(alloc, play(alloc, keys, steps, limits)?)
 }
 
-/// What was told and answered, of these outcomes. A job that is taken is published at once, as the last one.
-fn looks_of(alloc: Global, outcomes: Vec<Outcome>) -> Result<Looks, Fail> {
-    let mut looks = Vec::new(alloc);
-    let mut told = None;
+/// What an answer shows.
+fn answered(alloc: Global, front: u64, answer: &Answer) -> Result<String, Fail> {
+    Ok(format!(in alloc; "{front}: {answer:?}")?)
+}
+
+/// What is told of what was handed in, by its place or why it was refused.
+fn told(alloc: Global, told: Result<u64, Refusal>) -> Result<String, Fail> {
+    Ok(format!(in alloc; "told {told:?}")?)
+}
+
+/// How many entries a reader knows that has learnt.
+fn learnt(alloc: Global, front: u64) -> Result<String, Fail> {
+    Ok(format!(in alloc; "learnt {front}")?)
+}
+
+/// What is told, answered and learnt by these outcomes. A job that is taken and not refused is published next, as
+/// the last one.
+fn lines_of(alloc: Global, outcomes: Vec<Outcome>) -> Result<Lines, Fail> {
+    let mut lines = Vec::new(alloc);
+    let mut judged = None;
     for outcome in outcomes {
         match outcome {
-            Outcome::Again { place, .. } => told = Some(Ok(place)),
-            Outcome::Refused(why) => told = Some(Err(why)),
-            Outcome::Answered { front, answer } => {
-                let told = told.take().unwrap_or(Ok(front));
-                let answer = format!(in alloc; "{answer:?}")?;
-                looks.push(Look {
-                    told,
-                    front,
-                    answer,
-                })?;
+            Outcome::Again { place, .. } => judged = Some(Ok(place)),
+            Outcome::Refused(why) => judged = Some(Err(why)),
+            Outcome::Published { front } => {
+                lines.push(told(alloc, judged.take().unwrap_or(Ok(front)))?)?
+            }
+            Outcome::Answered { front, answer } => lines.push(answered(alloc, front, &answer)?)?,
+            Outcome::Learnt { front } => lines.push(learnt(alloc, front)?)?,
+            Outcome::Held { .. } | Outcome::Inside | Outcome::Outside | Outcome::Unknown => {
+                return Err("a step that was not made".into());
             }
             _ => {}
         }
     }
-    Ok(looks)
+    Ok(lines)
 }
 
-/// The looks of a pass of two copies that are handed the same entries.
-fn copies_look<N: StoreName, R: Wait>(
+/// The passes of two copies which do as the machine's readers of these numbers.
+#[derive(Drop)]
+struct Readers<N: StoreName> {
+    five: Pass<N>,
+    six: Pass<N>,
+    seven: Pass<N>,
+}
+
+/// What is seen around one entry more: two readings before it, what was told, and two behind it.
+#[derive(Drop)]
+struct Around {
+    before: (Result<Reading, Refusal>, Result<Reading, Refusal>),
+    judged: Result<u64, Refusal>,
+    behind: (Result<Reading, Refusal>, Result<Reading, Refusal>),
+}
+
+/// Hands two copies one more entry while the second pass stays inside. What is pending on the machine is not handed
+/// in here yet.
+fn round<N: StoreName, R: Wait>(
+    rt: &R,
+    keeper: &mut Keeper<N>,
+    five: &mut Pass<N>,
+    six: &mut Pass<N>,
+    entry: Arc<Entry>,
+    query: &Query,
+) -> Result<Around, Refusal> {
+    let held = six.hold()?;
+    let before = (held.read(query), five.read(query));
+    let judged = match keeper.admit(rt, entry) {
+        Ok(receipt) => Ok(receipt.place().unwrap_or(0)),
+        Err(why) => Err(why),
+    };
+    let behind = (five.read(query), held.read(query));
+    held.leave();
+    Ok(Around {
+        before,
+        judged,
+        behind,
+    })
+}
+
+/// Says what a reading shows.
+fn say(alloc: Global, lines: &mut Lines, reading: Result<Reading, Refusal>) -> Result<(), Fail> {
+    let Reading { front, answer } = reading?;
+    lines.push(answered(alloc, front, &answer)?)?;
+    Ok(())
+}
+
+/// Says what was seen around an entry.
+fn say_round(alloc: Global, lines: &mut Lines, around: Around) -> Result<(), Fail> {
+    let Around {
+        before: (first, second),
+        judged,
+        behind: (third, fourth),
+    } = around;
+    say(alloc, lines, first)?;
+    say(alloc, lines, second)?;
+    lines.push(told(alloc, judged)?)?;
+    say(alloc, lines, third)?;
+    say(alloc, lines, fourth)
+}
+
+/// Hands two copies one more entry. The passes ask as the machine's readers do.
+fn hand_on<N: StoreName, R: Wait>(
     rt: &R,
     alloc: Global,
     keeper: &mut Keeper<N>,
-    passes: &mut Vec<Pass<N>>,
-    entries: Vec<Arc<Entry>>,
-) -> Result<Looks, Refusal> {
-    let mut looks = Vec::new(alloc);
-    let Some(pass) = passes.first_mut() else {
-        return Ok(looks);
-    };
-    let mut before = 0;
-    for entry in entries {
-        let told = match keeper.admit(rt, entry) {
-            Ok(receipt) => Ok(receipt.place().unwrap_or(0)),
-            Err(why) => Err(why),
-        };
-        let Reading { front, answer } = pass.read(&question(before))?;
-        let Ok(answer) = format!(in alloc; "{answer:?}") else {
-            return Err(Refusal::NoMemory);
-        };
-        looks.push(Look {
-            told,
-            front,
-            answer,
-        })?;
-        before = before.saturating_add(1);
-    }
-    Ok(looks)
+    readers: &mut Readers<N>,
+    entry: Arc<Entry>,
+    before: u64,
+    lines: &mut Lines,
+) -> Result<(), Fail> {
+    let query = question(before);
+    let Readers { five, six, seven } = readers;
+    let around = round(rt, keeper, five, six, entry, &query)?;
+    say_round(alloc, lines, around)?;
+    let published = keeper.receipt();
+    seven.learn(&published);
+    lines.push(learnt(alloc, seven.front())?)?;
+    say(alloc, lines, seven.read(&query))
 }
 
-/// What was told of what was handed in under the number.
-fn told_under(looks: &[Look], number: usize) -> Option<Told> {
-    let look = looks.get(number.saturating_sub(1))?;
-    Some(look.told)
+/// What is seen of two copies that are handed these entries.
+fn copies_lines<N: StoreName, R: Wait>(
+    rt: &R,
+    alloc: Global,
+    keeper: &mut Keeper<N>,
+    passes: Vec<Pass<N>>,
+    entries: Vec<Arc<Entry>>,
+) -> Result<Lines, Fail> {
+    let mut passes = passes;
+    let mut lines = Vec::new(alloc);
+    let (Some(five), Some(six), Some(seven)) = (passes.pop(), passes.pop(), passes.pop()) else {
+        return Err("three passes were asked for".into());
+    };
+    let mut readers = Readers { five, six, seven };
+    let mut before = 0;
+    for entry in entries {
+        hand_on(rt, alloc, keeper, &mut readers, entry, before, &mut lines)?;
+        before = before.saturating_add(1);
+    }
+    Ok(lines)
+}
+
+/// How many lines are seen of each entry, and the place of the one that tells of it.
+const PER_ENTRY: usize = 7;
+
+const TELLING: usize = 2;
+
+/// Whether this is told of what was handed in under the number.
+fn is_told(
+    alloc: Global,
+    lines: &[String],
+    number: usize,
+    said: Result<u64, Refusal>,
+) -> Result<bool, Fail> {
+    let wanted = told(alloc, said)?;
+    let place = number
+        .saturating_sub(1)
+        .saturating_mul(PER_ENTRY)
+        .saturating_add(TELLING);
+    match lines.get(place) {
+        Some(line) => Ok(*line == wanted),
+        None => Ok(false),
+    }
 }
 
 #[test]
@@ -161,25 +272,19 @@ fn followed<N: StoreName, R: Wait + Abort + RandomSource>(
     requires limits { limits ≡ N.limits }
 {
     let keys = RandomState::new(rt)?;
-    let wanted = machine_looks(alloc, keys, limits, LAST)?;
+    let wanted = machine_lines(alloc, keys, limits, LAST)?;
     let entries = works_to(alloc, LAST)?;
-    let (mut keeper, mut passes) = open::<N>(alloc, keys, name, limits, 1)?;
-    let seen = copies_look(rt, alloc, &mut keeper, &mut passes, entries);
+    let (mut keeper, passes) = open::<N, _>(rt, alloc, keys, name, limits, 3)?;
+    let seen = copies_lines(rt, alloc, &mut keeper, passes, entries);
     keeper.close(rt);
-    assert_eq!(rt; wanted.len() as u64, LAST);
-    assert!(rt; told_under(&wanted, 5) == Some(Ok(3)) && told_under(&wanted, 19) == Some(Ok(14)));
+    let seen = seen?;
+    assert_eq!(rt; wanted.len() as u64, LAST.saturating_mul(PER_ENTRY as u64));
+    assert!(rt; is_told(alloc, &wanted, 5, Ok(3))? && is_told(alloc, &wanted, 19, Ok(14))?);
     let conflict = Refusal::Conflict { place: 3 };
-    assert!(rt; told_under(&wanted, 6) == Some(Err(conflict)));
-    match seen {
-        Ok(looks) => {
-            for (look, wanted) in looks.iter().zip(wanted.iter()) {
-                assert!(rt; look.told == wanted.told);
-                assert_eq!(rt; look.front, wanted.front);
-                assert!(rt; look.answer == wanted.answer);
-            }
-            assert_eq!(rt; looks.len() as u64, LAST);
-        }
-        Err(_) => panic!(rt; "a call was refused"),
+    assert!(rt; is_told(alloc, &wanted, 6, Err(conflict))?);
+    assert_eq!(rt; seen.len(), wanted.len());
+    for (seen, wanted) in seen.iter().zip(wanted.iter()) {
+        assert!(rt; seen == wanted, "{seen}, and not {wanted}");
     }
     Ok(())
 }

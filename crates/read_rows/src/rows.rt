@@ -1,6 +1,7 @@
 ghost use Rattle.std.specs.Prelude.{◌≡◌};
 
 use crate::entries::{entries_to, entry_of, limits_of};
+use crate::sent_again::{Told, told_of};
 use jaeger_model::TraceId;
 use read_side::{Keeper, Opened, Pass, Receipt, StoreName, open};
 use std::alloc::Global;
@@ -46,7 +47,7 @@ fn settled<N: StoreName, R: Wait + Abort + RandomSource>(
 {
     let three = entries_to(alloc, 3)?;
     let fourth = entry_of(alloc, 4)?;
-    let (mut keeper, mut passes) = open::<N>(alloc, RandomState::new(rt)?, name, limits, 1)?;
+    let (mut keeper, mut passes) = open::<N, _>(rt, alloc, RandomState::new(rt)?, name, limits, 1)?;
     let seen = settle_twice(rt, alloc, &mut keeper, &mut passes, three, fourth);
     keeper.close(rt);
     assert!(rt; seen == Ok(Some((Err(Refusal::Behind { front: 3 }), Ok(())))));
@@ -91,7 +92,7 @@ fn moved_on<N: StoreName, R: Wait + Abort + RandomSource>(
 {
     let three = entries_to(alloc, 3)?;
     let fourth = entry_of(alloc, 4)?;
-    let (mut keeper, mut passes) = open::<N>(alloc, RandomState::new(rt)?, name, limits, 3)?;
+    let (mut keeper, mut passes) = open::<N, _>(rt, alloc, RandomState::new(rt)?, name, limits, 3)?;
     let seen = read_along(rt, alloc, &mut keeper, &mut passes, three, fourth);
     keeper.close(rt);
     let gone = match passes.pop() {
@@ -135,17 +136,15 @@ fn read_along<N: StoreName, R: Wait>(
 }
 
 #[test]
-fn deferred_once(rt: HostRuntime) -> Result<(), Fail> {
-    let limits = limits_of(&rt, 1);
-    one_is_held::<Brand, _>(&rt, rt.alloc(), Opened::new(), limits)?;
-    let limits = limits_of(&rt, 2);
-    two_are_held::<Brand, _>(&rt, rt.alloc(), Opened::new(), limits)
+fn admit_all_or_nothing(rt: HostRuntime) -> Result<(), Fail> {
+    let limits = limits_of(&rt, 10);
+    all_or_nothing::<Brand, _>(&rt, rt.alloc(), Opened::new(), limits)
 }
 
-/// In a store for one batch, the first entry is published or, where memory ran out, pending; handed in again
-/// it is stale, and the next one finds the store full. Where memory ran out before it was accepted, it is
-/// taken then.
-fn one_is_held<N: StoreName, R: Wait + Abort + RandomSource>(
+/// Each entry is published, or memory ran out and it is neither published nor pending: it is published when it is
+/// handed in again, at the place that it would have had. It is never pending: the check of allocations refuses each
+/// in turn.
+fn all_or_nothing<N: StoreName, R: Wait + Abort + RandomSource>(
     rt: &R,
     alloc: Global,
     name: Opened,
@@ -154,56 +153,35 @@ fn one_is_held<N: StoreName, R: Wait + Abort + RandomSource>(
     requires book { name.seen.book ≡ N.book }
     requires limits { limits ≡ N.limits }
 {
-    let (first, again) = (entry_of(alloc, 1)?, entry_of(alloc, 1)?);
-    let second = entry_of(alloc, 2)?;
-    let (mut keeper, _passes) = open::<N>(alloc, RandomState::new(rt)?, name, limits, 1)?;
-    let first = keeper.admit(rt, first).err();
-    let again = keeper.admit(rt, again).err();
-    let second = keeper.admit(rt, second).err();
-    keeper.close(rt);
-    match first {
-        None | Some(Refusal::Deferred) => {
-            assert!(rt; again == Some(Refusal::Stale { last: 1 }));
-        }
-        Some(Refusal::NoMemory) => assert!(rt; again.is_none()),
-        _ => panic!(rt; "a refusal that nothing calls for"),
+    let (entries, again) = (entries_to(alloc, 4)?, entries_to(alloc, 4)?);
+    let (mut keeper, _passes) = open::<N, _>(rt, alloc, RandomState::new(rt)?, name, limits, 1)?;
+    let mut front = 0u64;
+    let mut all = true;
+    for (entry, again) in entries.into_iter().zip(again) {
+        let told = told_at_last(rt, &mut keeper, front, entry, again);
+        front = front.saturating_add(1);
+        all = all && told == Ok((front, front));
     }
-    assert!(rt;
-        second
-            == Some(Refusal::JournalFull {
-                batches: 1,
-                spans: 1
-            })
-    );
-    Ok(())
-}
-
-/// In a store for two batches, a first entry that is pending is published with the second, before it.
-fn two_are_held<N: StoreName, R: Wait + Abort + RandomSource>(
-    rt: &R,
-    alloc: Global,
-    name: Opened,
-    limits: Limits,
-) -> Result<(), Fail>
-    requires book { name.seen.book ≡ N.book }
-    requires limits { limits ≡ N.limits }
-{
-    let (first, second) = (entry_of(alloc, 1)?, entry_of(alloc, 2)?);
-    let (mut keeper, _passes) = open::<N>(alloc, RandomState::new(rt)?, name, limits, 1)?;
-    let taken = match keeper.admit(rt, first) {
-        Ok(_) | Err(Refusal::Deferred) => 1,
-        Err(_) => 0,
-    };
-    let returned = match keeper.admit(rt, second) {
-        Ok(receipt) => Ok((receipt.front(), receipt.place())),
-        Err(why) => Err(why),
-    };
     let last = keeper.receipt();
     keeper.close(rt);
-    match returned {
-        Ok(returned) => assert!(rt; returned == (taken + 1, Some(taken + 1))),
-        Err(why) => assert!(rt; why == Refusal::NoMemory || why == Refusal::Deferred),
-    }
+    assert!(rt; all && front == 4 && last.front() == 4);
     assert!(rt; last.place().is_none() && last.entry().is_none());
     Ok(())
+}
+
+/// What is told of an entry behind so many, which is handed in again where memory ran out and as many are published
+/// as before. Were it pending, it would be stale then.
+fn told_at_last<N: StoreName, R: Wait>(
+    rt: &R,
+    keeper: &mut Keeper<N>,
+    front: u64,
+    entry: Arc<Entry>,
+    again: Arc<Entry>,
+) -> Told {
+    match told_of(&keeper.admit(rt, entry)) {
+        Err(Refusal::NoMemory) if keeper.receipt().front() == front => {
+            told_of(&keeper.admit(rt, again))
+        }
+        told => told,
+    }
 }

@@ -13,7 +13,7 @@ use std::test::*;
 use trace_model::{Entry, Limits, Refusal};
 
 /// How many entries the receipt vouches for and its place, 0 where it has none; or why there is no receipt.
-type Told = Result<(u64, u64), Refusal>;
+pub type Told = Result<(u64, u64), Refusal>;
 
 /// The number of an entry of seat 0, its batch's number of the sender's own, the trace of the batch's span, and
 /// what is told of it.
@@ -44,7 +44,7 @@ const ROWS: [Row; 12] = [
 ];
 
 /// What is told by this receipt, or without one.
-fn told_of<N: StoreName>(admitted: &Result<Receipt<N>, Refusal>) -> Told {
+pub fn told_of<N: StoreName>(admitted: &Result<Receipt<N>, Refusal>) -> Told {
     match admitted {
         Ok(receipt) => Ok((receipt.front(), receipt.place().unwrap_or(0))),
         Err(why) => Err(*why),
@@ -84,7 +84,7 @@ fn rows_are_told<N: StoreName, R: Wait + Abort + RandomSource>(
     for (number, sent, trace, _) in ROWS {
         entries.push(sent_entry(alloc, number, sent, trace)?)?;
     }
-    let (mut keeper, _passes) = open::<N>(alloc, RandomState::new(rt)?, name, limits, 1)?;
+    let (mut keeper, _passes) = open::<N, _>(rt, alloc, RandomState::new(rt)?, name, limits, 1)?;
     let told = told_of_all(rt, alloc, &mut keeper, entries);
     keeper.close(rt);
     let told = told?;
@@ -115,7 +115,7 @@ fn first_is_held<N: StoreName, R: Wait + Abort + RandomSource>(
     for (number, sent) in [(1, 1), (2, 2), (3, 3), (4, 1)] {
         entries.push(sent_entry(alloc, number, sent, sent)?)?;
     }
-    let (mut keeper, _passes) = open::<N>(alloc, RandomState::new(rt)?, name, limits, 1)?;
+    let (mut keeper, _passes) = open::<N, _>(rt, alloc, RandomState::new(rt)?, name, limits, 1)?;
     let receipts = admit_all(rt, alloc, &mut keeper, entries);
     keeper.close(rt);
     let receipts = receipts?;
@@ -129,14 +129,14 @@ fn first_is_held<N: StoreName, R: Wait + Abort + RandomSource>(
 }
 
 #[test]
-fn deferred_and_sent_again(rt: HostRuntime) -> Result<(), Fail> {
+fn the_one_batch_sent_again(rt: HostRuntime) -> Result<(), Fail> {
     let limits = limits_of(&rt, 1);
     sent_twice::<Brand, _>(&rt, rt.alloc(), Opened::new(), limits)
 }
 
-/// In a store for one batch, a batch that was published, or is pending where memory ran out, is published when
-/// it is sent again, at its place, and the receipt is for the first entry. Where memory ran out before that one
-/// was accepted, the second one is added.
+/// In a store for one batch, a batch that was published is found when it is sent again, at its place, and the
+/// receipt is for the first entry. Where memory ran out for that one, it is not pending, and the second one is
+/// added.
 fn sent_twice<N: StoreName, R: Wait + Abort + RandomSource>(
     rt: &R,
     alloc: Global,
@@ -147,7 +147,7 @@ fn sent_twice<N: StoreName, R: Wait + Abort + RandomSource>(
     requires limits { limits ≡ N.limits }
 {
     let (first, again) = (sent_entry(alloc, 1, 7, 1)?, sent_entry(alloc, 2, 7, 1)?);
-    let (mut keeper, _passes) = open::<N>(alloc, RandomState::new(rt)?, name, limits, 1)?;
+    let (mut keeper, _passes) = open::<N, _>(rt, alloc, RandomState::new(rt)?, name, limits, 1)?;
     let first = told_of(&keeper.admit(rt, first));
     let again = keeper.admit(rt, again);
     keeper.close(rt);
@@ -156,7 +156,6 @@ fn sent_twice<N: StoreName, R: Wait + Abort + RandomSource>(
             assert!(rt; told == (1, 1));
             1
         }
-        Err(Refusal::Deferred) => 1,
         Err(Refusal::NoMemory) => 2,
         _ => panic!(rt; "a refusal that nothing calls for"),
     };

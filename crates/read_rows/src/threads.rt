@@ -74,7 +74,7 @@ fn read_beside<N: StoreName + Send + Sync, R: Threads + Wait + Abort + RandomSou
     requires limits { limits ≡ N.limits }
 {
     let entries = entries_to(alloc, 100)?;
-    let (mut keeper, passes) = open::<N>(alloc, RandomState::new(rt)?, name, limits, 3)?;
+    let (mut keeper, passes) = open::<N, _>(rt, alloc, RandomState::new(rt)?, name, limits, 3)?;
     let (taken, readers) = join(
         rt,
         || -> u64 { admit_all(rt, &mut keeper, entries) },

@@ -12,12 +12,13 @@
 //! * `rule`: what holds of the copies and of their readers between any two steps.
 //! * `keeper`: the [`Keeper`]. `receipt`: the [`Receipt`].
 //! * `visitor`: what one reader knows, and its way into a copy and out. `pass`: the [`Pass`]. `held`: the [`Held`].
-//! * `opening`: [`open`].
+//! * `opening`: [`open`]. `laws`: what follows from the clauses.
 #![tactic(auto)]
 
 mod held;
 mod history;
 mod keeper;
+pub mod laws;
 mod opening;
 mod pass;
 mod receipt;

@@ -14,6 +14,7 @@ use left_right::writer::Writer;
 use span_store::SpanStore;
 use std::alloc::Global;
 use std::hash::RandomState;
+use std::sync::Wait;
 use trace_model::{Limits, Refusal};
 
 /// Opens an empty store under a name, which is spent, for 1 to 64 readers. The keys are those of the hash
@@ -21,8 +22,9 @@ use trace_model::{Limits, Refusal};
 ///
 /// # Errors
 ///
-/// [`Refusal::NoMemory`]: nothing is left behind.
-pub fn open<N: StoreName>(
+/// [`Refusal::NoMemory`]: there is no memory, or the copies take no more readers; nothing is left behind.
+pub fn open<N: StoreName, R: Wait>(
+    rt: &R,
     alloc: Global,
     keys: RandomState,
     name: Opened,
@@ -44,7 +46,10 @@ pub fn open<N: StoreName>(
     let second = Side::new(SpanStore::open(alloc, keys, limits)?, history.seen());
     let writer: Copies<N> = Writer::new(alloc, first, second, readers)?;
     for _made in 0..readers {
-        let entrance = writer.factory().reader().ok();
+        let Ok(entrance) = writer.factory().reader() else {
+            writer.take(rt);
+            return Err(Refusal::NoMemory);
+        };
         let pass = Pass::new(Visitor::new(entrance, history.seen()));
         passes.push_reserved(pass);
     }

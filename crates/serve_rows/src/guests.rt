@@ -2,8 +2,8 @@
 
 use crate::clients::{ask, hears, parts};
 use crate::requests::{
-    ACCEPTED, BATCH, CONFLICT, HUGE, NUMBERED, ONE_SERVICE, ONE_SPAN, POST, POST_NUMBERED,
-    RENUMBERED, SERVICES, TRACE, joined,
+    ACCEPTED, BATCH, CONFLICT, FULL, HUGE, NO_SERVICES, NUMBERED, ONE_SERVICE, ONE_SPAN, POST,
+    POST_NUMBERED, RENUMBERED, SERVICES, TOO_LARGE, TRACE, joined,
 };
 use std::alloc::Global;
 use std::io;
@@ -27,7 +27,7 @@ pub enum Guests {
     RepeatAtOnce,
     /// One hands a numbered batch in, another one with its number, and the first again.
     Conflicts,
-    /// What one connection hands in the other finds; both are open before.
+    /// What one connection hands in the other finds, which had looked and found nothing before.
     TwoConnections,
     /// Two ask at the same time.
     TwoAtOnce,
@@ -35,7 +35,7 @@ pub enum Guests {
     Eight,
     /// One stalls in a head and another goes away in a body, beside one that is served.
     BadNeighbours,
-    /// One sends on behind a response that closes the connection, and reads the response.
+    /// One sends on behind a response that closes the connection, and reads the response, whole and alone.
     SendsOn,
 }
 
@@ -104,7 +104,7 @@ fn one_too_many<R: Net<Stream = TcpStream, Listener = TcpListener>>(
     let post = joined(alloc, &[POST, BATCH])?;
     Ok(
         ask(alloc, &mut stream, post.as_slice(), ACCEPTED)?
-            && ask(alloc, &mut stream, post.as_slice(), b"HTTP/1.1 503 ")?,
+            && ask(alloc, &mut stream, post.as_slice(), FULL)?,
     )
 }
 
@@ -174,7 +174,8 @@ fn two_connections<R: Net<Stream = TcpStream, Listener = TcpListener>>(
     let mut other = TcpStream::connect(rt, address)?;
     let post = joined(alloc, &[POST, BATCH])?;
     Ok(
-        ask(alloc, &mut one, post.as_slice(), ACCEPTED)?
+        ask(alloc, &mut other, SERVICES, NO_SERVICES)?
+            && ask(alloc, &mut one, post.as_slice(), ACCEPTED)?
             && ask(alloc, &mut other, SERVICES, ONE_SERVICE)?,
     )
 }
@@ -185,7 +186,7 @@ fn looks<R: Net<Stream = TcpStream, Listener = TcpListener>>(
     address: SocketAddr,
 ) -> io::Result<bool> {
     let mut stream = TcpStream::connect(rt, address)?;
-    ask(alloc, &mut stream, SERVICES, b"HTTP/1.1 200 OK\r\n")
+    ask(alloc, &mut stream, SERVICES, NO_SERVICES)
 }
 
 fn two_at_once<R: Threads + Net<Stream = TcpStream, Listener = TcpListener> + Sync>(
@@ -259,8 +260,8 @@ fn sends_on<R: Net<Stream = TcpStream, Listener = TcpListener>>(
     for _ in 0..200 {
         stream.write_all(&piece)?;
     }
-    let reported = hears(alloc, &mut stream, b"HTTP/1.1 413 ")?;
+    let reported = hears(alloc, &mut stream, TOO_LARGE)?;
     let mut rest = Vec::new(alloc);
     stream.read_to_end(&mut rest)?;
-    Ok(reported && !rest.is_empty())
+    Ok(reported && rest.is_empty())
 }

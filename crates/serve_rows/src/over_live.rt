@@ -84,7 +84,7 @@ fn live_bytes<N: StoreName + Send + Sync, R: Threads + Wait + Abort + Sync>(
     requires book { name.seen.book ≡ N.book }
     requires limits { limits ≡ N.limits }
 {
-    let (mut keeper, mut passes) = open::<N>(alloc, keys, name, limits, 1)?;
+    let (mut keeper, mut passes) = open::<N, _>(rt, alloc, keys, name, limits, 1)?;
     let first = keeper.receipt();
     match desk(alloc, first, 1, 1) {
         Err(why) => {

@@ -48,6 +48,18 @@ pub const DELETE: &[u8] = b"DELETE /api/services HTTP/1.1\r\n\r\n";
 /// What is answered to a batch that was accepted.
 pub const ACCEPTED: &[u8] = b"HTTP/1.1 202 Accepted\r\nContent-Length: 0\r\n\r\n";
 
+/// What is answered to a batch for which the store has no room.
+pub const FULL: &[u8] =
+    b"HTTP/1.1 503 Service Unavailable\r\nContent-Type: application/json\r\nContent-Length: 89\r\n\r\n{\"data\":null,\"errors\":[{\"code\":503,\"msg\":\"journal full\"}],\"limit\":0,\"offset\":0,\"total\":0}";
+
+/// What is answered to a body that is too large.
+pub const TOO_LARGE: &[u8] =
+    b"HTTP/1.1 413 Content Too Large\r\nContent-Type: application/json\r\nContent-Length: 91\r\nConnection: close\r\n\r\n{\"data\":null,\"errors\":[{\"code\":413,\"msg\":\"body too large\"}],\"limit\":0,\"offset\":0,\"total\":0}";
+
+/// The list of the services of a store that has no batch.
+pub const NO_SERVICES: &[u8] =
+    b"HTTP/1.1 200 OK\r\nContent-Type: application/json\r\nContent-Length: 56\r\n\r\n{\"data\":[],\"errors\":null,\"limit\":0,\"offset\":0,\"total\":0}";
+
 /// The list of the services of a store that has the batch.
 pub const ONE_SERVICE: &[u8] =
     b"HTTP/1.1 200 OK\r\nContent-Type: application/json\r\nContent-Length: 59\r\n\r\n{\"data\":[\"a\"],\"errors\":null,\"limit\":0,\"offset\":0,\"total\":1}";

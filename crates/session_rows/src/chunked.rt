@@ -250,7 +250,7 @@ fn largest_piece(alloc: Global, step: usize) -> Result<usize, Fail> {
 fn a_body_is_put_as_it_comes(rt: HostRuntime) -> Result<(), Fail> {
     let alloc = rt.alloc();
     assert_eq!(rt; largest_piece(alloc, 7)?, 7);
-    assert_eq!(rt; largest_piece(alloc, 10_000)?, 4096);
+    assert_eq!(rt; largest_piece(alloc, 100_000)?, 16_384);
     Ok(())
 }
 
@@ -318,7 +318,7 @@ fn chunks_are_answered_as_a_whole_body(rt: HostRuntime) -> Result<(), Fail> {
     let alloc = rt.alloc();
     let bytes = batch_in_chunks(alloc)?;
     for step in [1, 2, 7, 10_000] {
-        let (ended, output, entries) = played(
+        let (ended, output, store) = played(
             &rt,
             alloc,
             bytes.as_slice(),
@@ -333,7 +333,7 @@ fn chunks_are_answered_as_a_whole_body(rt: HostRuntime) -> Result<(), Fail> {
                 })
         );
         assert_eq!(rt; output.as_slice(), ANSWERS);
-        assert_eq!(rt; entries, 1);
+        assert_eq!(rt; store.len(), 1);
     }
     Ok(())
 }

@@ -5,7 +5,8 @@
 //! * `devices`: inputs and outputs over memory, and std's, watched.
 //! * `requests`: the next request of an input, each end, and no read too many.
 //! * `chunked`: requests whose bodies come in chunks, and the same sessions as with a Content-Length.
-//! * `pipes`: whole sessions, and those whose devices fail at each call.
+//! * `pipes`: whole sessions, those whose devices fail at each call, and one in which memory runs out.
+//! * `turns`: no read before the responses to what was read are written.
 #![tactic(auto)]
 
 #[cfg(test)]
@@ -16,3 +17,5 @@ mod devices;
 mod pipes;
 #[cfg(test)]
 mod requests;
+#[cfg(test)]
+mod turns;

@@ -54,12 +54,14 @@ pub(crate) fn look(alloc: Global, bytes: &[u8], step: usize) -> Result<Front, In
 fn look_in(alloc: Global, source: MemoryInput<'_>) -> Result<Front, Interrupted> {
     let mut input = source;
     let mut received = Received::new(alloc);
-    let mut head = Vec::new(alloc);
-    let size = match next_head(&mut input, &mut received, &mut head)? {
-        Next::One(_, size) => size,
+    let (length, size) = match next_head(&mut input, &mut received)? {
+        Next::One(_, length, size) => (length, size),
         Next::Clean => return Ok(Front::Clean),
         Next::Broken => return Ok(Front::Broken(Breach::Head)),
     };
+    let mut head = Vec::new(alloc);
+    head.extend_from_slice(&received.as_slice()[..length])?;
+    received.take(length);
     let mut sink = Joined {
         bytes: Vec::new(alloc),
         largest_piece: 0,

@@ -317,6 +317,15 @@ fn entries_of(alloc: Global) -> Result<Vec<Arc<Entry>>, AllocError> {
     Ok(entries)
 }
 
+/// Opens a store for 50 of them, once more where memory ran out.
+fn opened(alloc: Global, keys: RandomState) -> Result<SpanStore, Fail> {
+    let limits = Limits::new(50, 200, 3, 0).ok_or("limits")?;
+    match SpanStore::open(alloc, keys, limits) {
+        Ok(store) => Ok(store),
+        Err(_) => Ok(SpanStore::open(alloc, keys, limits)?),
+    }
+}
+
 /// Hands the entries to the store. It gives how many are taken, and why the next one isn't.
 fn taken(store: &mut SpanStore, entries: Vec<Arc<Entry>>) -> (u64, Option<Refusal>) {
     for entry in entries {
@@ -327,16 +336,25 @@ fn taken(store: &mut SpanStore, entries: Vec<Arc<Entry>>) -> (u64, Option<Refusa
     (store.len(), None)
 }
 
-/// Once the store is open nothing is allocated, so no allocation that is refused then changes what comes.
+/// 50 entries are taken, and the next one is refused since the store is full, not for memory. The check of allocations
+/// sees that a store which is filled so takes as many as one that is only opened, and refuses each.
 #[test]
-fn apply_without_memory(rt: HostRuntime) -> Result<(), Fail> {
+fn a_store_is_filled(rt: HostRuntime) -> Result<(), Fail> {
     let alloc = rt.alloc();
     let entries = entries_of(alloc)?;
-    let limits = Limits::new(50, 200, 3, 0).expect(&rt, "limits");
-    let mut store = SpanStore::open(alloc, RandomState::new(&rt)?, limits)?;
+    let mut store = opened(alloc, RandomState::new(&rt)?)?;
     let got = taken(&mut store, entries);
     let (batches, spans) = (50, 200);
-    assert_eq!(rt; got, (50, Some(Refusal::JournalFull { batches, spans })));
+    assert!(rt; got == (50, Some(Refusal::JournalFull { batches, spans })));
+    Ok(())
+}
+
+#[test]
+fn a_store_is_opened(rt: HostRuntime) -> Result<(), Fail> {
+    let alloc = rt.alloc();
+    let entries = entries_of(alloc)?;
+    let store = opened(alloc, RandomState::new(&rt)?)?;
+    assert!(rt; store.is_empty() && entries.len() == 51);
     Ok(())
 }
 
@@ -377,13 +395,19 @@ fn for_two() -> Result<Limits, Fail> {
     Ok(Limits::new(3, 5, 2, 0).ok_or("limits")?)
 }
 
-/// How many of them a store accepts.
-fn accepted(alloc: Global, keys: RandomState) -> Result<u64, Fail> {
+/// The numbers of those that a store accepts, in its order, where it holds them whole.
+fn accepted(alloc: Global, keys: RandomState) -> Result<Vec<u64>, Fail> {
     let entries = handed_in(alloc)?;
-    match replay(alloc, keys, for_two()?, &entries) {
-        Ok(store) => Ok(store.len()),
-        Err(_) => Err("refused".into()),
+    let Ok(store) = replay(alloc, keys, for_two()?, &entries) else {
+        return Err("refused".into());
+    };
+    let mut numbers = Vec::new(alloc);
+    for held in store.entries() {
+        if entries.iter().any(|one| one.number == held.number && one.work.is_same(&held.work)) {
+            numbers.push(held.number)?;
+        }
     }
+    Ok(numbers)
 }
 
 /// A store of them answers as the plain store.
@@ -395,22 +419,30 @@ fn same_replayed(rt: &impl Abort, alloc: Global, keys: RandomState) -> Result<()
     }
 }
 
-/// How many names are answered of them.
-fn names_replayed(alloc: Global, keys: RandomState) -> Result<usize, Fail> {
+/// What a replay of them answers of the services, as text, and what the plain store of the accepted ones does.
+fn services_replayed(alloc: Global, keys: RandomState) -> Result<(String, String), Fail> {
     let entries = handed_in(alloc)?;
     let answer = replayed_answer(alloc, keys, for_two()?, &entries, &Query::Services);
-    match answer {
-        Ok(Answer::Names(names)) => Ok(names.len()),
-        _ => Err("no names".into()),
+    let answer = answer.ok().ok_or("refused")?;
+    let mut accepted = Vec::new(alloc);
+    for number in [1, 2] {
+        accepted.push(entry_of(alloc, number, &[number, 7])?)?;
     }
+    let plain = plain_answer(alloc, &accepted, for_two()?, &Query::Services)?;
+    Ok((
+        format!(in alloc; "{answer:?}")?,
+        format!(in alloc; "{plain:?}")?,
+    ))
 }
 
 #[test]
 fn replays_what_is_accepted(rt: HostRuntime) -> Result<(), Fail> {
     let alloc = rt.alloc();
     let keys = RandomState::new(&rt)?;
-    assert_eq!(rt; accepted(alloc, keys)?, 2);
+    let wanted: [u64; 2] = [1, 2];
+    assert_eq!(rt; accepted(alloc, keys)?.as_slice(), wanted.as_slice());
     same_replayed(&rt, alloc, keys)?;
-    assert!(rt; names_replayed(alloc, keys)? > 0);
+    let (answer, plain) = services_replayed(alloc, keys)?;
+    assert_eq!(rt; answer, plain);
     Ok(())
 }

@@ -4,12 +4,15 @@ use Rattle.std.proofs.lemmas.List.{append-nil}
 use mathlib.Core.List.{IsPrefix}
 use Rattle.std.specs.Io.KnownBytes.{Appends}
 use Rattle.std.proofs.KnownBytes.{Appends-trans}
+use Rattle.atomic_table.specs.Seated.{TableId}
 use Rattle.trace_model.specs.declared.limits.Limits.{Limits}
+use Rattle.intake.specs.Seats.{SeatValue}
 use Rattle.text_lines.specs.Halting.{WritesSome, IsWhyOf, Says, status_by}
 use Rattle.text_lines.specs.declared.halt.Halt.{Halt}
 use Rattle.text_lines.specs.declared.halt.Halt.TheVariants.{Device, Memory}
 use Rattle.text_lines.proofs.Pages.{moves_nothing, some_written}
 use Rattle.text_lines.proofs.Wholes.{some_after, some_more}
+use Rattle.trace_server.specs.WorkerSeats.{AreNew}
 use Rattle.trace_server.specs.Serving.{StopsIn, Ends, StopsEarly, Closes, Completes, Reports, Serves, listening_line, served_line, last_lines}
 
 none_written : (a : Option (List ℕ)) (text : List ℕ) → WritesSome a a text
@@ -55,20 +58,25 @@ ended_behind a b c failed first text lost status said (inl all) = inl (all.0, Ap
 ended_behind a b c failed first text lost status said (inr some) = inr (stopped_behind a b c failed first text status said some)
 
 -- it listened, and then reported
-pub reported : (limits : Limits) (workers : ℕ) (a b c : Option (List ℕ)) (failed : Bool) (port status : ℕ) → Appends a b (listening_line port) → Reports limits workers b c failed status → Serves limits workers a c failed status
-reported limits workers a b c failed port status said (inl early) = inr (inl (record {
+pub reported : (limits : Limits) (workers : ℕ) (desk : TableId) (opened : List SeatValue) (a b c : Option (List ℕ)) (failed : Bool) (port status : ℕ) → AreNew desk opened → Appends a b (listening_line port)
+    → Reports limits workers opened b c failed status → Serves limits workers a c failed status
+reported limits workers desk opened a b c failed port status new said (inl early) = inr (inl (record {
   port = port;
   served = early.0;
   stops = stopped_behind a b c failed (listening_line port) (served_line early.0) status said early.1;
 }))
-reported limits workers a b c failed port status said (inr closes) = inr (inr (record {
+reported limits workers desk opened a b c failed port status new said (inr closes) = inr (inr (record {
   port = port;
   served = closes.served;
   failed = closes.failed;
   acknowledged = closes.acknowledged;
   refused = closes.refused;
   left = closes.left;
+  desk = desk;
+  opened = opened;
+  new = new;
   seats = closes.seats;
+  gone_on = closes.gone_on;
   one_for_each = closes.one_for_each;
   books = closes.books;
   ends = ended_behind a b c failed (listening_line port) (last_lines closes.served closes.acknowledged closes.refused closes.left) closes.failed status said closes.ends;

@@ -13,7 +13,7 @@ use Rattle.intake.specs.Seats.{SeatValue, IsNewSeat}
 use Rattle.intake.specs.Books.{AllTaken, HasEnded, MovesFor, StillEnded, StaysTaken, Balances}
 use Rattle.live_store.specs.Sharing.{GoesOn}
 use Rattle.trace_server.specs.Serving.{ClosesBooks}
-use Rattle.trace_server.specs.WorkerSeats.{AreOpen, GoOn, Each, HasJudged, Moves, AreTaken}
+use Rattle.trace_server.specs.WorkerSeats.{AreNew, AreOpen, GoOn, Each, HasJudged, Moves, AreTaken}
 
 -- ---- their work
 
@@ -111,8 +111,11 @@ open_at here there seats is free = subst (λ (d : TableId). AreOpen d seats) (sy
 pub as_many : {X : Type 0} (f : X → ℕ) (xs : List X) (n : ℕ) → map f xs ≡ range_with_len 0 n → length xs ≡ n
 as_many f xs n e = sym (length-map xs f) ∙ (ap length e ∙ length-range_with_len 0 n)
 
-pub new_open : (desk : TableId) (capacity : ℕ) (made seats : List SeatValue) → All (IsNewSeat desk capacity) made → seats ≡ made → AreOpen desk seats
-new_open desk capacity made seats each is = subst (λ (z : List SeatValue). AreOpen desk z) (sym is) (λ k d lt. let n = each k d lt in (n.0, n.3))
+pub all_new : (desk : TableId) (capacity : ℕ) (made seats : List SeatValue) → All (IsNewSeat desk capacity) made → seats ≡ made → AreNew desk seats
+all_new desk capacity made seats each is = subst (λ (z : List SeatValue). AreNew desk z) (sym is) (λ k d lt. let n = each k d lt in (n.0, n.3, n.2))
+
+pub new_open : (desk : TableId) (seats : List SeatValue) → AreNew desk seats → AreOpen desk seats
+new_open desk seats each = λ k d lt. let n = each k d lt in (n.0, n.1)
 
 -- ---- the books
 

@@ -3,6 +3,7 @@ use Rattle.std.specs.Prelude.{◌≡◌, ℕ, ◌⊎◌, ◌++◌, Bool, false, 
 use Rattle.std.specs.List.{range_with_len}
 use Rattle.std.specs.Fmt.{decimal}
 use Rattle.std.specs.Io.KnownBytes.{Appends}
+use Rattle.atomic_table.specs.Seated.{TableId}
 use Rattle.trace_model.specs.declared.entry.Entry.{Entry}
 use Rattle.trace_model.specs.declared.limits.Limits.{Limits}
 use Rattle.read_side.specs.Keepers.{Lists, no_entries}
@@ -12,6 +13,7 @@ use Rattle.intake.specs.Books.{Ran, AllTaken}
 use Rattle.intake.specs.Books.{acknowledged as acknowledged_of, refused as refused_of}
 use Rattle.text_lines.specs.declared.halt.Halt.{Halt}
 use Rattle.text_lines.specs.Halting.{WritesSome, IsWhyOf, status_by}
+use Rattle.trace_server.specs.WorkerSeats.{AreNew, GoOn}
 
 abbrev pub listening_line : ℕ → List ℕ
 listening_line port = codes "listening 127.0.0.1:" ++ decimal port ++ codes "\n"
@@ -64,10 +66,9 @@ Ends out0 out1 out_failed text failed status =
     ((status ≡ status_if failed) × Appends out0 out1 text × (out_failed ≡ false))
     ⊎ StopsIn out0 out1 out_failed text status
 
--- it said nothing: the socket has no address (4), or memory or threads ran out (5)
+-- it said nothing, though the output works: memory or threads ran out, or the system gave no address of the socket
 abbrev pub IsSilent : Option (List ℕ) → Option (List ℕ) → Bool → ℕ → Type 0
-IsSilent out0 out1 out_failed status =
-    ((status ≡ 4) ⊎ (status ≡ 5)) × (out1 ≡ out0) × (out_failed ≡ false)
+IsSilent out0 out1 out_failed status = (status ≡ 5) × (out1 ≡ out0) × (out_failed ≡ false)
 
 -- it stopped before its books were closed
 pub record StopsEarly (out0 out1 : Option (List ℕ)) (out_failed : Bool) (status : ℕ) : Type 0 where
@@ -75,26 +76,28 @@ pub record StopsEarly (out0 out1 : Option (List ℕ)) (out_failed : Bool) (statu
   pub served : ℕ
   pub stops : StopsIn out0 out1 out_failed (listening_line port ++ served_line served) status
 
--- behind the first line: it stopped before its books were closed, or it closed them and said how many
--- connections were taken and what became of the batches
-pub record Closes (limits : Limits) (workers : ℕ) (out0 out1 : Option (List ℕ)) (out_failed : Bool) (status : ℕ) : Type 0 where
+-- behind the first line: it closed the books of the seats that these have become, and said how many connections were
+-- taken and what became of the batches
+pub record Closes (limits : Limits) (workers : ℕ) (opened : List SeatValue) (out0 out1 : Option (List ℕ)) (out_failed : Bool) (status : ℕ) : Type 0 where
   pub served : ℕ
   pub failed : Bool
   pub acknowledged : ℕ
   pub refused : ℕ
   pub left : ℕ
   pub seats : List SeatValue
+  pub gone_on : GoOn opened seats
   pub one_for_each : OneForEach workers seats
   pub books : ClosesBooks limits seats acknowledged refused left
   pub ends : Ends out0 out1 out_failed (last_lines served acknowledged refused left) failed status
 
-abbrev pub Reports : Limits → ℕ → Option (List ℕ) → Option (List ℕ) → Bool → ℕ → Type 0
-Reports limits workers out0 out1 out_failed status =
+-- it stopped before its books were closed, or it closed those of the seats that these have become
+abbrev pub Reports : Limits → ℕ → List SeatValue → Option (List ℕ) → Option (List ℕ) → Bool → ℕ → Type 0
+Reports limits workers opened out0 out1 out_failed status =
     ((served : ℕ) × StopsIn out0 out1 out_failed (served_line served) status)
-    ⊎ Closes limits workers out0 out1 out_failed status
+    ⊎ Closes limits workers opened out0 out1 out_failed status
 
 -- it closed its books: where it listens is said, and at the end how many connections were taken and what
--- became of the batches
+-- became of the batches that were handed in by the seats of one desk, which were new when it began
 pub record Completes (limits : Limits) (workers : ℕ) (out0 out1 : Option (List ℕ)) (out_failed : Bool) (status : ℕ) : Type 0 where
   pub port : ℕ
   pub served : ℕ
@@ -102,7 +105,11 @@ pub record Completes (limits : Limits) (workers : ℕ) (out0 out1 : Option (List
   pub acknowledged : ℕ
   pub refused : ℕ
   pub left : ℕ
+  pub desk : TableId
+  pub opened : List SeatValue
+  pub new : AreNew desk opened
   pub seats : List SeatValue
+  pub gone_on : GoOn opened seats
   pub one_for_each : OneForEach workers seats
   pub books : ClosesBooks limits seats acknowledged refused left
   pub ends : Ends out0 out1 out_failed (listening_line port ++ last_lines served acknowledged refused left) failed status

@@ -14,6 +14,11 @@ use Rattle.live_store.specs.Sharing.{GoesOn}
 abbrev pub AreOpen : TableId → List SeatValue → Type 0
 AreOpen desk seats = All (λ (s : SeatValue). (s.desk ≡ desk) × (s.hands_in ≡ true)) seats
 
+-- seats of this desk that have handed in nothing yet, and may
+abbrev pub AreNew : TableId → List SeatValue → Type 0
+AreNew desk seats =
+    All (λ (s : SeatValue). (s.desk ≡ desk) × (s.hands_in ≡ true) × (s.jobs ≡ [])) seats
+
 -- a clerk of an empty store judged all that it took, and the counts are those of its answers
 pub record HasJudged (limits : Limits) (taken : List Entry) (accounts : List Account) (acknowledged refused : ℕ) : Type 0 where
   pub lists : Lists

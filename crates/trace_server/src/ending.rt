@@ -29,9 +29,9 @@ fn take_all_in<N: StoreName, R: Wait>(
     workers: Vec<(WorkerOutcome, Live<N>)>,
 ) -> Result<(), Refusal>
     requires open { AreOpen books.old.inbox.desk (map (λ w. w.1.seat) workers.items) }
-    requires books { Balances books.old.inbox.taken books.old.accounts.items
+    requires books { Balances books.old.inbox.taken books.old.accounts
         (map arc_value books.old.left.items) }
-    ensures accounts { books.new.accounts.items ≡ books.old.accounts.items }
+    ensures accounts { books.new.accounts ≡ books.old.accounts }
     ensures counts { (books.new.acknowledged ≡ books.old.acknowledged)
         × (books.new.refused ≡ books.old.refused) }
     ensures moved { Moves books.old.inbox.taken (map arc_value books.old.left.items)
@@ -74,7 +74,7 @@ pub(crate) fn close_books<N: StoreName, R: Wait>(
     workers: Vec<(WorkerOutcome, Live<N>)>,
 ) -> Result<Totals, Refusal>
     requires open { AreOpen books.inbox.desk (map (λ w. w.1.seat) workers.items) }
-    requires judged { HasJudged N.limits books.inbox.taken books.accounts.items books.acknowledged
+    requires judged { HasJudged N.limits books.inbox.taken books.accounts books.acknowledged
         books.refused }
     requires left { books.left.items ≡ [] }
     ensures { IfOk result (λ t. ClosesBooks N.limits (map (λ w. w.1.seat) workers.items)

@@ -4,7 +4,7 @@ ghost use Rattle.std.specs.Prelude.{◌≡◌, ◌≤◌, [], false, map, IfOk, 
 ghost use Rattle.read_side.specs.Keepers.{no_entries};
 ghost use Rattle.intake.specs.Turns.{IsNewClerk};
 ghost use Rattle.trace_server.specs.Serving.{OneForEach, Reports, Serves};
-ghost use Rattle.trace_server.specs.WorkerSeats.{AreOpen, GoOn, HasJudged};
+ghost use Rattle.trace_server.specs.WorkerSeats.{AreNew, GoOn, HasJudged};
 
 use crate::ending::{close_books, close_store};
 use crate::gate::Gate;
@@ -36,7 +36,7 @@ fn keep<N: StoreName, R: Wait>(
     requires keeper { IfSome slot.old (λ k. k ≡ no_entries) }
     requires clerk { IsNewClerk clerk }
     ensures judged { IfSome result (λ l.
-        HasJudged N.limits l.inbox.taken l.accounts.items l.acknowledged l.refused) }
+        HasJudged N.limits l.inbox.taken l.accounts l.acknowledged l.refused) }
     ensures left { IfSome result (λ l. l.left.items ≡ []) }
     ensures desk { IfSome result (λ l. l.inbox.desk ≡ clerk.desk) }
 {
@@ -78,7 +78,7 @@ fn serve_sessions<N: StoreName + Send + Sync, G: Gate + Sync, R: Threads + Wait 
     requires keeper { shared.keeper ≡ no_entries }
     requires clerk { IsNewClerk shared.clerk }
     ensures judged { IfSome result.0 (λ b.
-        HasJudged N.limits b.inbox.taken b.accounts.items b.acknowledged b.refused) }
+        HasJudged N.limits b.inbox.taken b.accounts b.acknowledged b.refused) }
     ensures left { IfSome result.0 (λ b. b.left.items ≡ []) }
     ensures desk { IfSome result.0 (λ b. b.inbox.desk ≡ shared.clerk.desk) }
     ensures seats { IfOk result.1 (λ v. GoOn (map (λ p. p.1.seat) shared.lives.items)
@@ -139,11 +139,11 @@ fn serve_store<
 ) -> u8
     requires keeper { shared.keeper ≡ no_entries }
     requires clerk { IsNewClerk shared.clerk }
-    requires open { AreOpen shared.clerk.desk (map (λ p. p.1.seat) shared.lives.items) }
+    requires new { AreNew shared.clerk.desk (map (λ p. p.1.seat) shared.lives.items) }
     requires numbers { OneForEach options.now.workers (map (λ p. p.1.seat) shared.lives.items) }
     requires output_works { W.has_failed output.old ≡ false }
-    ensures { Reports N.limits options.now.workers (W.contents output.old) (W.contents output.new)
-        (W.has_failed output.new) result }
+    ensures { Reports N.limits options.now.workers (map (λ p. p.1.seat) shared.lives.items)
+        (W.contents output.old) (W.contents output.new) (W.has_failed output.new) result }
 {
     let (books, workers) = serve_sessions(rt, alloc, shared, listener, options, gate);
     let Some(books) = books else {
@@ -196,7 +196,7 @@ fn serve_named<
         (W.has_failed output.new) result }
 {
     let Ok(address) = listener.local_addr() else {
-        return 4;
+        return 5;
     };
     let Ok(shared) = SharedStore::<N>::open(rt, alloc, name, limits, options) else {
         return 5;
@@ -210,7 +210,8 @@ fn serve_named<
 
 /// Serves the connections of a socket that listens on this machine's own address, over an empty store,
 /// and gives the exit status: 0 where as many connections as were asked for have ended, 4 where a worker
-/// could accept no more or the output failed, and 5 where memory or threads ran out.
+/// could accept no more or the output failed, and 5 where memory or threads ran out, or the system gave no address of
+/// the socket.
 ///
 /// The output gets a line that says on which port it listens, once connections are accepted, and at the end
 /// one that says how many came and one that says what became of the batches that were handed in: how many

@@ -4,7 +4,7 @@ ghost use Rattle.std.specs.Prelude.{◌≡◌, ◌≤◌, length, map, IfOk};
 ghost use Rattle.read_side.specs.Keepers.{no_entries};
 ghost use Rattle.intake.specs.Turns.{IsNewClerk};
 ghost use Rattle.trace_server.specs.Serving.{OneForEach};
-ghost use Rattle.trace_server.specs.WorkerSeats.{AreOpen};
+ghost use Rattle.trace_server.specs.WorkerSeats.{AreNew};
 
 use crate::options::Options;
 use intake::{Clerk, Desk, desk};
@@ -58,7 +58,7 @@ fn open_desk<N: StoreName>(
     requires passes { length passes.items ≡ options.now.workers }
     ensures keeper { keeper.new ≡ keeper.old }
     ensures clerk { IfOk result (λ f. IsNewClerk f.1) }
-    ensures open { IfOk result (λ f. AreOpen f.1.desk (map (λ p. p.1.seat) f.2.items)) }
+    ensures new { IfOk result (λ f. AreNew f.1.desk (map (λ p. p.1.seat) f.2.items)) }
     ensures numbers { IfOk result (λ f. OneForEach options.now.workers
         (map (λ p. p.1.seat) f.2.items)) }
 {
@@ -87,12 +87,12 @@ impl<N: StoreName> SharedStore<N> {
         requires queue { (1 ≤ options.now.queue) × (options.now.queue ≤ 4096) }
         ensures keeper { IfOk result (λ h. h.keeper ≡ no_entries) }
         ensures clerk { IfOk result (λ h. IsNewClerk h.clerk) }
-        ensures open { IfOk result (λ h. AreOpen h.clerk.desk (map (λ p. p.1.seat) h.lives.items)) }
+        ensures new { IfOk result (λ h. AreNew h.clerk.desk (map (λ p. p.1.seat) h.lives.items)) }
         ensures numbers { IfOk result (λ h.
             OneForEach options.now.workers (map (λ p. p.1.seat) h.lives.items)) }
     {
         let workers = options.workers as usize;
-        let (mut keeper, passes) = open::<N>(alloc, options.keys, name, limits, workers)?;
+        let (mut keeper, passes) = open::<N, _>(rt, alloc, options.keys, name, limits, workers)?;
         match open_desk(alloc, &mut keeper, passes, options) {
             Ok((desk, clerk, lives)) => Ok(SharedStore {
                 keeper,

@@ -1,5 +1,6 @@
 use jaeger_model::{Seq, Span, Text, TraceId};
 use query_json::{answer_json, answer_text, error_json};
+use serde_json::Value;
 use std::alloc::{AllocError, Global};
 use std::process::Abort;
 use std::test::*;
@@ -45,14 +46,39 @@ fn tree_text(alloc: Global, answer: &Answer) -> Result<String, Fail> {
     Ok(answer_json(alloc, answer)?.to_string(alloc)?)
 }
 
+/// The text of the sample's trace.
+const SAMPLE_TEXT: &str =
+    r#"{"data":[{"processes":{"p1":{"serviceName":"a","tags":[]}},"spans":[{"duration":50,"flags":1,"logs":[],"operationName":"op","processID":"p1","references":[],"spanID":"0000000000000002","startTime":1000,"tags":[],"traceID":"0000000000000001","warnings":null}],"traceID":"0000000000000001","warnings":null}],"errors":null,"limit":0,"offset":0,"total":1}"#;
+
 #[test]
 fn sample_trace(rt: HostRuntime) -> Result<(), Fail> {
     let answer = sample(rt.alloc())?;
-    let want =
-        r#"{"data":[{"processes":{"p1":{"serviceName":"a","tags":[]}},"spans":[{"duration":50,"flags":1,"logs":[],"operationName":"op","processID":"p1","references":[],"spanID":"0000000000000002","startTime":1000,"tags":[],"traceID":"0000000000000001","warnings":null}],"traceID":"0000000000000001","warnings":null}],"errors":null,"limit":0,"offset":0,"total":1}"#;
-    shows(&rt, rt.alloc(), &answer, want)?;
+    shows(&rt, rt.alloc(), &answer, SAMPLE_TEXT)?;
     let text = tree_text(rt.alloc(), &answer)?;
-    assert!(rt; text.as_str() == want, "{text}");
+    assert!(rt; text.as_str() == SAMPLE_TEXT, "{text}");
+    Ok(())
+}
+
+/// The answer's tree, made once more where memory ran out.
+fn tree_again(alloc: Global, answer: &Answer) -> Result<Value, AllocError> {
+    match answer_json(alloc, answer) {
+        Err(AllocError) => answer_json(alloc, answer),
+        tree => tree,
+    }
+}
+
+/// Where memory runs out once it is said, and the same call behind that gives the tree or its text: the check of
+/// allocations refuses each in turn.
+#[test]
+fn memory_for_a_tree(rt: HostRuntime) -> Result<(), Fail> {
+    let alloc = rt.alloc();
+    let answer = sample(alloc)?;
+    let (Ok(tree), Ok(text)) = (tree_again(alloc, &answer), text_of(alloc, &answer)) else {
+        panic!(rt; "an answer has no tree or no text");
+    };
+    assert!(rt; text.as_str() == SAMPLE_TEXT, "{text}");
+    let text = tree.to_string(alloc)?;
+    assert!(rt; text.as_str() == SAMPLE_TEXT, "{text}");
     Ok(())
 }
 

@@ -1,5 +1,5 @@
 use query_http::respond;
-use std::alloc::Global;
+use std::alloc::{AllocError, Global};
 use std::process::Abort;
 use std::test::*;
 
@@ -65,5 +65,26 @@ fn refusals(rt: HostRuntime) -> Result<(), Fail> {
     ] {
         refusal(&rt, rt.alloc(), refused, head)?;
     }
+    Ok(())
+}
+
+/// The response, made once more where memory ran out.
+fn respond_again(alloc: Global, status: u16, body: &[u8]) -> Result<Vec<u8>, AllocError> {
+    match respond(alloc, status, body, "", true) {
+        Err(AllocError) => respond(alloc, status, body, "", true),
+        response => response,
+    }
+}
+
+/// Where memory runs out once it is said, and the same call behind that gives the response: the check of allocations
+/// refuses each in turn.
+#[test]
+fn memory_for_a_response(rt: HostRuntime) -> Result<(), Fail> {
+    let Ok(bytes) = respond_again(rt.alloc(), 200, b"{}") else {
+        panic!(rt; "no response");
+    };
+    let want =
+        b"HTTP/1.1 200 OK\r\nContent-Type: application/json\r\nContent-Length: 2\r\nConnection: close\r\n\r\n{}";
+    assert!(rt; bytes.as_slice() == want.as_slice());
     Ok(())
 }

@@ -25,7 +25,7 @@ pub(crate) fn bytes_of(alloc: Global, hex: &str) -> Result<Vec<u8>, AllocError> 
     Ok(bytes)
 }
 
-/// Every field, and a tag of each type.
+/// Every field, and a tag of each type, as it is encoded.
 const ALL: &str = "0c0001 0b0001 00000001 61
         0f0002 0c 00000002
             0b0001 00000001 6b 080002 00000000 0b0003 00000001 76 00
@@ -40,37 +40,39 @@ const ALL: &str = "0c0001 0b0001 00000001 61
             0b0001 00000001 6e 080002 00000003 0a0006 fffffffffffffff9 00
             0b0001 00000001 78 080002 00000004 0b0007 00000002 ff00 00
         0f000b 0c 00000001
-            0a0001 fffffffffffffffb 0f0002 0c 00000001 0b0001 00000001 65 080002 00000000 00 00 00
+            0a0001 fffffffffffffffb 0f0002 0c 00000001 0b0001 00000001 65 080002 00000000 0b0003 00000000 00 00 00
     0a0003 fffffffffffffff7 00";
 
-/// With enough memory the batch and its spelling, and without it nothing but that memory ran out
-/// (`rt try --test --fail-alloc 1..`).
-#[test]
-fn want_of_memory(rt: HostRuntime) -> Result<(), Fail> {
-    let alloc = rt.alloc();
-    let Ok(bytes) = bytes_of(alloc, ALL) else {
-        return Ok(());
-    };
-    let fault = match decode(alloc, &bytes) {
-        Ok(batch) => match encode(alloc, &batch) {
-            Ok(_) => return Ok(()),
-            Err(fault) => fault,
-        },
-        Err(fault) => fault,
-    };
-    assert_eq!(rt; fault, DecodeError::Memory);
-    Ok(())
+/// Decodes the bytes, once more where memory ran out.
+fn read_again(alloc: Global, bytes: &[u8]) -> Result<Batch, DecodeError> {
+    match decode(alloc, bytes) {
+        Err(DecodeError::Memory) => decode(alloc, bytes),
+        said => said,
+    }
 }
 
-/// Sizes and lengths far beyond the bytes: nothing is asked for by them, so this passes however little
-/// memory there is (`rt try --test --fail-alloc 1..`).
+/// Spells the batch, once more where memory ran out.
+fn written_again(alloc: Global, batch: &Batch) -> Result<Vec<u8>, DecodeError> {
+    match encode(alloc, batch) {
+        Err(DecodeError::Memory) => encode(alloc, batch),
+        said => said,
+    }
+}
+
+/// Where memory runs out once it is said, and the same call behind that gives the batch and its one spelling: the
+/// check of allocations refuses each in turn.
 #[test]
-fn claimed_sizes_take_no_memory(rt: HostRuntime) {
+fn memory_for_a_batch(rt: HostRuntime) -> Result<(), Fail> {
     let alloc = rt.alloc();
-    let spans = [0x0f, 0, 2, 0x0c, 0x7f, 0xff, 0xff, 0xff];
-    assert!(rt; matches!(decode(alloc, &spans), Err(fault) if fault.number() == 1));
-    let service = [0x0c, 0, 1, 0x0b, 0, 1, 0x7f, 0xff, 0xff, 0xff, 0x61];
-    assert!(rt; matches!(decode(alloc, &service), Err(fault) if fault.number() == 1));
+    let bytes = bytes_of(alloc, ALL)?;
+    let Ok(batch) = read_again(alloc, &bytes) else {
+        panic!(rt; "a batch was refused");
+    };
+    let Ok(written) = written_again(alloc, &batch) else {
+        panic!(rt; "a batch was not written");
+    };
+    assert_eq!(rt; written.as_slice(), bytes.as_slice());
+    Ok(())
 }
 
 /// The one fault that no bytes have; the texts of the others stand in `cases/batches`.
@@ -109,8 +111,10 @@ fn one_spelling(rt: HostRuntime) -> Result<(), Fail> {
     assert_eq!(rt; bytes.len(), 32);
     assert_eq!(rt; bytes.as_slice(), bytes_of(alloc, NUMBERED)?.as_slice());
     assert!(rt; decode(alloc, &bytes)?.is_same(&numbered));
-    let batch = decode(alloc, &bytes_of(alloc, ALL)?)?;
+    let all = bytes_of(alloc, ALL)?;
+    let batch = decode(alloc, &all)?;
     let encoded = encode(alloc, &batch)?;
+    assert_eq!(rt; encoded.as_slice(), all.as_slice());
     assert!(rt; batch.is_same(&decode(alloc, &encoded)?));
     Ok(())
 }

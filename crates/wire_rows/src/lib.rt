@@ -4,7 +4,7 @@
 //!
 //! * `thrift_values`: single values of the protocol, read, written and skipped.
 //! * `trace_values`: ids, tags, texts and lists, and what a batch is in the store.
-//! * `batch_bytes`: batches to bytes, and the want of memory.
+//! * `batch_bytes`: batches to bytes, and memory that runs out. Sizes that claim much stand in `piece_rows`.
 //! * `apache`: the numbers of batches as Apache Thrift spells them.
 //! * `large`: a body of more than two megabytes.
 #![tactic(auto)]

@@ -5,7 +5,7 @@ use Rattle.batch_feeder.proofs.feeder.advance_or_refuse.Goals as goal
 
 pub returns-in-Err : goal.returns-in-Err
 returns-in-Err c = record {
-  feeds = record { faults = c.in-Err.ensures.0; stays = λ rest. refused-answers _ _ rest c.refuse.ensures };
+  feeds = record { faults = c.in-Err.ensures.0; repeats = c.in-Err.ensures.2; stays = record { all = λ rest. refused-answers _ _ rest c.refuse.ensures; no_want = c.in-Err.ensures.1 } };
   settled = refused-settled _ _ c.refuse.ensures c.in-Err.ensures.1;
   holds = holds-none _ 0 (λ some. absurd (omega (arith, some))) (omega arith);
 }

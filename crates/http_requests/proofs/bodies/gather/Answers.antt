@@ -1,9 +1,11 @@
-use Rattle.std.proofs.Common.{◌∙◌, rules}
+use Rattle.std.proofs.Common.{◌∙◌, refl, rules}
 use Rattle.std.proofs.lemmas.Result.{err_from_is_err_and}
 use Rattle.http_requests.specs.Waiting.{source_of}
-use Rattle.http_requests.proofs.Waits.{any_err}
-use Rattle.http_requests.proofs.Taking.{gather_whole, gather_step, gather_stops, gather_stops_in_turn, gather_end}
+use Rattle.http_requests.proofs.Taking.{gathered_none, gather_whole, gather_step, gather_stops, gather_end}
 use Rattle.http_requests.proofs.bodies.gather.Goals as goal
+
+pub pieces-init : goal.pieces-init
+pieces-init g c = (gathered_none g.S.Sink.takes (source_of g.R.Input.remaining g.R.Input.gives) g.met.S.Sink.takes_nothing _ _ _ _, refl)
 
 pub returns-then-count-left-clause-gathers : goal.returns-then-count-left-clause-gathers
 returns-then-count-left-clause-gathers g c =
@@ -27,8 +29,3 @@ returns-in_err-read_on-clause-err g c =
     let p = err_from_is_err_and c.from_residual.result c.from_residual.ensures.1 in
     rw (p.1, p.2) (gather_stops g.S.Sink.takes (source_of g.R.Input.remaining g.R.Input.gives) g.met.S.Sink.takes_joined _ _ c.read_on.new.input _ _ _ c.read_on.new.self _ _ _ _ _ _ c.pieces.invariant.0
     c.as_slice-bytes.ensures c.put-in-pieces.ensures c.take-in-pieces.ensures (search rules) _ _ c.in_err-read_on.ensures.err)
-
-pub returns-in_err-read_on-clause-stops_in_turn : goal.returns-in_err-read_on-clause-stops_in_turn
-returns-in_err-read_on-clause-stops_in_turn g c =
-    any_err _ (gather_stops_in_turn g.S.Sink.takes (source_of g.R.Input.remaining g.R.Input.gives) g.met.S.Sink.takes_joined _ _ c.read_on.new.input _ _ _ c.read_on.new.self _ _ _ _ _ _ c.pieces.invariant.0
-    c.as_slice-bytes.ensures c.put-in-pieces.ensures c.take-in-pieces.ensures (search rules) _ c.in_err-read_on.ensures.stops_in_turn)

@@ -1,6 +1,6 @@
 use Rattle.http_requests.specs.Waiting.{source_of}
-use Rattle.http_requests.proofs.Waits.{any_err}
-use Rattle.http_requests.proofs.Taking.{body_whole, body_short, body_unreadable}
+use Rattle.std.proofs.lemmas.Result.{err_from_is_err_and}
+use Rattle.http_requests.proofs.Taking.{body_whole, body_short, body_unreadable, body_too_large}
 use Rattle.http_requests.proofs.bodies.read_body.Goals as goal
 
 pub returns-then-branch-clause-body : goal.returns-then-branch-clause-body
@@ -16,5 +16,10 @@ returns-else-branch-clause-body g c =
 pub returns-in-Unreadable-clause-body : goal.returns-in-Unreadable-clause-body
 returns-in-Unreadable-clause-body g c = rw c.in-Unreadable.is (body_unreadable (source_of g.R.Input.remaining g.R.Input.gives) _ _)
 
-pub returns-in_err-gather-in-Bytes-clause-stops_in_turn : goal.returns-in_err-gather-in-Bytes-clause-stops_in_turn
-returns-in_err-gather-in-Bytes-clause-stops_in_turn g c = rw c.in-Bytes.is (any_err _ c.in_err-gather-in-Bytes.ensures.stops_in_turn)
+pub returns-in-TooLarge-clause-body : goal.returns-in-TooLarge-clause-body
+returns-in-TooLarge-clause-body g c = rw c.in-TooLarge.is (body_too_large (source_of g.R.Input.remaining g.R.Input.gives) _ _)
+
+pub returns-in_err-gather-in-Bytes-clause-err : goal.returns-in_err-gather-in-Bytes-clause-err
+returns-in_err-gather-in-Bytes-clause-err g c =
+    let p = err_from_is_err_and c.from_residual.result c.from_residual.ensures.1 in
+    rw (p.1, p.2, c.in-Bytes.is) c.in_err-gather-in-Bytes.ensures.err

@@ -2,9 +2,8 @@ use Rattle.std.proofs.Common.{◌∙◌}
 use Rattle.std.proofs.lemmas.Result.{err_from_is_err_and}
 use Rattle.http_requests.specs.Bodies.{AwaitsLine}
 use Rattle.http_requests.specs.Waiting.{source_of}
-use Rattle.http_requests.proofs.Waits.{any_err}
-use Rattle.http_requests.proofs.Readings.{reads_then_stops}
-use Rattle.http_requests.proofs.Taking.{reads_more, stops_more, misses_at_end}
+use Rattle.http_requests.proofs.Readings.{stops_there}
+use Rattle.http_requests.proofs.Taking.{reads_more, misses_at_end}
 use Rattle.http_requests.proofs.bodies.take_size.Goals as goal
 
 pub returns-then-has_ended-clause-takes : goal.returns-then-has_ended-clause-takes
@@ -20,8 +19,4 @@ looks-preserved g c = (
 pub returns-in_err-read_on-clause-err : goal.returns-in_err-read_on-clause-err
 returns-in_err-read_on-clause-err g c =
     let p = err_from_is_err_and c.from_residual.result c.from_residual.ensures.1 in
-    rw (p.1, p.2) (reads_then_stops _ _ _ _ _ _ _ c.looks.invariant.0.on c.in_err-read_on.ensures.err)
-
-pub returns-in_err-read_on-clause-stops_in_turn : goal.returns-in_err-read_on-clause-stops_in_turn
-returns-in_err-read_on-clause-stops_in_turn g c =
-    any_err _ (stops_more (source_of g.R.Input.remaining g.R.Input.gives) AwaitsLine _ _ _ _ _ _ _ c.looks.invariant.0 c.as_slice.ensures (c.in-More.ensures.0, c.in-More.ensures.2) c.in_err-read_on.ensures.stops_in_turn)
+    rw (p.1, p.2) (stops_there (source_of g.R.Input.remaining g.R.Input.gives) AwaitsLine _ _ _ _ _ _ _ _ c.looks.invariant.0 c.as_slice.ensures (c.in-More.ensures.0, c.in-More.ensures.2) c.in_err-read_on.ensures.err)

@@ -2,9 +2,8 @@ use Rattle.std.proofs.Common.{◌∙◌, refl, arith}
 use Rattle.std.proofs.lemmas.Result.{err_from_is_err_and}
 use Rattle.http_requests.specs.Heads.{AwaitsHead}
 use Rattle.http_requests.specs.Waiting.{source_of}
-use Rattle.http_requests.proofs.Waits.{any_err}
-use Rattle.http_requests.proofs.Readings.{reads_then_stops, nothing_yet}
-use Rattle.http_requests.proofs.Taking.{reads_more, stops_more}
+use Rattle.http_requests.proofs.Readings.{nothing_yet, stops_there}
+use Rattle.http_requests.proofs.Taking.{reads_more}
 use Rattle.http_requests.proofs.Ends.{no_bytes_await, seen_stays, fits_still}
 use Rattle.http_requests.proofs.reading.find_head.Goals as goal
 
@@ -24,8 +23,4 @@ looks-preserved g c =
 pub returns-in_err-read_on-clause-err : goal.returns-in_err-read_on-clause-err
 returns-in_err-read_on-clause-err g c =
     let p = err_from_is_err_and c.from_residual.result c.from_residual.ensures.1 in
-    rw (p.1, p.2) (reads_then_stops _ _ _ _ _ _ _ c.looks.invariant.0.on c.in_err-read_on.ensures.err)
-
-pub returns-in_err-read_on-clause-stops_in_turn : goal.returns-in_err-read_on-clause-stops_in_turn
-returns-in_err-read_on-clause-stops_in_turn g c =
-    any_err _ (stops_more (source_of g.R.Input.remaining g.R.Input.gives) AwaitsHead _ _ _ _ _ _ _ c.looks.invariant.0 c.as_slice-bytes.ensures c.in-More.ensures c.in_err-read_on.ensures.stops_in_turn)
+    rw (p.1, p.2) (stops_there (source_of g.R.Input.remaining g.R.Input.gives) AwaitsHead _ _ _ _ _ _ _ _ c.looks.invariant.0 c.as_slice-bytes.ensures c.in-More.ensures c.in_err-read_on.ensures.err)

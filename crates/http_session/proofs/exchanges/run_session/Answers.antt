@@ -11,7 +11,7 @@ requests-init g c = (rw c.new-received.ensures (begins g.B.Backend.submits g.B.B
 pub returns-in-Err-clause-error : goal.returns-in-Err-clause-error
 returns-in-Err-clause-error g c =
     rw c.cause_of.ensures (fails_reading g.B.Backend.submits g.B.Backend.reads (source_of g.R.Input.remaining g.R.Input.gives) Heard _ _ _ _ _ _ _ _ _ _ _ _ _ c.requests.invariant.0 c.in-Err.ensures.err
-    c.in-Err.ensures.stops_in_turn c.in-Err.ensures.same c.requests.invariant.1 c.requests.invariant.2)
+    c.in-Err.ensures.same c.requests.invariant.1 c.requests.invariant.2)
 
 pub returns-in-Ok-Clean-clause-ended : goal.returns-in-Ok-Clean-clause-ended
 returns-in-Ok-Clean-clause-ended g c =

@@ -1,5 +1,5 @@
 use Rattle.std.proofs.Common.{◌≡◌, ◌+◌, ◌*◌, length, false}
-use Rattle.http_requests.specs.declared.received.TheConstants.{PIECE}
+use Rattle.http_requests.specs.declared.room.TheConstants.{PIECE}
 use Rattle.http_requests.specs.Waiting.{source_of}
 use Rattle.http_session.specs.Underway.{SoFar}
 use Rattle.http_session.proofs.exchanges.run_session.Given as goal

@@ -1,14 +1,13 @@
 use Rattle.http_requests.specs.Waiting.{source_of}
 use Rattle.http_session.specs.Related.{nothing_seen}
 use Rattle.http_session.proofs.Points.{related, begin}
-use Rattle.http_session.proofs.Turns.{begins, fails_judging}
+use Rattle.http_session.proofs.Turns.{fails_to_begin}
 use Rattle.http_session.proofs.exchanges.session.Goals as goal
 
 pub returns-in_default-clause-error : goal.returns-in_default-clause-error
 returns-in_default-clause-error g c =
-    let failed = fails_judging g.B.Backend.submits g.B.Backend.reads (source_of g.R.Input.remaining g.R.Input.gives) _ _ _ _ _ _ _ _ (g.R.Input.has_failed c.args.input.now) (g.W.Output.has_failed c.args.output.now)
-    (begins g.B.Backend.submits g.B.Backend.reads (source_of g.R.Input.remaining g.R.Input.gives) c.args.input.now (g.W.Output.contents c.args.output.now) c.args.backend.now)
-    c.requires.input_works c.requires.output_works in
+    let failed = fails_to_begin g.B.Backend.submits g.B.Backend.reads (source_of g.R.Input.remaining g.R.Input.gives) c.args.input.now (g.W.Output.contents c.args.output.now) c.args.backend.now
+    (g.R.Input.has_failed c.args.input.now) (g.W.Output.has_failed c.args.output.now) c.requires.input_works c.requires.output_works in
     let fails = failed.0 in (
       fails,
       related g.B.Backend.limits g.B.Backend.knows g.B.Backend.submits g.B.Backend.reads g.met.B.Backend.submit_knows g.met.B.Backend.read_knows

@@ -1,6 +1,7 @@
 use Rattle.std.proofs.Common.{inl, inr, refl, [], arith, rules}
 use Rattle.std.proofs.KnownBytes.{Consumes-nil, Appends-nil}
 use Rattle.http_session.specs.Sessions.{none_yet}
+use Rattle.http_session.proofs.Turns.{nothing_was_due}
 use Rattle.http_session.specs.declared.exchanges.Cause.TheVariants.{Memory}
 use Rattle.program_run.proofs.pipe.run_pipe.Goals as goal
 
@@ -18,11 +19,12 @@ returns-in_default g c =
         read = Consumes-nil (g.R.Input.remaining c.args.input.now);
         split = refl;
         each = search rules;
-        next_is = tt;
+        next_is = nothing_was_due;
         run = refl;
         within = omega arith;
         written = Appends-nil (g.W.Output.contents c.args.output.now);
         count = refl;
+        made = 0;
         cause = (c.requires.input_works, c.requires.output_works);
         unwritten = λ e. refl;
         spared = λ e. absurd (cc e);

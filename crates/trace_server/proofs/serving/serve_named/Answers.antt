@@ -1,4 +1,4 @@
-use Rattle.std.proofs.Common.{inl, inr, subst, sym}
+use Rattle.std.proofs.Common.{inl, inr, map, subst, sym}
 use Rattle.trace_model.specs.declared.limits.Limits.{Limits}
 use Rattle.trace_server.specs.Serving.{Serves}
 use Rattle.trace_server.proofs.Endings.{reported, unheard}
@@ -14,4 +14,5 @@ returns g c =
     let old = g.W.Output.contents c.args.output.now in
     let new = g.W.Output.contents c.serve_store.new.output in
     subst (λ (l : Limits). Serves l workers old new failed c.serve_store.result) (sym c.requires.limits)
-    (reported g.N.StoreName.limits workers old _ new failed _ c.serve_store.result c.in_default-say_listening.ensures.0 c.serve_store.ensures)
+    (reported g.N.StoreName.limits workers c.in-Ok-open.shared.clerk.desk (map (λ p. p.1.seat) c.in-Ok-open.shared.lives.items) old _ new failed _ c.serve_store.result
+    c.in-Ok-open.ensures.new c.in_default-say_listening.ensures.0 c.serve_store.ensures)

@@ -1,7 +1,7 @@
 use Rattle.std.proofs.Common.{◌∙◌, inl, inr, map}
 use Rattle.trace_server.specs.Serving.{served_line}
 use Rattle.trace_server.proofs.Endings.{broken_off}
-use Rattle.trace_server.proofs.Workers.{if_ok, if_some, open_at, open_still, numbers_stay}
+use Rattle.trace_server.proofs.Workers.{if_ok, if_some, new_open, open_at, open_still, numbers_stay}
 use Rattle.trace_server.proofs.serving.serve_store.Goals as goal
 
 pub returns-in_default : goal.returns-in_default
@@ -14,7 +14,7 @@ pub close_books-requires-clause-open : goal.close_books-requires-clause-open
 close_books-requires-clause-open g c =
     let on = if_ok _ c.serve_sessions-books.result.1 c.in-Ok.workers c.in-Ok.is c.serve_sessions-books.ensures.seats in
     let desk = if_some _ c.serve_sessions-books.result.0 c.in-Some.books c.in-Some.is c.serve_sessions-books.ensures.desk in
-    open_at c.in-Some.books.inbox.desk c.args.shared.clerk.desk _ desk (open_still c.args.shared.clerk.desk _ _ on c.requires.open)
+    open_at c.in-Some.books.inbox.desk c.args.shared.clerk.desk _ desk (open_still c.args.shared.clerk.desk _ _ on (new_open c.args.shared.clerk.desk _ c.requires.new))
 
 pub returns-in-Ok-close_books : goal.returns-in-Ok-close_books
 returns-in-Ok-close_books g c =
@@ -27,6 +27,7 @@ returns-in-Ok-close_books g c =
       refused = totals.refused;
       left = totals.left;
       seats = map (λ w. w.1.seat) c.in-Ok.workers.items;
+      gone_on = on;
       one_for_each = numbers_stay _ _ on ∙ c.requires.numbers;
       books = c.in-Ok-close_books.ensures;
       ends = c.report.ensures;

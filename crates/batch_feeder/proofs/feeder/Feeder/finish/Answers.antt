@@ -1,12 +1,13 @@
-use Rattle.batch_feeder.proofs.FeedingAgain.{reading-ends, whole-ends, refused-answers, gives-err}
+use Rattle.std.proofs.Common.{sym}
+use Rattle.batch_feeder.proofs.FeedingAgain.{reading-ends, whole-ends, refused-answers}
 use Rattle.batch_feeder.proofs.HoldingAgain.{holds-ends, whole-holds}
 use Rattle.batch_feeder.proofs.feeder.Feeder.finish.Goals as goal
 
 pub returns-in-Reading : goal.returns-in-Reading
-returns-in-Reading c = record { gives = holds-ends _ _ _ c.args.self.holds (reading-ends _ _ _ c.in-Reading.is c.args.self.settled) }
+returns-in-Reading c = record { gives = sym (holds-ends _ _ _ c.args.self.holds (reading-ends _ _ _ c.in-Reading.is c.args.self.settled)) }
 
 pub returns-in-Whole : goal.returns-in-Whole
-returns-in-Whole c = record { gives = whole-holds _ _ _ _ c.args.self.holds c.in-Whole.is (whole-ends _ _ c.in-Whole.is) }
+returns-in-Whole c = record { gives = sym (whole-holds _ _ _ _ c.args.self.holds c.in-Whole.is (whole-ends _ _ c.in-Whole.is)) }
 
 pub returns : goal.returns
-returns c = record { gives = gives-err _ _ (refused-answers _ _ _ c.in-Refused.is) }
+returns c = record { gives = sym (refused-answers _ _ _ c.in-Refused.is) }

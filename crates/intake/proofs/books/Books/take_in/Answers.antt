@@ -72,7 +72,7 @@ loop-preserved g c =
     let taken : c.pop.new.self.taken ≡ before.inbox.taken ++ job ∷ [] = search rules in
     let left = left-more arc_value before.left.items c.reserve.new.self.items c.push_reserved.new.self.items c.split-entry.result.0 job c.push_reserved.ensures.items (search rules) c.split-entry.ensures.entry in
     let other : is_job c.number-number.result c.handed-last.result job ≡ false = search rules in (
-      balances-more before.inbox.taken c.pop.new.self.taken (map arc_value before.left.items) (map arc_value c.push_reserved.new.self.items) before.accounts.items job i.0 taken left,
+      balances-more before.inbox.taken c.pop.new.self.taken (map arc_value before.left.items) (map arc_value c.push_reserved.new.self.items) before.accounts job i.0 taken left,
       search rules,
       search rules,
       moves-one seat.seat c.handed-last.result seat.jobs c.args.self.now.inbox.taken (map arc_value c.args.self.now.left.items) before.inbox.taken (map arc_value before.left.items)

@@ -4,7 +4,7 @@ use Rattle.intake.proofs.Runs.{ran-start, ran-on, still-empty, no-job-left}
 use Rattle.intake.proofs.clerk.Clerk.run.Goals as goal
 
 pub loop-init : goal.loop-init
-loop-init g c = (ran-start _ _ _ _ c.accounts-each.ensures.each, refl, refl)
+loop-init g c = (ran-start _ _ _ _ c.accounts.ensures.each, refl, refl)
 
 pub loop-preserved-in-Ok-Served : goal.loop-preserved-in-Ok-Served
 loop-preserved-in-Ok-Served g c =

@@ -1,0 +1,15 @@
+-- What one read gives.
+use Rattle.std.specs.Prelude.{◌≡◌, ℕ, ◌≤◌, List, ◌++◌, length}
+use Rattle.std.specs.Io.KnownBytes.{Consumes, IsAtEnd}
+use Rattle.http_requests.specs.Waiting.{Source}
+use Rattle.http_requests.specs.declared.room.TheConstants.{PIECE}
+
+-- one read gave so many bytes, a piece at most, behind those that were there; none at the end of the input
+pub record GetsPiece {R : Type 0} (source : Source R) (s t : R) (old new : List ℕ) (count : ℕ) : Type 0 where
+  pub piece : List ℕ
+  pub size : length piece ≡ count
+  pub most : count ≤ PIECE
+  pub grown : new ≡ old ++ piece
+  pub read : Consumes (source.remaining s) (source.remaining t) piece
+  pub given : source.gives s piece t
+  pub end : count ≡ 0 → IsAtEnd (source.remaining t)

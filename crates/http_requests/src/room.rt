@@ -1,0 +1,97 @@
+ghost use Rattle.std.specs.Prelude.{◌≡◌, ◌≤◌, ◌+◌, [], vec_len, length, drop, true, IfOk, OnOk, OnErr};
+ghost use Rattle.std.specs.Io.KnownBytes.{Keeps};
+ghost use Rattle.http_requests.specs.Waiting.{source_of};
+ghost use Rattle.http_requests.specs.Pieces.{GetsPiece};
+
+use session_devices::{Failed, Input};
+use std::alloc::{AllocError, Global};
+
+/// How many bytes one read asks for.
+pub const PIECE: usize = 16_384;
+
+/// Room for bytes, all of it initialised, and the bytes held in it: those from `start` to `end`.
+#[derive(Drop)]
+pub(crate) struct Room {
+    bytes: Vec<u8>,
+    start: usize,
+    end: usize,
+    ghost ordered: { start ≤ end },
+    ghost within: { end ≤ vec_len bytes },
+}
+
+impl Room {
+    ghost use Rattle.http_requests.specs.Rooms.{held};
+
+    /// No room, and nothing held.
+    pub(crate) fn new(alloc: Global) -> Self
+        ensures { held result ≡ [] }
+    {
+        Room {
+            bytes: Vec::new(alloc),
+            start: 0,
+            end: 0,
+        }
+    }
+
+    /// The bytes held.
+    pub(crate) fn as_slice(&self) -> &[u8]
+        ensures { result.now ≡ held self.now }
+    {
+        &self.bytes.as_slice()[self.start..self.end]
+    }
+
+    /// Takes bytes from the beginning.
+    pub(crate) fn take(&mut self, count: usize)
+        requires { count ≤ length (held self.old) }
+        ensures { held self.new ≡ drop count (held self.old) }
+    {
+        self.start += count;
+    }
+
+    /// Moves the bytes held to the beginning of the room, where something was taken in front of them.
+    fn move_to_front(&mut self)
+        ensures { held self.new ≡ held self.old }
+    {
+        if self.start > 0 {
+            let (start, end) = (self.start, self.end);
+            self.bytes.copy_within(start..end, 0);
+            self.start = 0;
+            self.end = end - start;
+        }
+    }
+
+    /// Makes room for a piece behind the bytes held. Where it is short, they are moved to the beginning, and where it is
+    /// short then too, the room grows to those bytes and a piece.
+    ///
+    /// Bytes that were moved begin no whole text, or none would be read. The next one that is taken covers them, so that no
+    /// byte is moved twice.
+    pub(crate) fn make_room(&mut self) -> Result<(), AllocError>
+        ensures same { held self.new ≡ held self.old }
+        ensures room { OnOk result (self.new.end + PIECE ≤ vec_len self.new.bytes) }
+    {
+        if self.bytes.len() - self.end >= PIECE {
+            return Ok(());
+        }
+        self.move_to_front();
+        if self.bytes.len() - self.end >= PIECE {
+            return Ok(());
+        }
+        self.bytes.resize(self.end + PIECE, 0)
+    }
+
+    /// Reads once, a piece at most, behind the bytes held; how many bytes came.
+    pub(crate) fn read_from<R: Input>(&mut self, input: &mut R) -> Result<usize, Failed>
+        requires room { self.old.end + PIECE ≤ vec_len self.old.bytes }
+        ensures ok { IfOk result (GetsPiece (source_of R.remaining R.gives) input.old input.new
+            (held self.old) (held self.new)) }
+        ensures works { OnOk result (R.has_failed input.new ≡ R.has_failed input.old) }
+        ensures same { OnErr result (held self.new ≡ held self.old) }
+        ensures err { OnErr result (Keeps (R.remaining input.old) (R.remaining input.new)
+            × (R.has_failed input.new ≡ true)) }
+    {
+        let end = self.end;
+        let count = input.read(&mut self.bytes.as_mut_slice()[end..end + PIECE])?;
+        self.end = end + count;
+        Ok(count)
+    }
+}

@@ -1,0 +1,102 @@
+-- The sixteen digits of an id are those of its eight bytes.
+use Rattle.std.proofs.Common.{◌≡◌, ℕ, zero, suc, ◌*◌, ◌/◌, ◌%◌, ◌^◌, ◌<◌, List, [], ◌∷◌, ◌++◌, refl, sym, ap, ap₂, ◌∙◌, ◌≢◌, arith, append-nil, drop, eq-eqb, length, length-append, ne_eqb, slice_index, take}
+use Rattle.std.proofs.Math.Nat.{div-div-eq-div-mul, div-one, pow-suc}
+use Rattle.std.proofs.lemmas.Bool.Decides.{nat_tests}
+use Rattle.std.proofs.lemmas.List.{drop_all, drop_at, take_at}
+use Rattle.std.proofs.lemmas.Str.{IsAscii-append}
+use Rattle.std.proofs.lemmas.Str.Ascii.{IsAscii-cons, IsAscii-nil}
+use Rattle.std.specs.Str.{IsAscii}
+use Rattle.std.specs.Int.{byte_at, bytes_high_first, to_be_bytes, w64}
+use Rattle.hex.specs.Hex.{encode_lower}
+use Rattle.jaeger_model.specs.declared.ids.TraceId.{TraceId}
+use Rattle.jaeger_model.specs.Ids.{hex_digit, low_digits, trace_text}
+use Rattle.jaeger_model.specs.Tags.{hex_text}
+use Rattle.jaeger_model.proofs.Digits.{encoded}
+use borrow.Rule.Slice.PartMut.{put_mid}
+
+-- the digit in front
+low_digits-front : (k n : ℕ) → low_digits (suc k) n ≡ hex_digit (n / 16 ^ k % 16) ∷ low_digits k n
+unfolding low_digits
+low_digits-front zero n = ap (λ m. hex_digit (m % 16) ∷ []) (sym (div-one n))
+low_digits-front (suc k) n =
+    let power : 16 * 16 ^ k ≡ 16 ^ suc k = omega (arith, pow-suc 16 k) in
+    let place : n / 16 / 16 ^ k ≡ n / 16 ^ suc k = div-div-eq-div-mul n 16 (16 ^ k) ∙ ap (λ p. n / p) power in
+    ap (λ ds. ds ++ hex_digit (n % 16) ∷ []) (low_digits-front k (n / 16))
+    ∙ ap (λ m. hex_digit (m % 16) ∷ low_digits (suc k) n) place
+
+abbrev twice : ℕ → ℕ
+twice zero = zero
+twice (suc k) = suc (suc (twice k))
+
+power_of_bytes : (k : ℕ) → 256 ^ k ≡ 16 ^ twice k
+power_of_bytes zero = refl
+power_of_bytes (suc k) = omega (arith, power_of_bytes k, pow-suc 256 k, pow-suc 16 (suc (twice k)), pow-suc 16 (twice k))
+
+byte_at-power : (k n : ℕ) → byte_at k n ≡ n / 16 ^ twice k % 256
+byte_at-power zero n = ap (λ m. m % 256) (sym (div-one n))
+byte_at-power (suc k) n = ap (λ p. n / p % 256) (power_of_bytes (suc k))
+
+-- the two digits of a byte
+high_digit : (k n : ℕ) → byte_at k n / 16 ≡ n / 16 ^ suc (twice k) % 16
+high_digit k n =
+    let power : 16 ^ twice k * 16 ≡ 16 ^ suc (twice k) = omega (arith, pow-suc 16 (twice k)) in
+    let place : n / 16 ^ twice k / 16 ≡ n / 16 ^ suc (twice k) = div-div-eq-div-mul n (16 ^ twice k) 16 ∙ ap (λ p. n / p) power in
+    let byte = byte_at-power k n in
+    omega (arith, byte, place)
+
+low_digit : (k n : ℕ) → byte_at k n % 16 ≡ n / 16 ^ twice k % 16
+low_digit k n = let byte = byte_at-power k n in omega (arith, byte)
+
+hex_text-bytes : (k n : ℕ) → hex_text (bytes_high_first k n) ≡ low_digits (twice k) n
+unfolding low_digits
+hex_text-bytes zero n = refl
+hex_text-bytes (suc k) n =
+    ap₂ (λ a b. hex_digit a ∷ hex_digit b ∷ hex_text (bytes_high_first k n)) (high_digit k n) (low_digit k n)
+    ∙ ap (λ ds. hex_digit (n / 16 ^ suc (twice k) % 16) ∷ hex_digit (n / 16 ^ twice k % 16) ∷ ds) (hex_text-bytes k n)
+    ∙ ap (λ ds. hex_digit (n / 16 ^ suc (twice k) % 16) ∷ ds) (sym (low_digits-front (twice k) n))
+    ∙ sym (low_digits-front (suc (twice k)) n)
+
+byte_small : (k n : ℕ) → byte_at k n < 256
+byte_small zero n = omega arith
+byte_small (suc k) n = omega arith
+
+bytes_small : (k n i : ℕ) → slice_index (bytes_high_first k n) i < 256
+bytes_small zero n i = omega arith
+bytes_small (suc k) n zero = byte_small k n
+bytes_small (suc k) n (suc i) = bytes_small k n i
+
+pub digits_of_bytes : (n : ℕ) → encode_lower (to_be_bytes w64 n) ≡ low_digits 16 n
+digits_of_bytes n = encoded (to_be_bytes w64 n) (bytes_small 8 n) ∙ hex_text-bytes 8 n
+
+-- ---- ASCII
+
+hex_digit_small : (d : ℕ) → d < 16 → hex_digit d < 128
+hex_digit_small d small = grind (arith, nat_tests)
+
+pub low_digits_ascii : (k n : ℕ) → IsAscii (low_digits k n)
+unfolding low_digits
+low_digits_ascii zero n = IsAscii-nil
+low_digits_ascii (suc k) n = IsAscii-append (low_digits k (n / 16)) (hex_digit (n % 16) ∷ []) (low_digits_ascii k (n / 16)) (IsAscii-cons (hex_digit (n % 16)) [] (hex_digit_small (n % 16) (omega arith)) IsAscii-nil)
+
+length-low_digits : (k n : ℕ) → length (low_digits k n) ≡ k
+unfolding low_digits
+length-low_digits zero n = refl
+length-low_digits (suc k) n = length-append (low_digits k (n / 16)) (hex_digit (n % 16) ∷ []) ∙ omega (arith, length-low_digits k (n / 16))
+
+-- ---- a trace's id
+
+pub trace_text-short : (t : TraceId) → t.high ≡ 0 → trace_text t ≡ low_digits 16 t.low
+unfolding trace_text
+trace_text-short t e = rw (eq-eqb t.high 0 e) refl
+
+pub trace_text-long : (t : TraceId) → t.high ≢ 0 → trace_text t ≡ low_digits 16 t.high ++ low_digits 16 t.low
+unfolding trace_text
+trace_text-long t e = rw (ne_eqb t.high 0 e) refl
+
+-- the second half is pasted behind the first
+pub pasted : (n : ℕ) (low rest : List ℕ) → length rest ≡ 16 → put_mid 16 16 (low_digits 16 n ++ rest) low ≡ low_digits 16 n ++ low
+pasted n low rest long =
+    let digits = low_digits 16 n in
+    let behind : drop 16 (digits ++ rest) ≡ rest = drop_at digits rest 16 (length-low_digits 16 n) in
+    let none : drop 16 (drop 16 (digits ++ rest)) ≡ [] = ap (drop 16) behind ∙ drop_all 16 rest (omega arith) in
+    ap₂ (λ (a b : List ℕ). a ++ (low ++ b)) (take_at digits rest 16 (length-low_digits 16 n)) none ∙ ap (λ (l : List ℕ). digits ++ l) (append-nil low)
