@@ -1,12 +1,13 @@
 //! Clients for `bench/serve.py`: fills a trace server over HTTP, and then writes and reads at once for a while. Standard
 //! library alone, loopback only.
 //!
-//!     load --port P --fill SPANS --writers N --readers N --seconds S [--pace N] [--most N]
+//!     load --port P --fill SPANS --writers N --readers N --seconds S [--held SPANS] [--target T] [--pace N] [--most N]
 //!
 //! Every batch has 10 spans of a new trace, each with 8 tags. A writer keeps one connection and waits for each 202 before it
-//! sends the next batch; a reader keeps one, asks for random traces of the filling by their ids, and waits for each answer.
-//! `--pace` is how many batches a second each writer sends (0: as fast as it can), `--most` how many batches all writers
-//! send at most, after which readers end too. Prints one line of names and numbers. A request that takes 10 seconds, or whose
+//! sends the next batch; a reader keeps one, asks for random traces of the filling by their ids, or `--target` each time, and
+//! waits for each answer. `--held` is how many spans a run before this one filled the server with. `--pace` is how many batches
+//! a second each writer sends (0: as fast as it can), `--most` how many batches all writers send at most, after which readers
+//! end too. Prints one line of names and numbers. A request that takes 10 seconds, or whose
 //! status is another than 202 for a batch and 200 for a trace, ends the program with status 1.
 
 use std::io::{Read, Write};
@@ -185,6 +186,8 @@ impl Client {
 struct Asked {
     port: u16,
     fill: u64,
+    held: u64,
+    target: Option<String>,
     writers: u64,
     readers: u64,
     seconds: Duration,
@@ -220,8 +223,11 @@ fn read(asked: &Asked, sent: &AtomicU64, seed: u64, end: Instant) -> (Vec<u64>, 
     let mut state = seed;
     while Instant::now() < end && sent.load(Ordering::Relaxed) < asked.most {
         state = trace(state);
-        let id = trace(state % (asked.fill / IN_BATCH));
-        let request = format!("GET /api/traces/{id:x} HTTP/1.1\r\nHost: 127.0.0.1\r\n\r\n");
+        let target = asked.target.clone().unwrap_or_else(|| {
+            let id = trace(state % ((asked.held + asked.fill) / IN_BATCH));
+            format!("/api/traces/{id:x}")
+        });
+        let request = format!("GET {target} HTTP/1.1\r\nHost: 127.0.0.1\r\n\r\n");
         let begin = Instant::now();
         length = client.ask(request.as_bytes(), "200");
         times.push(begin.elapsed().as_nanos() as u64);
@@ -261,6 +267,8 @@ fn main() {
     let asked = Asked {
         port: option("--port", 0.0) as u16,
         fill: option("--fill", 1000.0) as u64,
+        held: option("--held", 0.0) as u64,
+        target: words.iter().position(|word| word == "--target").and_then(|place| words.get(place + 1).cloned()),
         writers: option("--writers", 1.0) as u64,
         readers: option("--readers", 0.0) as u64,
         seconds: Duration::from_secs_f64(option("--seconds", 1.0)),

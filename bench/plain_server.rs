@@ -4,15 +4,20 @@
 //!     rustc --edition 2021 -O -o plain_server bench/plain_server.rs
 //!     ./plain_server serve --port 0 --workers 4
 //!
-//! It takes `POST /api/traces`, and answers `GET /api/traces/{id}` and `GET /api/services` with the JSON of
-//! docs/query-api.md, the parent's reference included, but never adjusts for clock skew. Options: `--port`, `--workers`,
-//! `--idle`, `--sessions` as `serve` has them. The other options of `serve` are taken and not looked at: it has no limits.
+//! It takes `POST /api/traces`, and answers `GET /api/traces/{id}`, `GET /api/traces?service=..&limit=..` (these two parameters
+//! alone) and `GET /api/services` with the bytes of docs/query-api.md: the parent's reference in front, clock skew corrected
+//! up to `--max-skew`. Options: `--port`, `--workers`, `--idle`, `--sessions`, `--max-skew` as `serve` has them. The other
+//! options of `serve` are taken and not looked at: it has no limits.
 
 #[path = "compare/batch.rs"]
 mod batch;
+#[path = "compare/skew.rs"]
+mod skew;
 
 use batch::{Process, RefKind, Span, SpanRef, Tag, TraceId, Value};
-use std::collections::BTreeSet;
+use skew::{adjusted, Shown};
+use std::cmp::Reverse;
+use std::collections::{BTreeSet, HashMap};
 use std::fmt::Write as _;
 use std::io::{self, BufRead, BufReader, Read, Write};
 use std::net::{Shutdown, TcpListener, TcpStream};
@@ -23,14 +28,15 @@ use std::time::{Duration, Instant};
 const HEAD: u64 = 8192;
 const BODY: u64 = 4_194_304;
 
-struct Held {
-    span: Span,
-    process: Arc<Process>,
+pub struct Held {
+    pub span: Span,
+    pub process: Arc<Process>,
 }
 
 struct Server {
     listener: TcpListener,
     spans: Mutex<Vec<Held>>,
+    max_skew: u64,
     idle: Option<Duration>,
     sessions: usize,
     served: AtomicUsize,
@@ -60,8 +66,32 @@ impl Server {
             return None;
         }
         let mut data = String::with_capacity(1024 * found.len());
-        write_trace(&mut data, &found);
+        write_trace(&mut data, &adjusted(&found, self.max_skew));
         Some(envelope(&data, 1))
+    }
+
+    /// The traces of a service, the latest first start in front, so many at most where that isn't 0.
+    fn search(&self, service: &str, limit: usize) -> String {
+        let spans = self.spans.lock().unwrap();
+        let mut places: HashMap<TraceId, usize> = HashMap::new();
+        let mut traces: Vec<(bool, Vec<&Held>)> = Vec::new();
+        for held in spans.iter() {
+            let place = *places.entry(held.span.trace).or_insert(traces.len());
+            if place == traces.len() {
+                traces.push((false, Vec::new()));
+            }
+            traces[place].0 |= held.process.service == service;
+            traces[place].1.push(held);
+        }
+        let mut found: Vec<Vec<&Held>> = traces.into_iter().filter(|trace| trace.0).map(|trace| trace.1).collect();
+        found.reverse();
+        found.sort_by_key(|trace| Reverse(trace[0].span.start));
+        if limit > 0 {
+            found.truncate(limit);
+        }
+        let mut data = String::with_capacity(1024 * found.len());
+        list(&mut data, &found, |out, trace| write_trace(out, &adjusted(trace, self.max_skew)));
+        envelope(&data[1..data.len() - 1], found.len())
     }
 
     fn services(&self) -> String {
@@ -168,35 +198,42 @@ fn shown(span: &Span) -> Vec<&SpanRef> {
     references
 }
 
-fn write_span(out: &mut String, span: &Span, process: usize) {
+fn write_span(out: &mut String, shown_span: &Shown, process: usize) {
+    let span = &shown_span.held.span;
     write!(out, "{{\"duration\":{},\"flags\":{},\"logs\":", span.duration, span.flags as u32).unwrap();
     list(out, &span.logs, |out, log| {
         out.push_str("{\"fields\":");
         list(out, &log.fields, write_tag);
-        write!(out, ",\"timestamp\":{}}}", log.at).unwrap();
+        write!(out, ",\"timestamp\":{}}}", log.at + shown_span.moved).unwrap();
     });
     out.push_str(",\"operationName\":");
     write_text(out, &span.operation);
     write!(out, ",\"processID\":\"p{process}\",\"references\":").unwrap();
     list(out, shown(span), write_reference);
-    write!(out, ",\"spanID\":\"{:016x}\",\"startTime\":{},\"tags\":", span.id, span.start).unwrap();
+    write!(out, ",\"spanID\":\"{:016x}\",\"startTime\":{},\"tags\":", span.id, span.start + shown_span.moved).unwrap();
     list(out, &span.tags, write_tag);
     out.push_str(",\"traceID\":");
     write_trace_id(out, span.trace);
-    out.push_str(",\"warnings\":null}");
+    out.push_str(",\"warnings\":");
+    match &shown_span.warning {
+        Some(warning) => list(out, [warning], |out, warning| write_text(out, warning)),
+        None => out.push_str("null"),
+    }
+    out.push('}');
 }
 
-fn write_trace(out: &mut String, spans: &[&Held]) {
-    let mut processes: Vec<&Process> = Vec::new();
+fn write_trace(out: &mut String, spans: &[Shown]) {
+    let mut processes: Vec<&Arc<Process>> = Vec::new();
     let mut numbers = Vec::new();
-    for held in spans {
-        let place = processes.iter().position(|process| **process == *held.process).unwrap_or_else(|| {
+    for Shown { held, .. } in spans {
+        let same = |known: &&Arc<Process>| Arc::ptr_eq(known, &held.process) || ***known == *held.process;
+        let place = processes.iter().position(same).unwrap_or_else(|| {
             processes.push(&held.process);
             processes.len() - 1
         });
         numbers.push(place + 1);
     }
-    let mut named: Vec<(String, &Process)> =
+    let mut named: Vec<(String, &Arc<Process>)> =
         processes.into_iter().enumerate().map(|(place, process)| (format!("p{}", place + 1), process)).collect();
     named.sort_by(|a, b| a.0.cmp(&b.0));
     out.push_str("{\"processes\":{");
@@ -209,9 +246,9 @@ fn write_trace(out: &mut String, spans: &[&Held]) {
         out.push('}');
     }
     out.push_str("},\"spans\":");
-    list(out, spans.iter().zip(numbers), |out, (held, number)| write_span(out, &held.span, number));
+    list(out, spans.iter().zip(numbers), |out, (span, number)| write_span(out, span, number));
     out.push_str(",\"traceID\":");
-    write_trace_id(out, spans[0].span.trace);
+    write_trace_id(out, spans[0].held.span.trace);
     out.push_str(",\"warnings\":null}");
 }
 
@@ -220,6 +257,7 @@ fn write_trace(out: &mut String, spans: &[&Held]) {
 struct Head {
     method: String,
     path: String,
+    query: String,
     length: u64,
     thrift: bool,
     close: bool,
@@ -302,8 +340,9 @@ fn read_head(lines: &[String]) -> Result<Head, &'static str> {
     if !matches!(version, "HTTP/1.0" | "HTTP/1.1") || method.is_empty() || path.is_empty() {
         return Err(bad);
     }
-    let path = path.split('?').next().unwrap().to_owned();
-    let mut head = Head { method: method.to_owned(), path, length: 0, thrift: false, close: version == "HTTP/1.0" };
+    let (path, query) = path.split_once('?').unwrap_or((path, ""));
+    let (method, path, query) = (method.to_owned(), path.to_owned(), query.to_owned());
+    let mut head = Head { method, path, query, length: 0, thrift: false, close: version == "HTTP/1.0" };
     for line in &lines[1..] {
         let (name, value) = line.split_once(':').ok_or(bad)?;
         let value = value.trim();
@@ -342,7 +381,14 @@ impl Server {
                     Err(_) => Reply::fault(400, "batch refused", false),
                 },
                 ("POST", false) => Reply::fault(415, "unsupported content type", false),
-                ("GET", _) => Reply::fault(400, "no searches here", false),
+                ("GET", _) => {
+                    let of = |name: &str| head.query.split('&').find_map(|pair| pair.strip_prefix(name)?.strip_prefix('='));
+                    let limit = of("limit").map_or(Ok(20), str::parse);
+                    match (of("service"), limit) {
+                        (Some(service), Ok(limit)) => Reply::ok(self.search(service, limit)),
+                        _ => Reply::fault(400, "bad parameter: service", false),
+                    }
+                }
                 _ => not_allowed("GET, POST"),
             };
         }
@@ -437,6 +483,7 @@ fn main() {
     let server = Arc::new(Server {
         listener,
         spans: Mutex::new(Vec::new()),
+        max_skew: option(&words, "--max-skew", 0),
         idle: (idle > 0).then(|| Duration::from_secs(idle)),
         sessions: option(&words, "--sessions", 0) as usize,
         served: AtomicUsize::new(0),

@@ -9,6 +9,9 @@ each server is started anew for each measurement, filled, measured and killed, t
   reads, paced      one reader that asks for random traces by their ids, one after the other, beside 4 writers of 25 batches
                     a second each, so that the number of spans held stays about the same
   reads, full speed the same beside 4 writers at full speed; the rows say how many spans were held at the end
+  reads, alone      one reader of random traces by their ids, then one of the 20 latest traces of the one service, with nobody
+                    writing: processor time of the server a request, and the median time
+  processor time    of the server a span, beside the spans a second
 
     bench/serve.py [--bin PATH] [--sizes 1000,10000,100000] [--seconds 0.6] [--rounds 3] [--only ours|plain]
 
@@ -18,7 +21,6 @@ says): what is within that says nothing. Clients and server share the machine's 
 together. It ends by itself after three minutes at most; what was not measured by then is `-`.
 """
 import argparse
-import json
 import os
 import select
 import statistics
@@ -31,6 +33,8 @@ import urllib.request
 HERE = os.path.dirname(os.path.abspath(__file__))
 ROOT = os.path.dirname(HERE)
 LIMITS = ["--queue", "256", "--batches", "1000000", "--spans", "10000000"]
+TICK = os.sysconf("SC_CLK_TCK")
+SEARCH = "/api/traces?service=orders&limit=20"
 AT_MOST = 170
 SERVERS = ["ours", "plain"]
 NAMES = {"ours": "jaeger_one", "plain": "plain server"}
@@ -74,6 +78,12 @@ class Server:
         self.run.wait()
         self.run.stdout.close()
 
+    def processor(self):
+        """The seconds of a processor that it took, system time too."""
+        with open(f"/proc/{self.run.pid}/stat") as file:
+            words = file.read().rsplit(")", 1)[1].split()
+        return (int(words[11]) + int(words[12])) / TICK
+
     def peak(self):
         """The most memory it had, in megabytes."""
         with open(f"/proc/{self.run.pid}/status") as file:
@@ -94,21 +104,29 @@ class Bench:
         self.shown = {}
         self.faults = []
 
-    def measure(self, name, size, writers, readers=0, pace=0, seconds=None):
+    def load_with(self, *words):
+        """What a run of the clients reports."""
+        command = [self.load, *map(str, words)]
+        run = subprocess.run(command, capture_output=True, timeout=60, env=dict(os.environ, RUST_BACKTRACE="0"))
+        if run.returncode:
+            raise OSError(run.stderr.decode(errors="replace").strip())
+        reported = run.stdout.decode().split()
+        return {key: float(value) for key, value in zip(reported[::2], reported[1::2])}
+
+    def measure(self, name, size, writers, readers=0, pace=0, seconds=None, target=None):
         """The numbers of one measurement, and none where there is no such server, no time is left or it failed."""
         if name not in self.programs or time.monotonic() > self.end:
             return {}
         try:
-            with Server(self.programs[name], writers + readers + 1) as server:
-                words = [self.load, "--port", server.port, "--fill", str(size), "--writers", str(writers), "--readers",
-                         str(readers), "--pace", str(pace), "--seconds", str(seconds or self.seconds)]
-                run = subprocess.run(words, capture_output=True, timeout=60, env=dict(os.environ, RUST_BACKTRACE="0"))
-                if run.returncode:
-                    raise OSError(run.stderr.decode(errors="replace").strip())
-                reported = run.stdout.decode().split()
-                numbers = {key: float(value) for key, value in zip(reported[::2], reported[1::2])}
+            with Server(self.programs[name], writers + readers + 4) as server:
+                self.load_with("--port", server.port, "--fill", size, "--writers", 0)
+                before = server.processor()
+                asked = ["--target", target] if target else []
+                numbers = self.load_with("--port", server.port, "--fill", 0, "--held", size, "--writers", writers, "--readers",
+                                         readers, "--pace", pace, "--seconds", seconds or self.seconds, *asked)
+                numbers["processor"] = 1e6 * (server.processor() - before) / max(1, numbers["reads"] or numbers["spans"])
                 numbers["peak"] = server.peak()
-                self.shown[name] = server.get(f"/api/traces/{first_trace():x}")
+                self.shown[name] = [server.get(f"/api/traces/{first_trace():x}"), server.get(SEARCH)]
         except (OSError, subprocess.TimeoutExpired) as fault:
             self.faults.append(f"{NAMES[name]}, {size} spans, {writers} writers, {readers} readers: {fault}")
             return {}
@@ -139,7 +157,13 @@ def table(bench, sizes):
     for size in sizes:
         print(f"{size:9,}", flush=True)
         for writers in (1, 2, 4, 8):
-            row(f"spans a second, writers: {writers}", bench.both(size, writers), "rate", ",.0f")
+            found = bench.both(size, writers)
+            row(f"spans a second, writers: {writers}", found, "rate", ",.0f")
+            row("   processor time a span, us", found, "processor", ".2f")
+        for title, target in (("a trace by its id", None), ("20 traces of the service", SEARCH)):
+            found = bench.both(size, 0, readers=1, target=target, seconds=bench.seconds)
+            row(f"{title}, nobody writing: processor time, us", found, "processor", ",.0f")
+            row("   p50, ms", found, "p50", ".3f")
         for title, pace in (("beside 4 writers, paced", 25), ("beside 4 writers at full speed", 0)):
             found = bench.both(size, 4, readers=1, pace=pace, seconds=2 * bench.seconds)
             row(f"a trace by its id, {title}: p50, ms", found, "p50", ".3f")
@@ -170,9 +194,9 @@ def main():
         bench = Bench(programs, build(folder, "load"), options.seconds, options.rounds)
         table(bench, [int(size) for size in options.sizes.split(",")])
     if len(bench.shown) == 2:
-        texts = [json.dumps(json.loads(text), sort_keys=True) for text in bench.shown.values()]
-        same = "the same bytes" if len(set(bench.shown.values())) == 1 else "the same JSON" if len(set(texts)) == 1 else "NOT the same"
-        print(f"One trace as both answer it: {same}, {len(bench.shown['ours'])} and {len(bench.shown['plain'])} bytes")
+        ours, plain = bench.shown["ours"], bench.shown["plain"]
+        same = "the same bytes" if ours[0] == plain[0] else "NOT the same"
+        print(f"One trace as both answer it: {same}, {len(ours[0])} and {len(plain[0])} bytes; 20 traces: {len(ours[1])} and {len(plain[1])}")
     for fault in bench.faults:
         print("FAILED", fault)
     sys.exit(1 if bench.faults else 0)

@@ -28,7 +28,7 @@ const STRUCT: u8 = 12;
 const MAP: u8 = 13;
 const LIST: u8 = 15;
 
-#[derive(Clone, Copy, PartialEq)]
+#[derive(Clone, Copy, PartialEq, Eq, Hash)]
 pub struct TraceId {
     pub high: u64,
     pub low: u64,
