@@ -61,7 +61,7 @@ class Server:
 
     def __init__(self, program, workers):
         words = [program, "serve", "--port", "0", "--workers", str(workers), *LIMITS]
-        self.run = subprocess.Popen(words, stdin=subprocess.DEVNULL, stdout=subprocess.PIPE)
+        self.run = subprocess.Popen(words, stdin=subprocess.DEVNULL, stdout=subprocess.PIPE, stderr=subprocess.DEVNULL)
         ready, _, _ = select.select([self.run.stdout], [], [], 10)
         line = self.run.stdout.readline().decode() if ready else ""
         if not line.startswith("listening 127.0.0.1:"):

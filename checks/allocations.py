@@ -48,7 +48,7 @@ TESTS = [
     ("wire_rows", "batch_bytes::memory_for_a_batch", None),
     ("piece_rows", "faults::memory_for_pieces", None),
     ("piece_rows", "faults::sizes_beyond_the_bytes", "faults::bytes_before_a_size"),
-    ("store_rows", "stores::a_store_is_filled", "stores::a_store_is_opened"),
+    ("store_rows", "stores::apply_without_memory", "stores::a_store_is_opened"),
     ("web_rows", "answers::memory_for_a_tree", None),
     ("web_rows", "responses::memory_for_a_response", None),
     ("session_rows", "pipes::memory_for_a_session", None),

@@ -78,7 +78,7 @@ class Server:
         if port is None:
             if not os.path.exists(binary):
                 sys.exit(f"{binary} is not there")
-            self.run = subprocess.Popen([binary, "serve", "--port", "0"], stdin=subprocess.DEVNULL, stdout=subprocess.PIPE)
+            self.run = subprocess.Popen([binary, "serve", "--port", "0"], stdin=subprocess.DEVNULL, stdout=subprocess.PIPE, stderr=subprocess.DEVNULL)
             ready, _, _ = select.select([self.run.stdout], [], [], 10)
             line = self.run.stdout.readline().decode().strip() if ready else ""
             if not line.startswith("listening 127.0.0.1:"):

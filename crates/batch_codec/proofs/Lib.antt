@@ -17,3 +17,4 @@ pub mod LastOf
 pub mod Rows
 pub mod CanonTexts
 pub mod CanonSpelled
+pub mod Kept

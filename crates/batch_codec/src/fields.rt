@@ -1,4 +1,4 @@
-ghost use Rattle.std.specs.Prelude.{◌≡◌, ◌≤◌, ◌<◌, ℕ, ℤ, List, length, Result, OnOk};
+ghost use Rattle.std.specs.Prelude.{◌≡◌, ◌≤◌, ◌<◌, ℕ, ℤ, List, length, Result, Ok, Err, IsOk, OnOk, Some};
 ghost use Rattle.batch_codec.specs.declared.fault.DecodeError.{DecodeError};
 ghost use Rattle.batch_codec.specs.Decoding.{Takes, Decodes, required, wire};
 ghost use Rattle.thrift_binary.specs.Fields.{fields_at};
@@ -44,4 +44,27 @@ pub(crate) fn required<T>(slot: Option<T>, part: Part, id: u8) -> Result<T, Deco
     ensures { result ≡ required slot part id }
 {
     slot.ok_or(DecodeError::Missing(part, id))
+}
+
+/// Keeps a value that was read in its place.
+pub(crate) fn keep<T: Drop>(slot: &mut T, read: Result<T, DecodeError>) -> Result<(), DecodeError>
+    ensures kept { (x : T) → read ≡ Ok x → slot.new ≡ x }
+    ensures same { (x : T) → read ≡ Ok x → IsOk result }
+    ensures refused { (e : DecodeError) → read ≡ Err e → result ≡ Err e }
+{
+    *slot = read?;
+    Ok(())
+}
+
+/// The same where the place may be empty.
+pub(crate) fn keep_some<T: Drop>(
+    slot: &mut Option<T>,
+    read: Result<T, DecodeError>,
+) -> Result<(), DecodeError>
+    ensures kept { (x : T) → read ≡ Ok x → slot.new ≡ Some x }
+    ensures same { (x : T) → read ≡ Ok x → IsOk result }
+    ensures refused { (e : DecodeError) → read ≡ Err e → result ≡ Err e }
+{
+    *slot = Some(read?);
+    Ok(())
 }

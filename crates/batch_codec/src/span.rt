@@ -1,8 +1,9 @@
-ghost use Rattle.std.specs.Prelude.{◌≡◌};
+ghost use Rattle.std.specs.Prelude.{◌≡◌, ◌≤◌, length, OnOk};
+ghost use Rattle.batch_codec.specs.Decoding.{Decodes, text_at};
 ghost use Rattle.batch_codec.specs.SpanReading.{span_at, span_from};
 
 use crate::fault::{DecodeError, Part};
-use crate::fields::{Slots, read_fields, required};
+use crate::fields::{Slots, keep, keep_some, read_fields, required};
 use crate::items::{Element, read_list};
 use crate::values::{read_i32, read_i64, read_id, read_text};
 use jaeger_model::{Log, Seq, Span, SpanId, SpanRef, Tag, Text, TraceId};
@@ -84,6 +85,14 @@ impl SpanSlots {
     }
 }
 
+/// The operation's name, copied from the input.
+fn read_operation(alloc: Global, cursor: &mut Cursor<'_>) -> Result<Text, DecodeError>
+    ensures exact { Decodes (λ t. t) text_at cursor.old result cursor.new }
+    ensures no_longer { OnOk result (length cursor.new ≤ length cursor.old) }
+{
+    Ok(read_text(cursor)?.to_text(alloc)?)
+}
+
 impl<'a> Slots<'a> for SpanSlots {
     ghost use Rattle.batch_codec.specs.SpanReading.{take_span};
 
@@ -98,20 +107,19 @@ impl<'a> Slots<'a> for SpanSlots {
         cursor: &mut Cursor<'a>,
     ) -> Result<(), DecodeError> {
         match (code, id) {
-            (I64, 1) => self.trace_low = Some(read_id(cursor)?),
-            (I64, 2) => self.trace_high = Some(read_id(cursor)?),
-            (I64, 3) => self.id = Some(read_id(cursor)?),
-            (I64, 4) => self.parent = Some(read_id(cursor)?),
-            (STRING, 5) => self.operation = Some(read_text(cursor)?.to_text(alloc)?),
-            (LIST, 6) => self.references = read_list(alloc, cursor)?,
-            (I32, 7) => self.flags = Some(read_i32(cursor)?),
-            (I64, 8) => self.start = Some(read_i64(cursor)?),
-            (I64, 9) => self.duration = Some(read_i64(cursor)?),
-            (LIST, 10) => self.tags = read_list(alloc, cursor)?,
-            (LIST, 11) => self.logs = read_list(alloc, cursor)?,
-            _ => cursor.skip(code)?,
+            (I64, 1) => keep_some(&mut self.trace_low, read_id(cursor)),
+            (I64, 2) => keep_some(&mut self.trace_high, read_id(cursor)),
+            (I64, 3) => keep_some(&mut self.id, read_id(cursor)),
+            (I64, 4) => keep_some(&mut self.parent, read_id(cursor)),
+            (STRING, 5) => keep_some(&mut self.operation, read_operation(alloc, cursor)),
+            (LIST, 6) => keep(&mut self.references, read_list(alloc, cursor)),
+            (I32, 7) => keep_some(&mut self.flags, read_i32(cursor)),
+            (I64, 8) => keep_some(&mut self.start, read_i64(cursor)),
+            (I64, 9) => keep_some(&mut self.duration, read_i64(cursor)),
+            (LIST, 10) => keep(&mut self.tags, read_list(alloc, cursor)),
+            (LIST, 11) => keep(&mut self.logs, read_list(alloc, cursor)),
+            _ => Ok(cursor.skip(code)?),
         }
-        Ok(())
     }
 }
 

@@ -27,12 +27,20 @@ pub(crate) enum State {
     Refused(DecodeError),
 }
 
+/// Puts a value in the place of another.
+#[inline]
+fn put<V: Drop>(place: &mut V, value: V)
+    ensures { place.new ≡ value }
+{
+    *place = value;
+}
+
 /// The batch is whole. It stands apart, so that a call that continues has no place for a state on its stack.
 #[inline(never)]
 fn complete(state: &mut State, batch: Batch)
     ensures { state.new ≡ Whole batch }
 {
-    *state = State::Whole(batch);
+    put(state, State::Whole(batch));
 }
 
 /// The bytes are refused. It stands apart as `complete` does.
@@ -40,7 +48,7 @@ fn complete(state: &mut State, batch: Batch)
 fn refuse(state: &mut State, error: DecodeError)
     ensures { state.new ≡ Refused error }
 {
-    *state = State::Refused(error);
+    put(state, State::Refused(error));
 }
 
 /// Nothing follows the batch.
@@ -372,7 +380,10 @@ pub fn decode_pieces(alloc: Global, pieces: &[Vec<u8>]) -> Result<Batch, DecodeE
 {
     let mut feeder = Feeder::new(alloc);
     for piece in pieces {
-        feeder.feed(alloc, piece.as_slice())?;
+        if let Err(error) = feeder.feed(alloc, piece.as_slice()) {
+            drop(feeder);
+            return Err(error);
+        }
     }
     feeder.finish()
 }

@@ -1,39 +1,48 @@
--- One more call in a tally that is kept in order.
-use Rattle.std.proofs.Common.{◌≡◌, ℕ, ◌+◌, ◌≤◌, Bool, true, false, ◌&&◌, ◌||◌, cond, List, [], ◌∷◌, ◌++◌, map, length, refl, sym, ap, ◌∙◌, add-zero, zero-add}
-use Rattle.std.specs.Prelude.{count_by, Some, None, unwrap_or}
+-- One more call in a tally that is kept in order of numbers, and the tally in order of texts.
+use Rattle.std.proofs.Common.{◌≡◌, ℕ, ◌+◌, ◌<◌, ◌≤◌, Bool, true, false, ◌&&◌, ◌||◌, cond, List, [], ◌∷◌, ◌++◌, map, length, get_or, refl, sym, ap, subst, ◌∙◌, add-zero, zero-add}
+use Rattle.std.specs.Prelude.{count_by, fold, Some, None, unwrap_or}
+use Rattle.std.specs.List.{AllByRecursion}
 use Rattle.std.specs.Map.{lookup}
 use Rattle.std.specs.BTreeMap.{insert_entry, is_at}
+use denote.Ref.{Bor}
 use Rattle.std.specs.declared.cmp.Ordering.{Ordering}
 use Rattle.std.specs.declared.cmp.Ordering.TheVariants.{Less, Equal, Greater}
-use Rattle.std.specs.Ordering.{is_eq, ordering_reverse, ordering_then, match_ordering}
-use Rattle.std.specs.Cmp.{IsTotalOrder, tied_itself, on_total}
-use Rattle.std.proofs.lemmas.Cmp.{then_total}
-use Rattle.std.specs.Cmp.Lexicographic.{nat_list_cmp_total, texts_ties}
+use Rattle.std.specs.Ordering.{nat_cmp, is_eq, eq_by_cmp, ordering_reverse, ordering_then, match_ordering}
+use Rattle.std.specs.Cmp.{IsTotalOrder, tied_itself, on_total, unsigned_ties}
+use Rattle.std.proofs.lemmas.Cmp.{then_total, nat_cmp_total}
+use Rattle.std.specs.Cmp.Lexicographic.{nat_list_cmp_total}
 use Rattle.std.proofs.lemmas.List.Sums.{fold_push, sum_by-append, sum_by-cons, count_by-le-length}
+use Rattle.std.proofs.lemmas.List.Elements.{All-get_or, All-from_recursion}
 use Rattle.std.proofs.lemmas.Bool.{false≢true}
-use Rattle.std.proofs.lemmas.Map.Lookups.{exact_bytes, exact_pairs}
+use Rattle.std.proofs.lemmas.Map.Lookups.{exact_bytes, exact_pairs, exact_unsigned}
+use Rattle.jaeger_model.specs.declared.text.Text.{Text}
 use Rattle.jaeger_model.specs.Texts.{insert_once, sorted_set, placed_by, text_cmp}
 use Rattle.trace_model.specs.Linking.{call_cmp, same_call, counted}
-use Rattle.trace_model.proofs.Rising.{Below, has, sorted_set-rises, sorted_set-has}
+use Rattle.trace_model.proofs.NameLaws.{any_map}
+use Rattle.trace_model.proofs.Rising.{Below, has, sorted_set-rises, sorted_set-has, rises_insert, rises_same, any_set}
 use Rattle.std.specs.List.Sorted.{IsStrictlySortedBy}
-use Rattle.call_links.specs.Seen.{SeenCall, call_seen}
-use Rattle.call_links.specs.Tallies.{tally, entry_seen, link_of}
+use Rattle.call_links.specs.declared.counts.Tally.{Tally}
+use Rattle.call_links.specs.Seen.{SeenCall, ToldCall, call_told, calls_told, StandsFor, AreToldBy, texts_called, numbers_called}
+use Rattle.call_links.specs.Tallies.{Numbers, Texts, number_cmp, same_numbers, times, tally_of, tally_by_numbers, numbers_met, texts_for, services_by_numbers, texts_seen, calls_counted, services_met, tallies_seen, with_entry, inserted, entry_seen, link_of}
+use Rattle.call_links.proofs.Numbering.{same_told}
 
-abbrev pub Pair : Type 0
-Pair = List ℕ × List ℕ
+-- ---- entries whose values are mapped
+pub insert_mapped : {K V W : Type 0} (cmp : K → K → Ordering) (p : V → W) (es : List (K × V)) (k : K) (v : V) → map {B = K × W} (λ e. (e.0, p e.1)) (insert_entry cmp es k v) ≡ insert_entry cmp (map {B = K × W} (λ e. (e.0, p e.1)) es) k (p v)
+insert_mapped cmp p [] k v = refl
+insert_mapped {K} {V} {W} cmp p (e ∷ es) k v = elim (cmp k e.0) as (λ r. map {B = K × W} (λ e. (e.0, p e.1)) (match_ordering r ((k, v) ∷ e ∷ es) ((e.0, v) ∷ es) (e ∷ insert_entry cmp es k v)) ≡ match_ordering r ((k, p v) ∷ (e.0, p e.1) ∷ map {B = K × W} (λ e. (e.0, p e.1)) es) ((e.0, p v) ∷ map {B = K × W} (λ e. (e.0, p e.1)) es) ((e.0, p e.1) ∷ insert_entry cmp (map {B = K × W} (λ e. (e.0, p e.1)) es) k (p v))) [
+  | Less ↦ refl
+  | Equal ↦ refl
+  | Greater ↦ ap (λ l. (e.0, p e.1) ∷ l) (insert_mapped cmp p es k v)
+]
 
 -- ---- entries with references as keys, and as values
-pub insert_seen : (es : List (SeenCall × ℕ)) (k : SeenCall) (v : ℕ) → map entry_seen (insert_entry (λ a b. call_cmp (call_seen a) (call_seen b)) es k v) ≡ insert_entry call_cmp (map entry_seen es) (call_seen k) v
+pub insert_seen : (es : List ((Bor Text × Bor Text) × ℕ)) (k : Bor Text × Bor Text) (v : ℕ) → map entry_seen (insert_entry (λ a b. call_cmp (texts_seen a) (texts_seen b)) es k v) ≡ insert_entry call_cmp (map entry_seen es) (texts_seen k) v
 insert_seen [] k v = refl
-insert_seen (e ∷ es) k v = elim (call_cmp (call_seen k) (call_seen e.0)) as (λ r. map entry_seen (match_ordering r ((k, v) ∷ e ∷ es) ((e.0, v) ∷ es) (e ∷ insert_entry (λ a b. call_cmp (call_seen a) (call_seen b)) es k v)) ≡ match_ordering r ((call_seen k, v) ∷ entry_seen e ∷ map entry_seen es) ((call_seen e.0, v) ∷ map entry_seen es) (entry_seen e ∷ insert_entry call_cmp (map entry_seen es) (call_seen k) v)) [
+insert_seen (e ∷ es) k v = elim (call_cmp (texts_seen k) (texts_seen e.0)) as (λ r. map entry_seen (match_ordering r ((k, v) ∷ e ∷ es) ((e.0, v) ∷ es) (e ∷ insert_entry (λ a b. call_cmp (texts_seen a) (texts_seen b)) es k v)) ≡ match_ordering r ((texts_seen k, v) ∷ entry_seen e ∷ map entry_seen es) ((texts_seen e.0, v) ∷ map entry_seen es) (entry_seen e ∷ insert_entry call_cmp (map entry_seen es) (texts_seen k) v)) [
   | Less ↦ refl
   | Equal ↦ refl
   | Greater ↦ ap (λ l. entry_seen e ∷ l) (insert_seen es k v)
 ]
-
-pub lookup_seen : (es : List (SeenCall × ℕ)) (k : SeenCall) → lookup (is_at (λ b. call_cmp (call_seen k) (call_seen b))) es ≡ lookup (is_at (call_cmp (call_seen k))) (map entry_seen es)
-lookup_seen [] k = refl
-lookup_seen (e ∷ es) k = ap (λ o. cond (is_eq (call_cmp (call_seen k) (call_seen e.0))) (Some e.1) o) (lookup_seen es k)
 
 -- ---- a list of pairs in order, under any total order that tells keys apart
 module _ {K : Type 0} {cmp : K → K → Ordering} (o : IsTotalOrder cmp) (exact : (x y : K) → cmp x y ≡ Equal → x ≡ y) where
@@ -45,33 +54,34 @@ module _ {K : Type 0} {cmp : K → K → Ordering} (o : IsTotalOrder cmp) (exact
   apart_below c k [] l b = tt
   apart_below c k (x ∷ ks) l b = (ap is_eq (o.trans c k x l b.0), apart_below c k ks l b.1)
 
-  abbrev paired : (K → ℕ) → List K → List (K × ℕ)
+  apart_equal : (c k : K) (ks : List K) → cmp c k ≡ Equal → Below cmp k ks → Apart c ks
+  apart_equal c k [] q b = tt
+  apart_equal c k (x ∷ ks) q b = (ap is_eq (o.congr c k x q ∙ b.0), apart_equal c k ks q b.1)
+
+module _ {K V : Type 0} {cmp : K → K → Ordering} (o : IsTotalOrder cmp) (exact : (x y : K) → cmp x y ≡ Equal → x ≡ y) where
+  abbrev paired : (K → V) → List K → List (K × V)
   paired f [] = []
   paired f (k ∷ ks) = (k, f k) ∷ paired f ks
 
-  same_where_apart : (f g : K → ℕ) (c : K) → ((k : K) → is_eq (cmp c k) ≡ false → g k ≡ f k) → (ks : List K) → Apart c ks → paired g ks ≡ paired f ks
+  same_where_apart : (f g : K → V) (c : K) → ((k : K) → is_eq (cmp c k) ≡ false → g k ≡ f k) → (ks : List K) → Apart o exact c ks → paired g ks ≡ paired f ks
   same_where_apart f g c h [] a = refl
   same_where_apart f g c h (k ∷ ks) a = λ i. (k, h k a.0 i) ∷ same_where_apart f g c h ks a.1 i
 
   -- one more key, where only its own value changes
-  pub insert_paired : (f g : K → ℕ) (c : K) (v : ℕ) → ((k : K) → is_eq (cmp c k) ≡ false → g k ≡ f k) → g c ≡ v → (ks : List K) → IsStrictlySortedBy cmp ks → paired g (insert_once cmp ks c) ≡ insert_entry cmp (paired f ks) c v
+  pub insert_paired : (f g : K → V) (c : K) (v : V) → ((k : K) → is_eq (cmp c k) ≡ false → g k ≡ f k) → g c ≡ v → (ks : List K) → IsStrictlySortedBy cmp ks → paired g (insert_once cmp ks c) ≡ insert_entry cmp (paired f ks) c v
   unfolding IsStrictlySortedBy
   insert_paired f g c v h e [] r = λ i. (c, e i) ∷ []
   insert_paired f g c v h e (k ∷ ks) r = elim (cmp c k) as (λ a. cmp c k ≡ a → paired g (placed_by a (insert_once cmp ks) c k ks) ≡ match_ordering a ((c, v) ∷ (k, f k) ∷ paired f ks) ((k, v) ∷ paired f ks) ((k, f k) ∷ insert_entry cmp (paired f ks) c v)) [
-    | Less ↦ λ l. λ i. (c, e i) ∷ (k, h k (ap is_eq l) i) ∷ same_where_apart f g c h ks (apart_below c k ks l r.0) i
+    | Less ↦ λ l. λ i. (c, e i) ∷ (k, h k (ap is_eq l) i) ∷ same_where_apart f g c h ks (apart_below o exact c k ks l r.0) i
     | Equal ↦ λ q.
         let same : k ≡ c = sym (exact c k q) in
-        let rest : Apart c ks = apart_equal c k ks q r.0 in
+        let rest : Apart o exact c ks = apart_equal o exact c k ks q r.0 in
         λ i. (k, (ap g same ∙ e) i) ∷ same_where_apart f g c h ks rest i
     | Greater ↦ λ q. λ i. (k, h k (ap is_eq q) i) ∷ insert_paired f g c v h e ks r.1 i
   ] refl
-    where
-      apart_equal : (c k : K) (ks : List K) → cmp c k ≡ Equal → Below cmp k ks → Apart c ks
-      apart_equal c k [] q b = tt
-      apart_equal c k (x ∷ ks) q b = (ap is_eq (o.congr c k x q ∙ b.0), apart_equal c k ks q b.1)
 
   -- what a key finds
-  pub lookup_paired : (f : K → ℕ) (c : K) (ks : List K) → lookup (is_at (cmp c)) (paired f ks) ≡ cond (has cmp c ks) (Some (f c)) None
+  pub lookup_paired : (f : K → V) (c : K) (ks : List K) → lookup (is_at (cmp c)) (paired f ks) ≡ cond (has cmp c ks) (Some (f c)) None
   lookup_paired f c [] = refl
   lookup_paired f c (k ∷ ks) = elim (cmp c k) as (λ a. cmp c k ≡ a → cond (is_eq a) (Some (f k)) (lookup (is_at (cmp c)) (paired f ks)) ≡ cond (is_eq a || has cmp c ks) (Some (f c)) None) [
     | Less ↦ λ q. lookup_paired f c ks
@@ -79,34 +89,39 @@ module _ {K : Type 0} {cmp : K → K → Ordering} (o : IsTotalOrder cmp) (exact
     | Greater ↦ λ q. lookup_paired f c ks
   ] refl
 
-  pub paired_is : (f : K → ℕ) (ks : List K) → map {B = K × ℕ} (λ k. (k, f k)) ks ≡ paired f ks
+  pub paired_is : (f : K → V) (ks : List K) → map {B = K × V} (λ k. (k, f k)) ks ≡ paired f ks
   paired_is f [] = refl
   paired_is f (k ∷ ks) = ap (λ l. (k, f k) ∷ l) (paired_is f ks)
 
--- ---- calls
-call_total : IsTotalOrder call_cmp
-call_total = then_total (on_total (λ (c : Pair). c.0) nat_list_cmp_total) (on_total (λ (c : Pair). c.1) nat_list_cmp_total)
+  pub insert_mapped_pairs : (f : K → V) (c : K) (ks : List K) → IsStrictlySortedBy cmp ks → map {B = K × V} (λ k. (k, f k)) (insert_once cmp ks c) ≡ insert_entry cmp (map {B = K × V} (λ k. (k, f k)) ks) c (f c)
+  insert_mapped_pairs f c ks r =
+      paired_is f (insert_once cmp ks c) ∙ insert_paired f f c (f c) (λ k _. refl) refl ks r
+      ∙ ap (λ l. insert_entry cmp l c (f c)) (sym (paired_is f ks))
 
-call_exact : (x y : Pair) → call_cmp x y ≡ Equal → x ≡ y
-call_exact = exact_pairs text_cmp text_cmp exact_bytes exact_bytes
+-- ---- calls by the numbers of their services
+number_total : IsTotalOrder number_cmp
+number_total = then_total (on_total (λ (c : Numbers). c.0) nat_cmp_total) (on_total (λ (c : Numbers). c.1) nat_cmp_total)
+
+number_exact : (x y : Numbers) → number_cmp x y ≡ Equal → x ≡ y
+number_exact = exact_pairs nat_cmp nat_cmp exact_unsigned exact_unsigned
 
 then_eq : (a b : Ordering) → is_eq (ordering_then a b) ≡ (is_eq a && is_eq b)
 then_eq Less b = refl
 then_eq Equal b = refl
 then_eq Greater b = refl
 
--- the test of two calls is the tie of their order
-same_is : (c k : Pair) → same_call c k ≡ is_eq (call_cmp c k)
-same_is c k = (λ i. texts_ties c.0 k.0 i && texts_ties c.1 k.1 i) ∙ sym (then_eq (text_cmp c.0 k.0) (text_cmp c.1 k.1))
+-- the test of two pairs of numbers is the tie of their order
+same_is : (c k : Numbers) → same_numbers c k ≡ is_eq (number_cmp c k)
+same_is c k = (λ i. unsigned_ties c.0 k.0 i && unsigned_ties c.1 k.1 i) ∙ sym (then_eq (nat_cmp c.0 k.0) (nat_cmp c.1 k.1))
 
-count_push : (p : Pair → Bool) (cs : List Pair) (c : Pair) → count_by p (cs ++ c ∷ []) ≡ count_by p cs + cond (p c) 1 0
+count_push : (p : Numbers → Bool) (cs : List Numbers) (c : Numbers) → count_by p (cs ++ c ∷ []) ≡ count_by p cs + cond (p c) 1 0
 count_push p cs c = sum_by-append (λ x. cond (p x) 1 0) cs (c ∷ []) ∙ ap (λ n. count_by p cs + n) (zero-add (cond (p c) 1 0))
 
-none_counted : (c : Pair) (cs : List Pair) → has call_cmp c cs ≡ false → count_by (same_call c) cs ≡ 0
+none_counted : (c : Numbers) (cs : List Numbers) → has number_cmp c cs ≡ false → times cs c ≡ 0
 none_counted c [] e = refl
-none_counted c (k ∷ cs) e = sum_by-cons (λ x. cond (same_call c x) 1 0) k cs ∙ elim (is_eq (call_cmp c k)) as (λ b. is_eq (call_cmp c k) ≡ b → (b || has call_cmp c cs) ≡ false → cond (same_call c k) 1 0 + count_by (same_call c) cs ≡ 0) [
+none_counted c (k ∷ cs) e = sum_by-cons (λ x. cond (same_numbers c x) 1 0) k cs ∙ elim (is_eq (number_cmp c k)) as (λ b. is_eq (number_cmp c k) ≡ b → (b || has number_cmp c cs) ≡ false → cond (same_numbers c k) 1 0 + times cs c ≡ 0) [
   | true ↦ λ q h. absurd (false≢true (sym h))
-  | false ↦ λ q h. ap (λ b. cond b 1 0 + count_by (same_call c) cs) (same_is c k ∙ q) ∙ zero-add (count_by (same_call c) cs) ∙ none_counted c cs h
+  | false ↦ λ q h. ap (λ b. cond b 1 0 + times cs c) (same_is c k ∙ q) ∙ zero-add (times cs c) ∙ none_counted c cs h
 ] refl e
 
 reversed_tie : (a : Ordering) → is_eq (ordering_reverse a) ≡ is_eq a
@@ -114,51 +129,173 @@ reversed_tie Less = refl
 reversed_tie Equal = refl
 reversed_tie Greater = refl
 
-flip : (c k : Pair) → same_call k c ≡ is_eq (call_cmp c k)
-flip c k = same_is k c ∙ ap is_eq (call_total.antisymm k c) ∙ reversed_tie (call_cmp c k)
+flip : (c k : Numbers) → same_numbers k c ≡ is_eq (number_cmp c k)
+flip c k = same_is k c ∙ ap is_eq (number_total.antisymm k c) ∙ reversed_tie (number_cmp c k)
 
-itself : (c : Pair) → same_call c c ≡ true
-itself c = same_is c c ∙ ap is_eq (tied_itself call_total c)
+itself : (c : Numbers) → same_numbers c c ≡ true
+itself c = same_is c c ∙ ap is_eq (tied_itself number_total c)
 
-one_more : (cs : List Pair) (c k : Pair) → is_eq (call_cmp c k) ≡ false → count_by (same_call k) (cs ++ c ∷ []) ≡ count_by (same_call k) cs
-one_more cs c k e = count_push (same_call k) cs c ∙ ap (λ b. count_by (same_call k) cs + cond b 1 0) (flip c k ∙ e) ∙ add-zero _
-
-abbrev pub number : List Pair → Pair → ℕ
-number cs k = count_by (same_call k) cs
+one_more : (cs : List Numbers) (c k : Numbers) → is_eq (number_cmp c k) ≡ false → times (cs ++ c ∷ []) k ≡ times cs k
+one_more cs c k e = count_push (same_numbers k) cs c ∙ ap (λ b. times cs k + cond b 1 0) (flip c k ∙ e) ∙ add-zero _
 
 -- the next tally
-pub tally_push : (cs : List Pair) (c : Pair) (n : ℕ) → n ≡ number cs c → tally (cs ++ c ∷ []) ≡ insert_entry call_cmp (tally cs) c (n + 1)
+pub tally_push : (cs : List Numbers) (c : Numbers) (n : ℕ) → n ≡ times cs c → tally_of (cs ++ c ∷ []) ≡ insert_entry number_cmp (tally_of cs) c (n + 1)
 tally_push cs c n e =
-    ap (λ ks. map {B = Pair × ℕ} (λ k. (k, number (cs ++ c ∷ []) k)) ks) (fold_push (insert_once call_cmp) [] cs c)
-    ∙ paired_is call_total call_exact (number (cs ++ c ∷ [])) (insert_once call_cmp (sorted_set call_cmp cs) c)
-    ∙ insert_paired call_total call_exact (number cs) (number (cs ++ c ∷ [])) c (n + 1) (one_more cs c)
-    (count_push (same_call c) cs c ∙ ap (λ b. number cs c + cond b 1 0) (itself c) ∙ ap (λ m. m + 1) (sym e))
-    (sorted_set call_cmp cs) (sorted_set-rises call_total cs)
-    ∙ ap (λ l. insert_entry call_cmp l c (n + 1)) (sym (paired_is call_total call_exact (number cs) (sorted_set call_cmp cs)))
+    ap (λ ks. map {B = Numbers × ℕ} (λ k. (k, times (cs ++ c ∷ []) k)) ks) (fold_push (insert_once number_cmp) [] cs c)
+    ∙ paired_is number_total number_exact (times (cs ++ c ∷ [])) (insert_once number_cmp (sorted_set number_cmp cs) c)
+    ∙ insert_paired number_total number_exact (times cs) (times (cs ++ c ∷ [])) c (n + 1) (one_more cs c)
+    (count_push (same_numbers c) cs c ∙ ap (λ b. times cs c + cond b 1 0) (itself c) ∙ ap (λ m. m + 1) (sym e))
+    (sorted_set number_cmp cs) (sorted_set-rises number_total cs)
+    ∙ ap (λ l. insert_entry number_cmp l c (n + 1)) (sym (paired_is number_total number_exact (times cs) (sorted_set number_cmp cs)))
 
 or_none : (b : Bool) (n : ℕ) → (b ≡ false → n ≡ 0) → unwrap_or (cond b (Some n) None) 0 ≡ n
 or_none true n h = refl
 or_none false n h = sym (h refl)
 
 -- how often a call was counted so far
-pub tally_at : (cs : List Pair) (c : Pair) → unwrap_or (lookup (is_at (call_cmp c)) (tally cs)) 0 ≡ number cs c
+pub tally_at : (cs : List Numbers) (c : Numbers) → unwrap_or (lookup (is_at (number_cmp c)) (tally_of cs)) 0 ≡ times cs c
 tally_at cs c =
-    ap (λ l. unwrap_or (lookup (is_at (call_cmp c)) l) 0) (paired_is call_total call_exact (number cs) (sorted_set call_cmp cs))
-    ∙ ap (λ o. unwrap_or o 0) (lookup_paired call_total call_exact (number cs) c (sorted_set call_cmp cs))
-    ∙ ap (λ b. unwrap_or (cond b (Some (number cs c)) None) 0) (sorted_set-has call_total c cs)
-    ∙ or_none (has call_cmp c cs) (number cs c) (none_counted c cs)
+    ap (λ l. unwrap_or (lookup (is_at (number_cmp c)) l) 0) (paired_is number_total number_exact (times cs) (sorted_set number_cmp cs))
+    ∙ ap (λ o. unwrap_or o 0) (lookup_paired number_total number_exact (times cs) c (sorted_set number_cmp cs))
+    ∙ ap (λ b. unwrap_or (cond b (Some (times cs c)) None) 0) (sorted_set-has number_total c cs)
+    ∙ or_none (has number_cmp c cs) (times cs c) (none_counted c cs)
 
-pub number_few : (cs : List Pair) (c : Pair) → number cs c ≤ length cs
-number_few cs c = count_by-le-length (same_call c) cs
+pub times_few : (cs : List Numbers) (c : Numbers) → times cs c ≤ length cs
+times_few cs c = count_by-le-length (same_numbers c) cs
 
--- a tally as links
-pub linked : (es : List (SeenCall × ℕ)) (cs : List Pair) → map entry_seen es ≡ tally cs → map (λ e. link_of (entry_seen e)) es ≡ counted cs
-linked es cs e = apart es ∙ ap (map link_of) e ∙ joined (sorted_set call_cmp cs)
+-- the texts with one more call
+pub services_push : (text : ℕ → List ℕ) (cs : List ToldCall) (c : ToldCall) → texts_for text (numbers_called c) ≡ texts_called c
+    → services_by_numbers text (cs ++ c ∷ []) ≡ insert_entry number_cmp (services_by_numbers text cs) (numbers_called c) (texts_called c)
+services_push text cs c e =
+    ap (λ ns. map {B = Numbers × Texts} (λ k. (k, texts_for text k)) (sorted_set number_cmp ns)) (map_one cs)
+    ∙ ap (λ ks. map {B = Numbers × Texts} (λ k. (k, texts_for text k)) ks) (fold_push (insert_once number_cmp) [] (map numbers_called cs) (numbers_called c))
+    ∙ insert_mapped_pairs number_total number_exact (texts_for text) (numbers_called c) (numbers_met cs) (sorted_set-rises number_total (map numbers_called cs))
+    ∙ ap (λ t. insert_entry number_cmp (services_by_numbers text cs) (numbers_called c) t) e
   where
-    apart : (es : List (SeenCall × ℕ)) → map (λ e. link_of (entry_seen e)) es ≡ map link_of (map entry_seen es)
-    apart [] = refl
-    apart (x ∷ xs) = ap (λ l. link_of (entry_seen x) ∷ l) (apart xs)
+    map_one : (cs : List ToldCall) → map numbers_called (cs ++ c ∷ []) ≡ map numbers_called cs ++ numbers_called c ∷ []
+    map_one [] = refl
+    map_one (x ∷ xs) = ap (λ l. numbers_called x ∷ l) (map_one xs)
 
-    joined : (ks : List Pair) → map link_of (map {B = Pair × ℕ} (λ k. (k, number cs k)) ks) ≡ map (λ k. link_of (k, number cs k)) ks
-    joined [] = refl
-    joined (k ∷ ks) = ap (λ l. link_of (k, number cs k) ∷ l) (joined ks)
+-- ---- both parts of an entry
+pub joined : (n : Numbers → ℕ) (t : Numbers → Texts) (es : List (Numbers × Tally)) (ks : List Numbers) → calls_counted es ≡ map {B = Numbers × ℕ} (λ k. (k, n k)) ks → services_met es ≡ map {B = Numbers × Texts} (λ k. (k, t k)) ks
+    → tallies_seen es ≡ map {B = Texts × ℕ} (λ k. (t k, n k)) ks
+joined n t [] [] a b = refl
+joined n t [] (k ∷ ks) a b = absurd cc
+joined n t (e ∷ es) [] a b = absurd cc
+joined n t (e ∷ es) (k ∷ ks) a b =
+    let counted_here : ◌≡◌ {A = Numbers × ℕ} (e.0, e.1.calls) (k, n k) = cc a in
+    let met_here : ◌≡◌ {A = Numbers × Texts} (e.0, texts_seen e.1.services) (k, t k) = cc b in
+    let count : e.1.calls ≡ n k = ap (λ (p : Numbers × ℕ). p.1) counted_here in
+    let texts : texts_seen e.1.services ≡ t k = ap (λ (p : Numbers × Texts). p.1) met_here in
+    let counts : calls_counted es ≡ map {B = Numbers × ℕ} (λ k. (k, n k)) ks = cc a in
+    let services : services_met es ≡ map {B = Numbers × Texts} (λ k. (k, t k)) ks = cc b in
+    λ i. (texts i, count i) ∷ joined n t es ks counts services i
+
+-- ---- calls by their texts
+call_total : IsTotalOrder call_cmp
+call_total = then_total (on_total (λ (c : Texts). c.0) nat_list_cmp_total) (on_total (λ (c : Texts). c.1) nat_list_cmp_total)
+
+call_exact : (x y : Texts) → call_cmp x y ≡ Equal → x ≡ y
+call_exact = exact_pairs text_cmp text_cmp exact_bytes exact_bytes
+
+abbrev with_number : (Texts → ℕ) → List Texts → List (Texts × ℕ)
+with_number n ks = map {B = Texts × ℕ} (λ k. (k, n k)) ks
+
+inserted_from : (n : Texts → ℕ) (ks base : List Texts) → IsStrictlySortedBy call_cmp base → fold with_entry (with_number n base) (with_number n ks) ≡ with_number n (fold (insert_once call_cmp) base ks)
+inserted_from n [] base r = refl
+inserted_from n (k ∷ ks) base r =
+    ap (λ l. fold with_entry l (with_number n ks)) (sym (insert_mapped_pairs call_total call_exact n k base r))
+    ∙ inserted_from n ks (insert_once call_cmp base k) (rises_insert call_total base k r)
+
+inserted_all : (n : Texts → ℕ) (ks : List Texts) → inserted (with_number n ks) ≡ with_number n (sorted_set call_cmp ks)
+unfolding IsStrictlySortedBy
+inserted_all n ks = inserted_from n ks [] tt
+
+-- each text once, whether numbers were sorted before or not
+texts_once : (f : Numbers → Texts) (ns : List Numbers) → sorted_set call_cmp (map f (sorted_set number_cmp ns)) ≡ sorted_set call_cmp (map f ns)
+texts_once f ns =
+    let left = map f (sorted_set number_cmp ns) in
+    let right = map f ns in
+    rises_same call_total call_exact (sorted_set call_cmp left) (sorted_set call_cmp right) (sorted_set-rises call_total left) (sorted_set-rises call_total right) (λ q.
+    sorted_set-has call_total q left ∙ any_map (eq_by_cmp call_cmp q) f (sorted_set number_cmp ns) ∙ any_set number_exact (λ k. eq_by_cmp call_cmp q (f k)) ns
+    ∙ sym (any_map (eq_by_cmp call_cmp q) f ns) ∙ sym (sorted_set-has call_total q right))
+
+module _ (text : ℕ → List ℕ) (number : List ℕ → ℕ) where
+  -- a pair of numbers that stand for their texts
+  abbrev Own : Numbers → Type 0
+  Own k = (k.0 ≡ number (text k.0)) × (k.1 ≡ number (text k.1))
+
+  pub texts_are : (c : ToldCall) → StandsFor text number c.0 × StandsFor text number c.1 → texts_for text (numbers_called c) ≡ texts_called c
+  texts_are c p = λ i. (p.0.1 i, p.1.1 i)
+
+  -- the call at an index
+  abbrev Stand : SeenCall → Type 0
+  Stand c = StandsFor text number (call_told c).0 × StandsFor text number (call_told c).1
+
+  one_by_one : (cs : List SeenCall) → AreToldBy text number (calls_told cs) → AllByRecursion Stand cs
+  one_by_one [] a = tt
+  one_by_one (x ∷ xs) a = (a.0, one_by_one xs a.1)
+
+  pub told_at : (cs : List SeenCall) (i : ℕ) (c : SeenCall) → i < length cs → c ≡ get_or cs i c → AreToldBy text number (calls_told cs) → StandsFor text number (call_told c).0 × StandsFor text number (call_told c).1
+  told_at cs i c l e a = subst Stand (sym e) (All-get_or Stand cs i c l (All-from_recursion Stand cs (one_by_one cs a)))
+
+  all_texts_are : (cs : List ToldCall) → AreToldBy text number cs → map (texts_for text) (map numbers_called cs) ≡ map texts_called cs
+  all_texts_are [] a = refl
+  all_texts_are (c ∷ cs) a = λ i. texts_are c a.0 i ∷ all_texts_are cs a.1 i
+
+  own_call : (c : ToldCall) → StandsFor text number c.0 × StandsFor text number c.1 → Own (numbers_called c)
+  own_call c p = (p.0.0 ∙ ap number (sym p.0.1), p.1.0 ∙ ap number (sym p.1.1))
+
+  all_own : (cs : List ToldCall) → AreToldBy text number cs → AllByRecursion Own (map numbers_called cs)
+  all_own [] a = tt
+  all_own (c ∷ cs) a = (own_call c a.0, all_own cs a.1)
+
+  own_insert : (ks : List Numbers) (k : Numbers) → AllByRecursion Own ks → Own k → AllByRecursion Own (insert_once number_cmp ks k)
+  own_insert [] k a p = (p, tt)
+  own_insert (x ∷ ks) k a p = elim (number_cmp k x) as (λ r. AllByRecursion Own (placed_by r (insert_once number_cmp ks) k x ks)) [
+    | Less ↦ (p, a)
+    | Equal ↦ a
+    | Greater ↦ (a.0, own_insert ks k a.1 p)
+  ]
+
+  own_set : (ns base : List Numbers) → AllByRecursion Own ns → AllByRecursion Own base → AllByRecursion Own (fold (insert_once number_cmp) base ns)
+  own_set [] base a b = b
+  own_set (n ∷ ns) base a b = own_set ns (insert_once number_cmp base n) a.1 (own_insert base n b a.0)
+
+  same_there : (k : Numbers) (c : ToldCall) → Own k → StandsFor text number c.0 × StandsFor text number c.1 → same_numbers k (numbers_called c) ≡ same_call (texts_for text k) (texts_called c)
+  same_there k c o p = λ i. same_told text number (k.0, text k.0) c.0 (o.0, refl) p.0 i && same_told text number (k.1, text k.1) c.1 (o.1, refl) p.1 i
+
+  times_there : (k : Numbers) (cs : List ToldCall) → Own k → AreToldBy text number cs → times (map numbers_called cs) k ≡ count_by (same_call (texts_for text k)) (map texts_called cs)
+  times_there k [] o a = refl
+  times_there k (c ∷ cs) o a =
+      sum_by-cons (λ x. cond (same_numbers k x) 1 0) (numbers_called c) (map numbers_called cs)
+      ∙ (λ i. cond (same_there k c o a.0 i) 1 0 + times_there k cs o a.1 i)
+      ∙ sym (sum_by-cons (λ x. cond (same_call (texts_for text k) x) 1 0) (texts_called c) (map texts_called cs))
+
+  abbrev number_of : List ToldCall → Texts → ℕ
+  number_of cs k = count_by (same_call k) (map texts_called cs)
+
+  by_texts : (cs : List ToldCall) → AreToldBy text number cs → (ks : List Numbers) → AllByRecursion Own ks → map {B = Texts × ℕ} (λ k. (texts_for text k, times (map numbers_called cs) k)) ks ≡ with_number (number_of cs) (map (texts_for text) ks)
+  by_texts cs a [] o = refl
+  by_texts cs a (k ∷ ks) o = λ i. (texts_for text k, times_there k cs o.0 a i) ∷ by_texts cs a ks o.1 i
+
+  -- the tally in order of texts
+  pub in_order : (cs : List ToldCall) (es : List (Numbers × Tally)) → AreToldBy text number cs → calls_counted es ≡ tally_by_numbers cs → services_met es ≡ services_by_numbers text cs
+      → inserted (tallies_seen es) ≡ with_number (number_of cs) (sorted_set call_cmp (map texts_called cs))
+  in_order cs es a counts services =
+      ap inserted (joined (times (map numbers_called cs)) (texts_for text) es (numbers_met cs) counts services ∙ by_texts cs a (numbers_met cs) (own_set (map numbers_called cs) [] (all_own cs a) tt))
+      ∙ inserted_all (number_of cs) (map (texts_for text) (numbers_met cs))
+      ∙ ap (with_number (number_of cs)) (texts_once (texts_for text) (map numbers_called cs) ∙ ap (sorted_set call_cmp) (all_texts_are cs a))
+
+  -- a tally as links
+  pub linked : (es : List ((Bor Text × Bor Text) × ℕ)) (cs : List ToldCall) (ts : List (Numbers × Tally)) → AreToldBy text number cs → map entry_seen es ≡ inserted (tallies_seen ts) → calls_counted ts ≡ tally_by_numbers cs → services_met ts ≡ services_by_numbers text cs
+      → map (λ e. link_of (entry_seen e)) es ≡ counted (map texts_called cs)
+  linked es cs ts a order counts services = apart es ∙ ap (map link_of) (order ∙ in_order cs ts a counts services) ∙ done (sorted_set call_cmp (map texts_called cs))
+    where
+      apart : (es : List ((Bor Text × Bor Text) × ℕ)) → map (λ e. link_of (entry_seen e)) es ≡ map link_of (map entry_seen es)
+      apart [] = refl
+      apart (x ∷ xs) = ap (λ l. link_of (entry_seen x) ∷ l) (apart xs)
+
+      done : (ks : List Texts) → map link_of (with_number (number_of cs) ks) ≡ map (λ k. link_of (k, number_of cs k)) ks
+      done [] = refl
+      done (k ∷ ks) = ap (λ l. link_of (k, number_of cs k) ∷ l) (done ks)

@@ -1,2 +1,3 @@
 pub mod Counting
 pub mod Gathering
+pub mod Numbering

@@ -1,29 +1,88 @@
--- Services and calls that are looked at, as values.
-use Rattle.std.specs.Prelude.{ℕ, List, map, find, Option, Some, None, option_map, if◌then◌else◌, ◌==◌}
-use denote.Ref.{Bor}
+-- Services and calls that are looked at, each service with the number that stands for it.
+use Rattle.std.specs.Prelude.{◌≡◌, ℕ, ℤ, List, [], map, flat_map, filter_map, find, Option, Some, None, option_map, if◌then◌else◌, ◌==◌, Vec}
+use Rattle.std.specs.Global.{Global}
+use Rattle.std.specs.List.{All, AllByRecursion, list_any}
 use Rattle.jaeger_model.specs.declared.placed.Placed.{Placed}
 use Rattle.jaeger_model.specs.Parents.{parent}
-use Rattle.jaeger_model.specs.Texts.{same_text}
-use Rattle.jaeger_model.specs.declared.text.Text.{Text}
-use Rattle.trace_model.specs.Linking.{has_id}
+use Rattle.trace_model.specs.Linking.{has_id, in_window}
+use Rattle.trace_model.specs.Seeing.{seen}
+use Rattle.call_links.specs.declared.calls.Service.{Service}
+use Rattle.call_links.specs.declared.numbered.NumberedSpan.{NumberedSpan}
+
+-- a service: its number and its text
+abbrev pub Told : Type 0
+Told = ℕ × List ℕ
+
+abbrev pub told : Service → Told
+told s = (s.number, s.text.now)
+
+abbrev pub service_in : NumberedSpan → Told
+service_in s = (s.service, s.seen.process.now.service)
+
+-- the span is the one that is looked at
+abbrev pub span_of : NumberedSpan → Placed
+span_of s = seen s.seen
 
 -- the service of the first span with the id
-abbrev pub service_of : ℕ → List Placed → Option (List ℕ)
-service_of id ps = option_map (λ (p : Placed). p.process.service) (find (has_id (record { 0 = id })) ps)
+abbrev pub service_of : ℕ → List NumberedSpan → Option Told
+service_of id ss = option_map service_in (find (λ s. has_id (record { 0 = id }) (span_of s)) ss)
 
 abbrev pub SeenCall : Type 0
-SeenCall = Bor Text × Bor Text
+SeenCall = Service × Service
 
-abbrev pub call_seen : SeenCall → List ℕ × List ℕ
-call_seen c = (c.0.now, c.1.now)
+abbrev pub ToldCall : Type 0
+ToldCall = Told × Told
 
-abbrev pub calls_seen : List SeenCall → List (List ℕ × List ℕ)
-calls_seen cs = map call_seen cs
+abbrev pub call_told : SeenCall → ToldCall
+call_told c = (told c.0, told c.1)
 
-abbrev pub call_between : Option (List ℕ) → List ℕ → Option (List ℕ × List ℕ)
+abbrev pub calls_told : List SeenCall → List ToldCall
+calls_told cs = map call_told cs
+
+-- services with one number do not call one another
+abbrev pub call_between : Option Told → Told → Option ToldCall
 call_between None callee = None
-call_between (Some caller) callee = if same_text caller callee then None else Some (caller, callee)
+call_between (Some caller) callee = if caller.0 == callee.0 then None else Some (caller, callee)
 
 -- the call that a span stands for, where a table has the services of the spans by their ids
-abbrev pub call_by : (ℕ → Option (List ℕ)) → Placed → Option (List ℕ × List ℕ)
-call_by service p = if (parent p.span).0 == 0 then None else call_between (service (parent p.span).0) p.process.service
+abbrev pub call_by : (ℕ → Option Told) → NumberedSpan → Option ToldCall
+call_by service s = if (parent (span_of s).span).0 == 0 then None else call_between (service (parent (span_of s).span).0) (service_in s)
+
+-- ---- the calls of a trace, of one with a span in the window, and of all such traces
+abbrev pub told_calls : List NumberedSpan → List ToldCall
+told_calls ss = filter_map (call_by (λ id. service_of id ss)) ss
+
+abbrev pub told_within : ℤ → ℤ → List NumberedSpan → List ToldCall
+told_within end_ms lookback_ms ss = if list_any (λ s. in_window end_ms lookback_ms (span_of s)) ss then told_calls ss else []
+
+abbrev pub all_told : ℤ → ℤ → List (List NumberedSpan) → List ToldCall
+all_told end_ms lookback_ms ts = flat_map (told_within end_ms lookback_ms) ts
+
+-- ---- what is looked at
+abbrev pub seen_all : List NumberedSpan → List Placed
+seen_all ss = map span_of ss
+
+abbrev pub seen_traces : List (Vec NumberedSpan Global) → List (List Placed)
+seen_traces ts = map (λ (t : Vec NumberedSpan Global). seen_all t.items) ts
+
+-- ---- the texts and the numbers of a call
+abbrev pub texts_called : ToldCall → List ℕ × List ℕ
+texts_called c = (c.0.1, c.1.1)
+
+abbrev pub numbers_called : ToldCall → ℕ × ℕ
+numbers_called c = (c.0.0, c.1.0)
+
+-- ---- numbers that stand for services
+-- the number is its text's, and the text its number's
+abbrev pub StandsFor : (ℕ → List ℕ) → (List ℕ → ℕ) → Told → Type 0
+StandsFor text number t = (t.0 ≡ number t.1) × (text t.0 ≡ t.1)
+
+abbrev pub AreToldBy : (ℕ → List ℕ) → (List ℕ → ℕ) → List ToldCall → Type 0
+AreToldBy text number cs = AllByRecursion (λ (c : ToldCall). StandsFor text number c.0 × StandsFor text number c.1) cs
+
+abbrev pub AreNumberedBy : (ℕ → List ℕ) → (List ℕ → ℕ) → List (Vec NumberedSpan Global) → Type 0
+AreNumberedBy text number ts = All (λ (t : Vec NumberedSpan Global). All (λ s. StandsFor text number (service_in s)) t.items) ts
+
+-- each service of the spans has one number, and each number stands for one service
+abbrev pub AreNumbered : List (Vec NumberedSpan Global) → Type 0
+AreNumbered ts = (text : ℕ → List ℕ) × ((number : List ℕ → ℕ) × AreNumberedBy text number ts)

@@ -1,65 +1,83 @@
 //! The calls of a trace.
 
-ghost use Rattle.std.specs.Prelude.{◌≡◌, ℕ, ◌++◌, IfOk, OnOk, IfSome, map, find, option_map};
+ghost use Rattle.std.specs.Prelude.{◌≡◌, ℕ, ◌++◌, IfOk, OnOk, map, option_map};
 ghost use Rattle.std.specs.List.{list_any};
 ghost use Rattle.std.specs.Ordering.{nat_cmp};
 ghost use Rattle.std.specs.BTreeMap.{get};
-ghost use Rattle.jaeger_model.specs.declared.ids.SpanId.{SpanId as SpanIdValue};
-ghost use Rattle.trace_model.specs.Linking.{in_window, calls_of, calls_within, calls, has_id};
-ghost use Rattle.trace_model.specs.Seeing.{seen, seen_all, seen_traces};
-ghost use Rattle.call_links.specs.Seen.{call_seen, calls_seen, service_of, call_by};
+ghost use Rattle.trace_model.specs.Linking.{in_window};
+ghost use Rattle.trace_model.specs.Seeing.{seen};
+ghost use Rattle.call_links.specs.Seen.{told, call_told, calls_told, service_of, service_in, call_by};
+ghost use Rattle.call_links.specs.Seen.{told_calls, told_within, all_told};
 
-use jaeger_model::{Seen, Text, parent_of};
+use crate::numbered::NumberedSpan;
+use jaeger_model::{Text, parent_of};
 use span_steps::is_in_window;
 use std::alloc::{AllocError, Global};
 use std::collections::BTreeMap;
 
+/// A service, and the number that stands for it.
+#[derive(Clone, Copy)]
+pub(crate) struct Service<'a> {
+    pub(crate) number: u32,
+    pub(crate) text: &'a Text,
+}
+
 /// A service and another one that it calls.
-pub(crate) type Call<'a> = (&'a Text, &'a Text);
+pub(crate) type Call<'a> = (Service<'a>, Service<'a>);
+
+/// The service of a span.
+fn service_in(span: NumberedSpan<'_>) -> Service<'_>
+    ensures { told result ≡ service_in span.entry }
+{
+    Service {
+        number: span.service,
+        text: &span.seen.process.service,
+    }
+}
 
 /// The service of the first span of the trace with each id.
 fn first_services<'a>(
     alloc: Global,
-    trace: &[Seen<'a>],
-) -> Result<BTreeMap<u64, &'a Text>, AllocError>
+    trace: &[NumberedSpan<'a>],
+) -> Result<BTreeMap<u64, Service<'a>>, AllocError>
     ensures { IfOk result (λ m. (id : ℕ) →
-        option_map (λ t. t.now) (get nat_cmp m id) ≡ service_of id (seen_all trace.now)) }
+        option_map told (get nat_cmp m id) ≡ service_of id trace.now) }
 {
     let mut services = BTreeMap::new(alloc);
     for span in trace {
-        let id = span.span.id.0;
+        let id = span.seen.span.id.0;
         if !services.contains_key(&id) {
-            services.insert(id, &span.process.service)?;
+            services.insert(id, service_in(*span))?;
         }
     }
     Ok(services)
 }
 
-/// The call that a span stands for, where its parent is in the table and of another service.
-fn call_to<'a>(services: &BTreeMap<u64, &'a Text>, span: Seen<'a>) -> Option<Call<'a>>
-    ensures { option_map call_seen result ≡
-        call_by (λ id. option_map (λ t. t.now) (get nat_cmp services.now id)) (seen span.entry) }
+/// The call that a span stands for, where its parent is in the table and of another service. No text
+/// is looked at.
+fn call_to<'a>(services: &BTreeMap<u64, Service<'a>>, span: NumberedSpan<'a>) -> Option<Call<'a>>
+    ensures { option_map call_told result ≡
+        call_by (λ id. option_map told (get nat_cmp services.now id)) span.entry }
 {
-    let parent = parent_of(span.span);
+    let parent = parent_of(span.seen.span);
     if parent.0 == 0 {
         return None;
     }
     let caller = *services.get(&parent.0)?;
-    let callee = &span.process.service;
-    if *caller == *callee {
+    if caller.number == span.service {
         return None;
     }
-    Some((caller, callee))
+    Some((caller, service_in(span)))
 }
 
 /// Puts the calls of a trace behind those that are there.
 fn add_calls<'a>(
     alloc: Global,
     calls: &mut Vec<Call<'a>>,
-    trace: &[Seen<'a>],
+    trace: &[NumberedSpan<'a>],
 ) -> Result<(), AllocError>
-    ensures { OnOk result (calls_seen calls.new.items ≡
-        calls_seen calls.old.items ++ calls_of (seen_all trace.now)) }
+    ensures { OnOk result (calls_told calls.new.items ≡
+        calls_told calls.old.items ++ told_calls trace.now) }
 {
     let services = first_services(alloc, trace)?;
     for span in trace {
@@ -70,15 +88,15 @@ fn add_calls<'a>(
     Ok(())
 }
 
-fn starts_within(span: Seen<'_>, end_ms: i64, lookback_ms: i64) -> bool
-    ensures { result ≡ in_window end_ms lookback_ms (seen span.entry) }
+fn starts_within(span: NumberedSpan<'_>, end_ms: i64, lookback_ms: i64) -> bool
+    ensures { result ≡ in_window end_ms lookback_ms (seen span.entry.seen) }
 {
-    is_in_window(span.span.start, end_ms, lookback_ms)
+    is_in_window(span.seen.span.start, end_ms, lookback_ms)
 }
 
 /// Some span of the trace starts strictly between the bounds.
-fn reaches_window(trace: &[Seen<'_>], end_ms: i64, lookback_ms: i64) -> bool
-    ensures { result ≡ list_any (λ s. in_window end_ms lookback_ms (seen s)) trace.now }
+fn reaches_window(trace: &[NumberedSpan<'_>], end_ms: i64, lookback_ms: i64) -> bool
+    ensures { result ≡ list_any (λ s. in_window end_ms lookback_ms (seen s.seen)) trace.now }
 {
     trace.iter().any(|s| starts_within(*s, end_ms, lookback_ms))
 }
@@ -87,12 +105,12 @@ fn reaches_window(trace: &[Seen<'_>], end_ms: i64, lookback_ms: i64) -> bool
 fn add_calls_within<'a>(
     alloc: Global,
     calls: &mut Vec<Call<'a>>,
-    trace: &[Seen<'a>],
+    trace: &[NumberedSpan<'a>],
     end_ms: i64,
     lookback_ms: i64,
 ) -> Result<(), AllocError>
-    ensures { OnOk result (calls_seen calls.new.items ≡
-        calls_seen calls.old.items ++ calls_within end_ms lookback_ms (seen_all trace.now)) }
+    ensures { OnOk result (calls_told calls.new.items ≡
+        calls_told calls.old.items ++ told_within end_ms lookback_ms trace.now) }
 {
     if reaches_window(trace, end_ms, lookback_ms) {
         add_calls(alloc, calls, trace)?;
@@ -103,12 +121,12 @@ fn add_calls_within<'a>(
 /// The calls of the traces that have a span in the window.
 pub(crate) fn all_calls<'a>(
     alloc: Global,
-    traces: &[Vec<Seen<'a>>],
+    traces: &[Vec<NumberedSpan<'a>>],
     end_ms: i64,
     lookback_ms: i64,
 ) -> Result<Vec<Call<'a>>, AllocError>
-    ensures { IfOk result (λ v. calls_seen v.items ≡
-        calls end_ms lookback_ms (seen_traces traces.now)) }
+    ensures { IfOk result (λ v. calls_told v.items ≡
+        all_told end_ms lookback_ms (map (λ t. t.items) traces.now)) }
 {
     let mut calls = Vec::new(alloc);
     for trace in traces {

@@ -1,22 +1,25 @@
 //! How often services call one another: the dependencies of a window of time, in time linear in
 //! the spans of the traces up to a logarithm.
 //!
-//! [`links`] answers what the plain store answers, `plain_store::service_links`.
+//! [`links`] answers what the plain store answers, `plain_store::service_links`. Services stand by
+//! numbers: the text of one is looked at for each pair of services that it stands in, and for no span.
 //!
+//! * `numbered`: spans with the numbers of their services.
 //! * `calls`: the calls of one trace, over a table from each id to the first span that has it.
 //! * `counts`: each pair of services with its number of calls.
 #![tactic(auto)]
 
 ghost use Rattle.std.specs.Prelude.{◌≡◌, IfOk, map};
-ghost use Rattle.trace_model.specs.Seeing.{seen_traces};
 ghost use Rattle.trace_model.specs.Linking.{links};
+ghost use Rattle.call_links.specs.Seen.{seen_traces, AreNumbered};
 
 mod calls;
 mod counts;
+mod numbered;
 
 use crate::calls::all_calls;
 use crate::counts::counted;
-use jaeger_model::Seen;
+pub use numbered::NumberedSpan;
 use std::alloc::{AllocError, Global};
 use trace_model::Link;
 
@@ -33,12 +36,14 @@ use trace_model::Link;
 /// Out of memory, and nothing else.
 pub fn links(
     alloc: Global,
-    traces: &[Vec<Seen<'_>>],
+    traces: &[Vec<NumberedSpan<'_>>],
     end_ms: i64,
     lookback_ms: i64,
 ) -> Result<Vec<Link>, AllocError>
+    requires { AreNumbered traces.now }
     ensures { IfOk result (λ v. v.items ≡ links end_ms lookback_ms (seen_traces traces.now)) }
 {
     let calls = all_calls(alloc, traces, end_ms, lookback_ms)?;
-    counted(alloc, &calls)
+    let found = counted(alloc, &calls)?;
+    Ok(found)
 }

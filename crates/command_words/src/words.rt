@@ -133,15 +133,29 @@ fn play_command<'a>(alloc: Global) -> Result<clap::Command<'a>, AllocError>
     with_limits(alloc, command)
 }
 
+/// The program with a further subcommand. It takes the program, so that none stands where a call may fail.
+fn with_subcommand<'a>(
+    program: clap::Command<'a>,
+    made: Result<clap::Command<'a>, AllocError>,
+) -> Result<clap::Command<'a>, AllocError> {
+    match made {
+        Ok(made) => program.subcommand(made),
+        Err(error) => {
+            drop(program);
+            Err(error)
+        }
+    }
+}
+
 /// The program with its subcommands, for the texts of help and faults.
 fn program<'a>(alloc: Global) -> Result<clap::Command<'a>, AllocError> {
-    clap::Command::new(alloc, "jaeger_one")
+    let program = clap::Command::new(alloc, "jaeger_one")
         .about("Collects traces of Jaeger clients and answers queries on them")
-        .subcommand_required(true)
-        .subcommand(get_command(alloc)?)?
-        .subcommand(pipe_command(alloc)?)?
-        .subcommand(play_command(alloc)?)?
-        .subcommand(serve_command(alloc)?)
+        .subcommand_required(true);
+    let program = with_subcommand(program, get_command(alloc))?;
+    let program = with_subcommand(program, pipe_command(alloc))?;
+    let program = with_subcommand(program, play_command(alloc))?;
+    with_subcommand(program, serve_command(alloc))
 }
 
 /// Writes what is wrong with the words, or the help that they call for, and gives the status.

@@ -10,7 +10,7 @@
 
 ghost use Rattle.std.specs.Prelude.{◌≡◌, false, IfErr, IfOk};
 ghost use Rattle.text_lines.specs.Halting.{Finishes, RunsAs, StopsShort, status_by};
-ghost use Rattle.get_command.specs.Runs.{output_of, status_by as status_at, status_of as status_for};
+ghost use Rattle.get_command.specs.Runs.{nothing_held, output_of, status_by as status_at, status_of as status_for};
 
 mod batches;
 mod line_fault;
@@ -36,6 +36,32 @@ fn status_of(faulty: bool, found: bool) -> u8
     }
 }
 
+/// The run to the end of the input over batches of which none has come, which gives the status.
+fn take_all<R: Input, W: Output>(
+    alloc: Global,
+    batches: &mut Batches,
+    input: &mut R,
+    output: &mut W,
+    limits: Limits,
+    trace: TraceId,
+) -> Result<u8, Halt>
+    requires nothing { batches.old ≡ nothing_held limits }
+    requires input_works { R.has_failed input.old ≡ false }
+    requires output_works { W.has_failed output.old ≡ false }
+    ensures ends { IfOk result (Finishes (R.remaining input.old) (R.remaining input.new)
+        (W.contents output.old) (W.contents output.new) (R.has_failed input.new)
+        (W.has_failed output.new)
+        (output_of limits trace) (status_for limits trace)) }
+    ensures stops { IfErr result (λ h. StopsShort (R.remaining input.old) (R.remaining input.new)
+        (W.contents output.old) (W.contents output.new) (R.has_failed input.new)
+        (W.has_failed output.new)
+        (output_of limits trace) (status_by h)) }
+{
+    let faulty = answer_lines(alloc, input, output, batches)?;
+    let found = say_trace(alloc, output, batches.store(), trace)?;
+    Ok(status_of(faulty, found))
+}
+
 /// The run to the end of the input, which gives the status.
 fn finish<R: Input, W: Output>(
     alloc: Global,
@@ -57,9 +83,9 @@ fn finish<R: Input, W: Output>(
         (output_of limits trace) (status_by h)) }
 {
     let mut batches = Batches::new(alloc, keys, limits)?;
-    let faulty = answer_lines(alloc, input, output, &mut batches)?;
-    let found = say_trace(alloc, output, batches.store(), trace)?;
-    Ok(status_of(faulty, found))
+    let status = take_all(alloc, &mut batches, input, output, limits, trace);
+    drop(batches);
+    status
 }
 
 /// Reads batches, a line of hexadecimal text each, and writes the spans of the trace.

@@ -74,7 +74,7 @@ abbrev pub is_thrift_type : List (List ℕ) → Bool
 is_thrift_type [] = false
 is_thrift_type (v ∷ more) = is_thrift (media_type v)
 
--- each Content-Encoding is `identity`, in any ASCII case (RFC 9110, section 8.4.1)
+-- each Content-Encoding is `identity`, spelled so
 abbrev pub is_plain : Pairs → Bool
 is_plain ps = all_are (codes "content-encoding") (codes "identity") ps
 

@@ -28,9 +28,9 @@ has_token token value = list_any (λ item. same_name (trim_ows item) token) (sli
 abbrev pub have_token : List ℕ → List ℕ → Pairs → Bool
 have_token name token ps = list_any (λ (p : List ℕ × List ℕ). same_name p.0 name && has_token token p.1) ps
 
--- each field of that name has that value, in any ASCII case
+-- each field of that name has that very value
 abbrev pub all_are : List ℕ → List ℕ → Pairs → Bool
-all_are name value ps = list_all (λ (p : List ℕ × List ℕ). not (same_name p.0 name) || same_name p.1 value) ps
+all_are name value ps = list_all (λ (p : List ℕ × List ℕ). not (same_name p.0 name) || same_text p.1 value) ps
 
 -- none, the one value, or two and more
 abbrev pub AreValues : Values → List (List ℕ) → Type 0

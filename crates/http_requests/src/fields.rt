@@ -133,13 +133,13 @@ impl<'a> Fields<'a> {
         false
     }
 
-    /// Whether each field of that name has that value, in any ASCII case.
+    /// Whether each field of that name has that very value.
     pub(crate) fn all_are(&self, name: &str, value: &str) -> bool
         ensures { result ≡ all_are name.now value.now self.now }
     {
         for span in self.spans {
             if is_named(span.name.of(self.bytes), name)
-                && !is_named(span.value.of(self.bytes), value)
+                && span.value.of(self.bytes) != value.as_bytes()
             {
                 return false;
             }

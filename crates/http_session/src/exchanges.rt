@@ -116,17 +116,17 @@ fn speak<W: Output>(output: &mut W, response: &[u8]) -> Result<(), Silence>
     }
 }
 
-/// Writes the head of a response and then its body, and takes no memory.
+/// Writes both pieces of a response, and takes no memory.
 fn speak_whole<W: Output>(output: &mut W, response: &Response) -> Result<(), Silence>
     ensures says { Says (W.contents output.old) (W.contents output.new) (W.has_failed output.old)
-        (W.has_failed output.new) (response.now.head.items ++ response.now.body.items) result }
+        (W.has_failed output.new) (response.now.first.items ++ response.now.rest.items) result }
     ensures writing { IfErr result (λ e. e.cause ≡ Writing) }
 {
-    speak(output, response.head.as_slice())?;
-    match send(output, response.body.as_slice()) {
+    speak(output, response.first.as_slice())?;
+    match send(output, response.rest.as_slice()) {
         Ok(()) => Ok(()),
         Err(written) => Err(Silence {
-            written: response.head.len() + written,
+            written: response.first.len() + written,
             cause: Cause::Writing,
         }),
     }

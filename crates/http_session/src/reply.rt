@@ -5,7 +5,7 @@ ghost use Rattle.http_session.specs.declared.reply.Reply.TheVariants as reply;
 use crate::fixed::{accepted, internal_error, out_of_memory};
 use crate::verdict::Remark;
 use http_requests::Breach;
-use query_http::{Endpoint, response_head};
+use query_http::{Endpoint, respond, response_head};
 use query_json::{answer_bytes, error_bytes};
 use std::alloc::{AllocError, Global};
 use trace_model::{Answer, Refusal};
@@ -25,11 +25,15 @@ pub enum Reply {
     Broken(Breach),
 }
 
-/// The bytes of a response: its head, and the body behind it.
+/// The most bytes of a body that are copied behind their head, so that one write takes both.
+const JOINED: usize = 16_384;
+
+/// The bytes of a response in two pieces, of which the second may be empty: a large body isn't copied behind
+/// its head.
 #[derive(Drop)]
 pub struct Response {
-    pub head: Vec<u8>,
-    pub body: Vec<u8>,
+    pub first: Vec<u8>,
+    pub rest: Vec<u8>,
 }
 
 fn refusal_status(refusal: Refusal) -> u16
@@ -202,10 +206,21 @@ impl Reply {
     /// Out of memory, and nothing else.
     #[tactic(auto, unfolding(crate::specs::Replies::response_of))]
     pub fn response(&self, alloc: Global, close: bool) -> Result<Response, AllocError>
-        ensures { IfOk result (λ r. r.head.items ++ r.body.items ≡ response_of self.now close) }
+        ensures { IfOk result (λ r. r.first.items ++ r.rest.items ≡ response_of self.now close) }
     {
+        let (status, allow) = (self.status(), self.allow());
         let body = self.body(alloc)?;
-        let head = response_head(alloc, self.status(), body.as_slice(), self.allow(), close)?;
-        Ok(Response { head, body })
+        if body.len() <= JOINED {
+            let whole = respond(alloc, status, body.as_slice(), allow, close)?;
+            return Ok(Response {
+                first: whole,
+                rest: Vec::new(alloc),
+            });
+        }
+        let head = response_head(alloc, status, body.as_slice(), allow, close)?;
+        Ok(Response {
+            first: head,
+            rest: body,
+        })
     }
 }

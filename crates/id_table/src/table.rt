@@ -1,4 +1,5 @@
-ghost use Rattle.std.specs.Prelude.{◌≡◌, ◌<◌, ◌≤◌, [], ◌∷◌, ◌++◌, None, IsTrue, ◌↔◌, length, IfOk, position};
+ghost use Rattle.std.specs.Prelude.{◌≡◌, ◌<◌, ◌≤◌, [], ◌∷◌, ◌++◌, None, Some, IsTrue, ◌↔◌, length, IfOk, position};
+ghost use Rattle.std.specs.Bool.{OnTrue};
 ghost use Rattle.jaeger_model.specs.Parents.{same_trace};
 ghost use Rattle.id_table.specs.Rows.{id_at};
 
@@ -78,6 +79,25 @@ impl IdTable {
             id,
         };
         self.places.find(id_hash(self.keys, id), &sought)
+    }
+
+    /// Whether the id has this row, without looking it up.
+    fn has_row(&self, row: u32, id: TraceId) -> bool
+        ensures { OnTrue result (position (same_trace id) self.now.ids ≡ Some row) }
+    {
+        (row as usize) < self.ids.len() && self.ids[row as usize] == id
+    }
+
+    /// The row of the id, if it was added. The row that is given is a guess: where it is right, the id isn't
+    /// looked up.
+    pub fn find_near(&self, row: u32, id: TraceId) -> Option<u32>
+        ensures { result ≡ position (same_trace id) self.now.ids }
+    {
+        if self.has_row(row, id) {
+            Some(row)
+        } else {
+            self.find(id)
+        }
     }
 
     /// Adds an id that isn't in the table, and gives its row. No memory is taken.

@@ -3,3 +3,4 @@ pub mod Seats
 pub mod Turns
 pub mod Books
 pub mod Counting
+pub mod Naming

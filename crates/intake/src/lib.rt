@@ -12,6 +12,7 @@
 //! * `seat`: the [`Seat`]. `inbox`: the clerk's end of the queue.
 //! * `account`: what became of a job. `accounts`: the same of all. `clerk`: the [`Clerk`]. `books`: what it leaves; `ledger`: the same but for the
 //!   keeper.
+//! * `shared_clerk`: a clerk without a thread of its own, whose work is done by whoever waits.
 //! * `shared`: what all of them share. `bell`: how a sleeper is woken.
 //! * `opening`: [`desk`]. `closing`: the [`Desk`], which closes the queue.
 #![tactic(auto)]
@@ -29,6 +30,7 @@ mod opening;
 mod queue;
 mod seat;
 mod shared;
+mod shared_clerk;
 mod ticket;
 
 pub use account::Account;
@@ -41,4 +43,5 @@ pub use ledger::Ledger;
 pub use opening::desk;
 pub use queue::{EndedSeat, QueueView};
 pub use seat::Seat;
+pub use shared_clerk::{DeskName, SharedClerk};
 pub use ticket::{Ack, Ticket};

@@ -1,6 +1,6 @@
 //! What a seat waits for.
 
-ghost use Rattle.std.specs.Prelude.{◌≡◌, IfOk, IfErr};
+ghost use Rattle.std.specs.Prelude.{◌≡◌, IfOk, IfErr, IfSome};
 ghost use Rattle.std.specs.Arc.{arc_value};
 ghost use Rattle.read_side.specs.Receipts.{AnsweredAt};
 ghost use Rattle.intake.specs.Seats.{IsUnacknowledged};
@@ -55,6 +55,28 @@ impl<N: StoreName> Ticket<N> {
         }
     }
 
+    /// Whether the answer is there.
+    pub(crate) fn is_answered<R: Wait>(&self, rt: &R) -> bool {
+        self.cell.lock(rt).is_some()
+    }
+
+    /// The answer, if it is there.
+    pub(crate) fn answer<R: Wait>(&self, rt: &R) -> Option<Result<Ack<N>, Refusal>>
+        ensures answered { IfSome result (λ r. IfOk r (λ a.
+            AnsweredAt (arc_value a.receipt).entries a.place self.now)) }
+        ensures reason { IfSome result (λ r. IfErr r IsUnacknowledged) }
+    {
+        let reply = laid_down(rt, &self.cell)?;
+        Some(reply.to(&self.entry))
+    }
+
+    /// Why there will be no answer, once the clerk has ended.
+    pub(crate) fn lost(&self) -> Refusal
+        ensures { IsUnacknowledged result }
+    {
+        self.shared.lost()
+    }
+
     /// Waits for the answer. An acknowledgement's list has at the place an entry that answers for the job's:
     /// its own, or the one that had its batch before.
     ///
@@ -70,11 +92,11 @@ impl<N: StoreName> Ticket<N> {
         for _ in rt.forever() {
             let rings = self.rings();
             let ended = self.shared.has_ended();
-            if let Some(reply) = laid_down(rt, &self.cell) {
-                return reply.to(&self.entry);
+            if let Some(answer) = self.answer(rt) {
+                return answer;
             }
             if ended {
-                return Err(self.shared.lost());
+                return Err(self.lost());
             }
             self.sleep(rt, rings);
         }

@@ -4,16 +4,17 @@ ghost use Rattle.std.specs.Prelude.{◌≡◌, ◌≤◌};
 
 use crate::rows::Row;
 use intake::{Clerk, Desk, Seat, desk};
-use jaeger_model::{Batch, Process, Seq, SharedProcess, Span, SpanId, Text, TraceId};
+use jaeger_model::Batch;
 use read_side::{Keeper, Opened, Pass, StoreName, open};
 use std::alloc::{AllocError, Global};
 use std::hash::RandomState;
-use std::process::Abort;
+use std::mem::drop;
 use std::random::RandomSource;
 use std::sync::Wait;
 use std::test::*;
 use std::thread::Threads;
 use trace_model::Limits;
+use trace_samples::{list_of, span};
 
 /// All that belongs to one store.
 pub struct House<N: StoreName> {
@@ -24,35 +25,14 @@ pub struct House<N: StoreName> {
     pub clerk: Clerk<N>,
 }
 
-/// A batch of one span, which has the id.
+/// A batch of one span, which has the id, and whose trace has it too.
 pub fn batch(alloc: Global, id: u64) -> Result<Batch, AllocError> {
-    let span = Span {
-        trace: TraceId { high: 0, low: id },
-        id: SpanId(id),
-        parent: SpanId(0),
-        operation: Text::from_str(alloc, "op")?,
-        references: Seq::new(alloc),
-        flags: 1,
-        start: 1000,
-        duration: 50,
-        tags: Seq::new(alloc),
-        logs: Seq::new(alloc),
-    };
-    let mut spans = Vec::new(alloc);
-    spans.push(span)?;
-    let process = Process {
-        service: Text::from_str(alloc, "a")?,
-        tags: Seq::new(alloc),
-    };
-    Ok(Batch {
-        process: SharedProcess::new(alloc, process)?,
-        spans: Seq::from_vec(spans),
-        seq_no: None,
-    })
+    let spans = list_of(alloc, span(alloc, id, id)?)?;
+    trace_samples::batch(alloc, "a", spans.into_vec())
 }
 
 /// Opens a store and its desk, and plays the row with them.
-pub fn played<N: StoreName + Send + Sync, R: Threads + Wait + Abort + RandomSource + Sync>(
+pub fn played<N: StoreName + Send + Sync, R: Threads + Wait + RandomSource + Sync>(
     rt: &R,
     alloc: Global,
     name: Opened,
@@ -67,6 +47,7 @@ pub fn played<N: StoreName + Send + Sync, R: Threads + Wait + Abort + RandomSour
     let first = keeper.receipt();
     match desk(alloc, first, capacity, 4) {
         Err(_) => {
+            drop(passes);
             keeper.close(rt);
             Ok(false)
         }

@@ -2,10 +2,11 @@
 
 use crate::house::House;
 use crate::rows::hands_in;
-use intake::{Clerk, Ticket, Turn};
+use intake::{Clerk, Seat, Ticket, Turn};
 use jaeger_model::TraceId;
 use read_side::{Keeper, Pass, StoreName};
 use std::alloc::Global;
+use std::mem::drop;
 use std::sync::Wait;
 use trace_model::{Answer, Query, Refusal};
 
@@ -26,10 +27,13 @@ fn serves_three<N: StoreName, R: Wait>(
 /// The pass finds the trace.
 fn is_found<N: StoreName>(pass: &mut Pass<N>, low: u64) -> bool {
     let id = TraceId { high: 0, low };
-    match pass.read(&Query::Trace { id, raw: true }) {
-        Ok(reading) => matches!(reading.answer, Answer::Trace(Some(_))),
+    let reading = pass.read(&Query::Trace { id, raw: true });
+    let found = match &reading {
+        Ok(reading) => matches!(&reading.answer, Answer::Trace(Some(_))),
         Err(_) => false,
-    }
+    };
+    drop(reading);
+    found
 }
 
 /// The limit stands at place 3, and a pass that learns of it finds trace 2 and not trace 1.
@@ -38,14 +42,20 @@ fn is_in_force<N: StoreName, R: Wait>(
     pass: &mut Pass<N>,
     answer: Result<Ticket<N>, Refusal>,
 ) -> bool {
-    let Ok(ticket) = answer else {
-        return false;
-    };
-    let Ok(ack) = ticket.wait(rt) else {
-        return false;
-    };
+    is_learnt(rt, pass, answer) == Ok(3) && is_found(pass, 2) && !is_found(pass, 1)
+}
+
+/// The place of the limit, of which the pass learns.
+fn is_learnt<N: StoreName, R: Wait>(
+    rt: &R,
+    pass: &mut Pass<N>,
+    answer: Result<Ticket<N>, Refusal>,
+) -> Result<u64, Refusal> {
+    let ack = answer?.wait(rt)?;
     pass.learn(&ack.receipt);
-    ack.place == 3 && is_found(pass, 2) && !is_found(pass, 1)
+    let place = ack.place;
+    drop(ack);
+    Ok(place)
 }
 
 /// A seat hands in a span each of traces 1 and 2, and a limit of one trace. Once the desk is closed, a
@@ -62,17 +72,39 @@ pub(crate) fn a_limit_is_in_force<N: StoreName + Send + Sync, R: Wait>(
         mut seats,
         mut clerk,
     } = house;
-    let (Some(mut seat), Some(mut pass)) = (seats.pop(), passes.pop()) else {
-        keeper.close(rt);
-        return false;
+    let said = match (seats.last_mut(), passes.last_mut()) {
+        (Some(seat), Some(pass)) => {
+            let limit = limit_behind_two(rt, alloc, seat);
+            let served = serves_three(rt, &mut clerk, &mut keeper);
+            let in_force = is_in_force(rt, pass, limit);
+            desk.close(rt);
+            served && in_force && is_turned_away(rt, alloc, seat)
+        }
+        _ => false,
     };
-    let _first = hands_in(rt, alloc, &mut seat, 1);
-    let _second = hands_in(rt, alloc, &mut seat, 2);
-    let limit = seat.submit_limit(rt, alloc, 1);
-    let served = serves_three(rt, &mut clerk, &mut keeper);
-    let in_force = is_in_force(rt, &mut pass, limit);
-    desk.close(rt);
-    let closed = matches!(seat.submit_limit(rt, alloc, 0), Err(Refusal::Closed));
     keeper.close(rt);
-    served && in_force && closed
+    drop(passes);
+    drop(desk);
+    drop(seats);
+    drop(clerk);
+    said
+}
+
+/// Hands in a span each of traces 1 and 2, and a limit of one trace.
+fn limit_behind_two<N: StoreName, R: Wait>(
+    rt: &R,
+    alloc: Global,
+    seat: &mut Seat<N>,
+) -> Result<Ticket<N>, Refusal> {
+    drop(hands_in(rt, alloc, seat, 1));
+    drop(hands_in(rt, alloc, seat, 2));
+    seat.submit_limit(rt, alloc, 1)
+}
+
+/// A limit is refused since the desk is closed.
+fn is_turned_away<N: StoreName, R: Wait>(rt: &R, alloc: Global, seat: &mut Seat<N>) -> bool {
+    let answer = seat.submit_limit(rt, alloc, 0);
+    let said = matches!(&answer, Err(Refusal::Closed));
+    drop(answer);
+    said
 }

@@ -1,9 +1,11 @@
 //! A batch that a seat hands in once more.
 
 use crate::house::{House, batch};
-use intake::{Ack, Books, Clerk, Seat, Turn};
+use crate::rows::{closed_books, told};
+use intake::{Books, Clerk, Seat, Turn};
 use read_side::{Keeper, StoreName};
 use std::alloc::Global;
+use std::mem::drop;
 use std::sync::Wait;
 use trace_model::Refusal;
 
@@ -70,15 +72,10 @@ fn answered<N: StoreName, R: Wait>(
 ) -> Result<(u64, u64), Refusal> {
     let mut batch = batch(alloc, job.id)?;
     batch.seq_no = job.number;
-    let ticket = match seat.submit(rt, alloc, batch) {
-        Ok(ticket) => ticket,
-        Err((why, _batch)) => return Err(why),
-    };
-    if !matches!(clerk.turn(rt, keeper), Ok(Turn::Served { .. })) {
-        return Err(Refusal::Stranger);
-    }
-    let Ack { receipt, place } = ticket.wait(rt)?;
-    Ok((place, receipt.front()))
+    let answer = seat.submit(rt, alloc, batch);
+    let served = matches!(clerk.turn(rt, keeper), Ok(Turn::Served { .. }));
+    let told = told(rt, answer);
+    if served { told } else { Err(Refusal::Stranger) }
 }
 
 /// There is an account of each job, and as many of them as are wanted to be were acknowledged.
@@ -102,31 +99,38 @@ pub(crate) fn a_resent_job_is_acknowledged<N: StoreName + Send + Sync, R: Wait>(
 ) -> bool {
     let House {
         mut keeper,
-        passes: _,
+        passes,
         desk,
         mut seats,
         mut clerk,
     } = house;
-    let Some(mut seat) = seats.pop() else {
-        keeper.close(rt);
-        return false;
+    drop(passes);
+    let as_wanted = match seats.last_mut() {
+        Some(seat) => all_answered(rt, alloc, seat, &mut clerk, &mut keeper),
+        None => false,
     };
+    desk.close(rt);
+    drop(desk);
+    drop(seats);
+    let books = clerk.run(rt, keeper);
+    let booked = are_booked(&books)
+        && (books.acknowledged, books.refused, books.left.len()) == (5, 2, 0);
+    closed_books(rt, books);
+    as_wanted && booked
+}
+
+/// Whether each of the jobs is answered as it wants, and the seat handed in as many.
+fn all_answered<N: StoreName, R: Wait>(
+    rt: &R,
+    alloc: Global,
+    seat: &mut Seat<N>,
+    clerk: &mut Clerk<N>,
+    keeper: &mut Keeper<N>,
+) -> bool {
     let mut as_wanted = true;
-    for job in JOBS.iter() {
-        let answer = answered(rt, alloc, &mut seat, &mut clerk, &mut keeper, job);
+    for job in &JOBS {
+        let answer = answered(rt, alloc, seat, clerk, keeper, job);
         as_wanted = as_wanted && answer == job.wanted;
     }
-    desk.close(rt);
-    let books = clerk.run(rt, keeper);
-    let booked = are_booked(&books);
-    let Books {
-        keeper,
-        accounts: _,
-        acknowledged,
-        refused,
-        left,
-        inbox: _,
-    } = books;
-    keeper.close(rt);
-    as_wanted && booked && seat.handed() == 7 && (acknowledged, refused, left.len()) == (5, 2, 0)
+    as_wanted && seat.handed() == 7
 }

@@ -6,14 +6,14 @@ use Rattle.std.specs.List.{list_any}
 use Rattle.jaeger_model.specs.declared.ids.SpanId.{SpanId}
 use Rattle.jaeger_model.specs.declared.span.Span.{Span}
 use Rattle.jaeger_model.specs.declared.placed.Placed.{Placed}
-use Rattle.jaeger_model.specs.declared.placed.Seen.{Seen}
 use Rattle.jaeger_model.specs.Parents.{with_parent, needs_no_reference, parent_reference, parent, parent_by_references}
 use Rattle.trace_model.specs.declared.query.Find.{Find}
 use Rattle.trace_model.specs.Searching.{matches}
 use Rattle.trace_model.specs.Linking.{has_id, parent_in, call_from, calls_of, in_window, calls_within, counted, links}
 use Rattle.trace_model.proofs.NameLaws.{any_map}
 use Rattle.trace_model.proofs.Parents.{with_parent-twice, with_parent-trace}
-use Rattle.trace_model.specs.Seeing.{seen, seen_traces}
+use Rattle.call_links.specs.declared.numbered.NumberedSpan.{NumberedSpan}
+use Rattle.call_links.specs.Seen.{span_of, seen_traces}
 use Rattle.journal_traces.specs.Given.{adopted, given_traces}
 
 abbrev with_if : Bool → Span → Span
@@ -87,9 +87,9 @@ pub links-adopted : (end_ms lookback_ms : ℤ) (ts : List (List Placed)) → lin
 links-adopted end_ms lookback_ms ts = ap counted (flat_map_same (calls_within end_ms lookback_ms) (calls_within end_ms lookback_ms) (map adopted) (within-adopted end_ms lookback_ms) ts)
 
 -- ---- the traces that are looked at
-given-seen : (ts : List (Vec Seen Global)) → given_traces ts ≡ map (map adopted) (seen_traces ts)
+given-seen : (ts : List (Vec NumberedSpan Global)) → given_traces ts ≡ map (map adopted) (seen_traces ts)
 given-seen [] = refl
-given-seen (t ∷ ts) = λ i. sym (map_map adopted seen t.items) i ∷ given-seen ts i
+given-seen (t ∷ ts) = λ i. sym (map_map adopted span_of t.items) i ∷ given-seen ts i
 
-pub links-given : (end_ms lookback_ms : ℤ) (ts : List (Vec Seen Global)) → links end_ms lookback_ms (seen_traces ts) ≡ links end_ms lookback_ms (given_traces ts)
+pub links-given : (end_ms lookback_ms : ℤ) (ts : List (Vec NumberedSpan Global)) → links end_ms lookback_ms (seen_traces ts) ≡ links end_ms lookback_ms (given_traces ts)
 links-given end_ms lookback_ms ts = sym (ap (links end_ms lookback_ms) (given-seen ts) ∙ links-adopted end_ms lookback_ms (seen_traces ts))

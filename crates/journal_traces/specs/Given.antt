@@ -5,6 +5,7 @@ use Rattle.jaeger_model.specs.declared.placed.Placed.{Placed}
 use Rattle.jaeger_model.specs.declared.placed.Seen.{Seen}
 use Rattle.jaeger_model.specs.Parents.{with_parent}
 use Rattle.trace_model.specs.Seeing.{seen}
+use Rattle.call_links.specs.declared.numbered.NumberedSpan.{NumberedSpan}
 
 -- with its parent among its references
 abbrev pub adopted : Placed → Placed
@@ -13,8 +14,9 @@ adopted p = record { process = p.process; span = with_parent p.span }
 abbrev pub given : Seen → Placed
 given s = adopted (seen s)
 
-abbrev pub given_all : List Seen → List Placed
-given_all ss = map given ss
+-- those that have the numbers of their services
+abbrev pub given_all : List NumberedSpan → List Placed
+given_all ss = map (λ s. given s.seen) ss
 
-abbrev pub given_traces : List (Vec Seen Global) → List (List Placed)
-given_traces ts = map (λ (t : Vec Seen Global). given_all t.items) ts
+abbrev pub given_traces : List (Vec NumberedSpan Global) → List (List Placed)
+given_traces ts = map (λ (t : Vec NumberedSpan Global). given_all t.items) ts

@@ -1,5 +1,6 @@
 -- Spans and traces where they stand in the entries.
 use Rattle.std.specs.Prelude.{◌≡◌, ℕ, List, map, filter_map, Option, Some, option_map}
+use Rattle.std.specs.List.{All}
 use Rattle.std.specs.Option.{option_and_then}
 use Rattle.jaeger_model.specs.declared.batch.Batch.{Batch}
 use Rattle.jaeger_model.specs.declared.batch.Process.{Process}
@@ -10,6 +11,9 @@ use Rattle.trace_model.specs.Places.{entry_at}
 use Rattle.trace_model.specs.Works.{batch_brought}
 use Rattle.trace_assembly.specs.declared.spot.Spot.{Spot}
 use Rattle.trace_assembly.specs.Located.{span_at}
+use Rattle.service_places.specs.Reported.{service_at, group_in}
+use Rattle.call_links.specs.declared.numbered.NumberedSpan.{NumberedSpan}
+use Rattle.call_links.specs.Seen.{StandsFor, service_in}
 
 -- the batch that the entry at the place brings; a limit brings none
 abbrev pub batch_at : List Entry → ℕ → Option Batch
@@ -34,3 +38,10 @@ process_at h place = option_map (λ (b : Batch). b.process) (batch_at h place)
 -- the entries at these places reported the spans
 abbrev pub AreAt : List Entry → List Placed → List ℕ → Type 0
 AreAt h spans places = map (λ (p : Placed). Some p.process) spans ≡ map (process_at h) places
+
+-- the spans have the numbers of their services among those of the entries
+abbrev pub HasNumber : List Entry → NumberedSpan → Type 0
+HasNumber h s = StandsFor (service_at h) (group_in h) (service_in s)
+
+abbrev pub HaveNumbers : List Entry → List NumberedSpan → Type 0
+HaveNumbers h ss = All (HasNumber h) ss

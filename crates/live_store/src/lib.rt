@@ -7,8 +7,9 @@
 
 ghost use Rattle.std.specs.Prelude.{◌≡◌, ◌⊎◌};
 ghost use mathlib.Core.List.{IsPrefix};
+ghost use Rattle.live_store.specs.Sharing.{LiveSubmits};
 
-use intake::Seat;
+use intake::{DeskName, Seat, SharedClerk};
 use jaeger_model::Batch;
 use read_side::{Pass, Receipt, StoreName};
 use std::alloc::Global;
@@ -50,6 +51,31 @@ impl<N: StoreName> Live<N> {
             (self.new.known ≡ receipt.now.entries) }
     {
         self.pass.learn(receipt);
+    }
+
+    /// Hands a batch in, as [`Backend::submit`] does. While it waits it does the work of the clerk that the waiting
+    /// share.
+    ///
+    /// # Errors
+    ///
+    /// The batch was not accepted, for the reason that is returned.
+    pub fn submit_shared<D: DeskName, R: Wait>(
+        &mut self,
+        rt: &R,
+        alloc: Global,
+        clerk: &SharedClerk<'_, N, D>,
+        batch: Batch,
+    ) -> Result<u64, Refusal>
+        ensures { LiveSubmits N.limits self.old batch result self.new }
+    {
+        let ticket = match self.seat.submit(rt, alloc, batch) {
+            Ok(ticket) => ticket,
+            Err((refusal, _)) => return Err(refusal),
+        };
+        let answered = clerk.answer(rt, ticket)?;
+        let _front = answered.receipt.front();
+        self.pass.learn(&answered.receipt);
+        Ok(answered.place)
     }
 
     /// The seat, and the pass with all that it knew.

@@ -135,7 +135,7 @@ fn same_lines(alloc: Global, lines: &str) -> Result<u64, Fail> {
 }
 
 #[test]
-fn any_cut_of_each_case(rt: HostRuntime) -> Result<(), Fail> {
+fn any_cut(rt: HostRuntime) -> Result<(), Fail> {
     assert_eq!(rt; same_lines(rt.alloc(), CASES)?, 28);
     Ok(())
 }

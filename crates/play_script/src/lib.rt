@@ -70,5 +70,7 @@ pub fn run_play<R: Input, W: Output>(
     let Ok(mut script) = Script::new(alloc, keys, limits) else {
         return 5;
     };
-    play_lines(alloc, input, output, &mut script)
+    let status = play_lines(alloc, input, output, &mut script);
+    drop(script);
+    status
 }

@@ -6,6 +6,6 @@ use std::thread::Threads;
 use std::time::Clock;
 
 /// What the program asks of its machine, but for its sockets.
-pub(crate) trait Host: Abort + Threads + Wait + Clock + RandomSource + Sync {}
+pub(crate) trait Host: Abort + Threads + Wait + Clock + Eprint + RandomSource + Sync {}
 
-impl<H: Abort + Threads + Wait + Clock + RandomSource + Sync> Host for H {}
+impl<H: Abort + Threads + Wait + Clock + Eprint + RandomSource + Sync> Host for H {}

@@ -33,6 +33,7 @@ where
     H: Threads
         + Wait
         + Clock
+        + Eprint
         + RandomSource
         + Net<Stream = TcpStream, Listener = TcpListener>
         + Sync,

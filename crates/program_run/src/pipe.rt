@@ -40,7 +40,13 @@ pub fn run_pipe<R: Input, W: Output>(
     };
     let mut store = Direct::new(opened);
     match pipe(alloc, input, output, &mut store) {
-        Ok(_) => 0,
-        Err(error) => status_of(error.cause),
+        Ok(_) => {
+            drop(store);
+            0
+        }
+        Err(error) => {
+            drop(store);
+            status_of(error.cause)
+        }
     }
 }

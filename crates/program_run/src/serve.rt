@@ -50,7 +50,7 @@ pub fn run_serve<H, W>(
     options: ServeOptions,
 ) -> u8
 where
-    H: Threads + Wait + Clock + Net<Stream = TcpStream, Listener = TcpListener> + Sync,
+    H: Threads + Wait + Clock + Eprint + Net<Stream = TcpStream, Listener = TcpListener> + Sync,
     W: Output,
     requires workers { (1 ≤ options.workers) × (options.workers ≤ 64) }
     requires queue { (1 ≤ options.queue) × (options.queue ≤ 4096) }

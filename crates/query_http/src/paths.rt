@@ -1,4 +1,4 @@
-ghost use Rattle.std.specs.Prelude.{◌≡◌, ◌++◌, ℕ, List, IfOk, IfErr, MatchOption};
+ghost use Rattle.std.specs.Prelude.{◌≡◌, ◌++◌, ℕ, List, [], IfOk, IfErr, MatchOption, OnOk};
 ghost use Rattle.matchit.specs.declared.error.InsertError.TheVariants.{OutOfMemory};
 ghost use Rattle.query_http.specs.Paths.{endpoint_rows, IsPath, IsNoPath};
 
@@ -22,6 +22,24 @@ pub enum Endpoint {
     Dependencies,
 }
 
+/// Adds all endpoints to a router that has none.
+fn add_endpoints(router: &mut Router<Endpoint>) -> Result<(), InsertError>
+    requires { router.old ≡ [] }
+    ensures found { OnOk result (router.new ≡ endpoint_rows) }
+    ensures memory { IfErr result (λ e. e ≡ OutOfMemory) }
+{
+    router.insert("/api/traces", Endpoint::Traces)?;
+    router.insert("/api/traces/{id}", Endpoint::Trace)?;
+    router.insert("/api/services", Endpoint::Services)?;
+    router.insert(
+        "/api/services/{service}/operations",
+        Endpoint::OperationNames,
+    )?;
+    router.insert("/api/operations", Endpoint::Operations)?;
+    router.insert("/api/dependencies", Endpoint::Dependencies)?;
+    Ok(())
+}
+
 /// The router of all endpoints.
 ///
 /// # Errors
@@ -32,16 +50,13 @@ pub fn endpoints(alloc: Global) -> Result<Router<Endpoint>, InsertError>
     ensures memory { IfErr result (λ e. e ≡ OutOfMemory) }
 {
     let mut router = Router::new(alloc);
-    router.insert("/api/traces", Endpoint::Traces)?;
-    router.insert("/api/traces/{id}", Endpoint::Trace)?;
-    router.insert("/api/services", Endpoint::Services)?;
-    router.insert(
-        "/api/services/{service}/operations",
-        Endpoint::OperationNames,
-    )?;
-    router.insert("/api/operations", Endpoint::Operations)?;
-    router.insert("/api/dependencies", Endpoint::Dependencies)?;
-    Ok(router)
+    match add_endpoints(&mut router) {
+        Ok(()) => Ok(router),
+        Err(error) => {
+            drop(router);
+            Err(error)
+        }
+    }
 }
 
 /// What follows the text at the beginning of a path.

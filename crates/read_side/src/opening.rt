@@ -1,5 +1,5 @@
 //! Opening a store.
-ghost use Rattle.std.specs.Prelude.{◌≡◌, ◌≤◌, IfOk, IfErr, All, length};
+ghost use Rattle.std.specs.Prelude.{◌≡◌, ◌≤◌, Err, IfOk, IfErr, All, length};
 ghost use Rattle.trace_model.specs.declared.refusal.Refusal.TheVariants.{NoMemory};
 ghost use Rattle.read_side.specs.Keepers.{no_entries};
 ghost use Rattle.read_side.specs.Passes.{new_pass};
@@ -16,6 +16,14 @@ use std::alloc::Global;
 use std::hash::RandomState;
 use std::sync::Wait;
 use trace_model::{Limits, Refusal};
+
+/// Gives up what was made before memory ran out.
+fn without_memory<T: Drop, R>(made: T) -> Result<R, Refusal>
+    ensures { result ≡ Err NoMemory }
+{
+    drop(made);
+    Err(Refusal::NoMemory)
+}
 
 /// Opens an empty store under a name, which is spent, for 1 to 64 readers. The keys are those of the hash
 /// by which it finds traces.
@@ -41,14 +49,24 @@ pub fn open<N: StoreName, R: Wait>(
 {
     let history: Log<N> = Log::new(name);
     let mut passes = Vec::with_capacity(alloc, readers)?;
-    let journal = Journal::new(alloc, keys, limits)?;
-    let first = Side::new(SpanStore::open(alloc, keys, limits)?, history.seen());
-    let second = Side::new(SpanStore::open(alloc, keys, limits)?, history.seen());
-    let writer: Copies<N> = Writer::new(alloc, first, second, readers)?;
+    let Ok(journal) = Journal::new(alloc, keys, limits) else {
+        return without_memory((history, passes));
+    };
+    let Ok(first) = SpanStore::open(alloc, keys, limits) else {
+        return without_memory((history, passes, journal));
+    };
+    let first = Side::new(first, history.seen());
+    let Ok(second) = SpanStore::open(alloc, keys, limits) else {
+        return without_memory((history, passes, journal, first));
+    };
+    let second = Side::new(second, history.seen());
+    let Ok(writer): Result<Copies<N>, _> = Writer::new(alloc, first, second, readers) else {
+        return without_memory((history, passes, journal));
+    };
     for _made in 0..readers {
         let Ok(entrance) = writer.factory().reader() else {
             writer.take(rt);
-            return Err(Refusal::NoMemory);
+            return without_memory((history, passes, journal));
         };
         let pass = Pass::new(Visitor::new(entrance, history.seen()));
         passes.push_reserved(pass);

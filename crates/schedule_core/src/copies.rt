@@ -1,7 +1,7 @@
 //! What is accepted, and two copies of a store that hold beginnings of it. One copy is shown; the other
 //! is brought up to date, and they change their parts.
 
-ghost use Rattle.std.specs.Prelude.{◌≡◌, [], length, map, Ok, OnOk, OnErr, IfOk, IfErr};
+ghost use Rattle.std.specs.Prelude.{◌≡◌, [], length, map, Ok, OnOk, OnErr, IfOk, IfErr, IsErr};
 ghost use Rattle.std.specs.Arc.{arc_value};
 ghost use mathlib.Core.List.{IsPrefix};
 ghost use Rattle.trace_model.specs.Answers.{answer};
@@ -42,6 +42,14 @@ impl Model for Copies {
     ghost invariant = { λ s. IsCopied s.accepted.held s.shown s.spare };
 }
 
+/// Gives up what was made before memory ran out.
+pub(crate) fn without_memory<T: Drop, R>(made: T) -> Result<R, AllocError>
+    ensures { IsErr result }
+{
+    drop(made);
+    Err(AllocError)
+}
+
 impl Copies {
     /// Two empty copies.
     ///
@@ -54,8 +62,12 @@ impl Copies {
     {
         let accepted = Journal::new(alloc, keys, limits)?;
         let _legal = accepted.len();
-        let shown = SpanStore::open(alloc, keys, limits)?;
-        let spare = SpanStore::open(alloc, keys, limits)?;
+        let Ok(shown) = SpanStore::open(alloc, keys, limits) else {
+            return without_memory(accepted);
+        };
+        let Ok(spare) = SpanStore::open(alloc, keys, limits) else {
+            return without_memory((accepted, shown));
+        };
         Ok(Copies {
             accepted,
             shown,

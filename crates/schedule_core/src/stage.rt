@@ -11,7 +11,7 @@ ghost use Rattle.schedule_core.specs.Standing.{Visits};
 ghost use Rattle.schedule_core.specs.declared.step.Step.TheVariants.{Enter, Leave, Learn, Read};
 ghost use Rattle.schedule_core.specs.Machine.{by_reader, enters, front_of, leaves, learns, new_machine, publishes, limits_by, puts, reads, stays, step as stepped, takes};
 
-use crate::copies::Copies;
+use crate::copies::{Copies, without_memory};
 use crate::outcome::Outcome;
 use crate::readers::{Inside, Place, Readers};
 use crate::seats::Seats;
@@ -56,8 +56,12 @@ impl Stage {
         ensures { IfOk result (λ s. s ≡ new_machine limits) }
     {
         let seats = Seats::new(alloc)?;
-        let readers = Readers::new(alloc)?;
-        let copies = Copies::new(alloc, keys, limits)?;
+        let Ok(readers) = Readers::new(alloc) else {
+            return without_memory(seats);
+        };
+        let Ok(copies) = Copies::new(alloc, keys, limits) else {
+            return without_memory((seats, readers));
+        };
         Ok(Stage {
             copies,
             seats,
@@ -220,7 +224,11 @@ impl Stage {
             Step::Take => Ok(self.take()),
             Step::Publish => self.publish(),
             Step::Enter { reader } => Ok(self.enter(reader)),
-            Step::Read { reader, query } => self.read(reader, &query),
+            Step::Read { reader, query } => {
+                let outcome = self.read(reader, &query);
+                drop(query);
+                outcome
+            }
             Step::Learn { reader, publish } => Ok(self.learn(reader, publish)),
             Step::Leave { reader } => Ok(self.leave(reader)),
         }

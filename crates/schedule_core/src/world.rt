@@ -40,6 +40,7 @@ impl World {
         ensures { Steps self.old step result self.new }
     {
         let Some(stage) = &mut self.stage else {
+            drop(step);
             return Outcome::Refused(Refusal::NoMemory);
         };
         match stage.step(step) {

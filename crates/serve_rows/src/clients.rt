@@ -61,7 +61,7 @@ impl Outcome {
 }
 
 /// Serves until all sessions are over, and gives the status and what was written.
-fn serve<G: Gate + Sync, R: Threads + Wait + Clock + Sync>(
+fn serve<G: Gate + Sync, R: Threads + Wait + Clock + Eprint + Sync>(
     rt: &R,
     alloc: Global,
     listener: &TcpListener,
@@ -86,7 +86,13 @@ fn names_port(alloc: Global, output: &MemoryOutput, port: u16) -> bool {
 /// Runs a server on a port of its own beside its clients.
 pub fn visited<
     G: Gate + Sync,
-    R: Threads + Wait + Clock + Net<Stream = TcpStream, Listener = TcpListener> + Abort + Sync,
+    R: Threads
+        + Wait
+        + Clock
+        + Eprint
+        + Net<Stream = TcpStream, Listener = TcpListener>
+        + Abort
+        + Sync,
 >(rt: &R, alloc: Global, options: &Options, gate: &G, guests: Guests) -> Result<Outcome, Fail>
     requires workers { (1 ≤ options.now.workers) × (options.now.workers ≤ 64) }
     requires queue { (1 ≤ options.now.queue) × (options.now.queue ≤ 4096) }

@@ -8,8 +8,9 @@
 //! The index takes its room once. It holds numbers of spans alone, and reads their names where the spans
 //! stand ([`Texts`]). There each service has a number, its group: an operation is found by its group,
 //! its name and its kind, so that no text of a service is hashed or compared when a number is added.
-//! Adding a number takes no memory, hashes its label once under keys drawn at the start, and looks at the
-//! few places of a table at most half full that the hash leads to. Where a new label would take half of the
+//! Adding a number takes no memory. Its label is compared with one that was found lately; where that is
+//! another, the label is hashed under keys drawn at the start, and sought in the few places of a table at
+//! most half full that the hash leads to. Where a new label would take half of the
 //! places, the labels are spread over about twice as many, in the room that was taken. That it leads to
 //! its numbers by the names is a clause of each call (`IsIndexed`), which every call keeps and which
 //! stays true when more spans arrive (`laws::more_names`).
@@ -18,11 +19,13 @@
 //! * `texts`: where names stand.
 //! * `labels`: what a table finds its numbers by.
 //! * `name_table`: numbers by labels: the [`NameTable`].
+//! * `guesses`: in which rows labels were found last.
 //! * `sought_label`: a label that is sought in the places of its row.
 //! * `operation_sets`: the operations of one service, as a set in order.
 //! * `laws`: facts about the definitions of `specs/`.
 #![tactic(auto)]
 
+mod guesses;
 mod index;
 mod labels;
 pub mod laws;

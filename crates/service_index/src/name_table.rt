@@ -1,10 +1,12 @@
 //! Numbers by labels that stand elsewhere.
 
 ghost use Rattle.std.specs.Prelude.{◌≡◌, ◌<◌, [], length, IfOk};
+ghost use Rattle.std.specs.Bool.{OnTrue};
 ghost use Rattle.service_index.specs.Naming.{Labelling, label_value};
 ghost use Rattle.service_index.specs.Probes.{IsNamed, row_of, with_number};
 
-use crate::labels::{Label, Labels};
+use crate::guesses::Guesses;
+use crate::labels::{Label, Labels, is_label};
 use crate::sought_label::{SoughtLabel, label_hash};
 use row_places::RowPlaces;
 use std::alloc::{AllocError, Global};
@@ -19,6 +21,8 @@ pub struct NameTable {
     /// Lead to the rows of the numbers by the hashes of their labels.
     places: RowPlaces,
     numbers: Vec<u32>,
+    /// Rows that are looked at before the hash of a label is taken.
+    guesses: Guesses,
 }
 
 impl Model for NameTable {
@@ -49,6 +53,7 @@ impl NameTable {
             keys,
             places,
             numbers,
+            guesses: Guesses::new(),
         })
     }
 
@@ -76,9 +81,40 @@ impl NameTable {
         }
     }
 
+    /// Whether a label has this row, without looking it up.
+    fn has_row<L: Labels>(&self, labels: &L, row: u32, label: Label<'_>) -> bool
+        requires { IsNamed (L.labels labels.now) self.now }
+        ensures { OnTrue result ((row < length self.now.numbers)
+            × (row ≡ row_of (L.labels labels.now) self.now.numbers (label_value label.entry))) }
+    {
+        let numbers = self.numbers();
+        (row as usize) < numbers.len() && is_label(labels, numbers[row as usize], label)
+    }
+
     /// Adds a number unless a number of its label is there, and gives the row of the label. It takes no
-    /// memory.
+    /// memory. A label that equals the one found last among those that are much like it isn't looked up.
     pub fn add<L: Labels>(&mut self, labels: &L, n: u32) -> u32
+        requires leads { IsNamed (L.labels labels.now) self.old }
+        requires held { n < (L.labels labels.now).count }
+        requires room { length self.old.numbers < self.old.room }
+        ensures row { result ≡ row_of (L.labels labels.now) self.old.numbers
+            ((L.labels labels.now).at n) }
+        ensures numbers { self.new.numbers ≡ with_number (L.labels labels.now) self.old.numbers n }
+        ensures room { self.new.room ≡ self.old.room }
+        ensures leads { IsNamed (L.labels labels.now) self.new }
+    {
+        let label = labels.label_at(n);
+        let guess = self.guesses.row(label);
+        if self.has_row(labels, guess, label) {
+            return guess;
+        }
+        let row = self.look_up(labels, n);
+        self.guesses.keep(label, row);
+        row
+    }
+
+    /// The same, by the hash of the label.
+    fn look_up<L: Labels>(&mut self, labels: &L, n: u32) -> u32
         requires leads { IsNamed (L.labels labels.now) self.old }
         requires held { n < (L.labels labels.now).count }
         requires room { length self.old.numbers < self.old.room }

@@ -1,7 +1,7 @@
 use http_requests::{Breach, Interrupted, Next, Received, Sink, next_head, read_body};
 use session_devices::MemoryInput;
 use std::alloc::Global;
-use std::process::Abort;
+use std::mem::drop;
 use std::test::*;
 
 /// A body, put together again.
@@ -83,123 +83,133 @@ fn look_in(alloc: Global, source: MemoryInput<'_>) -> Result<Front, Interrupted>
     }))
 }
 
-fn is_one(front: Result<Front, Interrupted>) -> bool {
-    matches!(front, Ok(Front::One(_)))
+/// Whether it is a request, or none for this reason.
+fn is_ended(front: &Result<Front, Interrupted>, breach: Option<Breach>) -> bool {
+    match (front, breach) {
+        (Ok(Front::One(_)), None) => true,
+        (Ok(Front::Broken(seen)), Some(breach)) => *seen == breach,
+        _ => false,
+    }
 }
 
-pub(crate) fn is_broken(front: Result<Front, Interrupted>, breach: Breach) -> bool {
-    matches!(front, Ok(Front::Broken(b)) if b == breach)
+/// Whether a look at these bytes, read so many at a time, finds a request, or none for this reason.
+pub(crate) fn has_end(alloc: Global, bytes: &[u8], step: usize, breach: Option<Breach>) -> bool {
+    let front = look(alloc, bytes, step);
+    let said = is_ended(&front, breach);
+    drop(front);
+    said
 }
+
+/// Whether a look at no bytes finds that nothing comes.
+fn is_clean(alloc: Global) -> bool {
+    let front = look(alloc, b"", 1);
+    let said = matches!(&front, Ok(Front::Clean));
+    drop(front);
+    said
+}
+
+const ENDS: [(&[u8], Option<Breach>); 18] = [
+    (b"GET / HTTP/1.1\nContent-Length: 3\n\nabc", None),
+    (
+        b"\r\n\r\nGET / HTTP/1.0\r\nconnection: x, Close\r\n\r\n",
+        None,
+    ),
+    (
+        b"GET / HTTP/1.1\r\nContent-Length: 3\r\n\r\nab",
+        Some(Breach::Body),
+    ),
+    (
+        b"GET / HTTP/1.1\r\nContent-Length: 3\r\ncontent-length: 3\r\n\r\nabc",
+        Some(Breach::Body),
+    ),
+    (
+        b"GET / HTTP/1.1\r\nContent-Length: +3\r\n\r\nabc",
+        Some(Breach::Body),
+    ),
+    (
+        b"GET / HTTP/1.1\r\nContent-Length: 4194305\r\n\r\n",
+        Some(Breach::TooLarge),
+    ),
+    (b"GET / HTTP/1.1\r\nContent-Len", Some(Breach::Head)),
+    (b"\r\n", Some(Breach::Head)),
+    (
+        b"GET / HTTP/1.1\r\nContent-Length:\r\n\r\n",
+        Some(Breach::Body),
+    ),
+    (
+        b"GET / HTTP/1.1\r\nContent-Length: +0\r\n\r\n",
+        Some(Breach::Body),
+    ),
+    (
+        b"GET / HTTP/1.1\r\nContent-Length: 0, 0\r\n\r\n",
+        Some(Breach::Body),
+    ),
+    (
+        b"GET / HTTP/1.1\r\nContent-Length: 00000000000000000000\r\n\r\n",
+        Some(Breach::Body),
+    ),
+    (b"GET / HTTP/1.2\r\n\r\n", Some(Breach::Head)),
+    (b"GET / HTTP/2.0\r\n\r\n", Some(Breach::Head)),
+    (b"GET / HTTP/1.1\r\na: \x01\r\n\r\n", Some(Breach::Head)),
+    (b"GET / HTTP/1.1\r\n: b\r\n\r\n", Some(Breach::Head)),
+    (b"GET / HTTP/1.1\r\nA : b\r\n\r\n", Some(Breach::Head)),
+    (b"GET  / HTTP/1.1\r\n\r\n", Some(Breach::Head)),
+];
 
 #[test]
-fn each_end(rt: HostRuntime) -> Result<(), Fail> {
-    let alloc = rt.alloc();
-    let rows: [(&[u8], Option<Breach>); 18] = [
-        (b"GET / HTTP/1.1\nContent-Length: 3\n\nabc", None),
-        (
-            b"\r\n\r\nGET / HTTP/1.0\r\nconnection: x, Close\r\n\r\n",
-            None,
-        ),
-        (
-            b"GET / HTTP/1.1\r\nContent-Length: 3\r\n\r\nab",
-            Some(Breach::Body),
-        ),
-        (
-            b"GET / HTTP/1.1\r\nContent-Length: 3\r\ncontent-length: 3\r\n\r\nabc",
-            Some(Breach::Body),
-        ),
-        (
-            b"GET / HTTP/1.1\r\nContent-Length: +3\r\n\r\nabc",
-            Some(Breach::Body),
-        ),
-        (
-            b"GET / HTTP/1.1\r\nContent-Length: 4194305\r\n\r\n",
-            Some(Breach::TooLarge),
-        ),
-        (b"GET / HTTP/1.1\r\nContent-Len", Some(Breach::Head)),
-        (b"\r\n", Some(Breach::Head)),
-        (
-            b"GET / HTTP/1.1\r\nContent-Length:\r\n\r\n",
-            Some(Breach::Body),
-        ),
-        (
-            b"GET / HTTP/1.1\r\nContent-Length: +0\r\n\r\n",
-            Some(Breach::Body),
-        ),
-        (
-            b"GET / HTTP/1.1\r\nContent-Length: 0, 0\r\n\r\n",
-            Some(Breach::Body),
-        ),
-        (
-            b"GET / HTTP/1.1\r\nContent-Length: 00000000000000000000\r\n\r\n",
-            Some(Breach::Body),
-        ),
-        (b"GET / HTTP/1.2\r\n\r\n", Some(Breach::Head)),
-        (b"GET / HTTP/2.0\r\n\r\n", Some(Breach::Head)),
-        (b"GET / HTTP/1.1\r\na: \x01\r\n\r\n", Some(Breach::Head)),
-        (b"GET / HTTP/1.1\r\n: b\r\n\r\n", Some(Breach::Head)),
-        (b"GET / HTTP/1.1\r\nA : b\r\n\r\n", Some(Breach::Head)),
-        (b"GET  / HTTP/1.1\r\n\r\n", Some(Breach::Head)),
-    ];
-    for (bytes, breach) in &rows {
+fn each_end(rt: HostRuntime) {
+    for (bytes, breach) in &ENDS {
         for step in [1, 10_000] {
-            let front = look(alloc, bytes, step);
-            let right = match breach {
-                None => is_one(front),
-                Some(breach) => is_broken(front, *breach),
-            };
-            assert!(rt; right, "{bytes:?}");
+            assert!(rt; has_end(rt.alloc(), bytes, step, *breach), "{bytes:?}");
         }
     }
-    assert!(rt; matches!(look(alloc, b"", 1), Ok(Front::Clean)));
-    Ok(())
+    assert!(rt; is_clean(rt.alloc()));
 }
 
 /// Whether a look at these bytes finds a request, or none for this reason, where the input gives them one at a
 /// time and fails when it is asked for more.
 fn is_decided(alloc: Global, bytes: &[u8], breach: Option<Breach>) -> bool {
     let front = look_in(alloc, MemoryInput::new(bytes, 1, bytes.len() as u64 + 1));
-    match breach {
-        None => is_one(front),
-        Some(breach) => is_broken(front, breach),
-    }
+    let said = is_ended(&front, breach);
+    drop(front);
+    said
 }
 
+const NOT_TOO_MANY: [(&[u8], Option<Breach>); 11] = [
+    (b"GET / HTTP/1.1\r\n\r\n", None),
+    (b"GET / HTTP/1.1\nContent-Length: 0\n\n", None),
+    (b"POST / HTTP/1.1\r\nContent-Length: 3\r\n\r\nabc", None),
+    (b"GET / HTTP/2\r\n", Some(Breach::Head)),
+    (b"GET / HTTP/1.1\r\na b\r\n", Some(Breach::Head)),
+    (
+        b"POST / HTTP/1.1\r\nContent-Length: 4194305\r\n\r\n",
+        Some(Breach::TooLarge),
+    ),
+    (
+        b"POST / HTTP/1.1\r\nContent-Length: +3\r\n\r\n",
+        Some(Breach::Body),
+    ),
+    (
+        b"POST / HTTP/1.1\r\nTransfer-Encoding: chunked\r\n\r\n3\r\nabc\r\n0\r\n\r\n",
+        None,
+    ),
+    (
+        b"POST / HTTP/1.1\r\nTransfer-Encoding: chunked\r\n\r\ng",
+        Some(Breach::Body),
+    ),
+    (
+        b"POST / HTTP/1.1\r\nTransfer-Encoding: chunked\r\n\r\n3\r\nabcd",
+        Some(Breach::Body),
+    ),
+    (
+        b"POST / HTTP/1.1\r\nTransfer-Encoding: chunked\r\n\r\n400001\r\n",
+        Some(Breach::TooLarge),
+    ),
+];
+
 #[test]
-fn no_read_too_many(rt: HostRuntime) -> Result<(), Fail> {
-    let rows: [(&[u8], Option<Breach>); 11] = [
-        (b"GET / HTTP/1.1\r\n\r\n", None),
-        (b"GET / HTTP/1.1\nContent-Length: 0\n\n", None),
-        (b"POST / HTTP/1.1\r\nContent-Length: 3\r\n\r\nabc", None),
-        (b"GET / HTTP/2\r\n", Some(Breach::Head)),
-        (b"GET / HTTP/1.1\r\na b\r\n", Some(Breach::Head)),
-        (
-            b"POST / HTTP/1.1\r\nContent-Length: 4194305\r\n\r\n",
-            Some(Breach::TooLarge),
-        ),
-        (
-            b"POST / HTTP/1.1\r\nContent-Length: +3\r\n\r\n",
-            Some(Breach::Body),
-        ),
-        (
-            b"POST / HTTP/1.1\r\nTransfer-Encoding: chunked\r\n\r\n3\r\nabc\r\n0\r\n\r\n",
-            None,
-        ),
-        (
-            b"POST / HTTP/1.1\r\nTransfer-Encoding: chunked\r\n\r\ng",
-            Some(Breach::Body),
-        ),
-        (
-            b"POST / HTTP/1.1\r\nTransfer-Encoding: chunked\r\n\r\n3\r\nabcd",
-            Some(Breach::Body),
-        ),
-        (
-            b"POST / HTTP/1.1\r\nTransfer-Encoding: chunked\r\n\r\n400001\r\n",
-            Some(Breach::TooLarge),
-        ),
-    ];
-    for (bytes, breach) in &rows {
+fn no_read_too_many(rt: HostRuntime) {
+    for (bytes, breach) in &NOT_TOO_MANY {
         assert!(rt; is_decided(rt.alloc(), bytes, *breach), "{bytes:?}");
     }
-    Ok(())
 }

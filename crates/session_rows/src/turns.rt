@@ -4,6 +4,7 @@ use crate::pipes::{ANSWERS, BATCH, POST, SERVICES, empty_store};
 use pipe_session::pipe;
 use session_devices::{Failed, Input, Output};
 use std::cell::Cell;
+use std::hash::RandomState;
 use std::test::*;
 
 /// A sender that sends the next part only once so many bytes in all were written to it, and fails where it is read
@@ -88,7 +89,7 @@ fn answers_before_it_reads_on(rt: HostRuntime) -> Result<(), Fail> {
         failed: false,
     };
     let mut output = Counter { written: &written };
-    let mut store = empty_store(&rt, alloc)?;
+    let mut store = empty_store(alloc, RandomState::new(&rt)?)?;
     let ended = pipe(alloc, &mut input, &mut output, &mut store).expect(&rt, "ended");
     assert_eq!(rt; ended.answered, 3);
     assert!(rt; ended.clean);

@@ -31,9 +31,10 @@ fn hide_left(assembly: &mut Assembly, left: Option<TraceId>)
 }
 
 /// Lets one span in, for which there is room: its trace may be opened, and another one may leave for
-/// it.
+/// it. The row that is given is a guess of how many traces were seen before its own, which is the result:
+/// ring and assembly see the same traces in the same order, so that the assembly looks none of them up.
 #[tactic(auto, using(crate::proofs::Following::arrived_within))]
-fn let_in(ring: &mut Ring, assembly: &mut Assembly, trace: TraceId, spot: Spot)
+fn let_in(ring: &mut Ring, assembly: &mut Assembly, row: u32, trace: TraceId, spot: Spot) -> u32
     requires within { IsWithin ring.old }
     requires ring_room { length ring.old.seen < ring.old.room }
     requires assembly_room { assembly.old.used < assembly.old.room }
@@ -45,13 +46,16 @@ fn let_in(ring: &mut Ring, assembly: &mut Assembly, trace: TraceId, spot: Spot)
     ensures seen { length ring.new.seen ≤ length ring.old.seen + 1 }
     ensures used { assembly.new.used ≡ assembly.old.used + 1 }
     ensures assembly_room { assembly.new.room ≡ assembly.old.room }
+    ensures row { result < length ring.new.seen }
 {
-    let arrived = ring.arrive(trace);
+    let arrived = ring.arrive_near(row, trace);
     hide_left(assembly, arrived.left);
-    assembly.add(trace, spot);
+    assembly.add_near(arrived.row, trace, spot);
+    arrived.row
 }
 
-/// Lets the spans of a batch in, which the entry at the place brings and for which there is room.
+/// Lets the spans of a batch in, which the entry at the place brings and for which there is room. A span of
+/// the same trace as the one before it isn't looked up.
 fn let_all_in(batch: &Batch, place: u64, ring: &mut Ring, assembly: &mut Assembly)
     requires within { IsWithin ring.old }
     requires fits { length batch.now.spans < 2 ^ 32 }
@@ -67,8 +71,9 @@ fn let_all_in(batch: &Batch, place: u64, ring: &mut Ring, assembly: &mut Assembl
     ensures used { assembly.new.used ≡ assembly.old.used + length batch.now.spans }
 {
     let mut index: u32 = 0;
+    let mut row = 0;
     for span in batch.spans.as_slice() {
-        let_in(ring, assembly, span.trace, Spot { place, index });
+        row = let_in(ring, assembly, row, span.trace, Spot { place, index });
         index += 1;
     }
 }

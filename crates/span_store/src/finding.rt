@@ -4,10 +4,12 @@ ghost use Rattle.std.specs.Prelude.{◌≡◌, [], IfOk, map, slice_index_or};
 ghost use Rattle.trace_model.specs.Adjusting.{adjusted};
 ghost use Rattle.trace_model.specs.Linking.{links};
 ghost use Rattle.trace_model.specs.Searching.{found_in, ids_of};
+ghost use Rattle.call_links.specs.Seen.{AreNumbered};
 ghost use Rattle.journal_traces.specs.Given.{given_traces};
 ghost use Rattle.journal_traces.specs.Looked.{traces_of, query_of};
 
-use jaeger_model::{Seen, Seq, TraceId};
+use call_links::NumberedSpan;
+use jaeger_model::{Seq, TraceId};
 use journal_traces::{Candidates, gather};
 use std::alloc::{AllocError, Global};
 use trace_adjust::adjusted;
@@ -75,10 +77,11 @@ pub(crate) fn find_ids(alloc: Global, traces: &Candidates<'_>) -> Result<Vec<Tra
 /// How often services call one another.
 pub(crate) fn links(
     alloc: Global,
-    traces: &[Vec<Seen>],
+    traces: &[Vec<NumberedSpan<'_>>],
     end_ms: i64,
     lookback_ms: i64,
 ) -> Result<Vec<Link>, AllocError>
+    requires { AreNumbered traces.now }
     ensures { IfOk result (λ v. v.items ≡ links end_ms lookback_ms (given_traces traces.now)) }
 {
     let links = call_links::links(alloc, traces, end_ms, lookback_ms)?;

@@ -46,7 +46,10 @@ pub fn replay(
 {
     let mut store = SpanStore::open(alloc, keys, limits)?;
     for entry in entries {
-        take(&mut store, entry)?;
+        if let Err(why) = take(&mut store, entry) {
+            drop(store);
+            return Err(why);
+        }
     }
     Ok(store)
 }
@@ -69,5 +72,7 @@ pub fn replayed_answer(
     ensures reason { IfErr result (λ why. why ≡ NoMemory) }
 {
     let store = replay(alloc, keys, limits, entries)?;
-    store.answer(query)
+    let answer = store.answer(query);
+    drop(store);
+    answer
 }

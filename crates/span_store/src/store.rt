@@ -12,16 +12,20 @@ ghost use Rattle.trace_model.specs.declared.admission.Admission.TheVariants.{Add
 ghost use Rattle.trace_model.specs.Refusals.{followed_by, with_admitted};
 ghost use Rattle.arrival_journal.specs.Journals.{admission_by, place_by};
 ghost use Rattle.trace_assembly.specs.Located.{located, shown_spots};
+ghost use Rattle.trace_assembly.specs.Rows.{spots_of};
 ghost use Rattle.trace_adjust.specs.Hosts.{ShareProcesses};
+ghost use Rattle.call_links.specs.Seen.{AreNumbered};
 ghost use Rattle.journal_traces.specs.Given.{given_traces};
 ghost use Rattle.journal_traces.specs.Standing.{traces_named};
+ghost use Rattle.span_store.specs.Kept.{Follows, IsNamed, IsPlaced};
 
 use crate::arrange::follow;
 use crate::finding;
 use arrival_journal::Journal;
 use arrival_names::ArrivalNames;
+use call_links::NumberedSpan;
 use find_traces::Wanted;
-use jaeger_model::{Placed, Seen, Seq, Text, TraceId};
+use jaeger_model::{Placed, Seq, Text, TraceId};
 use journal_traces::{Candidates, gather, ring_ids, see_within, spots_along};
 use sent_batches::HashedEntry;
 use service_places::ServicePlaces;
@@ -61,6 +65,37 @@ impl Model for SpanStore {
     ghost invariant = { λ s. IsKept s.journal.held s.ring s.assembly s.names s.reported };
 }
 
+/// Room for the ring, and for where the spans of its traces stand.
+fn room_for_traces(
+    alloc: Global,
+    keys: RandomState,
+    limits: Limits,
+) -> Result<(Ring, Assembly), AllocError>
+    ensures follows { IfOk result (λ r. Follows limits.traces (located []) r.0 (spots_of r.1)) }
+    ensures room { IfOk result (λ r. r.0.room ≡ limits.spans) }
+    ensures seen { IfOk result (λ r. r.0.seen ≡ []) }
+    ensures spots_room { IfOk result (λ r. r.1.room ≡ limits.spans) }
+    ensures spots_used { IfOk result (λ r. r.1.used ≡ 0) }
+{
+    let ring = Ring::with_room(alloc, keys, limits.traces, limits.spans)?;
+    let assembly = Assembly::with_room(alloc, keys, limits.spans)?;
+    Ok((ring, assembly))
+}
+
+/// Room for the names, and for the places of services.
+fn room_for_names(
+    alloc: Global,
+    keys: RandomState,
+    limits: Limits,
+) -> Result<(ArrivalNames, ServicePlaces), AllocError>
+    ensures named { IfOk result (λ r. IsNamed (record { limits = limits; entries = [] }) r.0) }
+    ensures placed { IfOk result (λ r. IsPlaced (record { limits = limits; entries = [] }) r.1) }
+{
+    let names = ArrivalNames::with_room(alloc, keys, limits.batches, limits.spans)?;
+    let reported = ServicePlaces::with_room(alloc, keys, limits.batches)?;
+    Ok((names, reported))
+}
+
 impl SpanStore {
     /// A store with no entry, and all the room that its limits ask for. Its traces and names are found
     /// by hashes under these keys, which whoever sends traces doesn't know.
@@ -71,13 +106,16 @@ impl SpanStore {
     pub fn open(alloc: Global, keys: RandomState, limits: Limits) -> Result<Self, AllocError>
         ensures { IfOk result (λ store. store ≡ record { limits = limits; entries = [] }) }
     {
+        let journal = Journal::new(alloc, keys, limits)?;
+        let shown = room_for_traces(alloc, keys, limits)?;
+        let named = room_for_names(alloc, keys, limits)?;
         Ok(SpanStore {
             alloc,
-            journal: Journal::new(alloc, keys, limits)?,
-            ring: Ring::with_room(alloc, keys, limits.traces, limits.spans)?,
-            assembly: Assembly::with_room(alloc, keys, limits.spans)?,
-            names: ArrivalNames::with_room(alloc, keys, limits.batches, limits.spans)?,
-            reported: ServicePlaces::with_room(alloc, keys, limits.batches)?,
+            journal,
+            ring: shown.0,
+            assembly: shown.1,
+            names: named.0,
+            reported: named.1,
         })
     }
 
@@ -310,16 +348,24 @@ impl SpanStore {
     }
 
     /// The shown traces that have a span in a window of time, the one opened longest ago first: those
-    /// from whose calls services are seen to call one another there.
-    fn traces_within(&self, end_ms: i64, lookback_ms: i64) -> Result<Vec<Vec<Seen<'_>>>, AllocError>
-        ensures { IfOk result (λ v. links end_ms lookback_ms (given_traces v.items) ≡
+    /// from whose calls services are seen to call one another there. Their spans have the numbers of
+    /// their services.
+    fn traces_within(
+        &self,
+        end_ms: i64,
+        lookback_ms: i64,
+    ) -> Result<Vec<Vec<NumberedSpan<'_>>>, AllocError>
+        ensures links { IfOk result (λ v. links end_ms lookback_ms (given_traces v.items) ≡
             links end_ms lookback_ms (traces self.now.limits.traces (events self.now.entries))) }
+        ensures numbered { IfOk result (λ v. AreNumbered v.items) }
     {
+        let _legal = self.journal.len();
         let ids = ring_ids(self.alloc, &self.ring)?;
         let traces = see_within(
             self.alloc,
             &self.journal,
             &self.assembly,
+            &self.reported,
             &ids,
             end_ms,
             lookback_ms,

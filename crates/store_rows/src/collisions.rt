@@ -1,15 +1,15 @@
-use crate::entries::entry;
+use crate::entries::{entry, kept};
 use id_table::IdTable;
 use jaeger_model::{Text, TraceId};
 use plain_store::plain_answer;
 use span_store::replayed_answer;
 use std::alloc::{AllocError, Global};
 use std::hash::{BuildHasher, Hash, Hasher, RandomState};
-use std::process::Abort;
+use std::mem::drop;
 use std::sync::Arc;
 use std::test::*;
-use trace_model::{Entry, Limits, Query};
-use trace_samples::span;
+use trace_model::{Answer, Entry, Limits, Query};
+use trace_samples::{list_of, span};
 
 /// What there is room for.
 const ROOM: u32 = 40;
@@ -110,25 +110,35 @@ fn colliding_ids_have_rows_of_their_own(rt: HostRuntime) -> Result<(), Fail> {
 
 /// An entry of one span, of the trace and of the service with this number for a name.
 fn entry_of(alloc: Global, id: TraceId, name: u64, number: u64) -> Result<Arc<Entry>, AllocError> {
+    let name = name.to_string(alloc)?;
     let mut one = span(alloc, 1, 1)?;
     one.trace = id;
-    let mut spans = Vec::new(alloc);
-    spans.push(one)?;
-    let name = name.to_string(alloc)?;
+    let spans = list_of(alloc, one)?.into_vec();
     entry(alloc, 0, number, name.as_str(), spans)
 }
 
-/// An entry for each of the ids, from the service of its place.
+/// Adds an entry for each of the ids, from the service of its place.
+fn add_entries(
+    alloc: Global,
+    entries: &mut Vec<Arc<Entry>>,
+    ids: &[TraceId],
+    names: &[u64],
+) -> Result<(), AllocError> {
+    for (place, (id, name)) in ids.iter().zip(names).enumerate() {
+        entries.push(entry_of(alloc, *id, *name, place as u64 + 1)?)?;
+    }
+    Ok(())
+}
+
+/// These entries.
 fn entries_of(
     alloc: Global,
     ids: &[TraceId],
     names: &[u64],
 ) -> Result<Vec<Arc<Entry>>, AllocError> {
     let mut entries = Vec::new(alloc);
-    for (place, (id, name)) in ids.iter().zip(names).enumerate() {
-        entries.push(entry_of(alloc, *id, *name, place as u64 + 1)?)?;
-    }
-    Ok(entries)
+    let added = add_entries(alloc, &mut entries, ids, names);
+    kept(entries, added)
 }
 
 /// Limits by which three traces are shown.
@@ -136,10 +146,17 @@ fn three_traces() -> Result<Limits, Fail> {
     Ok(Limits::new(ROOM, ROOM, 3, 0).ok_or("limits")?)
 }
 
+/// What an answer shows.
+fn shown(alloc: Global, answer: Answer) -> Result<String, AllocError> {
+    let text = format!(in alloc; "{answer:?}");
+    drop(answer);
+    Ok(text?)
+}
+
 /// What the plain store of the entries answers, as text.
 fn plainly(alloc: Global, entries: &[Arc<Entry>], query: &Query) -> Result<String, Fail> {
     let answer = plain_answer(alloc, entries, three_traces()?, query)?;
-    Ok(format!(in alloc; "{answer:?}")?)
+    Ok(shown(alloc, answer)?)
 }
 
 /// What the store of the entries answers, as text.
@@ -150,58 +167,69 @@ fn quickly(
     query: &Query,
 ) -> Result<String, Fail> {
     let answer = replayed_answer(alloc, keys, three_traces()?, entries, query);
-    let answer = answer.ok().ok_or("refused")?;
-    Ok(format!(in alloc; "{answer:?}")?)
+    Ok(shown(alloc, answer.ok().ok_or("refused")?)?)
 }
 
-/// The store of the entries answers as the plain store.
+/// The store of the entries answers the question as the plain store.
+fn is_same(
+    alloc: Global,
+    keys: RandomState,
+    entries: &[Arc<Entry>],
+    query: &Query,
+) -> Result<bool, Fail> {
+    let quick = quickly(alloc, keys, entries, query)?;
+    let plain = plainly(alloc, entries, query)?;
+    Ok(quick == plain)
+}
+
+/// The same of a question that is given up behind that.
 fn same_answer(
-    rt: &impl Abort,
     alloc: Global,
     keys: RandomState,
     entries: &[Arc<Entry>],
     query: Query,
-) -> Result<(), Fail> {
-    let quick = quickly(alloc, keys, entries, &query)?;
-    let plain = plainly(alloc, entries, &query)?;
-    assert_eq!(rt; quick, plain);
-    Ok(())
+) -> Result<bool, Fail> {
+    let said = is_same(alloc, keys, entries, &query);
+    drop(query);
+    said
 }
 
 /// What is answered of the service's operations is the same.
 fn same_operations(
-    rt: &impl Abort,
     alloc: Global,
     keys: RandomState,
     entries: &[Arc<Entry>],
     name: u64,
-) -> Result<(), Fail> {
+) -> Result<bool, Fail> {
     let service = Text::from_string(name.to_string(alloc)?);
-    same_answer(rt, alloc, keys, entries, Query::OperationNames { service })
+    same_answer(alloc, keys, entries, Query::OperationNames { service })
 }
 
 /// Each of the traces and of the services is answered as in the plain store.
 fn same_each(
-    rt: &impl Abort,
     alloc: Global,
     keys: RandomState,
+    entries: &[Arc<Entry>],
     ids: &[TraceId],
     names: &[u64],
-) -> Result<(), Fail> {
-    let entries = entries_of(alloc, ids, names)?;
+) -> Result<bool, Fail> {
+    let mut same = same_answer(alloc, keys, entries, Query::Services)?;
     for id in ids {
-        same_answer(
-            rt,
-            alloc,
-            keys,
-            &entries,
-            Query::Trace { id: *id, raw: true },
-        )?;
+        let query = Query::Trace { id: *id, raw: true };
+        same = same && same_answer(alloc, keys, entries, query)?;
     }
     for name in names {
-        same_operations(rt, alloc, keys, &entries, *name)?;
+        same = same && same_operations(alloc, keys, entries, *name)?;
     }
-    same_answer(rt, alloc, keys, &entries, Query::Services)
+    Ok(same)
+}
+
+/// The same of an entry for each of them.
+fn same_of(alloc: Global, keys: RandomState, ids: &[TraceId], names: &[u64]) -> Result<bool, Fail> {
+    let entries = entries_of(alloc, ids, names)?;
+    let same = same_each(alloc, keys, &entries, ids, names);
+    drop(entries);
+    same
 }
 
 /// Ring, traces and names by ids and names with one walk.
@@ -212,5 +240,6 @@ fn collisions_as_the_plain_store(rt: HostRuntime) -> Result<(), Fail> {
     let ids = colliding_ids(alloc, &keys, EIGHT, 8)?;
     let names = colliding_names(alloc, &keys, 8)?;
     assert_eq!(rt; (ids.len(), names.len()), (8, 8));
-    same_each(&rt, alloc, keys, &ids, &names)
+    assert!(rt; same_of(alloc, keys, &ids, &names)?);
+    Ok(())
 }

@@ -6,6 +6,14 @@ use std::sync::Arc;
 use trace_model::{Entry, Work};
 use trace_samples::batch;
 
+/// The value, where what was done with it succeeded.
+pub(crate) fn kept<T: Drop>(value: T, done: Result<(), AllocError>) -> Result<T, AllocError> {
+    match done {
+        Ok(()) => Ok(value),
+        Err(why) => Err(why),
+    }
+}
+
 /// The trace with this low half of an id, and 0 above it.
 pub(crate) fn id(low: u64) -> TraceId {
     TraceId { high: 0, low }

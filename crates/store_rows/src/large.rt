@@ -1,30 +1,36 @@
-use crate::entries::{entry, id};
-use jaeger_model::{Seq, Text};
+use crate::entries::{entry, id, kept};
+use jaeger_model::{Placed, Seq, Text};
 use plain_store::get_trace;
 use span_store::replayed_answer;
 use std::alloc::{AllocError, Global};
 use std::hash::RandomState;
+use std::mem::drop;
 use std::sync::Arc;
 use std::test::*;
 use trace_model::{Answer, Entry, Find, Limits, Query};
-use trace_samples::span;
+use trace_samples::{list_of, span};
 
 const MANY: u32 = 10_000;
 
 /// An entry of service `a` with one span, the first of the trace of its number.
 fn numbered(alloc: Global, number: u64) -> Result<Arc<Entry>, AllocError> {
-    let mut spans = Vec::new(alloc);
-    spans.push(span(alloc, number, 1)?)?;
+    let spans = list_of(alloc, span(alloc, number, 1)?)?.into_vec();
     entry(alloc, 0, number, "a", spans)
+}
+
+/// Adds so many of these entries.
+fn add_entries(alloc: Global, entries: &mut Vec<Arc<Entry>>, many: u32) -> Result<(), AllocError> {
+    for number in 1..u64::from(many) + 1 {
+        entries.push(numbered(alloc, number)?)?;
+    }
+    Ok(())
 }
 
 /// So many of these entries.
 fn entries_of(alloc: Global, many: u32) -> Result<Vec<Arc<Entry>>, AllocError> {
     let mut entries = Vec::new(alloc);
-    for number in 1..u64::from(many) + 1 {
-        entries.push(numbered(alloc, number)?)?;
-    }
-    Ok(entries)
+    let added = add_entries(alloc, &mut entries, many);
+    kept(entries, added)
 }
 
 /// How many spans, names, operations, traces, ids or links were answered.
@@ -47,11 +53,24 @@ fn answered(
     entries: &[Arc<Entry>],
     query: Query,
 ) -> Result<usize, Fail> {
+    let answer = answer_of(alloc, keys, entries, &query);
+    drop(query);
+    let answer = answer?;
+    let count = count_in(&answer);
+    drop(answer);
+    Ok(count)
+}
+
+/// What a store of the entries answers.
+fn answer_of(
+    alloc: Global,
+    keys: RandomState,
+    entries: &[Arc<Entry>],
+    query: &Query,
+) -> Result<Answer, Fail> {
     let limits = Limits::new(MANY, MANY, 0, 0).ok_or("limits")?;
-    let Ok(answer) = replayed_answer(alloc, keys, limits, entries, &query) else {
-        return Err("refused".into());
-    };
-    Ok(count_in(&answer))
+    let answer = replayed_answer(alloc, keys, limits, entries, query);
+    Ok(answer.ok().ok_or("refused")?)
 }
 
 fn all_of_a(alloc: Global) -> Result<Find, AllocError> {
@@ -110,32 +129,46 @@ fn found_counts(
     Ok([traces, ids])
 }
 
+/// How many of each.
+type Counts = ([usize; 4], [usize; 2]);
+
+/// Both among the entries.
+fn counts_among(alloc: Global, keys: RandomState, entries: &[Arc<Entry>]) -> Result<Counts, Fail> {
+    let names = name_counts(alloc, keys, entries)?;
+    Ok((names, found_counts(alloc, keys, entries)?))
+}
+
+/// Both among many entries.
+fn counts(alloc: Global, keys: RandomState) -> Result<Counts, Fail> {
+    let entries = entries_of(alloc, MANY)?;
+    let counts = counts_among(alloc, keys, &entries);
+    drop(entries);
+    counts
+}
+
 /// No answer gives up past a size.
 #[test]
 fn store_of_many_entries(rt: HostRuntime) -> Result<(), Fail> {
-    let alloc = rt.alloc();
-    let keys = RandomState::new(&rt)?;
-    let entries = entries_of(alloc, MANY)?;
-    assert_eq!(rt; name_counts(alloc, keys, &entries)?, [1, 1, 1, 1]);
-    assert_eq!(rt; found_counts(alloc, keys, &entries)?, [10_000, 10_000]);
+    let counts = counts(rt.alloc(), RandomState::new(&rt)?)?;
+    assert_eq!(rt; counts, ([1, 1, 1, 1], [10_000, 10_000]));
     Ok(())
 }
 
-/// Three entries of a trace each.
-fn three(alloc: Global) -> Result<Vec<Arc<Entry>>, AllocError> {
-    let mut entries = Vec::new(alloc);
-    for number in 1..4 {
-        entries.push(numbered(alloc, number)?)?;
-    }
-    Ok(entries)
+/// How many spans there are.
+fn counted(spans: Vec<Placed>) -> usize {
+    let count = spans.len();
+    drop(spans);
+    count
 }
 
 /// How many spans of the trace of this number the plain store shows, if it shows the trace.
 fn shown_plainly(alloc: Global, limit: u32, number: u64) -> Result<Option<usize>, Fail> {
     let limits = Limits::new(3, 3, limit, 0).ok_or("limits")?;
-    let entries = three(alloc)?;
-    match get_trace(alloc, &entries, limits, id(number))? {
-        Some(spans) => Ok(Some(spans.len())),
+    let entries = entries_of(alloc, 3)?;
+    let found = get_trace(alloc, &entries, limits, id(number));
+    drop(entries);
+    match found? {
+        Some(spans) => Ok(Some(counted(spans))),
         None => Ok(None),
     }
 }

@@ -1,24 +1,16 @@
 ghost use Rattle.std.specs.Prelude.{◌<◌};
 
-use crate::entries::entry;
+use crate::entries::{entry, kept};
 use jaeger_model::{Placed, Span, Text};
 use plain_store::{operation_names, operations, plain_answer, services};
 use span_store::replayed_answer;
 use std::alloc::{AllocError, Global};
 use std::hash::RandomState;
-use std::process::Abort;
+use std::mem::drop;
 use std::sync::Arc;
 use std::test::*;
 use trace_model::{Answer, Entry, Limits, Operation, Query};
 use trace_samples::{list_of, placed, span, text_tag};
-
-fn texts(alloc: Global, words: &[&str]) -> Result<Vec<Text>, AllocError> {
-    let mut all = Vec::new(alloc);
-    for word in words {
-        all.push(Text::from_str(alloc, word)?)?;
-    }
-    Ok(all)
-}
 
 /// Service, operation and kind, as they are added.
 const ADDED: [(&str, &str, &str); 5] = [
@@ -31,22 +23,69 @@ const ADDED: [(&str, &str, &str); 5] = [
 
 /// A span of the operation, with a tag for its kind.
 fn named_span(alloc: Global, id: u64, operation: &str, kind: &str) -> Result<Span, AllocError> {
+    let operation = Text::from_str(alloc, operation)?;
     let mut span = span(alloc, 1, id)?;
-    span.operation = Text::from_str(alloc, operation)?;
-    span.tags = list_of(alloc, text_tag(alloc, "span.kind", kind)?)?;
-    Ok(span)
+    span.operation = operation;
+    let tagged = tag_kind(alloc, &mut span, kind);
+    kept(span, tagged)
 }
 
-/// A history of one entry for each of these: service, operation and kind.
+/// Gives the span a tag for its kind alone.
+fn tag_kind(alloc: Global, span: &mut Span, kind: &str) -> Result<(), AllocError> {
+    span.tags = list_of(alloc, text_tag(alloc, "span.kind", kind)?)?;
+    Ok(())
+}
+
+/// An entry of one span: service, operation and kind.
+fn named_entry(
+    alloc: Global,
+    number: u64,
+    (service, operation, kind): (&str, &str, &str),
+) -> Result<Arc<Entry>, AllocError> {
+    let spans = list_of(alloc, named_span(alloc, number, operation, kind)?)?;
+    entry(alloc, 0, number, service, spans.into_vec())
+}
+
+/// Adds an entry for each of these: service, operation and kind.
+fn add_told(
+    alloc: Global,
+    entries: &mut Vec<Arc<Entry>>,
+    added: &[(&str, &str, &str)],
+) -> Result<(), AllocError> {
+    for (place, row) in added.iter().enumerate() {
+        entries.push(named_entry(alloc, place as u64 + 1, *row)?)?;
+    }
+    Ok(())
+}
+
+/// A history of one entry for each of these.
 fn told(alloc: Global, added: &[(&str, &str, &str)]) -> Result<Vec<Arc<Entry>>, AllocError> {
     let mut entries = Vec::new(alloc);
-    for (place, (service, operation, kind)) in added.iter().enumerate() {
-        let number = place as u64 + 1;
-        let mut spans = Vec::new(alloc);
-        spans.push(named_span(alloc, number, operation, kind)?)?;
-        entries.push(entry(alloc, 0, number, service, spans)?)?;
-    }
-    Ok(entries)
+    let added = add_told(alloc, &mut entries, added);
+    kept(entries, added)
+}
+
+/// What the store of these entries answers, to a question that is given up behind that.
+fn answer_to(
+    alloc: Global,
+    keys: RandomState,
+    entries: &[Arc<Entry>],
+    query: Query,
+) -> Result<Answer, Fail> {
+    let answer = store_answer(alloc, keys, entries, &query);
+    drop(query);
+    answer
+}
+
+fn operation_names_of(alloc: Global, service: &str) -> Result<Query, AllocError> {
+    let service = Text::from_str(alloc, service)?;
+    Ok(Query::OperationNames { service })
+}
+
+fn operations_query(alloc: Global, service: &str, kind: &str) -> Result<Query, AllocError> {
+    let service = Text::from_str(alloc, service)?;
+    let kind = Text::from_str(alloc, kind)?;
+    Ok(Query::Operations { service, kind })
 }
 
 /// The services that the store of these entries names.
@@ -55,7 +94,7 @@ fn services_of(
     keys: RandomState,
     entries: &[Arc<Entry>],
 ) -> Result<Vec<Text>, Fail> {
-    names_in(store_answer(alloc, keys, entries, &Query::Services)?)
+    names_in(answer_to(alloc, keys, entries, Query::Services)?)
 }
 
 /// The operations of a service that the store of these entries names.
@@ -65,9 +104,8 @@ fn names_of(
     entries: &[Arc<Entry>],
     service: &str,
 ) -> Result<Vec<Text>, Fail> {
-    let service = Text::from_str(alloc, service)?;
-    let query = Query::OperationNames { service };
-    names_in(store_answer(alloc, keys, entries, &query)?)
+    let query = operation_names_of(alloc, service)?;
+    names_in(answer_to(alloc, keys, entries, query)?)
 }
 
 /// The operations of a service with a kind that the store of these entries lists.
@@ -78,41 +116,107 @@ fn operations_of(
     service: &str,
     kind: &str,
 ) -> Result<Vec<Operation>, Fail> {
-    let service = Text::from_str(alloc, service)?;
-    let kind = Text::from_str(alloc, kind)?;
-    match store_answer(alloc, keys, entries, &Query::Operations { service, kind })? {
-        Answer::Operations(found) => Ok(found.into_vec()),
-        _ => Err("another answer")?,
-    }
+    let query = operations_query(alloc, service, kind)?;
+    operations_in(answer_to(alloc, keys, entries, query)?)
+}
+
+/// Whether these are the services that are named.
+fn has_services(
+    alloc: Global,
+    keys: RandomState,
+    entries: &[Arc<Entry>],
+    wanted: &[&str],
+) -> Result<bool, Fail> {
+    Ok(is_named(&services_of(alloc, keys, entries)?, wanted))
+}
+
+/// Whether these are the operations of the service that are named.
+fn has_names(
+    alloc: Global,
+    keys: RandomState,
+    entries: &[Arc<Entry>],
+    service: &str,
+    wanted: &[&str],
+) -> Result<bool, Fail> {
+    Ok(is_named(&names_of(alloc, keys, entries, service)?, wanted))
+}
+
+/// Whether these are the names.
+fn is_named(names: &[Text], wanted: &[&str]) -> bool {
+    names.len() == wanted.len()
+        && names
+            .iter()
+            .zip(wanted)
+            .all(|(name, word)| name.as_str() == *word)
+}
+
+/// What the entries of `ADDED` are named by.
+fn names_added(
+    alloc: Global,
+    keys: RandomState,
+    entries: &[Arc<Entry>],
+) -> Result<[bool; 3], Fail> {
+    Ok([
+        has_services(alloc, keys, entries, &["b", "c"])?,
+        has_names(alloc, keys, entries, "c", &["add", "get"])?,
+        has_names(alloc, keys, entries, "get", &[])?,
+    ])
+}
+
+/// The same of a history of them.
+fn names_once(alloc: Global, keys: RandomState) -> Result<[bool; 3], Fail> {
+    let entries = told(alloc, &ADDED)?;
+    let names = names_added(alloc, keys, &entries);
+    drop(entries);
+    names
 }
 
 #[test]
 fn names_once_in_order(rt: HostRuntime) -> Result<(), Fail> {
     let alloc = rt.alloc();
     let keys = RandomState::new(&rt)?;
-    assert!(rt; services_of(alloc, keys, &[])?.is_empty());
-    let entries = told(alloc, &ADDED)?;
-    assert!(rt; services_of(alloc, keys, &entries)? == texts(alloc, &["b", "c"])?);
-    assert!(rt; names_of(alloc, keys, &entries, "c")? == texts(alloc, &["add", "get"])?);
-    assert!(rt; names_of(alloc, keys, &entries, "get")?.is_empty());
+    assert!(rt; has_services(alloc, keys, &[], &[])?);
+    assert_eq!(rt; names_once(alloc, keys)?, [true; 3]);
     Ok(())
+}
+
+/// Adds entries without spans, of service `a`, before and behind one of service `b`.
+fn add_without_spans(alloc: Global, entries: &mut Vec<Arc<Entry>>) -> Result<(), AllocError> {
+    entries.push(entry(alloc, 0, 1, "a", Vec::new(alloc))?)?;
+    entries.push(named_entry(alloc, 2, ("b", "get", "client"))?)?;
+    entries.push(entry(alloc, 0, 3, "a", Vec::new(alloc))?)?;
+    Ok(())
+}
+
+/// What these are named by.
+fn names_without_spans(
+    alloc: Global,
+    keys: RandomState,
+    entries: &[Arc<Entry>],
+) -> Result<[bool; 4], Fail> {
+    Ok([
+        has_services(alloc, keys, entries, &["b"])?,
+        has_names(alloc, keys, entries, "a", &[])?,
+        has_names(alloc, keys, entries, "b", &["get"])?,
+        operations_of(alloc, keys, entries, "a", "")?.is_empty(),
+    ])
+}
+
+/// The same of a history of them.
+fn named_without_spans(alloc: Global, keys: RandomState) -> Result<[bool; 4], Fail> {
+    let mut entries = Vec::new(alloc);
+    let added = add_without_spans(alloc, &mut entries);
+    let entries = kept(entries, added)?;
+    let names = names_without_spans(alloc, keys, &entries);
+    drop(entries);
+    names
 }
 
 /// A batch without spans has a service, but no arrival has it: it is named nowhere.
 #[test]
 fn service_without_spans(rt: HostRuntime) -> Result<(), Fail> {
-    let alloc = rt.alloc();
-    let keys = RandomState::new(&rt)?;
-    let mut entries = Vec::new(alloc);
-    entries.push(entry(alloc, 0, 1, "a", Vec::new(alloc))?)?;
-    let mut spans = Vec::new(alloc);
-    spans.push(named_span(alloc, 1, "get", "client")?)?;
-    entries.push(entry(alloc, 0, 2, "b", spans)?)?;
-    entries.push(entry(alloc, 0, 3, "a", Vec::new(alloc))?)?;
-    assert!(rt; services_of(alloc, keys, &entries)? == texts(alloc, &["b"])?);
-    assert!(rt; names_of(alloc, keys, &entries, "a")?.is_empty());
-    assert!(rt; names_of(alloc, keys, &entries, "b")? == texts(alloc, &["get"])?);
-    assert!(rt; operations_of(alloc, keys, &entries, "a", "")?.is_empty());
+    let named = named_without_spans(rt.alloc(), RandomState::new(&rt)?)?;
+    assert_eq!(rt; named, [true; 4]);
     Ok(())
 }
 
@@ -123,19 +227,48 @@ const ASKED: [(&str, &[(&str, &str)]); 3] = [
     ("internal", &[]),
 ];
 
+/// Whether these are the operations.
+fn is_listed(found: &[Operation], wanted: &[(&str, &str)]) -> bool {
+    found.len() == wanted.len()
+        && found.iter().zip(wanted).all(|(one, (name, kind))| one.name.as_str() == *name
+            && one.kind.as_str() == *kind)
+}
+
+/// Whether these are the operations of `c` with the kind.
+fn has_operations(
+    alloc: Global,
+    keys: RandomState,
+    entries: &[Arc<Entry>],
+    kind: &str,
+    wanted: &[(&str, &str)],
+) -> Result<bool, Fail> {
+    Ok(is_listed(&operations_of(alloc, keys, entries, "c", kind)?, wanted))
+}
+
+/// How many of the rows the store of these entries lists as they say, each behind the ones before.
+fn listed(alloc: Global, keys: RandomState, entries: &[Arc<Entry>]) -> Result<usize, Fail> {
+    let mut listed = 0usize;
+    for (kind, wanted) in ASKED {
+        if !has_operations(alloc, keys, entries, kind, wanted)? {
+            break;
+        }
+        listed = listed.saturating_add(1);
+    }
+    Ok(listed)
+}
+
+/// The same of the history of `ADDED`.
+fn listed_by_kind(alloc: Global, keys: RandomState) -> Result<usize, Fail> {
+    let entries = told(alloc, &ADDED)?;
+    let listed = listed(alloc, keys, &entries);
+    drop(entries);
+    listed
+}
+
 #[test]
 fn operations_by_kind(rt: HostRuntime) -> Result<(), Fail> {
-    let alloc = rt.alloc();
-    let keys = RandomState::new(&rt)?;
-    let entries = told(alloc, &ADDED)?;
-    for (kind, wanted) in ASKED {
-        let found = operations_of(alloc, keys, &entries, "c", kind)?;
-        assert_eq!(rt; found.len(), wanted.len());
-        for (operation, (name, kind)) in found.iter().zip(wanted) {
-            assert_eq!(rt; operation.name.as_str(), *name);
-            assert_eq!(rt; operation.kind.as_str(), *kind);
-        }
-    }
+    let listed = listed_by_kind(rt.alloc(), RandomState::new(&rt)?)?;
+    assert_eq!(rt; listed, ASKED.len());
     Ok(())
 }
 
@@ -161,73 +294,150 @@ const WORDS: [&str; 4] = ["", "a", "ab", "b"];
 
 const KINDS: [&str; 4] = ["client", "server", "unheard of", ""];
 
-/// A span of any operation and kind.
-fn any_span(alloc: Global, dice: &mut Dice) -> Result<Span, AllocError> {
-    let operation = WORDS[dice.roll(4) as usize];
-    let kind = KINDS[dice.roll(4) as usize];
-    named_span(alloc, 1, operation, kind)
+/// The store lists the same operations of the service with the kind as the plain store.
+fn same_operations(
+    alloc: Global,
+    keys: RandomState,
+    (entries, spans): (&[Arc<Entry>], &[Placed]),
+    (word, kind): (&str, &str),
+) -> Result<bool, Fail> {
+    let (service, asked) = (Text::from_str(alloc, word)?, Text::from_str(alloc, kind)?);
+    let plain = operations(alloc, spans, &service, &asked)?;
+    Ok(operations_of(alloc, keys, entries, word, kind)? == plain)
+}
+
+/// The store names the same operations of the service as the plain store.
+fn same_names(
+    alloc: Global,
+    keys: RandomState,
+    (entries, spans): (&[Arc<Entry>], &[Placed]),
+    word: &str,
+) -> Result<bool, Fail> {
+    let service = Text::from_str(alloc, word)?;
+    let plain = operation_names(alloc, spans, &service)?;
+    Ok(names_of(alloc, keys, entries, word)? == plain)
+}
+
+/// The store names the same services as the plain store.
+fn same_services(
+    alloc: Global,
+    keys: RandomState,
+    (entries, spans): (&[Arc<Entry>], &[Placed]),
+) -> Result<bool, Fail> {
+    let plain = services(alloc, spans)?;
+    Ok(services_of(alloc, keys, entries)? == plain)
 }
 
 /// The same questions to the store of the entries and to the plain store of their spans.
-fn expect_same(
-    rt: &impl Abort,
+fn same_named(
     alloc: Global,
     keys: RandomState,
     entries: &[Arc<Entry>],
     spans: &[Placed],
-) -> Result<(), Fail> {
-    assert!(rt; services_of(alloc, keys, entries)? == services(alloc, spans)?);
+) -> Result<bool, Fail> {
+    let both = (entries, spans);
+    let mut same = same_services(alloc, keys, both)?;
     for word in WORDS {
-        let service = Text::from_str(alloc, word)?;
-        let names = operation_names(alloc, spans, &service)?;
-        assert!(rt; names_of(alloc, keys, entries, word)? == names);
+        same = same && same_names(alloc, keys, both, word)?;
         for kind in KINDS {
-            let asked = Text::from_str(alloc, kind)?;
-            let plain = operations(alloc, spans, &service, &asked)?;
-            assert!(rt; operations_of(alloc, keys, entries, word, kind)? == plain);
+            same = same && same_operations(alloc, keys, both, (word, kind))?;
         }
+    }
+    Ok(same)
+}
+
+/// Adds a span of the service to what is handed in, and as it stands then.
+fn add_any(
+    alloc: Global,
+    dice: &mut Dice,
+    service: &str,
+    brought: &mut Vec<Span>,
+    spans: &mut Vec<Placed>,
+) -> Result<(), AllocError> {
+    let operation = WORDS[dice.roll(4) as usize];
+    let kind = KINDS[dice.roll(4) as usize];
+    spans.push(placed(alloc, service, named_span(alloc, 1, operation, kind)?)?)?;
+    brought.push(named_span(alloc, 1, operation, kind)?)?;
+    Ok(())
+}
+
+/// Adds so many spans of the service.
+fn add_many(
+    alloc: Global,
+    dice: &mut Dice,
+    service: &str,
+    brought: &mut Vec<Span>,
+    spans: &mut Vec<Placed>,
+) -> Result<(), AllocError> {
+    for _ in 0..dice.roll(3) {
+        add_any(alloc, dice, service, brought, spans)?;
     }
     Ok(())
 }
 
-/// Up to eight entries of up to two spans each, and these spans.
-fn reported(alloc: Global, dice: &mut Dice) -> Result<(Vec<Arc<Entry>>, Vec<Placed>), AllocError> {
+/// An entry of up to two spans, which are added.
+fn any_entry(
+    alloc: Global,
+    dice: &mut Dice,
+    number: u64,
+    spans: &mut Vec<Placed>,
+) -> Result<Arc<Entry>, AllocError> {
+    let service = WORDS[dice.roll(4) as usize];
+    let mut brought = Vec::new(alloc);
+    let added = add_many(alloc, dice, service, &mut brought, spans);
+    entry(alloc, 0, number, service, kept(brought, added)?)
+}
+
+/// Adds up to eight entries of up to two spans each, and these spans.
+fn add_reported(
+    alloc: Global,
+    dice: &mut Dice,
+    entries: &mut Vec<Arc<Entry>>,
+    spans: &mut Vec<Placed>,
+) -> Result<(), AllocError> {
+    for number in 0..dice.roll(9) {
+        entries.push(any_entry(alloc, dice, number + 1, spans)?)?;
+    }
+    Ok(())
+}
+
+/// Some entries are answered as by the plain store of their spans.
+fn agrees(alloc: Global, keys: RandomState, dice: &mut Dice) -> Result<bool, Fail> {
     let mut entries = Vec::new(alloc);
     let mut spans = Vec::new(alloc);
-    for number in 0..dice.roll(9) {
-        let service = WORDS[dice.roll(4) as usize];
-        let mut brought = Vec::new(alloc);
-        for _ in 0..dice.roll(3) {
-            let span = any_span(alloc, dice)?;
-            spans.push(placed(alloc, service, span.clone()?)?)?;
-            brought.push(span)?;
-        }
-        entries.push(entry(alloc, 0, number + 1, service, brought)?)?;
-    }
-    Ok((entries, spans))
+    let same = match add_reported(alloc, dice, &mut entries, &mut spans) {
+        Ok(()) => same_named(alloc, keys, &entries, &spans),
+        Err(why) => Err(Fail::from(why)),
+    };
+    drop(entries);
+    drop(spans);
+    same
 }
 
 #[test]
 fn plain_store_agrees(rt: HostRuntime) -> Result<(), Fail> {
-    let alloc = rt.alloc();
     let keys = RandomState::new(&rt)?;
     let mut dice = Dice { state: 5 };
     for _ in 0..100 {
-        let (entries, spans) = reported(alloc, &mut dice)?;
-        expect_same(&rt, alloc, keys, &entries, &spans)?;
+        assert!(rt; agrees(rt.alloc(), keys, &mut dice)?);
     }
     Ok(())
 }
 
-/// A history of one entry from each of the services.
+/// Adds an entry from each of the services.
+fn add_served(alloc: Global, entries: &mut Vec<Arc<Entry>>) -> Result<(), AllocError> {
+    for (number, service) in [(1, "c"), (2, "b"), (3, "c")] {
+        let spans = list_of(alloc, span(alloc, number, 1)?)?;
+        entries.push(entry(alloc, 0, number, service, spans.into_vec())?)?;
+    }
+    Ok(())
+}
+
+/// A history of these.
 fn served(alloc: Global) -> Result<Vec<Arc<Entry>>, AllocError> {
     let mut entries = Vec::new(alloc);
-    for (number, service) in [(1, "c"), (2, "b"), (3, "c")] {
-        let mut spans = Vec::new(alloc);
-        spans.push(span(alloc, number, 1)?)?;
-        entries.push(entry(alloc, 0, number, service, spans)?)?;
-    }
-    Ok(entries)
+    let added = add_served(alloc, &mut entries);
+    kept(entries, added)
 }
 
 /// Limits by which one trace is shown, so that the first two of that history have left.
@@ -250,53 +460,59 @@ fn store_answer(
 fn names_in(answer: Answer) -> Result<Vec<Text>, Fail> {
     match answer {
         Answer::Names(names) => Ok(names.into_vec()),
-        _ => Err("another answer")?,
+        other => {
+            drop(other);
+            Err("another answer".into())
+        }
     }
 }
 
-/// What the plain store answers of that history.
-fn answer_of(alloc: Global, query: &Query) -> Result<Answer, Fail> {
-    let entries = served(alloc)?;
-    Ok(plain_answer(alloc, &entries, one_trace()?, query)?)
+/// The operations of an answer that is made of operations.
+fn operations_in(answer: Answer) -> Result<Vec<Operation>, Fail> {
+    match answer {
+        Answer::Operations(found) => Ok(found.into_vec()),
+        other => {
+            drop(other);
+            Err("another answer".into())
+        }
+    }
 }
 
-fn expect_names(rt: &impl Abort, answer: &Answer, wanted: &[&str]) {
-    let names = match answer {
-        Answer::Names(names) => names.as_slice(),
-        _ => &[],
+/// What the plain store answers of that history, to a question that is given up behind that.
+fn answer_of(alloc: Global, query: Query) -> Result<Answer, Fail> {
+    let limits = one_trace()?;
+    let entries = served(alloc);
+    let answer = match &entries {
+        Ok(entries) => plain_answer(alloc, entries, limits, &query),
+        Err(_) => Err(AllocError),
     };
-    assert_eq!(rt; names.len(), wanted.len());
-    for (name, wanted) in names.iter().zip(wanted) {
-        assert!(rt; name.as_str() == *wanted);
-    }
+    drop(entries);
+    drop(query);
+    Ok(answer?)
+}
+
+/// Whether the plain store names these, of that history.
+fn has_plainly(alloc: Global, query: Query, wanted: &[&str]) -> Result<bool, Fail> {
+    Ok(is_named(&names_in(answer_of(alloc, query)?)?, wanted))
 }
 
 #[test]
 fn names_plainly(rt: HostRuntime) -> Result<(), Fail> {
     let alloc = rt.alloc();
-    expect_names(&rt, &answer_of(alloc, &Query::Services)?, &["b", "c"]);
-    let service = Text::from_str(alloc, "b")?;
-    let query = Query::OperationNames { service };
-    expect_names(&rt, &answer_of(alloc, &query)?, &["op"]);
+    assert!(rt; has_plainly(alloc, Query::Services, &["b", "c"])?);
+    assert!(rt; has_plainly(alloc, operation_names_of(alloc, "b")?, &["op"])?);
     Ok(())
 }
 
-/// The operation `op` without a kind, and no other.
-fn expect_one_operation(rt: &impl Abort, answer: &Answer) {
-    let found = match answer {
-        Answer::Operations(found) => found.as_slice(),
-        _ => &[],
-    };
-    assert_eq!(rt; found.len(), 1);
-    assert!(rt; found[0].name.as_str() == "op" && found[0].kind.is_empty());
+/// Whether the plain store lists these operations of `b` of that history.
+fn lists_plainly(alloc: Global, wanted: &[(&str, &str)]) -> Result<bool, Fail> {
+    let query = operations_query(alloc, "b", "")?;
+    Ok(is_listed(&operations_in(answer_of(alloc, query)?)?, wanted))
 }
 
+/// The operation `op` without a kind, and no other.
 #[test]
 fn one_operation_plainly(rt: HostRuntime) -> Result<(), Fail> {
-    let alloc = rt.alloc();
-    let service = Text::from_str(alloc, "b")?;
-    let kind = Text::new(alloc);
-    let answer = answer_of(alloc, &Query::Operations { service, kind })?;
-    expect_one_operation(&rt, &answer);
+    assert!(rt; lists_plainly(rt.alloc(), &[("op", "")])?);
     Ok(())
 }

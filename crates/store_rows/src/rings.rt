@@ -15,21 +15,21 @@ use trace_samples::span;
 fn arrive(rt: &impl Abort, ring: &mut Ring, trace: TraceId) -> Arrived {
     assert!(rt; ring.has_room());
     assert!(rt; ring.limit() == 0 || ring.len() <= ring.limit() as usize);
-    ring.arrive(trace)
+    ring.arrive_near(0, trace)
 }
 
 #[test]
 fn late_spans_renew_nothing(rt: HostRuntime) -> Result<(), Fail> {
     let mut ring = Ring::with_room(rt.alloc(), RandomState::new(&rt)?, 2, 4)?;
-    for (trace, opened, left) in [
-        (1, true, None),
-        (2, true, None),
-        (1, false, None),
-        (3, true, Some(id(1))),
-        (1, true, Some(id(2))),
+    for (trace, opened, left, row) in [
+        (1, true, None, 0),
+        (2, true, None, 1),
+        (1, false, None, 0),
+        (3, true, Some(id(1)), 2),
+        (1, true, Some(id(2)), 0),
     ] {
         let arrived = arrive(&rt, &mut ring, id(trace));
-        assert_eq!(rt; arrived, Arrived { opened, left }, "trace {trace}");
+        assert_eq!(rt; arrived, Arrived { opened, left, row }, "trace {trace}");
     }
     assert_eq!(rt; ring.place(id(3)), Some(0));
     assert_eq!(rt; ring.place(id(1)), Some(1));
@@ -61,7 +61,7 @@ fn spot(place: u64) -> Spot {
 /// Adds a spot, for which there must be room.
 fn add(rt: &impl Abort, assembly: &mut Assembly, trace: TraceId, place: u64) {
     assert!(rt; assembly.has_room());
-    assembly.add(trace, spot(place));
+    assembly.add_near(0, trace, spot(place));
 }
 
 #[test]

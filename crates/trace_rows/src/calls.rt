@@ -1,11 +1,11 @@
-use crate::histories::{CYCLE, Row as Reported, answer_of};
-use call_links::links;
+use crate::histories::{CYCLE, Row as Reported, answer_of, store_answer_to};
 use jaeger_model::{Placed, Span, SpanId};
 use std::alloc::{AllocError, Global};
+use std::hash::RandomState;
 use std::process::Abort;
 use std::test::*;
 use trace_model::{Answer, Link, Query};
-use trace_samples::{placed, seen_traces, span};
+use trace_samples::{placed, span};
 
 /// Service, id, parent and start of a span.
 type Row = (&'static str, u64, u64, i64);
@@ -30,19 +30,19 @@ fn trace_of(alloc: Global, rows: &[Row]) -> Result<Vec<Placed>, AllocError> {
     Ok(trace)
 }
 
-fn traces_of(alloc: Global, traces: &[&[Row]]) -> Result<Vec<Vec<Placed>>, AllocError> {
-    let mut all = Vec::new(alloc);
-    for rows in traces {
-        all.push(trace_of(alloc, *rows)?)?;
-    }
-    Ok(all)
-}
-
-/// The calls between services within the end and the lookback.
-fn links_of(alloc: Global, traces: &[&[Row]], window: (i64, i64)) -> Result<Vec<Link>, AllocError> {
-    let traces = traces_of(alloc, traces)?;
-    let seen = seen_traces(alloc, &traces)?;
-    links(alloc, &seen, window.0, window.1)
+/// The calls between services that the store answers of a history of these spans, within the end and
+/// the lookback.
+fn links_of(
+    alloc: Global,
+    keys: RandomState,
+    rows: &[Row],
+    window: (i64, i64),
+) -> Result<Answer, Fail> {
+    let query = Query::Links {
+        end_ms: window.0,
+        lookback_ms: window.1,
+    };
+    store_answer_to(alloc, keys, trace_of(alloc, rows)?, query)
 }
 
 fn expect_links(rt: &impl Abort, found: &[Link], wanted: &[(&str, &str, u64)]) {
@@ -51,6 +51,13 @@ fn expect_links(rt: &impl Abort, found: &[Link], wanted: &[(&str, &str, u64)]) {
         assert!(rt; link.parent.as_str() == *parent);
         assert!(rt; link.child.as_str() == *child);
         assert_eq!(rt; link.calls, *calls);
+    }
+}
+
+fn links_in(answer: &Answer) -> &[Link] {
+    match answer {
+        Answer::Links(links) => links.as_slice(),
+        _ => &[],
     }
 }
 
@@ -76,11 +83,12 @@ const WINDOWS: [(i64, i64, i64, bool); 15] = [
 #[test]
 fn calls_in_a_window(rt: HostRuntime) -> Result<(), Fail> {
     let alloc = rt.alloc();
+    let keys = RandomState::new(&rt)?;
     for (start, end_ms, lookback_ms, is_counted) in WINDOWS {
         let rows = [("a", 1, 0, start), ("b", 2, 1, start)];
-        let found = links_of(alloc, &[&rows], (end_ms, lookback_ms))?;
+        let found = links_of(alloc, keys, &rows, (end_ms, lookback_ms))?;
         assert_eq!(rt;
-            found.len() == 1,
+            links_in(&found).len() == 1,
             is_counted,
             "{start} {end_ms} {lookback_ms}"
         );
@@ -100,13 +108,6 @@ const PLAIN_LINKS: [(&[Reported], i64, i64, &[(&str, &str, u64)]); 4] = [
     (&CALL, 1, 2, &[]),
     (&CYCLE, 10, 86_400_000, &[("a", "b", 1), ("b", "a", 1)]),
 ];
-
-fn links_in(answer: &Answer) -> &[Link] {
-    match answer {
-        Answer::Links(links) => links.as_slice(),
-        _ => &[],
-    }
-}
 
 #[test]
 fn calls_plainly(rt: HostRuntime) -> Result<(), Fail> {

@@ -3,7 +3,7 @@
 //! What `pipe` shows of the store stands in `cases/`.
 //!
 //! * `searches`: `find_traces`, and searches of the stores.
-//! * `calls`: `call_links`, and the dependencies of the plain store.
+//! * `calls`: the dependencies of the stores.
 //! * `adjusters`: `trace_adjust`, and the shown traces of the plain store.
 //! * `histories`: histories of single spans, of which the stores are asked.
 #![tactic(auto)]

@@ -4,6 +4,8 @@ ghost use Rattle.std.specs.Prelude.{◌≡◌};
 ghost use mathlib.Core.List.{IsPrefix};
 
 use crate::gate::Gate;
+use crate::notices::Notices;
+use intake::{DeskName, SharedClerk};
 use jaeger_model::Batch;
 use live_store::Live;
 use read_side::{Receipt, StoreName};
@@ -13,17 +15,19 @@ use std::sync::Wait;
 use store_backend::Backend;
 use trace_model::{Answer, Query, Refusal};
 
-/// A worker's store, of whose calls the gate hears. Contracts see the store alone.
+/// A worker's store, of whose calls the gate hears, and which does the clerk's work while it waits. Contracts see the store alone.
 #[derive(Drop)]
-pub(crate) struct Gated<'a, N: StoreName, G, R> {
+pub(crate) struct Gated<'a, 'k, N: StoreName, D: DeskName, G, R> {
     rt: &'a R,
     gate: &'a G,
+    notices: &'a Notices,
+    clerk: &'a SharedClerk<'k, N, D>,
     worker: u32,
     calls: u64,
     live: Live<N>,
 }
 
-impl<'a, N: StoreName, G, R> Model for Gated<'a, N, G, R> {
+impl<'a, 'k, N: StoreName, D: DeskName, G, R> Model for Gated<'a, 'k, N, D, G, R> {
     ghost use Rattle.live_store.specs.Sharing.{LiveValue};
 
     ghost Value = { LiveValue };
@@ -31,14 +35,23 @@ impl<'a, N: StoreName, G, R> Model for Gated<'a, N, G, R> {
     ghost view = { λ g. g.live };
 }
 
-impl<'a, N: StoreName, G, R> Gated<'a, N, G, R> {
+impl<'a, 'k, N: StoreName, D: DeskName, G, R> Gated<'a, 'k, N, D, G, R> {
     /// The store of the worker with this number.
-    pub(crate) fn new(rt: &'a R, gate: &'a G, worker: u32, live: Live<N>) -> Gated<'a, N, G, R>
+    pub(crate) fn new(
+        rt: &'a R,
+        gate: &'a G,
+        notices: &'a Notices,
+        clerk: &'a SharedClerk<'k, N, D>,
+        worker: u32,
+        live: Live<N>,
+    ) -> Gated<'a, 'k, N, D, G, R>
         ensures { result ≡ live }
     {
         Gated {
             rt,
             gate,
+            notices,
+            clerk,
             worker,
             calls: 0,
             live,
@@ -52,6 +65,8 @@ impl<'a, N: StoreName, G, R> Gated<'a, N, G, R> {
         let Gated {
             rt: _,
             gate: _,
+            notices: _,
+            clerk: _,
             worker: _,
             calls: _,
             live,
@@ -69,7 +84,8 @@ impl<'a, N: StoreName, G, R> Gated<'a, N, G, R> {
     }
 }
 
-impl<'a, N: StoreName, G: Gate, R: Wait> Backend<R> for Gated<'a, N, G, R> {
+impl<'a, 'k, N: StoreName, D: DeskName, G: Gate, R: Wait + Eprint> Backend<R>
+    for Gated<'a, 'k, N, D, G, R> {
     ghost use Rattle.live_store.specs.Sharing.{LiveKnows, LiveSubmits, LiveReads};
     ghost use Rattle.live_store.specs.Sharing.{submit_knows, read_knows};
 
@@ -88,8 +104,11 @@ impl<'a, N: StoreName, G: Gate, R: Wait> Backend<R> for Gated<'a, N, G, R> {
     fn submit(&mut self, rt: &R, alloc: Global, batch: Batch) -> Result<u64, Refusal> {
         self.calls = self.calls.saturating_add(1);
         self.gate.before(self.rt, self.worker, self.calls);
-        let place = self.live.submit(rt, alloc, batch);
+        let place = self.live.submit_shared(rt, alloc, self.clerk, batch);
         self.gate.after(self.rt, self.worker, self.calls);
+        if let Err(Refusal::JournalFull { .. }) = place {
+            self.notices.say_full(self.rt);
+        }
         place
     }
 

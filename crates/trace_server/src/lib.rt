@@ -12,7 +12,8 @@
 //! * `connection`: one connection, from its first byte to its last.
 //! * `worker`: a worker, who serves one connection after the other. `threads`: work among threads.
 //! * `shared`: a store with its desk and its clerk, which all workers share.
-//! * `ending`: how every seat is taken in at the end. `reporting`: what it says of itself.
+//! * `ending`: how every seat is taken in at the end. `reporting`: what it says of itself on its output.
+//! * `notices`: what an operator is told on standard error.
 //! * `serving`: [`serve_with`].
 #![tactic(auto)]
 
@@ -20,6 +21,7 @@ mod connection;
 mod ending;
 mod gate;
 mod gated;
+mod notices;
 mod options;
 mod reporting;
 mod serving;

@@ -1,6 +1,6 @@
 //! Serving on a socket.
 
-ghost use Rattle.std.specs.Prelude.{◌≡◌, ◌≤◌, [], false, map, IfOk, IfSome};
+ghost use Rattle.std.specs.Prelude.{◌≡◌, ◌≤◌, [], false, map, IfOk};
 ghost use Rattle.read_side.specs.Keepers.{no_entries};
 ghost use Rattle.intake.specs.Turns.{IsNewClerk};
 ghost use Rattle.trace_server.specs.Serving.{OneForEach, Reports, Serves};
@@ -8,56 +8,37 @@ ghost use Rattle.trace_server.specs.WorkerSeats.{AreNew, GoOn, HasJudged};
 
 use crate::ending::{close_books, close_store};
 use crate::gate::Gate;
+use crate::notices::{Notices, say_limits};
 use crate::options::Options;
 use crate::reporting::{report, report_unclosed, say_listening, together};
 use crate::shared::SharedStore;
 use crate::threads::each_done;
 use crate::worker::{Server, WorkerOutcome};
-use intake::{Books, Clerk, Ledger};
+use intake::{Books, DeskName, SharedClerk};
 use live_store::Live;
-use read_side::{Keeper, Opened, StoreName};
+use read_side::{Opened, StoreName};
 use session_devices::Output;
 use std::alloc::{AllocError, Global};
 use std::marker::Brand;
 use std::net::TcpListener;
 use std::sync::Wait;
 use std::sync::atomic::AtomicU64;
-use std::thread::{Threads, join, spawn};
+use std::thread::{Threads, spawn};
 use std::time::Clock;
 use trace_model::Limits;
 
-/// Has the clerk serve until the desk is closed. The keeper of an empty store waits in the slot, before and
-/// afterwards.
-fn keep<N: StoreName, R: Wait>(
-    rt: &R,
-    clerk: Clerk<N>,
-    slot: &mut Option<Keeper<N>>,
-) -> Option<Ledger<N>>
-    requires keeper { IfSome slot.old (λ k. k ≡ no_entries) }
-    requires clerk { IsNewClerk clerk }
-    ensures judged { IfSome result (λ l.
-        HasJudged N.limits l.inbox.taken l.accounts l.acknowledged l.refused) }
-    ensures left { IfSome result (λ l. l.left.items ≡ []) }
-    ensures desk { IfSome result (λ l. l.inbox.desk ≡ clerk.desk) }
-{
-    let keeper = slot.take()?;
-    let (keeper, ledger) = clerk.run(rt, keeper).split();
-    if let Some(other) = slot.replace(keeper) {
-        other.close(rt);
-    }
-    Some(ledger)
-}
-
 /// What the clerk leaves, and what the workers did, each with its ends of the store.
-type Left<N> = (
-    Option<Books<N>>,
-    Result<Vec<(WorkerOutcome, Live<N>)>, AllocError>,
-);
+type Left<N> = (Books<N>, Result<Vec<(WorkerOutcome, Live<N>)>, AllocError>);
 
 /// Has each worker serve until all sessions are over.
-fn work_all<N: StoreName + Send + Sync, G: Gate + Sync, R: Threads + Wait + Clock + Sync>(
+fn work_all<
+    N: StoreName + Send + Sync,
+    D: DeskName + Send + Sync,
+    G: Gate + Sync,
+    R: Threads + Wait + Clock + Eprint + Sync,
+>(
     rt: &R,
-    server: &Server<'_, N, G>,
+    server: &Server<'_, '_, N, D, G>,
     lives: Vec<(u32, Live<N>)>,
 ) -> Result<Vec<(WorkerOutcome, Live<N>)>, AllocError>
     ensures { IfOk result (λ v. GoOn (map (λ p. p.1.seat) lives.items)
@@ -66,8 +47,13 @@ fn work_all<N: StoreName + Send + Sync, G: Gate + Sync, R: Threads + Wait + Cloc
     each_done(rt, server, lives)
 }
 
-/// Has the workers serve beside the clerk until all sessions are over.
-fn serve_sessions<N: StoreName + Send + Sync, G: Gate + Sync, R: Threads + Wait + Clock + Sync>(
+/// Has the workers serve, and do the clerk's work, until all sessions are over.
+fn serve_sessions<
+    N: StoreName + Send + Sync,
+    D: DeskName + Send + Sync,
+    G: Gate + Sync,
+    R: Threads + Wait + Clock + Eprint + Sync,
+>(
     rt: &R,
     alloc: Global,
     shared: SharedStore<N>,
@@ -77,10 +63,11 @@ fn serve_sessions<N: StoreName + Send + Sync, G: Gate + Sync, R: Threads + Wait 
 ) -> Left<N>
     requires keeper { shared.keeper ≡ no_entries }
     requires clerk { IsNewClerk shared.clerk }
-    ensures judged { IfSome result.0 (λ b.
-        HasJudged N.limits b.inbox.taken b.accounts b.acknowledged b.refused) }
-    ensures left { IfSome result.0 (λ b. b.left.items ≡ []) }
-    ensures desk { IfSome result.0 (λ b. b.inbox.desk ≡ shared.clerk.desk) }
+    requires desk { shared.clerk.desk ≡ D.desk }
+    ensures judged { HasJudged N.limits result.0.inbox.taken result.0.accounts
+        result.0.acknowledged result.0.refused }
+    ensures left { result.0.left.items ≡ [] }
+    ensures desk { result.0.inbox.desk ≡ shared.clerk.desk }
     ensures seats { IfOk result.1 (λ v. GoOn (map (λ p. p.1.seat) shared.lives.items)
         (map (λ w. w.1.seat) v.items)) }
 {
@@ -90,36 +77,27 @@ fn serve_sessions<N: StoreName + Send + Sync, G: Gate + Sync, R: Threads + Wait 
         clerk,
         lives,
     } = shared;
-    let mut slot = Some(keeper);
+    let mut keeper = keeper;
+    let clerk = SharedClerk::<N, D>::new(clerk, &mut keeper);
     let claimed = AtomicU64::new(0);
-    let server = Server {
-        alloc,
-        listener,
-        desk: &desk,
-        gate,
-        sessions: options.sessions,
-        claimed: &claimed,
-        idle: options.idle,
+    let notices = Notices::new();
+    let workers = {
+        let server = Server {
+            alloc,
+            listener,
+            desk: &desk,
+            gate,
+            notices: &notices,
+            clerk: &clerk,
+            sessions: options.sessions,
+            claimed: &claimed,
+            idle: options.idle,
+        };
+        work_all(rt, &server, lives)
     };
-    let (ledger, workers) = join(
-        rt,
-        || keep(rt, clerk, &mut slot),
-        || {
-            let workers = work_all(rt, &server, lives);
-            desk.close(rt);
-            workers
-        },
-    );
-    // Both are there; the contract of `join` doesn't say what is left in the slot.
-    let books = match (slot, ledger) {
-        (Some(keeper), Some(ledger)) => Some(ledger.with(keeper)),
-        (Some(keeper), None) => {
-            keeper.close(rt);
-            None
-        }
-        (None, _) => None,
-    };
-    (books, workers)
+    desk.close(rt);
+    let clerk = clerk.finish(rt);
+    (clerk.leave(keeper), workers)
 }
 
 /// Has the store served, closes its books and the store, reports, and gives the exit status.
@@ -127,7 +105,7 @@ fn serve_store<
     N: StoreName + Send + Sync,
     G: Gate + Sync,
     W: Output,
-    R: Threads + Wait + Clock + Sync,
+    R: Threads + Wait + Clock + Eprint + Sync,
 >(
     rt: &R,
     alloc: Global,
@@ -145,10 +123,9 @@ fn serve_store<
     ensures { Reports N.limits options.now.workers (map (λ p. p.1.seat) shared.lives.items)
         (W.contents output.old) (W.contents output.new) (W.has_failed output.new) result }
 {
-    let (books, workers) = serve_sessions(rt, alloc, shared, listener, options, gate);
-    let Some(books) = books else {
-        return 5;
-    };
+    let (books, workers) = serve_sessions::<N, Brand, G, R>(
+        rt, alloc, shared, listener, options, gate,
+    );
     let Ok(workers) = workers else {
         close_store(rt, books);
         return 5;
@@ -176,7 +153,7 @@ fn serve_named<
     N: StoreName + Send + Sync,
     G: Gate + Sync,
     W: Output,
-    R: Threads + Wait + Clock + Sync,
+    R: Threads + Wait + Clock + Eprint + Sync,
 >(
     rt: &R,
     alloc: Global,
@@ -205,6 +182,7 @@ fn serve_named<
         shared.close(rt);
         return halt.status();
     }
+    say_limits(rt, &options.limits);
     serve_store(rt, alloc, shared, listener, options, gate, output)
 }
 
@@ -217,7 +195,10 @@ fn serve_named<
 /// one that says how many came and one that says what became of the batches that were handed in: how many
 /// were acknowledged, refused by the store, and left unanswered. A worker serves one connection at a time; an error of a connection ends it
 /// alone. Every call of the store stands between two calls of the gate.
-pub fn serve_with<G: Gate + Sync, W: Output, R: Threads + Wait + Clock + Sync>(
+///
+/// An operator is told on standard error how much the store holds at most, that it is full, and why a worker accepts
+/// no more. Nothing of that is in the output.
+pub fn serve_with<G: Gate + Sync, W: Output, R: Threads + Wait + Clock + Eprint + Sync>(
     rt: &R,
     alloc: Global,
     listener: &TcpListener,

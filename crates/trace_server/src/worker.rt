@@ -5,8 +5,9 @@ ghost use Rattle.live_store.specs.Sharing.{GoesOn};
 use crate::connection::attend;
 use crate::gate::Gate;
 use crate::gated::Gated;
+use crate::notices::{Notices, say_accepts_no_more};
 use crate::threads::Task;
-use intake::Desk;
+use intake::{Desk, DeskName, SharedClerk};
 use live_store::Live;
 use read_side::StoreName;
 use std::alloc::Global;
@@ -18,11 +19,13 @@ use std::time::Clock;
 
 /// What all workers share.
 #[derive(Drop)]
-pub(crate) struct Server<'a, N: StoreName, G> {
+pub(crate) struct Server<'a, 'k, N: StoreName, D: DeskName, G> {
     pub(crate) alloc: Global,
     pub(crate) listener: &'a TcpListener,
     pub(crate) desk: &'a Desk<N>,
     pub(crate) gate: &'a G,
+    pub(crate) notices: &'a Notices,
+    pub(crate) clerk: &'a SharedClerk<'k, N, D>,
     /// How many sessions there are to serve; 0 is without end.
     pub(crate) sessions: u32,
     /// How many of them were claimed.
@@ -39,20 +42,24 @@ pub(crate) struct WorkerOutcome {
     pub(crate) failed: bool,
 }
 
-impl<'a, N: StoreName, G: Gate> Server<'a, N, G> {
+impl<'a, 'k, N: StoreName, D: DeskName, G: Gate> Server<'a, 'k, N, D, G> {
     /// Claims a session, so that no more are accepted than there are to serve.
     fn claim(&self) -> bool {
         self.sessions == 0 || self.claimed.fetch_add(1, Ordering::SeqCst) < self.sessions as u64
     }
 
-    /// The next connection. An interrupted call is made again, and so is one whose client has gone.
-    fn accept<R: Wait>(&self, rt: &R) -> Option<TcpStream> {
+    /// The next connection, to the worker with this number. An interrupted call is made again, and so is one
+    /// whose client has gone. Where there can be none, the reason is said.
+    fn accept<R: Wait + Eprint>(&self, rt: &R, worker: u32) -> Option<TcpStream> {
         for _ in rt.forever() {
             match self.listener.accept() {
                 Ok((stream, _)) => return Some(stream),
                 Err(error) => match error.kind() {
                     ErrorKind::Interrupted | ErrorKind::ConnectionAborted => {}
-                    _ => return None,
+                    _ => {
+                        say_accepts_no_more(rt, worker, &error);
+                        return None;
+                    }
                 },
             }
         }
@@ -60,7 +67,12 @@ impl<'a, N: StoreName, G: Gate> Server<'a, N, G> {
     }
 
     /// Serves a connection, from what was vouched for when it came.
-    fn serve<R: Wait + Clock>(&self, rt: &R, stream: &TcpStream, store: &mut Gated<'_, N, G, R>)
+    fn serve<R: Wait + Clock + Eprint>(
+        &self,
+        rt: &R,
+        stream: &TcpStream,
+        store: &mut Gated<'_, '_, N, D, G, R>,
+    )
         ensures { GoesOn store.old.seat store.new.seat }
     {
         if let Ok(receipt) = self.desk.vouch(rt) {
@@ -71,11 +83,15 @@ impl<'a, N: StoreName, G: Gate> Server<'a, N, G> {
 
     /// Serves connections until all sessions are claimed or none can be accepted, as the worker with this
     /// number and by these ends of the store, and gives the ends back.
-    fn work<R: Wait + Clock>(&self, rt: &R, post: (u32, Live<N>)) -> (WorkerOutcome, Live<N>)
+    fn work<R: Wait + Clock + Eprint>(
+        &self,
+        rt: &R,
+        post: (u32, Live<N>),
+    ) -> (WorkerOutcome, Live<N>)
         ensures { GoesOn post.1.seat result.1.seat }
     {
         let (worker, live) = post;
-        let mut store = Gated::new(rt, self.gate, worker, live);
+        let mut store = Gated::new(rt, self.gate, self.notices, self.clerk, worker, live);
         let mut outcome = WorkerOutcome {
             served: 0,
             failed: false,
@@ -84,7 +100,7 @@ impl<'a, N: StoreName, G: Gate> Server<'a, N, G> {
             if !self.claim() {
                 break;
             }
-            let Some(stream) = self.accept(rt) else {
+            let Some(stream) = self.accept(rt, worker) else {
                 outcome.failed = true;
                 break;
             };
@@ -95,8 +111,11 @@ impl<'a, N: StoreName, G: Gate> Server<'a, N, G> {
     }
 }
 
-impl<'a, N: StoreName, G: Gate, R: Wait + Clock> Task<R, (u32, Live<N>), (WorkerOutcome, Live<N>)>
-    for Server<'a, N, G> {
+impl<'a, 'k, N: StoreName, D: DeskName, G: Gate, R: Wait + Clock + Eprint> Task<
+    R,
+    (u32, Live<N>),
+    (WorkerOutcome, Live<N>),
+> for Server<'a, 'k, N, D, G> {
     ghost use Rattle.live_store.specs.Sharing.{GoesOn};
 
     ghost gives = { λ argument end. GoesOn argument.1.seat end.1.seat };

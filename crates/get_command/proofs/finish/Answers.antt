@@ -1,25 +1,7 @@
-use Rattle.std.proofs.Common.{false}
 use Rattle.std.proofs.lemmas.Result.{err_from_is_err_and}
 use Rattle.text_lines.proofs.Wholes.{stops_at_once}
 use Rattle.get_command.specs.Runs.{output_of}
-use Rattle.get_command.proofs.Wholes.{finishes, stops_early, stops_late}
 use Rattle.get_command.proofs.finish.Goals as goal
-
-pub returns-clause-ends : goal.returns-clause-ends
-returns-clause-ends g c =
-    finishes _ _ _ _ _ _ _ c.args.limits c.args.trace _ _ _ c.in_ok-batches.ensures c.in_ok-faulty.ensures.all c.in_ok-found.found c.status_of.result
-    (rw c.store.ensures at c.in_ok-found.ensures.found) (rw c.store.ensures at c.in_ok-found.ensures.lines.0) c.status_of.ensures c.in_ok-faulty.ensures.works.0 c.in_ok-found.ensures.lines.1
-
-pub returns-in_err-faulty-clause-stops : goal.returns-in_err-faulty-clause-stops
-returns-in_err-faulty-clause-stops g c =
-    let p = err_from_is_err_and c.from_residual-in_err-faulty.result c.from_residual-in_err-faulty.ensures.1 in
-    rw (p.1, p.2) (stops_early _ _ _ _ (g.W.Output.contents c.answer_lines.new.output) _ _ c.args.limits c.args.trace _ c.answer_lines.new.taker false c.in_ok-batches.ensures _ c.in_err-faulty.ensures.some)
-
-pub returns-in_err-found-clause-stops : goal.returns-in_err-found-clause-stops
-returns-in_err-found-clause-stops g c =
-    let p = err_from_is_err_and c.from_residual-in_err-found.result c.from_residual-in_err-found.ensures.1 in
-    rw (p.1, p.2) (stops_late _ _ _ _ _ _ _ c.args.limits c.args.trace _ _ _ c.in_ok-batches.ensures c.in_ok-faulty.ensures.all _
-    (rw c.store.ensures at c.in_err-found.ensures.lines.0) c.in_err-found.ensures.lines.1 c.in_ok-faulty.ensures.works.0)
 
 pub returns-in_err-batches-clause-stops : goal.returns-in_err-batches-clause-stops
 returns-in_err-batches-clause-stops g c =

@@ -7,4 +7,4 @@ pub returns-in_default : goal.returns-in_default
 returns-in_default g c = inr (stops_at_once _ _ _ _ (output_of c.args.limits) c.requires.input_works c.requires.output_works)
 
 pub returns : goal.returns
-returns g c = c.play_lines.ensures c.args.limits (inl c.in-Ok.ensures)
+returns g c = c.play_lines-status.ensures c.args.limits (inl c.in-Ok.ensures)

@@ -8,7 +8,10 @@ pub loop-spot-preserved : goal.loop-spot-preserved
 loop-spot-preserved c =
     let h = c.args.journal.now.held.entries in
     let done = given_all c.loop-spot.spans.items in
-    named_none h done c.in-Some.spot c.next.new.self (sym c.in_default.ensures) ∙ ap (λ l. done ++ spans_named h l) (sym c.in-Some.ensures.steps) ∙ c.loop-spot.invariant
+    record {
+      given = named_none h done c.in-Some.spot c.next.new.self (sym c.in_default.ensures.given) ∙ ap (λ l. done ++ spans_named h l) (sym c.in-Some.ensures.steps) ∙ c.loop-spot.invariant.given;
+      numbered = c.loop-spot.invariant.numbered;
+    }
 
-pub returns : goal.returns
-returns c = named_end c.args.journal.now.held.entries (given_all c.loop-spot.spans.items) c.loop-spot.spot-iterator c.in-None.ensures.steps.0 ∙ c.loop-spot.invariant
+pub returns-clause-given : goal.returns-clause-given
+returns-clause-given c = named_end c.args.journal.now.held.entries (given_all c.loop-spot.spans.items) c.loop-spot.spot-iterator c.in-None.ensures.steps.0 ∙ c.loop-spot.invariant.given

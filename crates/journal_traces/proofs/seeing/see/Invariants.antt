@@ -1,7 +1,10 @@
 use Rattle.std.proofs.Common.{◌≡◌, ◌++◌}
 use Rattle.journal_traces.specs.Given.{given_all}
-use Rattle.journal_traces.specs.Standing.{spans_named}
+use Rattle.journal_traces.specs.Standing.{spans_named, HaveNumbers}
 use Rattle.journal_traces.proofs.seeing.see.Given as goal
 
 abbrev pub invariant-loop-spot : goal.invariant-loop-spot
-invariant-loop-spot l = given_all l.spans.items ++ spans_named l.journal.held.entries l.spot-iterator ≡ spans_named l.journal.held.entries l.fn.spots
+invariant-loop-spot l = record {
+  given : given_all l.spans.items ++ spans_named l.journal.held.entries l.spot-iterator ≡ spans_named l.journal.held.entries l.fn.spots;
+  numbered : HaveNumbers l.journal.held.entries l.spans.items;
+}

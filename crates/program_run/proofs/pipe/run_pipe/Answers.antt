@@ -49,7 +49,7 @@ returns-in-Ok-pipe g c =
       },
     )
 
-pub returns : goal.returns
-returns g c =
+pub returns-in-Err : goal.returns-in-Err
+returns-in-Err g c =
     let both = rw (c.new-store.ensures, c.in-Ok.ensures) at c.in-Err.ensures.error in
     inr (record { error = _; status_is = c.status_of.ensures; last = _; fails = both.0; exact = both.1 })

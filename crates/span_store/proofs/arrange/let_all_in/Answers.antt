@@ -37,15 +37,15 @@ loop-span-preserved c =
     let is : s ≡ get_or b.spans i s = c.span-item.is ∙ ap (λ ss. get_or ss i s) c.as_slice-span-items.ensures in
     record {
       index = ap (λ k. k + 1) c.loop-span.invariant.index;
-      within = c.let_in.ensures.within;
+      within = c.let_in-row.ensures.within;
       follows = λ n h at f.
-          subst (λ es. Follows n es c.let_in.new.ring (spots_of c.let_in.new.assembly))
+          subst (λ es. Follows n es c.let_in-row.new.ring (spots_of c.let_in-row.new.assembly))
           ((λ j. located_upto h b i ++ came (record { place = at j; index = c.loop-span.invariant.index j }, placed b s) ∷ []) ∙ sym (upto_more h b i s le (sym is)))
-          (c.let_in.ensures.follows n (located_upto h b i) (placed b s) (c.loop-span.invariant.follows n h at f) (with_parent-trace s));
-      ring_room = c.let_in.ensures.ring_room ∙ c.loop-span.invariant.ring_room;
-      seen = let now = c.let_in.ensures.seen in let then = c.loop-span.invariant.seen in omega arith;
-      assembly_room = c.let_in.ensures.assembly_room ∙ c.loop-span.invariant.assembly_room;
-      used = let now = c.let_in.ensures.used in let then = c.loop-span.invariant.used in omega arith;
+          (c.let_in-row.ensures.follows n (located_upto h b i) (placed b s) (c.loop-span.invariant.follows n h at f) (with_parent-trace s));
+      ring_room = c.let_in-row.ensures.ring_room ∙ c.loop-span.invariant.ring_room;
+      seen = let now = c.let_in-row.ensures.seen in let then = c.loop-span.invariant.seen in omega arith;
+      assembly_room = c.let_in-row.ensures.assembly_room ∙ c.loop-span.invariant.assembly_room;
+      used = let now = c.let_in-row.ensures.used in let then = c.loop-span.invariant.used in omega arith;
     }
 
 pub returns-clause-follows : goal.returns-clause-follows
@@ -53,8 +53,8 @@ returns-clause-follows c = λ n h at f.
     let past : length c.args.batch.now.spans ≤ c.loop-span.span-index = subst (λ (ss : List Span). length ss ≤ c.loop-span.span-index) c.as_slice-span-items.ensures c.loop-span-test.false in
     subst (λ es. Follows n es c.loop-span.ring (spots_of c.loop-span.assembly)) (upto_end h c.args.batch.now c.loop-span.span-index past) (c.loop-span.invariant.follows n h at f)
 
-pub let_in-requires-clause-ring_room : goal.let_in-requires-clause-ring_room
-let_in-requires-clause-ring_room c =
+pub let_in-row-requires-clause-ring_room : goal.let_in-row-requires-clause-ring_room
+let_in-row-requires-clause-ring_room c =
     let le : c.loop-span.span-index < length c.args.batch.now.spans = subst (λ (ss : List Span). c.loop-span.span-index < length ss) c.as_slice-span-items.ensures c.loop-span-test.true in
     omega (arith, c.requires.ring_room, c.loop-span.invariant.ring_room, c.loop-span.invariant.seen)
 
@@ -64,8 +64,8 @@ returns-clause-ring_room c = c.loop-span.invariant.ring_room
 pub returns-clause-seen : goal.returns-clause-seen
 returns-clause-seen c = omega (arith, c.loop-span.invariant.seen)
 
-pub let_in-requires-clause-assembly_room : goal.let_in-requires-clause-assembly_room
-let_in-requires-clause-assembly_room c =
+pub let_in-row-requires-clause-assembly_room : goal.let_in-row-requires-clause-assembly_room
+let_in-row-requires-clause-assembly_room c =
     let le : c.loop-span.span-index < length c.args.batch.now.spans = subst (λ (ss : List Span). c.loop-span.span-index < length ss) c.as_slice-span-items.ensures c.loop-span-test.true in
     omega (arith, c.requires.assembly_room, c.loop-span.invariant.assembly_room, c.loop-span.invariant.used)
 

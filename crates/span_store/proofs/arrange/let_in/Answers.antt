@@ -7,7 +7,7 @@ use Rattle.span_store.proofs.arrange.let_in.Goals as goal
 
 pub returns-clause-follows : goal.returns-clause-follows
 returns-clause-follows c = λ n es p f same.
-    let came = c.arrive-arrived.ensures in
-    follows_more n es c.args.spot p c.args.trace c.arrive-arrived.result.left c.args.ring.now c.arrive-arrived.new.self
-    (spots_of c.args.assembly.now) (spots_of c.add.new.self) f same came.limit came.ids came.left came.gone
-    (λ t. c.add.ensures.spots t ∙ ap (λ k. if same_trace t c.args.trace then k ++ c.args.spot ∷ [] else k) (c.hide_left.ensures.spots t))
+    let came = c.arrive_near-arrived.ensures in
+    follows_more n es c.args.spot p c.args.trace c.arrive_near-arrived.result.left c.args.ring.now c.arrive_near-arrived.new.self
+    (spots_of c.args.assembly.now) (spots_of c.add_near.new.self) f same came.limit came.ids came.left came.gone
+    (λ t. c.add_near.ensures.spots t ∙ ap (λ k. if same_trace t c.args.trace then k ++ c.args.spot ∷ [] else k) (c.hide_left.ensures.spots t))

@@ -1,7 +1,7 @@
 use Rattle.std.proofs.Common.{◌∙◌, w64}
 use Rattle.std.proofs.lemmas.Int.{to_z-of_z}
 use Rattle.trace_model.specs.Linking.{links}
-use Rattle.trace_model.specs.Seeing.{seen_traces}
+use Rattle.call_links.specs.Seen.{seen_traces}
 use Rattle.journal_traces.proofs.Adopting.{links-given}
 use Rattle.span_store.proofs.finding.links.Goals as goal
 

@@ -1,10 +1,11 @@
-use Rattle.std.proofs.Common.{◌∙◌, ap, List, w64}
+use Rattle.std.proofs.Common.{◌∙◌, ap, sym, subst, List, w64}
 use Rattle.std.proofs.lemmas.Int.{to_z-of_z}
 use Rattle.std.specs.Prelude.{Vec}
 use Rattle.std.specs.Global.{Global}
-use Rattle.jaeger_model.specs.declared.placed.Seen.{Seen}
 use Rattle.trace_model.specs.declared.answer.Answer.TheVariants as say
 use Rattle.trace_model.specs.Linking.{links}
+use Rattle.call_links.specs.declared.numbered.NumberedSpan.{NumberedSpan}
+use Rattle.call_links.specs.Seen.{AreNumbered}
 use Rattle.journal_traces.specs.Given.{given_traces}
 use Rattle.span_store.proofs.store.SpanStore.links.Goals as goal
 
@@ -15,6 +16,9 @@ returns c =
     ap say.Links (
     c.from_vec.ensures ∙ c.in_ok-links.ensures
     ∙ (λ i. links (e i) (l i) (given_traces c.deref.result.now))
-    ∙ ap (λ (ts : List (Vec Seen Global)). links c.args.end_ms c.args.lookback_ms (given_traces ts)) c.deref.ensures.value
-    ∙ (rw (e, l) at c.in_ok-traces.ensures)
+    ∙ ap (λ (ts : List (Vec NumberedSpan Global)). links c.args.end_ms c.args.lookback_ms (given_traces ts)) c.deref.ensures.value
+    ∙ (rw (e, l) at c.in_ok-traces.ensures.links)
     )
+
+pub links-requires : goal.links-requires
+links-requires c = subst AreNumbered (sym c.deref.ensures.value) c.in_ok-traces.ensures.numbered

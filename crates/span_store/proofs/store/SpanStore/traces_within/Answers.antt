@@ -1,4 +1,4 @@
-use Rattle.std.proofs.Common.{◌≡◌, ◌∙◌, ap, subst, map, filter, w64, List}
+use Rattle.std.proofs.Common.{◌≡◌, ◌∙◌, ◌<◌, ◌^◌, ap, arith, subst, map, filter, length, w64, List}
 use Rattle.std.proofs.lemmas.Int.{to_z-of_z}
 use Rattle.std.specs.List.{list_any}
 use Rattle.jaeger_model.specs.declared.ids.TraceId.{TraceId}
@@ -7,6 +7,7 @@ use Rattle.trace_model.specs.Histories.{events}
 use Rattle.trace_model.specs.Linking.{in_window, links}
 use Rattle.trace_model.specs.Searching.{traces}
 use Rattle.trace_assembly.specs.Rows.{spots_of}
+use Rattle.service_places.specs.Reported.{service_at, group_in}
 use Rattle.journal_traces.specs.Given.{given_traces}
 use Rattle.journal_traces.specs.Standing.{trace_named}
 use Rattle.span_store.proofs.Following.{trace_stands}
@@ -14,8 +15,8 @@ use Rattle.span_store.proofs.Keeping.{kept_spots, kept_traces}
 use Rattle.journal_traces.proofs.Spots.{links_within}
 use Rattle.span_store.proofs.store.SpanStore.traces_within.Goals as goal
 
-pub returns : goal.returns
-returns c =
+pub returns-clause-links : goal.returns-clause-links
+returns-clause-links c =
     let was = c.self.inside in
     let h = was.journal.held in
     let e = to_z-of_z w64 c.args.end_ms c.ranges.end_ms in
@@ -25,9 +26,25 @@ returns c =
     let spots = spots_of was.assembly in
     let stands = trace_stands h.limits.traces h.entries spots (kept_spots h was.ring was.assembly was.names was.reported c.self.invariant) in
     let ids : c.deref.result.now ≡ was.ring.ids = c.deref.ensures.value ∙ c.in_ok-ids.ensures in
-    let seen : given_traces c.in_ok-traces.traces.items ≡ filter (list_any (in_window end_ms lookback_ms)) (map (trace_named h.entries spots) c.deref.result.now) = rw (e, l) at c.in_ok-traces.ensures in
+    let seen : given_traces c.in_ok-traces.traces.items ≡ filter (list_any (in_window end_ms lookback_ms)) (map (trace_named h.entries spots) c.deref.result.now) = rw (e, l) at c.in_ok-traces.ensures.given in
     let all : links end_ms lookback_ms (given_traces c.in_ok-traces.traces.items) ≡ links end_ms lookback_ms (traces h.limits.traces (events h.entries)) =
     ap (links end_ms lookback_ms) seen ∙ links_within end_ms lookback_ms (map (trace_named h.entries spots) c.deref.result.now)
     ∙ ap (λ (r : List TraceId). links end_ms lookback_ms (map (trace_named h.entries spots) r)) ids
     ∙ ap (links end_ms lookback_ms) ((λ i. map (λ t. stands t i) was.ring.ids) ∙ kept_traces h was.ring was.assembly was.names was.reported c.self.invariant) in
     subst (λ (v : Held). links end_ms lookback_ms (given_traces c.in_ok-traces.traces.items) ≡ links end_ms lookback_ms (traces v.limits.traces (events v.entries))) c.self.view_is all
+
+pub returns-clause-numbered : goal.returns-clause-numbered
+returns-clause-numbered c =
+    let h = c.self.inside.journal.held.entries in
+    (service_at h, (group_in h, c.in_ok-traces.ensures.numbered))
+
+pub see_within-requires-clause-few : goal.see_within-requires-clause-few
+see_within-requires-clause-few c =
+    let placed = c.self.invariant.placed in
+    let room = placed.batches in
+    let fits = placed.kept.fits in
+    let within = c.len-legal.ensures.legal.batches in
+    omega (arith, room, fits, within)
+
+pub see_within-requires-clause-numbers : goal.see_within-requires-clause-numbers
+see_within-requires-clause-numbers c = c.self.invariant.placed.kept.grouped

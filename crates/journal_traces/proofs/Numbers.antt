@@ -1,0 +1,66 @@
+-- The numbers of the services of spans, by the places of their entries.
+use Rattle.std.proofs.Common.{◌≡◌, ℕ, zero, suc, ◌-◌, ◌<◌, ◌≤◌, List, [], ◌∷◌, ◌++◌, length, get_or, sym, ap, ◌∙◌, arith}
+use Rattle.std.specs.Prelude.{Some, option_map, slice_get}
+use Rattle.std.specs.List.{All}
+use Rattle.std.specs.Option.{option_and_then}
+use Rattle.std.proofs.lemmas.List.Elements.{All-same, All-push}
+use Rattle.std.proofs.lemmas.List.Sums.{passes_at_first}
+use Rattle.jaeger_model.specs.declared.batch.Batch.{Batch}
+use Rattle.jaeger_model.specs.declared.batch.Process.{Process}
+use Rattle.jaeger_model.specs.declared.placed.Placed.{Placed}
+use Rattle.jaeger_model.specs.Texts.{same_text}
+use Rattle.trace_model.specs.declared.entry.Entry.{Entry}
+use Rattle.trace_model.specs.declared.entry.Work.{Work}
+use Rattle.trace_model.specs.declared.entry.Work.TheVariants as brings
+use Rattle.trace_model.specs.Works.{batch_brought}
+use Rattle.trace_assembly.specs.declared.spot.Spot.{Spot}
+use Rattle.trace_assembly.specs.Located.{span_at}
+use Rattle.service_places.specs.Reported.{service_brought, reporters, service_at, group_in, AreGroups}
+use Rattle.service_places.proofs.Grouping.{group_within, as_many_reporters}
+use Rattle.call_links.specs.Seen.{StandsFor}
+use Rattle.call_links.proofs.Numbering.{same_is}
+use Rattle.journal_traces.specs.Standing.{process_at}
+use Rattle.journal_traces.proofs.Processes.{process_there}
+
+of_work : (w : Work) (p : Process) → Some p ≡ option_map (λ (b : Batch). b.process) (batch_brought w) → p.service ≡ service_brought w
+of_work (brings.Batch b) p e = let same : p ≡ b.process = cc e in ap (λ (x : Process). x.service) same
+of_work (brings.TraceLimit n) p e = absurd (cc e)
+
+after : (h : List Entry) (n : ℕ) (p : Process) → Some p ≡ option_map (λ (b : Batch). b.process) (option_and_then (λ (x : Entry). batch_brought x.work) (slice_get h n)) → (n < length h) × (p.service ≡ service_at h n)
+after [] n p e = absurd (cc e)
+after (x ∷ h) zero p e = (omega arith, of_work x.work p e)
+after (x ∷ h) (suc n) p e =
+    let r = after h n p e in
+    let below : n < length h = r.0 in
+    (omega (arith, below), r.1)
+
+at_place : (h : List Entry) (place : ℕ) (p : Process) → Some p ≡ process_at h place → (0 < place) × ((place - 1 < length h) × (p.service ≡ service_at h (place - 1)))
+at_place h zero p e = absurd (cc e)
+at_place h (suc n) p e =
+    let r = after h n p e in
+    let below : n < length h = r.0 in
+    let m : suc n - 1 ≡ n = omega arith in
+    (omega arith, (omega (arith, m, below), r.1 ∙ ap (service_at h) (sym m)))
+
+-- the span at a spot was brought by the entry at its place
+pub place_there : (h : List Entry) (s : Spot) (q : Placed) → Some q ≡ span_at h s → (0 < s.place) × ((s.place - 1 < length h) × (q.process.service ≡ service_at h (s.place - 1)))
+place_there h s q e = at_place h s.place q.process (process_there h s q e)
+
+-- and its service has the number that is kept there
+pub number_there : (h : List Entry) (groups : List ℕ) (s : Spot) (q : Placed) → AreGroups h groups → Some q ≡ span_at h s → StandsFor (service_at h) (group_in h) (get_or groups (s.place - 1) 0, q.process.service)
+number_there h groups s q kept e =
+    let there = place_there h s q e in
+    let n = s.place - 1 in
+    let below : n < length h = there.1.0 in
+    let same : q.process.service ≡ service_at h n = there.1.1 in
+    let number : get_or groups n 0 ≡ group_in h q.process.service = kept.each n below ∙ ap (group_in h) (sym same) in
+    let within : group_in h (service_at h n) ≤ n = group_within h n below in
+    let first : group_in h q.process.service ≡ group_in h (service_at h n) = ap (group_in h) same in
+    let many = as_many_reporters h in
+    let known : q.process.service ≡ service_at h (group_in h q.process.service) =
+    same_is q.process.service (service_at h (group_in h q.process.service)) (passes_at_first (same_text q.process.service) (reporters h) [] (omega (arith, within, first, many, below))) in
+    (number, ap (service_at h) number ∙ sym known)
+
+-- one more of a list
+pub all_more : {X : Type 0} (P : X → Type 0) (xs ys : List X) (x : X) → All P xs → ys ≡ xs ++ x ∷ [] → P x → All P ys
+all_more P xs ys x a put p = All-same P ys (xs ++ x ∷ []) put (All-push P xs x a p)

@@ -1,0 +1,72 @@
+//! What an operator is told, on standard error. Nothing rests on it: a line that can't be written is lost.
+
+ghost use Rattle.std.specs.Prelude.{◌≤◌};
+
+use std::io;
+use std::sync::atomic::{AtomicBool, Ordering};
+use trace_model::Limits;
+
+/// How many bytes the spans of one tag take each, as measured.
+const BYTES_WITH_ONE_TAG: u64 = 380;
+
+/// How many bytes the spans of five tags take each, as measured.
+const BYTES_WITH_FIVE_TAGS: u64 = 680;
+
+/// What is said once, by whichever worker sees it first.
+#[derive(Drop)]
+pub(crate) struct Notices {
+    said_full: AtomicBool,
+}
+
+impl Notices {
+    /// Nothing was said yet.
+    pub(crate) fn new() -> Notices {
+        Notices {
+            said_full: AtomicBool::new(false),
+        }
+    }
+
+    /// Says that the store is full, unless it was said before.
+    pub(crate) fn say_full<R: Eprint>(&self, rt: &R) {
+        if !self.said_full.swap(true, Ordering::SeqCst) {
+            let _lost = eprintln!(rt;
+                "the journal is full: a batch that doesn't fit is answered 503 from now on"
+            );
+        }
+    }
+}
+
+/// How many megabytes so many spans take.
+fn megabytes(spans: u32, bytes: u64) -> u64
+    requires { bytes ≤ 1000 }
+{
+    (u64::from(spans) * bytes).div_ceil(1_000_000)
+}
+
+/// Says how much the store holds at most, and what memory that may take.
+pub(crate) fn say_limits<R: Eprint>(rt: &R, limits: &Limits) {
+    let Limits {
+        batches,
+        spans,
+        traces,
+        max_skew: _,
+    } = *limits;
+    let few = megabytes(spans, BYTES_WITH_ONE_TAG);
+    let many = megabytes(spans, BYTES_WITH_FIVE_TAGS);
+    let _lost = match traces {
+        0 => eprintln!(rt;
+            "holds at most {batches} batches and {spans} spans, and shows every trace"
+        ),
+        newest => eprintln!(rt;
+            "holds at most {batches} batches and {spans} spans, and shows the newest {newest} traces"
+        ),
+    };
+    let _lost = eprintln!(rt;
+        "that may take {few} MB where a span has one tag, {many} MB where it has five, and more where tags are long"
+    );
+}
+
+/// Says why a worker accepts no more connections.
+pub(crate) fn say_accepts_no_more<R: Eprint>(rt: &R, worker: u32, error: &io::Error) {
+    let _lost = eprintln!(rt; "worker {worker} accepts no more connections: {error}");
+}
