@@ -75,7 +75,8 @@ fn in_order<'a>(
     alloc: Global,
     tallies: BTreeMap<(u32, u32), Tally<'a>>,
 ) -> Result<BTreeMap<CallTexts<'a>, u64>, AllocError>
-    ensures { IfOk result (λ m. map entry_seen m.entries ≡ inserted (tallies_seen tallies.entry.entries)) }
+    ensures { IfOk result (λ m.
+        map entry_seen m.entries ≡ inserted (tallies_seen tallies.entry.entries)) }
 {
     let mut numbers = BTreeMap::new(alloc);
     for (_, tally) in tallies {
