@@ -47,7 +47,7 @@ QUERIES = [
 TESTS = [
     ("wire_rows", "batch_bytes::memory_for_a_batch", None),
     ("piece_rows", "faults::memory_for_pieces", None),
-    ("piece_rows", "faults::sizes_beyond_the_bytes", "faults::bytes_before_a_size"),
+    ("piece_rows", "faults::sizes_beyond_the_bytes", None),
     ("store_rows", "stores::apply_without_memory", "stores::a_store_is_opened"),
     ("web_rows", "answers::memory_for_a_tree", None),
     ("web_rows", "responses::memory_for_a_response", None),

@@ -91,8 +91,8 @@ const CLAIMS: [&[u8]; 9] = [
     b"\x0d\x00\x09\x0f\x0c\x7f\xff\xff\xff\x08\x7f\xff\xff\xff",
 ];
 
-/// However little memory there is behind what the bytes before the size take: the check of allocations sees that
-/// this takes as many as [`bytes_before_a_size`], and refuses each.
+/// However little memory there is: the check of allocations sees that all of it takes four, one for each list, set
+/// or map that is skipped, and refuses each.
 #[test]
 fn sizes_beyond_the_bytes(rt: HostRuntime) {
     for bytes in CLAIMS {
