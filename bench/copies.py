@@ -85,7 +85,7 @@ struct Times {
 
 /// How many threads have begun to read, and how far the measurement is: 0 until all have, 1 while it is timed, 2 once it is over.
 #[derive(Drop)]
-struct Stage {
+struct Phases {
     reading: AtomicU64,
     phase: AtomicU64,
 }
@@ -220,14 +220,14 @@ fn read_on<N: StoreName, R: Clock>(
     alloc: Global,
     mut pass: Pass<N>,
     ids: &[TraceId],
-    stage: &Stage,
+    phases: &Phases,
 ) -> Result<Reads, Refusal> {
     let mut each = Vec::with_capacity(alloc, 10_000)?;
-    let mut choice = stage.reading.fetch_add(1, Ordering::SeqCst);
+    let mut choice = phases.reading.fetch_add(1, Ordering::SeqCst);
     let mut start = 0;
     let mut end = 0;
     for _ in 0..100_000_000u64 {
-        let phase = stage.phase.load(Ordering::SeqCst);
+        let phase = phases.phase.load(Ordering::SeqCst);
         if phase == 2 {
             break;
         }
@@ -265,27 +265,27 @@ fn admit_timed<N: StoreName, R: Wait + Clock>(
     Ok(times)
 }
 
-/// Waits until so many read, admits the entries, or only waits for some time where there are none, and ends the stage.
+/// Waits until so many read, admits the entries, or only waits for some time where there are none, and ends the phase.
 fn write_beside<N: StoreName, R: Wait + Clock>(
     rt: &R,
     alloc: Global,
     keeper: &mut Keeper<N>,
     entries: Vec<Arc<Entry>>,
     readers: u64,
-    stage: &Stage,
+    phases: &Phases,
 ) -> Result<Vec<u64>, Refusal> {
     for _ in 0..100_000 {
-        if stage.reading.load(Ordering::SeqCst) == readers {
+        if phases.reading.load(Ordering::SeqCst) == readers {
             break;
         }
         thread::sleep(rt, Duration::from_micros(50));
     }
-    stage.phase.store(1, Ordering::SeqCst);
+    phases.phase.store(1, Ordering::SeqCst);
     if entries.is_empty() {
         thread::sleep(rt, Duration::from_millis(20));
     }
     let times = admit_timed(rt, alloc, keeper, entries);
-    stage.phase.store(2, Ordering::SeqCst);
+    phases.phase.store(2, Ordering::SeqCst);
     times
 }
 
@@ -299,18 +299,18 @@ fn write_and_read<N: StoreName + Send + Sync, R: Threads + Wait + Clock + Sync>(
 ) -> Result<Times, Refusal> {
     let Load { first, timed, ids } = load;
     admit_timed(rt, alloc, keeper, first)?;
-    let stage = Stage {
+    let phases = Phases {
         reading: AtomicU64::new(0),
         phase: AtomicU64::new(0),
     };
     let readers = passes.len() as u64;
     let (admits, found) = join(
         rt,
-        || write_beside(rt, alloc, keeper, timed, readers, &stage),
+        || write_beside(rt, alloc, keeper, timed, readers, &phases),
         || map_vec(
             rt,
             passes,
-            &|pass| read_on(rt, alloc, pass, ids.as_slice(), &stage),
+            &|pass| read_on(rt, alloc, pass, ids.as_slice(), &phases),
         ),
     );
     let mut reads = Vec::new(alloc);

@@ -1,11 +1,11 @@
 #!/usr/bin/env python3
 """The books of a desk with each allocation refused in turn.
 
-Runs one test of `intake_rows`, `waiting_jobs_handed_back`, in which a clerk leaves while jobs wait and every seat is taken in, once for
+Runs one test of `intake_tests`, `waiting_jobs_handed_back`, in which a clerk leaves while jobs wait and every seat is taken in, once for
 each allocation that it makes, with that one refused. A run passes where the test passes (memory was short behind the opening, and
 nothing was lost), or ends with `out of memory` before the books (a store or a desk could not be opened).
 
-    (cd crates/intake_rows && rt test)
+    (cd crates/intake_tests && rt test)
     checks/books.py [--bin PATH]
 
 It needs Python 3 and a C compiler. The last line is `N passed, M failed`.
@@ -44,7 +44,7 @@ class Tests:
 
 def main():
     asked = argparse.ArgumentParser(description=__doc__, formatter_class=argparse.RawDescriptionHelpFormatter)
-    asked.add_argument("--bin", default=os.path.join(ROOT, "crates/intake_rows/out/intake_rows_tests"))
+    asked.add_argument("--bin", default=os.path.join(ROOT, "crates/intake_tests/out/intake_tests_tests"))
     options = asked.parse_args()
     with tempfile.TemporaryDirectory() as folder:
         tests = Tests(options.bin, folder)

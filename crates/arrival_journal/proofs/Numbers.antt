@@ -5,11 +5,11 @@ use Rattle.std.specs.Fmt.{decimal, digits, digits_onto, digit_glyph, signed_deci
 use Rattle.std.proofs.lemmas.Bool.{ltb-true, ltb-false, lt-leb}
 use Rattle.jaeger_model.specs.Ids.{hex_digit}
 use Rattle.jaeger_model.specs.Tags.{hex_text}
-use Rattle.arrival_journal.specs.Tagging.{mixed, begins_number, may_be_number, text_part}
+use Rattle.arrival_journal.specs.Tagging.{text_hash, begins_number, may_be_number, text_part}
 
 -- it adds nothing to a place
 pub shared : (w : List ℕ) → may_be_number w ≡ true → 0 ≡ text_part w
-shared w e = ap (λ (b : Bool). if b then 0 else 41 + 11 * mixed w) (sym e)
+shared w e = ap (λ (b : Bool). if b then 0 else 41 + 11 * text_hash w) (sym e)
 
 digit_begins : (d : ℕ) → d < 16 → begins_number (hex_digit d) ≡ true
 digit_begins d small = by (nat_lt d 10) refl

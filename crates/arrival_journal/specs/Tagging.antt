@@ -12,8 +12,8 @@ use Rattle.trace_model.specs.declared.entry.Work.{Work}
 use Rattle.trace_model.specs.Works.{batch_brought}
 
 -- a number for a text, by its length and by its first, middle and last byte
-abbrev pub mixed : List ℕ → ℕ
-mixed w = length w % 128 + 3 * get_or w 0 0 + 5 * get_or w (length w / 2) 0 + 7 * get_or w (length w - 1) 0
+abbrev pub text_hash : List ℕ → ℕ
+text_hash w = length w % 128 + 3 * get_or w 0 0 + 5 * get_or w (length w / 2) 0 + 7 * get_or w (length w - 1) 0
 
 -- 0 to 9, a to f, t and -
 abbrev pub begins_number : ℕ → Bool
@@ -26,11 +26,11 @@ may_be_number (c ∷ w) = begins_number c
 
 -- 0 for each text that may be that of a number
 abbrev pub text_part : List ℕ → ℕ
-text_part w = if may_be_number w then 0 else 41 + 11 * mixed w
+text_part w = if may_be_number w then 0 else 41 + 11 * text_hash w
 
 -- which of 128 bits stands for the tags with this key and this text
 abbrev pub tag_place : List ℕ → List ℕ → ℕ
-tag_place key text = (mixed key + text_part text) % 128
+tag_place key text = (text_hash key + text_part text) % 128
 
 abbrev pub bit_of : Tag → ℕ
 bit_of t = 2 ^ tag_place t.key (tag_text t.value)

@@ -3,7 +3,7 @@
 ghost use Rattle.std.specs.Prelude.{◌≡◌, ◌<◌, get_or, flat_map};
 ghost use Rattle.std.specs.List.{fold};
 ghost use Rattle.jaeger_model.specs.Tags.{tag_text, hex_text};
-ghost use Rattle.arrival_journal.specs.Tagging.{mixed, begins_number, may_be_number, text_part, tag_place, bit_of, with_tag, fields_of, own_tags, bits_of, bits_brought};
+ghost use Rattle.arrival_journal.specs.Tagging.{text_hash, begins_number, may_be_number, text_part, tag_place, bit_of, with_tag, fields_of, own_tags, bits_of, bits_brought};
 
 use jaeger_model::{Batch, Log, Span, Tag, Value};
 use trace_model::Work;
@@ -16,8 +16,8 @@ fn byte_at(bytes: &[u8], at: usize) -> u8
 }
 
 /// A number for a text, by its length and by its first, middle and last byte. It reads no other.
-fn mixed(text: &str) -> u32
-    ensures exact { result ≡ mixed text.now }
+fn text_hash(text: &str) -> u32
+    ensures exact { result ≡ text_hash text.now }
     ensures within { result < 4096 }
 {
     let bytes = text.as_bytes();
@@ -53,7 +53,7 @@ fn text_part(text: &str) -> u32
     if may_be_number(text) {
         0
     } else {
-        41 + 11 * mixed(text)
+        41 + 11 * text_hash(text)
     }
 }
 
@@ -87,14 +87,14 @@ pub fn tag_place(key: &str, text: &str) -> u32
     ensures exact { result ≡ tag_place key.now text.now }
     ensures within { result < 128 }
 {
-    (mixed(key) + text_part(text)) % 128
+    (text_hash(key) + text_part(text)) % 128
 }
 
 /// The bit of a tag.
 fn bit_of(tag: &Tag) -> u128
     ensures { result ≡ bit_of tag.now }
 {
-    1u128 << ((mixed(tag.key.as_str()) + value_part(&tag.value)) % 128)
+    1u128 << ((text_hash(tag.key.as_str()) + value_part(&tag.value)) % 128)
 }
 
 /// The bits with those of more tags.

@@ -28,7 +28,7 @@ use Rattle.service_places.proofs.Entries.{last_of}
 use Rattle.service_places.proofs.Grouping.{as_many_reporters, group_known}
 use Rattle.arrival_names.specs.Numbers.{AreOf}
 use Rattle.arrival_names.specs.Kept.{reports, reported_at, names_of, reports_service}
-use Rattle.arrival_names.specs.Grouping.{arrival_number, numbers_tell}
+use Rattle.arrival_names.specs.Grouping.{arrival_number, numbers_keyed}
 use Rattle.arrival_names.proofs.Numbering.{arrivals_push}
 
 -- what a span of a batch reports
@@ -122,7 +122,7 @@ services_reported s ps = any_set listed_exact (λ (l : Listed). same_text s l.se
 -- ---- the number of a service that is asked for
 pub groups_asked : (h : List Entry) (s : List ℕ) → IsGroupOf (names_of h) s (group_of h s)
 groups_asked h s = elim (nat_lt (group_in h s) (length (reporters h))) as (λ b. nat_lt (group_in h s) (length (reporters h)) ≡ b → IsGroupOf (names_of h) s (cond b (Some (group_in h s)) None)) [
-  | true ↦ λ e n below. numbers_tell h s (reported_at h n).service (ltb-true (group_in h s) (length (reporters h)) e) (arrival_number h n below)
+  | true ↦ λ e n below. numbers_keyed h s (reported_at h n).service (ltb-true (group_in h s) (length (reporters h)) e) (arrival_number h n below)
   | false ↦ λ e n below. elim (same_text s (reported_at h n).service) as (λ t. same_text s (reported_at h n).service ≡ t → t ≡ false) [
     | true ↦ λ f.
         let w = arrival_number h n below in

@@ -64,8 +64,8 @@ arrival_number h n below =
     ∙ list_any_at (λ (l : Listed). same_text s l.service) (reports h) n (service_alone []) (omega arith) (text_self s)))
 
 -- services that entries have are the same where their numbers are
-pub numbers_tell : (h : List Entry) (s t : List ℕ) → group_in h s < length (reporters h) → group_in h t < length (reporters h) → (group_in h s == group_in h t) ≡ same_text s t
-numbers_tell h s t a b = elim (same_text s t) as (λ v. same_text s t ≡ v → (group_in h s == group_in h t) ≡ v) [
+pub numbers_keyed : (h : List Entry) (s t : List ℕ) → group_in h s < length (reporters h) → group_in h t < length (reporters h) → (group_in h s == group_in h t) ≡ same_text s t
+numbers_keyed h s t a b = elim (same_text s t) as (λ v. same_text s t ≡ v → (group_in h s == group_in h t) ≡ v) [
   | true ↦ λ e. eq-eqb (group_in h s) (group_in h t) (ap (group_in h) (text_is s t e))
   | false ↦ λ e. elim (group_in h s == group_in h t) as (λ w. (group_in h s == group_in h t) ≡ w → w ≡ false) [
     | true ↦ λ f.
@@ -77,5 +77,5 @@ numbers_tell h s t a b = elim (same_text s t) as (λ v. same_text s t ≡ v → 
 
 pub names_grouped : (h : List Entry) → IsGrouped (names_of h)
 names_grouped h = record {
-  same = λ n m below within. numbers_tell h (reported_at h n).service (reported_at h m).service (arrival_number h n below) (arrival_number h m within);
+  same = λ n m below within. numbers_keyed h (reported_at h n).service (reported_at h m).service (arrival_number h n below) (arrival_number h m within);
 }

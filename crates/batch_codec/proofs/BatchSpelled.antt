@@ -4,7 +4,7 @@ use Rattle.std.specs.Prelude.{IfOk}
 use Rattle.std.proofs.lemmas.Bool.{eqb-true}
 use Rattle.std.proofs.lemmas.List.{append-nil}
 use Rattle.jaeger_model.specs.declared.batch.Batch.{Batch}
-use Rattle.thrift_binary.specs.Spelling.{Front, Field}
+use Rattle.thrift_binary.specs.Spelling.{Beginning, Field}
 use Rattle.thrift_binary.proofs.Found.{bind_ok, pass_ok, ok_is}
 use Rattle.batch_codec.specs.declared.fault.DecodeError.{DecodeError}
 use Rattle.batch_codec.specs.declared.fault.DecodeError.TheVariants.{Memory, Wire, Missing, BadEnum, Trailing}
@@ -20,7 +20,7 @@ use Rattle.batch_codec.proofs.Structs.{known_found, known_again, skipped_found, 
 use Rattle.batch_codec.proofs.ProcessSpelled.{is_process}
 use Rattle.batch_codec.proofs.SpanSpelled.{is_span}
 
-takes : (s : BatchSlots) (c : ℕ) (i : ℤ) (w : List ℕ) (t : BatchSlots) (r : List ℕ) → take_batch s c i w ≡ Ok (t, r) → Front (λ v. BatchField s (record { code = c; id = i; text = v }) t) w r
+takes : (s : BatchSlots) (c : ℕ) (i : ℤ) (w : List ℕ) (t : BatchSlots) (r : List ℕ) → take_batch s c i w ≡ Ok (t, r) → Beginning (λ v. BatchField s (record { code = c; id = i; text = v }) t) w r
 unfolding take_batch BatchField
 takes s c i w t r =
     known_found is_process (λ x. record s { process = Some x }) c 12 i (pos 1) w t r _ _ (

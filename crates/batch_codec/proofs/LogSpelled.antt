@@ -1,7 +1,7 @@
 -- A log that is read is spelled so, and one that is spelled so is read.
 use Rattle.std.proofs.Common.{◌≡◌, ℕ, ℤ, pos, true, List, ◌++◌, Some, Ok, refl, ap, ◌∙◌}
 use Rattle.jaeger_model.specs.declared.span.Log.{Log}
-use Rattle.thrift_binary.specs.Spelling.{Front, Field}
+use Rattle.thrift_binary.specs.Spelling.{Beginning, Field}
 use Rattle.thrift_binary.proofs.Found.{ok_is}
 use Rattle.batch_codec.specs.declared.fault.Part.TheVariants as parts
 use Rattle.batch_codec.specs.declared.log.LogSlots.{LogSlots}
@@ -12,7 +12,7 @@ use Rattle.batch_codec.proofs.ValuesSpelled.{Agrees, is_i64}
 use Rattle.batch_codec.proofs.Structs.{known_found, known_again, skipped_found, skipped_again, struct_found, struct_again, required_found, is_list}
 use Rattle.batch_codec.proofs.TagSpelled.{is_tag}
 
-takes : (s : LogSlots) (c : ℕ) (i : ℤ) (w : List ℕ) (t : LogSlots) (r : List ℕ) → take_log s c i w ≡ Ok (t, r) → Front (λ v. LogField s (record { code = c; id = i; text = v }) t) w r
+takes : (s : LogSlots) (c : ℕ) (i : ℤ) (w : List ℕ) (t : LogSlots) (r : List ℕ) → take_log s c i w ≡ Ok (t, r) → Beginning (λ v. LogField s (record { code = c; id = i; text = v }) t) w r
 unfolding take_log LogField
 takes s c i w t r =
     known_found is_i64 (λ x. record s { at = Some x }) c 10 i (pos 1) w t r _ _ (

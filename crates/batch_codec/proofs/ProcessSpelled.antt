@@ -1,7 +1,7 @@
 -- A process that is read is spelled so, and one that is spelled so is read.
 use Rattle.std.proofs.Common.{◌≡◌, ℕ, ℤ, pos, true, List, ◌++◌, Some, Ok, refl, ap, ◌∙◌}
 use Rattle.jaeger_model.specs.declared.batch.Process.{Process}
-use Rattle.thrift_binary.specs.Spelling.{Front, Field}
+use Rattle.thrift_binary.specs.Spelling.{Beginning, Field}
 use Rattle.thrift_binary.proofs.Found.{ok_is}
 use Rattle.batch_codec.specs.declared.fault.Part.TheVariants as parts
 use Rattle.batch_codec.specs.declared.process.ProcessSlots.{ProcessSlots}
@@ -12,7 +12,7 @@ use Rattle.batch_codec.proofs.ValuesSpelled.{Agrees, is_text}
 use Rattle.batch_codec.proofs.Structs.{known_found, known_again, skipped_found, skipped_again, struct_found, struct_again, required_found, is_list}
 use Rattle.batch_codec.proofs.TagSpelled.{is_tag}
 
-takes : (s : ProcessSlots) (c : ℕ) (i : ℤ) (w : List ℕ) (t : ProcessSlots) (r : List ℕ) → take_process s c i w ≡ Ok (t, r) → Front (λ v. ProcessField s (record { code = c; id = i; text = v }) t) w r
+takes : (s : ProcessSlots) (c : ℕ) (i : ℤ) (w : List ℕ) (t : ProcessSlots) (r : List ℕ) → take_process s c i w ≡ Ok (t, r) → Beginning (λ v. ProcessField s (record { code = c; id = i; text = v }) t) w r
 unfolding take_process ProcessField
 takes s c i w t r =
     known_found is_text (λ x. record s { service = Some x }) c 11 i (pos 1) w t r _ _ (

@@ -1,7 +1,7 @@
 -- A reference that is read is spelled so, and one that is spelled so is read.
 use Rattle.std.proofs.Common.{◌≡◌, ℕ, ℤ, pos, true, List, ◌++◌, Some, Ok, refl, ap, ◌∙◌}
 use Rattle.jaeger_model.specs.declared.span.SpanRef.{SpanRef}
-use Rattle.thrift_binary.specs.Spelling.{Front, Field}
+use Rattle.thrift_binary.specs.Spelling.{Beginning, Field}
 use Rattle.thrift_binary.proofs.Found.{ok_is}
 use Rattle.batch_codec.specs.declared.fault.Part.TheVariants as parts
 use Rattle.batch_codec.specs.declared.reference.ReferenceSlots.{ReferenceSlots}
@@ -11,7 +11,7 @@ use Rattle.batch_codec.specs.Batches.{ReferenceField, whole_reference, IsReferen
 use Rattle.batch_codec.proofs.ValuesSpelled.{Agrees, is_kind, is_id}
 use Rattle.batch_codec.proofs.Structs.{known_found, known_again, skipped_found, skipped_again, struct_found, struct_again, required_found}
 
-takes : (s : ReferenceSlots) (c : ℕ) (i : ℤ) (w : List ℕ) (t : ReferenceSlots) (r : List ℕ) → take_reference s c i w ≡ Ok (t, r) → Front (λ v. ReferenceField s (record { code = c; id = i; text = v }) t) w r
+takes : (s : ReferenceSlots) (c : ℕ) (i : ℤ) (w : List ℕ) (t : ReferenceSlots) (r : List ℕ) → take_reference s c i w ≡ Ok (t, r) → Beginning (λ v. ReferenceField s (record { code = c; id = i; text = v }) t) w r
 unfolding take_reference ReferenceField
 takes s c i w t r =
     known_found is_kind (λ x. record s { kind = Some x }) c 8 i (pos 1) w t r _ _ (

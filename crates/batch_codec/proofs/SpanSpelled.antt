@@ -1,7 +1,7 @@
 -- A span that is read is spelled so, and one that is spelled so is read.
 use Rattle.std.proofs.Common.{◌≡◌, ℕ, ℤ, pos, true, List, ◌++◌, Some, Ok, refl, ap, ◌∙◌}
 use Rattle.jaeger_model.specs.declared.span.Span.{Span}
-use Rattle.thrift_binary.specs.Spelling.{Front, Field}
+use Rattle.thrift_binary.specs.Spelling.{Beginning, Field}
 use Rattle.thrift_binary.proofs.Found.{ok_is}
 use Rattle.batch_codec.specs.declared.fault.Part.TheVariants as parts
 use Rattle.batch_codec.specs.declared.span.SpanSlots.{SpanSlots}
@@ -14,7 +14,7 @@ use Rattle.batch_codec.proofs.TagSpelled.{is_tag}
 use Rattle.batch_codec.proofs.LogSpelled.{is_log}
 use Rattle.batch_codec.proofs.ReferenceSpelled.{is_reference}
 
-takes : (s : SpanSlots) (c : ℕ) (i : ℤ) (w : List ℕ) (t : SpanSlots) (r : List ℕ) → take_span s c i w ≡ Ok (t, r) → Front (λ v. SpanField s (record { code = c; id = i; text = v }) t) w r
+takes : (s : SpanSlots) (c : ℕ) (i : ℤ) (w : List ℕ) (t : SpanSlots) (r : List ℕ) → take_span s c i w ≡ Ok (t, r) → Beginning (λ v. SpanField s (record { code = c; id = i; text = v }) t) w r
 unfolding take_span SpanField
 takes s c i w t r =
     known_found is_id (λ x. record s { trace_low = Some x }) c 10 i (pos 1) w t r _ _ (

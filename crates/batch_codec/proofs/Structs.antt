@@ -7,7 +7,7 @@ use Rattle.thrift_binary.specs.Reading.{◌>>=◌, lift, is_code}
 use Rattle.thrift_binary.specs.Skipping.{skip_at, width}
 use Rattle.thrift_binary.specs.Fields.{Take, fields_at}
 use Rattle.thrift_binary.specs.Lists.{list_of}
-use Rattle.thrift_binary.specs.Spelling.{Front, Field, IsString, IsLeaf, IsContainer, IsValue}
+use Rattle.thrift_binary.specs.Spelling.{Beginning, Field, IsString, IsLeaf, IsContainer, IsValue}
 use Rattle.thrift_binary.proofs.Found.{bind_ok, lift_ok, ok_is, Path, Took, fields_found}
 use Rattle.thrift_binary.proofs.Again.{fields_again}
 use Rattle.thrift_binary.proofs.SkipFound.{skip_found}
@@ -23,12 +23,12 @@ use Rattle.batch_codec.proofs.ValuesSpelled.{Found, Again, Agrees}
 
 -- a field of this type and id, or what the others give
 pub known_found : {A S : Type 0} {read : Reading A} {Spells : List ℕ → A → Type 0} → Agrees read Spells → (set : A → S) (c d : ℕ) (i j : ℤ) (w : List ℕ) (t : S) (r : List ℕ) (others : Result (S × List ℕ) DecodeError) (Others : List ℕ → Type 0)
-    → (others ≡ Ok (t, r) → Front Others w r)
+    → (others ≡ Ok (t, r) → Beginning Others w r)
     → cond (eqb c d && int_eq i j) (read w >>= λ x. Ok (set x.0, x.1)) others ≡ Ok (t, r)
-    → Front (λ v. MatchBool (eqb c d && int_eq i j) ((x : A) × Spells v x × (t ≡ set x)) (Others v)) w r
+    → Beginning (λ v. MatchBool (eqb c d && int_eq i j) ((x : A) × Spells v x × (t ≡ set x)) (Others v)) w r
 known_found {A = A} {S = S} {read = read} {Spells = Spells} value set c d i j w t r others Others more e = by (eqb c d && int_eq i j) e
   where
-    by : (b : Bool) → cond b (read w >>= λ x. Ok (set x.0, x.1)) others ≡ Ok (t, r) → Front (λ v. MatchBool b ((x : A) × Spells v x × (t ≡ set x)) (Others v)) w r
+    by : (b : Bool) → cond b (read w >>= λ x. Ok (set x.0, x.1)) others ≡ Ok (t, r) → Beginning (λ v. MatchBool b ((x : A) × Spells v x × (t ≡ set x)) (Others v)) w r
     by true h =
         let k = bind_ok (read w) (λ x. Ok (set x.0, x.1)) (t, r) h in
         let f = value.found w k.0.0 k.0.1 k.1 in
@@ -51,7 +51,7 @@ known_again {A = A} {S = S} {read = read} {Spells = Spells} value set c d i j v 
     by true (x, spells, t-is) = let h = value.again v r x spells in rw (h, t-is) refl
     by false o = more o
 
-pub skipped_found : {S : Type 0} (s : S) (c : ℕ) (w : List ℕ) (t : S) (r : List ℕ) → skipped s c w ≡ Ok (t, r) → Front (λ v. IsValue 64 c v × (t ≡ s)) w r
+pub skipped_found : {S : Type 0} (s : S) (c : ℕ) (w : List ℕ) (t : S) (r : List ℕ) → skipped s c w ≡ Ok (t, r) → Beginning (λ v. IsValue 64 c v × (t ≡ s)) w r
 skipped_found {S = S} s c w t r e =
     let k = bind_ok (lift wire (skip_at c w)) (λ x. Ok (s, x.1)) (t, r) e in
     let f = skip_found c w k.0.1 (lift_ok wire (skip_at c w) k.0 k.1) in
@@ -88,7 +88,7 @@ module _ {S X : Type 0} (take : Take S DecodeError) (Does : S → Field → S �
   abbrev pub struct_at : Reading X
   struct_at w = fields_at wire take none w >>= λ y. from y.0 >>= λ z. Ok (z, y.1)
 
-  pub struct_found : ((s : S) (c : ℕ) (i : ℤ) (w : List ℕ) (t : S) (r : List ℕ) → take s c i w ≡ Ok (t, r) → Front (λ v. Does s (record { code = c; id = i; text = v }) t) w r)
+  pub struct_found : ((s : S) (c : ℕ) (i : ℤ) (w : List ℕ) (t : S) (r : List ℕ) → take s c i w ≡ Ok (t, r) → Beginning (λ v. Does s (record { code = c; id = i; text = v }) t) w r)
       → ((s : S) (x : X) → from s ≡ Ok x → Makes s x)
       → Found struct_at (IsStruct Does none Makes)
   struct_found takes made w x r e =

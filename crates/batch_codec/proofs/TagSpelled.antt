@@ -2,7 +2,7 @@
 use Rattle.std.proofs.Common.{◌≡◌, ℕ, ℤ, pos, true, List, ◌++◌, Some, Ok, refl, sym, ap, ◌∙◌}
 use Rattle.jaeger_model.specs.declared.tag.Tag.{Tag}
 use Rattle.jaeger_model.specs.declared.tag.Value.{Value}
-use Rattle.thrift_binary.specs.Spelling.{Front, Field}
+use Rattle.thrift_binary.specs.Spelling.{Beginning, Field}
 use Rattle.thrift_binary.proofs.Found.{ok_is}
 use Rattle.batch_codec.specs.declared.fault.Part.TheVariants as parts
 use Rattle.batch_codec.specs.declared.tag.TagSlots.{TagSlots}
@@ -12,7 +12,7 @@ use Rattle.batch_codec.specs.Batches.{TagField, MakesTag, IsTag}
 use Rattle.batch_codec.proofs.ValuesSpelled.{Agrees, is_text, is_type, is_double, is_bool, is_i64, is_binary}
 use Rattle.batch_codec.proofs.Structs.{known_found, known_again, skipped_found, skipped_again, struct_found, struct_again, required_found}
 
-takes : (s : TagSlots) (c : ℕ) (i : ℤ) (w : List ℕ) (t : TagSlots) (r : List ℕ) → take_tag s c i w ≡ Ok (t, r) → Front (λ v. TagField s (record { code = c; id = i; text = v }) t) w r
+takes : (s : TagSlots) (c : ℕ) (i : ℤ) (w : List ℕ) (t : TagSlots) (r : List ℕ) → take_tag s c i w ≡ Ok (t, r) → Beginning (λ v. TagField s (record { code = c; id = i; text = v }) t) w r
 unfolding take_tag TagField
 takes s c i w t r =
     known_found is_text (λ x. record s { key = Some x }) c 11 i (pos 1) w t r _ _ (

@@ -9,7 +9,7 @@ use Rattle.jaeger_model.specs.declared.span.RefKind.TheVariants.{ChildOf, Follow
 use Rattle.thrift_binary.specs.declared.fault.WireError.TheVariants.{BadText}
 use Rattle.thrift_binary.specs.Reading.{◌>>=◌, lift, bytes_at, string_at, signed_at}
 use Rattle.thrift_binary.specs.Reading as wires
-use Rattle.thrift_binary.specs.Spelling.{Front, IsString, IsBool, IsDouble, IsI32, IsI64}
+use Rattle.thrift_binary.specs.Spelling.{Beginning, IsString, IsBool, IsDouble, IsI32, IsI64}
 use Rattle.thrift_binary.proofs.Found.{bind_ok, pass_ok, lift_ok, ok_is, bool_found, i32_found, i64_found, double_found, string_found}
 use Rattle.thrift_binary.proofs.Again.{bool_again, i32_again, i64_again, double_again, string_again}
 use Rattle.batch_codec.specs.declared.fault.DecodeError.{DecodeError}
@@ -22,7 +22,7 @@ use Rattle.batch_codec.specs.Batches.{IsText, IsId, IsTagType, type_number, IsRe
 
 -- what is read is spelled so
 abbrev pub Found : {A : Type 0} → Reading A → (List ℕ → A → Type 0) → Type 0
-Found {A = A} read Spells = (w : List ℕ) (x : A) (r : List ℕ) → read w ≡ Ok (x, r) → Front (λ t. Spells t x) w r
+Found {A = A} read Spells = (w : List ℕ) (x : A) (r : List ℕ) → read w ≡ Ok (x, r) → Beginning (λ t. Spells t x) w r
 
 -- what is spelled so is read, whatever follows
 abbrev pub Again : {A : Type 0} → Reading A → (List ℕ → A → Type 0) → Type 0
@@ -115,7 +115,7 @@ abbrev said : {K : Type 0} → K → List ℕ → Result (K × List ℕ) DecodeE
 said k v = Ok (k, v)
 
 -- a number of the table, and what it stands for
-one_of_table : {K : Type 0} (number : K → ℤ) (w v : List ℕ) (z : ℤ) (k x : K) (r : List ℕ) → Front (λ t. IsI32 t z) w v → z ≡ number k → said k v ≡ said x r → Front (λ t. IsI32 t (number x)) w r
+one_of_table : {K : Type 0} (number : K → ℤ) (w v : List ℕ) (z : ℤ) (k x : K) (r : List ℕ) → Beginning (λ t. IsI32 t z) w v → z ≡ number k → said k v ≡ said x r → Beginning (λ t. IsI32 t (number x)) w r
 one_of_table {K = K} number w v z k x r f z-is e =
     let made : K × List ℕ = (k, v) in
     let same : made ≡ (x, r) = ok_is made (x, r) e in
@@ -132,7 +132,7 @@ is_kind_found w x r e =
     let b = bind_ok (i32_at w) (λ y. cond (int_eq y.0 (pos 0)) (said ChildOf y.1) (cond (int_eq y.0 (pos 1)) (said FollowsFrom y.1) (Err BadEnum))) (x, r) e in
     by b.0.0 b.0.1 (is_i32_found w b.0.0 b.0.1 b.1) (int_eq b.0.0 (pos 0)) refl (int_eq b.0.0 (pos 1)) refl b.2
   where
-    by : (z : ℤ) (v : List ℕ) → Front (λ t. IsI32 t z) w v → (p : Bool) → int_eq z (pos 0) ≡ p → (q : Bool) → int_eq z (pos 1) ≡ q → cond p (said ChildOf v) (cond q (said FollowsFrom v) (Err BadEnum)) ≡ said x r → Front (λ t. IsRefKind t x) w r
+    by : (z : ℤ) (v : List ℕ) → Beginning (λ t. IsI32 t z) w v → (p : Bool) → int_eq z (pos 0) ≡ p → (q : Bool) → int_eq z (pos 1) ≡ q → cond p (said ChildOf v) (cond q (said FollowsFrom v) (Err BadEnum)) ≡ said x r → Beginning (λ t. IsRefKind t x) w r
     by z v f true p q q-is h = one_of_table kind_number w v z ChildOf x r f ((Decides-int_eq z (pos 0)).0 p) h
     by z v f false p true q h = one_of_table kind_number w v z FollowsFrom x r f ((Decides-int_eq z (pos 1)).0 q) h
     by z v f false p false q h = absurd cc
@@ -151,8 +151,8 @@ is_type_found w x r e =
     is : (z : ℤ) (n : ℕ) → int_eq z (pos n) ≡ true → z ≡ pos n
     is z n e = (Decides-int_eq z (pos n)).0 e
 
-    by : (z : ℤ) (v : List ℕ) → Front (λ t. IsI32 t z) w v → (a : Bool) → int_eq z (pos 0) ≡ a → (b : Bool) → int_eq z (pos 1) ≡ b → (c : Bool) → int_eq z (pos 2) ≡ c → (d : Bool) → int_eq z (pos 3) ≡ d → (f : Bool) → int_eq z (pos 4) ≡ f
-        → cond a (said types.Text v) (cond b (said types.Double v) (cond c (said types.Bool v) (cond d (said types.Long v) (cond f (said types.Binary v) (Err BadEnum))))) ≡ said x r → Front (λ t. IsTagType t x) w r
+    by : (z : ℤ) (v : List ℕ) → Beginning (λ t. IsI32 t z) w v → (a : Bool) → int_eq z (pos 0) ≡ a → (b : Bool) → int_eq z (pos 1) ≡ b → (c : Bool) → int_eq z (pos 2) ≡ c → (d : Bool) → int_eq z (pos 3) ≡ d → (f : Bool) → int_eq z (pos 4) ≡ f
+        → cond a (said types.Text v) (cond b (said types.Double v) (cond c (said types.Bool v) (cond d (said types.Long v) (cond f (said types.Binary v) (Err BadEnum))))) ≡ said x r → Beginning (λ t. IsTagType t x) w r
     by z v f true a _ _ _ _ _ _ _ _ h = one_of_table type_number w v z types.Text x r f (is z 0 a) h
     by z v f false _ true b _ _ _ _ _ _ h = one_of_table type_number w v z types.Double x r f (is z 1 b) h
     by z v f false _ false _ true c _ _ _ _ h = one_of_table type_number w v z types.Bool x r f (is z 2 c) h

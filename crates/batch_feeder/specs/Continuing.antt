@@ -58,10 +58,10 @@ Lays reads resumes before after piece left (Ok (Some p)) = NeedsMore (Wire Trunc
 Lays reads resumes before after piece left (Err e) = Faults reads piece e
 
 -- a value that began: whole, or the part of it that has come, or a fault
-abbrev pub Begins : {A P : Type 0} → Reading A → (P → Reading A) → Option P → List ℕ → List ℕ → Result (Option A) DecodeError → Type 0
-Begins reads resumes part piece left (Ok (Some x)) = Comes reads (λ w. Ok (x, w)) piece left
-Begins {P = P} reads resumes part piece left (Ok None) = (p : P) × (part ≡ Some p) × NeedsMore (Wire Truncated) reads (resumes p) piece left
-Begins reads resumes part piece left (Err e) = Faults reads piece e
+abbrev pub BeginsValue : {A P : Type 0} → Reading A → (P → Reading A) → Option P → List ℕ → List ℕ → Result (Option A) DecodeError → Type 0
+BeginsValue reads resumes part piece left (Ok (Some x)) = Comes reads (λ w. Ok (x, w)) piece left
+BeginsValue {P = P} reads resumes part piece left (Ok None) = (p : P) × (part ≡ Some p) × NeedsMore (Wire Truncated) reads (resumes p) piece left
+BeginsValue reads resumes part piece left (Err e) = Faults reads piece e
 
 -- the same of a call that changes what was gathered, and says whether it is whole
 abbrev pub Enters : {X V : Type 0} → Reading X → (V → Reading X) → X → Option V → List ℕ → List ℕ → Result Bool DecodeError → Type 0

@@ -10,8 +10,8 @@ use Rattle.batch_codec.specs.declared.fault.DecodeError.TheVariants.{Wire}
 use Rattle.batch_codec.specs.Decoding.{Reading, wire}
 use Rattle.batch_feeder.specs.declared.fields.Step.{Step}
 use Rattle.batch_feeder.specs.declared.fields.Step.TheVariants.{Head, Value}
-use Rattle.batch_feeder.specs.declared.fields.Place.{Place}
-use Rattle.batch_feeder.specs.declared.fields.Place.TheVariants as place
+use Rattle.batch_feeder.specs.declared.fields.FieldsEnd.{FieldsEnd}
+use Rattle.batch_feeder.specs.declared.fields.FieldsEnd.TheVariants as place
 use Rattle.batch_feeder.specs.Continuing.{Faults}
 
 abbrev pub fields_from : {S V : Type 0} → Take S DecodeError → (S → V → Reading S) → S → Step V → Reading S
@@ -34,7 +34,7 @@ abbrev pub made_of : {S A : Type 0} → (S → Result A DecodeError) → S → R
 made_of makes s = makes s >>= λ m. Ok (Some m)
 
 -- What reading whole fields came to. Inside a head the bytes left are too few for it; in front of a value its head was taken.
-abbrev pub Reads : {S : Type 0} → Take S DecodeError → S → S → List ℕ → List ℕ → Result Place DecodeError → Type 0
+abbrev pub Reads : {S : Type 0} → Take S DecodeError → S → S → List ℕ → List ℕ → Result FieldsEnd DecodeError → Type 0
 Reads take s t piece left (Ok place.Stop) = Comes (fields_at wire take s) (λ w. Ok (t, w)) piece left
 Reads take s t piece left (Ok place.Head) = Comes (fields_at wire take s) (fields_at wire take t) piece left × (field_at left ≡ Err Truncated)
 Reads take s t piece left (Ok (place.Value c i)) = Comes (fields_at wire take s) (fields_value wire take (take t c i)) piece left

@@ -43,11 +43,11 @@ abbrev pub id_part : IdPart → Reading ℕ
 id_part p w = lift wire (i64_from p.part w) >>= λ x. Ok (cast_unsigned w64 x.0, x.1)
 
 -- a string whose bytes have come has to be UTF-8
-abbrev pub judged : List ℕ × List ℕ → Result (List ℕ × List ℕ) DecodeError
-judged x = if is_utf8 x.0 then Ok (x.0, x.1) else Err (Wire BadText)
+abbrev pub checked_text : List ℕ × List ℕ → Result (List ℕ × List ℕ) DecodeError
+checked_text x = if is_utf8 x.0 then Ok (x.0, x.1) else Err (Wire BadText)
 
 abbrev pub text_part : TextPart → Reading (List ℕ)
-text_part p w = lift wire (string_from p.part w) >>= judged
+text_part p w = lift wire (string_from p.part w) >>= checked_text
 
 abbrev pub binary_part : BinaryPart → Reading (List ℕ)
 binary_part p w = lift wire (string_from p.part w)

@@ -115,7 +115,7 @@ pub(crate) enum Step<V> {
 
 /// Where whole fields end: at the stop byte, at the value of a field, or inside a head.
 #[derive(Clone, Copy)]
-pub(crate) enum Place {
+pub(crate) enum FieldsEnd {
     Stop,
     Value(u8, i16),
     Head,
@@ -148,7 +148,7 @@ fn read_fields<S: Slots>(
     slots: &mut S,
     alloc: Global,
     piece: &mut Piece<'_>,
-) -> Result<Place, DecodeError>
+) -> Result<FieldsEnd, DecodeError>
     ensures reads { Reads S.takes slots.old slots.new piece.old piece.new result }
     ensures no_longer { OnOk result (length piece.new ≤ length piece.old) }
 {
@@ -161,27 +161,27 @@ fn read_fields<S: Slots>(
                     return Err(DecodeError::Wire(error));
                 }
                 *piece = Piece::new(head);
-                return Ok(Place::Head);
+                return Ok(FieldsEnd::Head);
             }
             Ok(field) => field,
         };
         let value = cursor.rest();
         let Some((code, id)) = field else {
             *piece = Piece::new(value);
-            return Ok(Place::Stop);
+            return Ok(FieldsEnd::Stop);
         };
         match slots.put(code, id, alloc, &mut cursor) {
             Ok(true) => {}
             Ok(false) => {
                 *piece = Piece::new(value);
-                return Ok(Place::Value(code, id));
+                return Ok(FieldsEnd::Value(code, id));
             }
             Err(error) => {
                 if !is_truncated(error) {
                     return Err(error);
                 }
                 *piece = Piece::new(value);
-                return Ok(Place::Value(code, id));
+                return Ok(FieldsEnd::Value(code, id));
             }
         }
     }
@@ -250,9 +250,9 @@ pub(crate) fn enter_fields<S: Fields>(
     loop {
         match read_fields(slots, alloc, piece) {
             Err(error) => return Err(error),
-            Ok(Place::Stop) => return Ok(true),
-            Ok(Place::Head) => return enter_head(slots, next, piece),
-            Ok(Place::Value(code, id)) => match slots.enter(next, code, id, alloc, piece) {
+            Ok(FieldsEnd::Stop) => return Ok(true),
+            Ok(FieldsEnd::Head) => return enter_head(slots, next, piece),
+            Ok(FieldsEnd::Value(code, id)) => match slots.enter(next, code, id, alloc, piece) {
                 Err(error) => return Err(error),
                 Ok(false) => return Ok(false),
                 Ok(true) => {}
@@ -341,14 +341,14 @@ fn read_on<S: Fields>(
 {
     match read_fields(slots, alloc, piece) {
         Err(error) => Err(error),
-        Ok(Place::Stop) => Ok(true),
-        Ok(Place::Head) => {
+        Ok(FieldsEnd::Stop) => Ok(true),
+        Ok(FieldsEnd::Head) => {
             if piece.is_empty() {
                 return Ok(false);
             }
             hold_fields(slots, step, alloc, piece)
         }
-        Ok(Place::Value(code, id)) => hold_field(slots, step, code, id, alloc, piece),
+        Ok(FieldsEnd::Value(code, id)) => hold_field(slots, step, code, id, alloc, piece),
     }
 }
 

@@ -4,7 +4,7 @@ ghost use Rattle.batch_codec.specs.declared.fault.DecodeError.{DecodeError};
 ghost use Rattle.batch_codec.specs.declared.fault.DecodeError.TheVariants.{Wire};
 ghost use Rattle.batch_codec.specs.Decoding.{Reading};
 ghost use Rattle.batch_feeder.specs.LeastBytes.{IsPart};
-ghost use Rattle.batch_feeder.specs.Continuing.{Arrives, Begins, Continues, Places, Sets, fault_of};
+ghost use Rattle.batch_feeder.specs.Continuing.{Arrives, BeginsValue, Continues, Places, Sets, fault_of};
 
 use batch_codec::DecodeError;
 use std::alloc::Global;
@@ -48,7 +48,7 @@ pub(crate) trait Item: Partial {
         alloc: Global,
         piece: &mut Piece<'_>,
     ) -> Result<Option<Self::Value>, DecodeError>
-        ensures continues { Begins reads Self.resumes part.new piece.old piece.new result }
+        ensures continues { BeginsValue reads Self.resumes part.new piece.old piece.new result }
         ensures no_longer { OnOk result (length piece.new ≤ length piece.old) };
 
     /// Continues over a piece: whether all bytes of the value have come, which is then to be taken.

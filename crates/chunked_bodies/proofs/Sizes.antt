@@ -8,7 +8,7 @@ use Rattle.std.proofs.lemmas.List.{take_all}
 use Rattle.std.proofs.lemmas.List.Elements.{All-nil, All-from_recursion}
 use Rattle.httparse.specs.Grammar.{ChunkLine, IsChunkLine, print_chunk_line, print_extension, IsExtension, AllPass, is_ows, is_extension_byte, chunk_size, MayBecomeChunkLine}
 use Rattle.chunked_bodies.specs.declared.line.TheConstants.{MOST_LINE_BYTES}
-use Rattle.chunked_bodies.specs.Chunks.{IsSizeLine, IsSomeSizeLine, IsDecided, IsSized, texts, HasNone, Begins}
+use Rattle.chunked_bodies.specs.Chunks.{IsSizeLine, IsSomeSizeLine, IsDecided, IsSized, texts, HasNone, BeginsWith}
 
 abbrev has_feed : List ℕ → Bool
 has_feed bytes = list_any (λ b. b == 10) bytes
@@ -117,7 +117,7 @@ zero_line_is = record {
   size_is = refl;
 }
 
-pub body_is_sized : (most : ℕ) (text : List ℕ) → IsDecided most text → Begins (IsSized most) text
+pub body_is_sized : (most : ℕ) (text : List ℕ) → IsDecided most text → BeginsWith (IsSized most) text
 body_is_sized most text (inl (body, b)) = record {
   text = texts b.chunks ++ b.last;
   rest = b.trailer;

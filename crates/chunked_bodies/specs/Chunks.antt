@@ -110,7 +110,7 @@ pub data Reading : Type 0 where
   not_yet : Reading
 
 -- the bytes begin with such a text
-pub record Begins (Is : List ℕ → Type 0) (bytes : List ℕ) : Type 0 where
+pub record BeginsWith (Is : List ℕ → Type 0) (bytes : List ℕ) : Type 0 where
   pub text : List ℕ
   pub rest : List ℕ
   pub is : Is text

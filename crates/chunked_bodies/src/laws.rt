@@ -3,7 +3,7 @@
 ghost use Rattle.std.specs.Prelude.{◌≡◌, ◌≢◌, ℕ, List, ◌++◌};
 ghost use Rattle.chunked_bodies.specs.declared.line.TheConstants.{MOST_LINE_BYTES};
 ghost use Rattle.chunked_bodies.specs.declared.trailer.TheConstants.{MOST_TRAILER_BYTES, MOST_FIELDS};
-ghost use Rattle.chunked_bodies.specs.Chunks.{Reading as ReadingValue, Reading.{bad, not_yet}, Reads, IsDecided, IsSized, Begins, HasNone, NeverHas};
+ghost use Rattle.chunked_bodies.specs.Chunks.{Reading as ReadingValue, Reading.{bad, not_yet}, Reads, IsDecided, IsSized, BeginsWith, HasNone, NeverHas};
 
 /// The limits of a chunked body: the bytes of a size line with its CR LF, and the bytes and fields of a trailer
 /// with its empty line.
@@ -34,5 +34,5 @@ pub fn bad_bytes_have_no_body()
 /// A body has all its chunks and the line behind them at its beginning, or those up to the line that says that it
 /// is too large.
 pub fn a_body_begins_with_its_chunks()
-    ensures { (most : ℕ) (text : List ℕ) → IsDecided most text → Begins (IsSized most) text }
+    ensures { (most : ℕ) (text : List ℕ) → IsDecided most text → BeginsWith (IsSized most) text }
 {}

@@ -1,14 +1,14 @@
 -- What an answer to words comes to.
 use Rattle.std.proofs.Common.{◌≡◌, Bool, inl, inr, refl}
-use Rattle.text_lines.specs.declared.halt.Halt.{Halt}
-use Rattle.text_lines.specs.declared.halt.Halt.TheVariants.{Device, Memory}
-use Rattle.text_lines.specs.Halting.{IsWhyOf, status_by}
+use Rattle.text_lines.specs.declared.run_error.RunError.{RunError}
+use Rattle.text_lines.specs.declared.run_error.RunError.TheVariants.{Device, Memory}
+use Rattle.text_lines.specs.RunErrors.{IsWhyOf, status_by}
 use Rattle.command_words.specs.Words.{IsFaultOf}
 
-pub halted : (h : Halt) (failed : Bool) → IsWhyOf h failed → IsFaultOf (status_by h) failed
-halted Device failed why = inr (inl (refl, why))
-halted Memory failed why = inr (inr (refl, why))
+pub stopped : (h : RunError) (failed : Bool) → IsWhyOf h failed → IsFaultOf (status_by h) failed
+stopped Device failed why = inr (inl (refl, why))
+stopped Memory failed why = inr (inr (refl, why))
 
-pub halted_not_2 : (h : Halt) → status_by h ≡ 2 → ⊥
-halted_not_2 Device e = cc
-halted_not_2 Memory e = cc
+pub stopped_not_2 : (h : RunError) → status_by h ≡ 2 → ⊥
+stopped_not_2 Device e = cc
+stopped_not_2 Memory e = cc

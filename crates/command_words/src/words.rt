@@ -382,7 +382,7 @@ fn refuse<S: AsStr, W: Write>(alloc: Global, words: &[S], writer: &mut W) -> u8
 }
 
 /// Answers words that ask for no command, and gives the exit status.
-#[tactic(auto, using(crate::proofs::Answering::halted, crate::proofs::Answering::halted_not_2))]
+#[tactic(auto, using(crate::proofs::Answering::stopped, crate::proofs::Answering::stopped_not_2))]
 fn answer<W: Output>(alloc: Global, output: &mut W, text: &[u8], status: u8) -> u8
     requires { W.has_failed output.old ≡ false }
     ensures status { IsFaultOf result (W.has_failed output.new) }
@@ -396,7 +396,7 @@ fn answer<W: Output>(alloc: Global, output: &mut W, text: &[u8], status: u8) -> 
     }
     match say(alloc, output, text) {
         Ok(()) => 2,
-        Err(halt) => halt.status(),
+        Err(error) => error.status(),
     }
 }
 

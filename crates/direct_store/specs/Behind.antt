@@ -13,10 +13,10 @@ use Rattle.trace_model.specs.Places.{entry_at}
 use Rattle.trace_model.specs.Refusals.{place_of, with_admitted}
 use Rattle.trace_model.proofs.Admissions.{IsSaid, IsAnswered, admission_says}
 use Rattle.arrival_journal.specs.Journals.{admission_by}
-use Rattle.store_backend.specs.Knowing.{History, Begins, HasAt}
+use Rattle.store_backend.specs.Knowing.{History, IsBeginning, HasAt}
 
 -- the entries held before come first, under the same limits
-pub grows : (s : Held) (e : Entry) (a : Admission) → Begins s.entries (with_admitted s e (Ok a)).entries
+pub grows : (s : Held) (e : Entry) (a : Admission) → IsBeginning s.entries (with_admitted s e (Ok a)).entries
 grows s e Added = (e ∷ [], refl)
 grows s e (Resent place) = ([], sym (append-nil s.entries))
 

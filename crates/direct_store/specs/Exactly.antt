@@ -14,7 +14,7 @@ use Rattle.trace_model.specs.Histories.{IsLegal}
 use Rattle.trace_model.specs.Refusals.{place_of, with_admitted}
 use Rattle.trace_model.specs.Answers.{answer}
 use Rattle.arrival_journal.specs.Journals.{admission_by, turned_away_by}
-use Rattle.store_backend.specs.Knowing.{History, Begins, HasAt, Keeps, SubmitKnows, ReadKnows}
+use Rattle.store_backend.specs.Knowing.{History, IsBeginning, HasAt, Keeps, SubmitKnows, ReadKnows}
 use Rattle.direct_store.specs.Behind.{grows, limits_stay, has_batch}
 
 -- the next entry of seat 0
@@ -22,7 +22,7 @@ abbrev pub next_entry : Held → Batch → Entry
 next_entry s b = record { seat = 0; number = length s.entries + 1; work = brings.Batch b }
 
 abbrev pub DirectKnows : Held → History → Type 0
-DirectKnows s h = Begins h s.entries
+DirectKnows s h = IsBeginning h s.entries
 
 -- a batch is accepted where the entries take it, or have it already: then they stay, and its place is the old one
 abbrev pub DirectSubmits : Held → Batch → Result ℕ Refusal → Held → Type 0

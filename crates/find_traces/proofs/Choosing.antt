@@ -4,7 +4,7 @@ use Rattle.std.specs.Prelude.{int_lt, if◌then◌else◌, filter}
 use Rattle.std.specs.List.{AllByRecursion}
 use Rattle.std.proofs.lemmas.Int.{ints}
 use Rattle.std.proofs.lemmas.List.Elements.{All-filter, All-from_recursion, recursion_from_All}
-use Rattle.trace_model.specs.Searching.{put_by_start, ranked, StartsFall}
+use Rattle.trace_model.specs.Searching.{put_by_start, ranked_by_start, StartsFall}
 use Rattle.trace_model.proofs.Falling.{NoneLater, ranked-falls}
 
 module _ {X : Type 0} (start : X → ℤ) (p : X → Bool) where
@@ -47,9 +47,9 @@ module _ {X : Type 0} (start : X → ℤ) (p : X → Bool) where
   ]
 
   -- to rank and then choose is to choose and then rank
-  pub ranked-filter : (xs : List X) → filter p (ranked start xs) ≡ ranked start (filter p xs)
+  pub ranked-filter : (xs : List X) → filter p (ranked_by_start start xs) ≡ ranked_by_start start (filter p xs)
   ranked-filter [] = refl
-  ranked-filter (x ∷ xs) = elim (p x) as (λ b. p x ≡ b → filter p (put_by_start start x (ranked start xs)) ≡ ranked start (cond b (x ∷ filter p xs) (filter p xs))) [
-    | true ↦ λ e. filter_put_in x (ranked start xs) e (ranked-falls start xs) ∙ ap (put_by_start start x) (ranked-filter xs)
-    | false ↦ λ e. filter_put_out x (ranked start xs) e ∙ ranked-filter xs
+  ranked-filter (x ∷ xs) = elim (p x) as (λ b. p x ≡ b → filter p (put_by_start start x (ranked_by_start start xs)) ≡ ranked_by_start start (cond b (x ∷ filter p xs) (filter p xs))) [
+    | true ↦ λ e. filter_put_in x (ranked_by_start start xs) e (ranked-falls start xs) ∙ ap (put_by_start start x) (ranked-filter xs)
+    | false ↦ λ e. filter_put_out x (ranked_by_start start xs) e ∙ ranked-filter xs
   ] refl

@@ -22,13 +22,13 @@ pub and_last : (a b : Bool) → (a && b) ≡ true → b ≡ true
 and_last true b h = h
 and_last false b h = absurd (true≢false (sym h))
 
--- one of the own or one of those told before
-either_told : (m p s : Bool) → (((m && not (m && p)) && s) || (m && p)) ≡ (m && (s || p))
-either_told false p s = refl
-either_told true true true = refl
-either_told true true false = refl
-either_told true false true = refl
-either_told true false false = refl
+-- one of the own or one of those met before
+either_met : (m p s : Bool) → (((m && not (m && p)) && s) || (m && p)) ≡ (m && (s || p))
+either_met false p s = refl
+either_met true true true = refl
+either_met true true false = refl
+either_met true false true = refl
+either_met true false false = refl
 
 own_is_new : (m t s : Bool) → ((m && not t) && s) ≡ true → t ≡ false
 own_is_new m false s h = refl
@@ -108,54 +108,54 @@ module _ {K : Type 0} {eq : K → K → Bool} (laws : IsEquivalence eq) where
       by false e g more = more g
 
   -- where none is left, each of the list passes
-  pub none_left : (f s p : K → Bool) → ((q : K) → f q ≡ (s q || p q)) → (xs told : List K) → IsDistinct eq told → ((q : K) → is_member eq told q ≡ (is_member eq xs q && p q))
-      → length told ≡ distinct_count eq xs → true ≡ list_all f xs
-  none_left f s p either_is xs told d told_is count = by (list_all f xs) refl
+  pub none_left : (f s p : K → Bool) → ((q : K) → f q ≡ (s q || p q)) → (xs met : List K) → IsDistinct eq met → ((q : K) → is_member eq met q ≡ (is_member eq xs q && p q))
+      → length met ≡ distinct_count eq xs → true ≡ list_all f xs
+  none_left f s p either_is xs met d met_is count = by (list_all f xs) refl
     where
-      missed : (x : K) → (b : Bool) → is_member eq told x ≡ b → is_member eq xs x ≡ true → f x ≡ false → true ≡ false
-      missed x true t m e = sym (either_is x ∙ ap (λ b. s x || b) (and_last (is_member eq xs x) (p x) (sym (told_is x) ∙ t)) ∙ or_last (s x) true refl) ∙ e
-      missed x false t m e = let less = fewer xs told x d (λ q n. and_first (is_member eq xs q) (p q) (sym (told_is q) ∙ n)) t m in absurd (omega arith)
+      missed : (x : K) → (b : Bool) → is_member eq met x ≡ b → is_member eq xs x ≡ true → f x ≡ false → true ≡ false
+      missed x true t m e = sym (either_is x ∙ ap (λ b. s x || b) (and_last (is_member eq xs x) (p x) (sym (met_is x) ∙ t)) ∙ or_last (s x) true refl) ∙ e
+      missed x false t m e = let less = fewer xs met x d (λ q n. and_first (is_member eq xs q) (p q) (sym (met_is q) ∙ n)) t m in absurd (omega arith)
 
       by : (b : Bool) → list_all f xs ≡ b → true ≡ b
       by true h = refl
-      by false h = let gap = lacking f xs h in missed gap.0 (is_member eq told gap.0) refl gap.1 gap.2
+      by false h = let gap = lacking f xs h in missed gap.0 (is_member eq met gap.0) refl gap.1 gap.2
 
-  module _ (f s p : K → Bool) (alike : (q x : K) → eq q x ≡ true → f q ≡ f x) (either_is : (q : K) → f q ≡ (s q || p q)) (xs own told : List K)
-      (own_distinct : IsDistinct eq own) (told_distinct : IsDistinct eq told)
-      (own_is : (q : K) → is_member eq own q ≡ ((is_member eq xs q && not (is_member eq told q)) && s q))
-      (told_is : (q : K) → is_member eq told q ≡ (is_member eq xs q && p q)) where
-    all_told : List K
-    all_told = own ++ told
+  module _ (f s p : K → Bool) (alike : (q x : K) → eq q x ≡ true → f q ≡ f x) (either_is : (q : K) → f q ≡ (s q || p q)) (xs own met : List K)
+      (own_distinct : IsDistinct eq own) (met_distinct : IsDistinct eq met)
+      (own_is : (q : K) → is_member eq own q ≡ ((is_member eq xs q && not (is_member eq met q)) && s q))
+      (met_is : (q : K) → is_member eq met q ≡ (is_member eq xs q && p q)) where
+    all_met : List K
+    all_met = own ++ met
 
-    is_told : (q : K) → is_member eq (own ++ told) q ≡ (is_member eq xs q && f q)
-    is_told q =
-        list_any-append (eq q) own told
-        ∙ ap (λ b. b || is_member eq told q) (own_is q)
-        ∙ ap (λ t. ((is_member eq xs q && not t) && s q) || t) (told_is q)
-        ∙ either_told (is_member eq xs q) (p q) (s q)
+    is_met : (q : K) → is_member eq (own ++ met) q ≡ (is_member eq xs q && f q)
+    is_met q =
+        list_any-append (eq q) own met
+        ∙ ap (λ b. b || is_member eq met q) (own_is q)
+        ∙ ap (λ t. ((is_member eq xs q && not t) && s q) || t) (met_is q)
+        ∙ either_met (is_member eq xs q) (p q) (s q)
         ∙ ap (λ b. is_member eq xs q && b) (sym (either_is q))
 
-    both : IsDistinct eq (own ++ told)
-    both = distinct_both own told own_distinct told_distinct (λ q m. own_is_new (is_member eq xs q) (is_member eq told q) (s q) (sym (own_is q) ∙ m))
+    both : IsDistinct eq (own ++ met)
+    both = distinct_both own met own_distinct met_distinct (λ q m. own_is_new (is_member eq xs q) (is_member eq met q) (s q) (sym (own_is q) ∙ m))
 
-    within : (q : K) → is_member eq (own ++ told) q ≡ true → is_member eq xs q ≡ true
-    within q m = and_first (is_member eq xs q) (f q) (sym (is_told q) ∙ m)
+    within : (q : K) → is_member eq (own ++ met) q ≡ true → is_member eq xs q ≡ true
+    within q m = and_first (is_member eq xs q) (f q) (sym (is_met q) ∙ m)
 
     and_true : (m b : Bool) → (m ≡ true → b ≡ true) → (m && b) ≡ m
     and_true true b h = h refl
     and_true false b h = refl
 
-    as_many : list_all f xs ≡ true → length own + length told ≡ distinct_count eq xs
+    as_many : list_all f xs ≡ true → length own + length met ≡ distinct_count eq xs
     as_many h =
-        let count = length-from_keys laws (own ++ told) xs both (λ q. is_told q ∙ and_true (is_member eq xs q) (f q) (passes f alike xs h q)) in
-        let sum = length-append own told in
+        let count = length-from_keys laws (own ++ met) xs both (λ q. is_met q ∙ and_true (is_member eq xs q) (f q) (passes f alike xs h q)) in
+        let sum = length-append own met in
         omega arith
 
-    too_few : list_all f xs ≡ false → length own + length told + 1 ≤ distinct_count eq xs
+    too_few : list_all f xs ≡ false → length own + length met + 1 ≤ distinct_count eq xs
     too_few h =
         let gap = lacking f xs h in
-        let less = fewer xs (own ++ told) gap.0 both within (is_told gap.0 ∙ ap (λ b. is_member eq xs gap.0 && b) gap.2 ∙ no (is_member eq xs gap.0)) gap.1 in
-        let sum = length-append own told in
+        let less = fewer xs (own ++ met) gap.0 both within (is_met gap.0 ∙ ap (λ b. is_member eq xs gap.0 && b) gap.2 ∙ no (is_member eq xs gap.0)) gap.1 in
+        let sum = length-append own met in
         omega arith
       where
         no : (b : Bool) → (b && false) ≡ false
@@ -163,7 +163,7 @@ module _ {K : Type 0} {eq : K → K → Bool} (laws : IsEquivalence eq) where
         no false = refl
 
     -- as many of the own as were left say that each of the list passes
-    pub counted : (left : ℕ) → left + length told ≡ distinct_count eq xs → (length own == left) ≡ list_all f xs
+    pub counted : (left : ℕ) → left + length met ≡ distinct_count eq xs → (length own == left) ≡ list_all f xs
     counted left sum = by (list_all f xs) refl
       where
         by : (b : Bool) → list_all f xs ≡ b → (length own == left) ≡ b

@@ -7,7 +7,7 @@ use Rattle.std.proofs.lemmas.List.Elements.{All-nil, All-cons, All-head, All-tai
 use Rattle.std.proofs.lemmas.List.Sorted.{All-permutation}
 use Rattle.jaeger_model.specs.declared.placed.Placed.{Placed}
 use Rattle.trace_model.specs.declared.query.Find.{Find}
-use Rattle.trace_model.specs.Searching.{matches, matching, first_start, first_id, ids_of, ranked, cut, found_in}
+use Rattle.trace_model.specs.Searching.{matches, matching, first_start, first_id, ids_of, ranked_by_start, cut, found_in}
 use Rattle.trace_model.proofs.Ranking.{ranked-permutation, ranked-map}
 use Rattle.find_traces.specs.Places.{numbered, is_hit, start_of, hits, hit_of, place_of, places_found, trace_at, id_at}
 
@@ -37,9 +37,9 @@ map_agree f g (x ∷ xs) h =
     λ i. first i ∷ rest i
 
 -- what the sorted and cut hits name
-pub places_of_hits : (q : Find) (ts : List (List Placed)) → map place_of (cut q.limit (map hit_of (ranked start_of (hits q ts)))) ≡ places_found q ts
+pub places_of_hits : (q : Find) (ts : List (List Placed)) → map place_of (cut q.limit (map hit_of (ranked_by_start start_of (hits q ts)))) ≡ places_found q ts
 places_of_hits q ts =
-    ap (map place_of) (sym (map_cut hit_of q.limit (ranked start_of (hits q ts)))) ∙ map_twice place_of hit_of (cut q.limit (ranked start_of (hits q ts)))
+    ap (map place_of) (sym (map_cut hit_of q.limit (ranked_by_start start_of (hits q ts)))) ∙ map_twice place_of hit_of (cut q.limit (ranked_by_start start_of (hits q ts)))
 
 -- ---- each number leads back to its trace
 found_at : (before : List (List Placed)) (t : List Placed) (rest : List (List Placed)) → trace_at (before ++ t ∷ rest) (length before) ≡ t
@@ -60,10 +60,10 @@ Leads ts es = All (λ (e : ℕ × List Placed). trace_at ts e.0 ≡ e.1) es
 pub all_lead : (ts : List (List Placed)) → Leads ts (numbered 0 ts)
 all_lead ts = numbers_lead [] ts 0 refl
 
-hits_lead : (q : Find) (ts : List (List Placed)) → All (λ (e : ℕ × List Placed). trace_at ts e.0 ≡ e.1) (cut q.limit (ranked start_of (hits q ts)))
+hits_lead : (q : Find) (ts : List (List Placed)) → All (λ (e : ℕ × List Placed). trace_at ts e.0 ≡ e.1) (cut q.limit (ranked_by_start start_of (hits q ts)))
 hits_lead q ts =
-    cut_all q.limit (ranked start_of (hits q ts))
-    (All-permutation P (hits q ts) (ranked start_of (hits q ts)) (ranked-permutation start_of (hits q ts)) (All-filter (is_hit q) P (numbered 0 ts) (all_lead ts)))
+    cut_all q.limit (ranked_by_start start_of (hits q ts))
+    (All-permutation P (hits q ts) (ranked_by_start start_of (hits q ts)) (ranked-permutation start_of (hits q ts)) (All-filter (is_hit q) P (numbered 0 ts) (all_lead ts)))
   where
     P : ℕ × List Placed → Type 0
     P e = trace_at ts e.0 ≡ e.1
@@ -80,10 +80,10 @@ hits_match q n (t ∷ ts) = elim (list_any (matches q) t) as (λ b. map trace (c
 
 pub traces_found : (q : Find) (ts : List (List Placed)) → map (trace_at ts) (places_found q ts) ≡ found_in q ts
 traces_found q ts =
-    map_twice (trace_at ts) place (cut q.limit (ranked start_of (hits q ts)))
-    ∙ map_agree (λ e. trace_at ts (place e)) trace (cut q.limit (ranked start_of (hits q ts))) (hits_lead q ts)
-    ∙ map_cut trace q.limit (ranked start_of (hits q ts))
-    ∙ ap (cut q.limit) (ranked-map trace first_start (hits q ts) ∙ ap (ranked first_start) (hits_match q 0 ts))
+    map_twice (trace_at ts) place (cut q.limit (ranked_by_start start_of (hits q ts)))
+    ∙ map_agree (λ e. trace_at ts (place e)) trace (cut q.limit (ranked_by_start start_of (hits q ts))) (hits_lead q ts)
+    ∙ map_cut trace q.limit (ranked_by_start start_of (hits q ts))
+    ∙ ap (cut q.limit) (ranked-map trace first_start (hits q ts) ∙ ap (ranked_by_start first_start) (hits_match q 0 ts))
 
 ids_through : (ts : List (List Placed)) (ns : List ℕ) → filter_map (id_at ts) ns ≡ ids_of (map (trace_at ts) ns)
 ids_through ts [] = refl

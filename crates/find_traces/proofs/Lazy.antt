@@ -7,7 +7,7 @@ use Rattle.std.specs.List.Sorted.{IsPermutation, IsStrictlySortedBy}
 use Rattle.std.proofs.lemmas.List.Sorted.{All-permutation, IsPermutation-map, IsPermutation-sym, IsPermutation-trans}
 use Rattle.jaeger_model.specs.declared.placed.Placed.{Placed}
 use Rattle.trace_model.specs.declared.query.Find.{Find}
-use Rattle.trace_model.specs.Searching.{matches, ranked, cut}
+use Rattle.trace_model.specs.Searching.{matches, ranked_by_start, cut}
 use Rattle.trace_model.proofs.Ranking.{ranked-permutation}
 use Rattle.find_traces.specs.Places.{numbered, is_hit, start_of, hits, places_found, trace_at}
 use Rattle.find_traces.specs.declared.best.Key.{Key}
@@ -28,14 +28,14 @@ filter_through f p q (x ∷ xs) h =
     ])
 
 -- judging by place is judging the trace
-ranked_judged : (q : Find) (ts : List (List Placed)) (es : List (ℕ × List Placed)) → Leads ts es → All (λ (e : ℕ × List Placed). found_at q ts e.0 ≡ is_hit q e) (ranked start_of es)
-ranked_judged q ts es lead = λ k d h. ap (list_any (matches q)) (All-permutation (λ (e : ℕ × List Placed). trace_at ts e.0 ≡ e.1) es (ranked start_of es) (ranked-permutation start_of es) lead k d h)
+ranked_judged : (q : Find) (ts : List (List Placed)) (es : List (ℕ × List Placed)) → Leads ts es → All (λ (e : ℕ × List Placed). found_at q ts e.0 ≡ is_hit q e) (ranked_by_start start_of es)
+ranked_judged q ts es lead = λ k d h. ap (list_any (matches q)) (All-permutation (λ (e : ℕ × List Placed). trace_at ts e.0 ≡ e.1) es (ranked_by_start start_of es) (ranked-permutation start_of es) lead k d h)
 
 abbrev pub ranking : List (List Placed) → List Key
-ranking ts = map key_of (ranked start_of (numbered 0 ts))
+ranking ts = map key_of (ranked_by_start start_of (numbered 0 ts))
 
 pub ranking_rises : (ts : List (List Placed)) → IsStrictlySortedBy best_cmp (ranking ts)
-ranking_rises ts = strict_keys (ranked start_of (numbered 0 ts)) (ranked_rises start_of ts)
+ranking_rises ts = strict_keys (ranked_by_start start_of (numbered 0 ts)) (ranked_rises start_of ts)
 
 -- what has the keys of all has the ranking
 pub ranking_moved : (ts : List (List Placed)) (keys left : List Key) → keys ≡ map key_of (numbered 0 ts) → IsPermutation keys left → IsPermutation (ranking ts) left
@@ -48,7 +48,7 @@ pub ranking_found : (q : Find) (ts : List (List Placed)) → answer (key_judged 
 ranking_found q ts =
     let all : List (ℕ × List Placed) = numbered 0 ts in
     ap (λ l. map key_place (cut q.limit l))
-    (filter_through key_of (key_judged q ts) (is_hit q) (ranked start_of all) (ranked_judged q ts all (all_lead ts))
+    (filter_through key_of (key_judged q ts) (is_hit q) (ranked_by_start start_of all) (ranked_judged q ts all (all_lead ts))
     ∙ ap (map key_of) (ranked-filter start_of (is_hit q) all))
-    ∙ ap (map key_place) (sym (map_cut key_of q.limit (ranked start_of (hits q ts))))
-    ∙ map_twice key_place key_of (cut q.limit (ranked start_of (hits q ts)))
+    ∙ ap (map key_place) (sym (map_cut key_of q.limit (ranked_by_start start_of (hits q ts))))
+    ∙ map_twice key_place key_of (cut q.limit (ranked_by_start start_of (hits q ts)))

@@ -13,7 +13,7 @@ use Rattle.std.proofs.lemmas.Bool.{lt-ltb}
 use Rattle.std.proofs.lemmas.List.Elements.{All-from_recursion, recursion_from_All}
 use Rattle.std.proofs.lemmas.List.Sorted.{All-permutation}
 use Rattle.jaeger_model.specs.declared.placed.Placed.{Placed}
-use Rattle.trace_model.specs.Searching.{put_by_start, ranked}
+use Rattle.trace_model.specs.Searching.{put_by_start, ranked_by_start}
 use Rattle.trace_model.proofs.Ranking.{ranked-permutation}
 use Rattle.trace_model.proofs.Rising.{Below}
 use Rattle.find_traces.specs.declared.matched.Hit.{Hit}
@@ -89,12 +89,12 @@ module _ {X : Type 0} (start : ℕ × X → ℤ) where
     | false ↦ λ e. (below_put y x es (later x y e a.0) h.0, strict_put x es a.1 h.1)
   ] refl
 
-  strict_ranked : (es : List (ℕ × X)) → PlacesRise es → IsStrictlySortedBy rank_cmp (ranked start es)
+  strict_ranked : (es : List (ℕ × X)) → PlacesRise es → IsStrictlySortedBy rank_cmp (ranked_by_start start es)
   unfolding IsStrictlySortedBy
   strict_ranked [] r = tt
   strict_ranked (x ∷ es) r =
-      strict_put x (ranked start es)
-      (recursion_from_All (λ (e : ℕ × X). x.0 < e.0) _ (All-permutation (λ (e : ℕ × X). x.0 < e.0) es (ranked start es) (ranked-permutation start es) (All-from_recursion (λ (e : ℕ × X). x.0 < e.0) es r.0)))
+      strict_put x (ranked_by_start start es)
+      (recursion_from_All (λ (e : ℕ × X). x.0 < e.0) _ (All-permutation (λ (e : ℕ × X). x.0 < e.0) es (ranked_by_start start es) (ranked-permutation start es) (All-from_recursion (λ (e : ℕ × X). x.0 < e.0) es r.0)))
       (strict_ranked es r.1)
 
   -- the places of what is numbered rise
@@ -114,7 +114,7 @@ module _ {X : Type 0} (start : ℕ × X → ℤ) where
   places_rise n [] = tt
   places_rise n (x ∷ xs) = (above n (numbered (n + 1) xs) (places_above (n + 1) xs), places_rise (n + 1) xs)
 
-  pub ranked_rises : (xs : List X) → IsStrictlySortedBy rank_cmp (ranked start (numbered 0 xs))
+  pub ranked_rises : (xs : List X) → IsStrictlySortedBy rank_cmp (ranked_by_start start (numbered 0 xs))
   ranked_rises xs = strict_ranked (numbered 0 xs) (places_rise 0 xs)
 
 -- ---- and so do their keys

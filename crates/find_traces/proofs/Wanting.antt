@@ -1,4 +1,4 @@
--- Pairs that a search asks and that tags tell.
+-- Pairs that a search asks and that tags have.
 use Rattle.std.proofs.Common.{◌≡◌, ℕ, ◌+◌, ◌<◌, ◌≤◌, Bool, true, false, true≢false, ◌||◌, ◌&&◌, cond, List, [], ◌∷◌, ◌++◌, length, get_or, take, refl, sym, ap, ◌∙◌, arith, Some, None}
 use Rattle.std.specs.Prelude.{not, flat_map, if◌then◌else◌, ◌==◌}
 use Rattle.std.specs.List.{IsDistinct, list_any, list_all}
@@ -20,8 +20,8 @@ use Rattle.jaeger_model.specs.declared.tag.Tag.{Tag}
 use Rattle.jaeger_model.specs.Tags.{tag_text}
 use Rattle.jaeger_model.specs.Texts.{text_cmp}
 use Rattle.trace_model.specs.declared.query.Find.{Find}
-use Rattle.trace_model.specs.Searching.{tells, has_tag, tags_of}
-use Rattle.find_traces.specs.Wanting.{pair_of, pair_cmp, same_pair, asks, asked_count, if_asked, told_by, is_in, wants}
+use Rattle.trace_model.specs.Searching.{tag_matches, has_tag, tags_of}
+use Rattle.find_traces.specs.Wanting.{pair_of, pair_cmp, same_pair, asks, asked_count, if_asked, has_pair, is_in, wants}
 use Rattle.find_traces.specs.Prepared.{IsJudged}
 use Rattle.find_traces.proofs.Counting.{and_first, few, counted, none_left}
 
@@ -117,29 +117,29 @@ wants_old q others x p is there = ap (λ b. asks q x && not b) (ap (is_in others
 pub wants_none : (q : Find) (others : List (List ℕ × List ℕ)) (x : List ℕ × List ℕ) → asks q x ≡ false → wants q others x ≡ false
 wants_none q others x e = ap (λ b. b && not (is_in others x)) e
 
-pub told_put : (q : Find) (others n o : List (List ℕ × List ℕ)) (x : List ℕ × List ℕ) → wants q others x ≡ true
+pub met_put : (q : Find) (others n o : List (List ℕ × List ℕ)) (x : List ℕ × List ℕ) → wants q others x ≡ true
     → (a : List ℕ × List ℕ) → is_in n a ≡ cond (same_pair x a) true (is_in o a) → is_in n a ≡ (is_in o a || (wants q others a && same_pair a x))
-told_put q others n o x w a put = put ∙ put_last (same_pair x a) (is_in o a) ∙ ap (λ b. is_in o a || b) (pair_laws.symm x a ∙ by (same_pair a x) refl)
+met_put q others n o x w a put = put ∙ put_last (same_pair x a) (is_in o a) ∙ ap (λ b. is_in o a || b) (pair_laws.symm x a ∙ by (same_pair a x) refl)
   where
     by : (b : Bool) → same_pair a x ≡ b → b ≡ (wants q others a && b)
     by true e = sym (ap (λ v. v && true) (wants_alike q others a x e ∙ w))
     by false e = sym (and_none (wants q others a))
 
-pub told_same : (q : Find) (others o : List (List ℕ × List ℕ)) (x : List ℕ × List ℕ) → wants q others x ≡ false
+pub met_same : (q : Find) (others o : List (List ℕ × List ℕ)) (x : List ℕ × List ℕ) → wants q others x ≡ false
     → (a : List ℕ × List ℕ) → is_in o a ≡ (is_in o a || (wants q others a && same_pair a x))
-told_same q others o x w a = or_none (is_in o a) ∙ ap (λ b. is_in o a || b) (by (same_pair a x) refl)
+met_same q others o x w a = or_none (is_in o a) ∙ ap (λ b. is_in o a || b) (by (same_pair a x) refl)
   where
     by : (b : Bool) → same_pair a x ≡ b → false ≡ (wants q others a && b)
     by true e = sym (ap (λ v. v && true) (wants_alike q others a x e ∙ w))
     by false e = sym (and_none (wants q others a))
 
 pub tag_more : (q : Find) (others n o first : List (List ℕ × List ℕ)) (ts : List Tag) (i : ℕ) (t : Tag) → i < length ts → t ≡ get_or ts i t
-    → (a : List ℕ × List ℕ) → is_in n a ≡ (is_in o a || (wants q others a && same_pair a (pair_of t))) → is_in o a ≡ (is_in first a || (wants q others a && told_by (take i ts) a))
-    → is_in n a ≡ (is_in first a || (wants q others a && told_by (take (i + 1) ts) a))
+    → (a : List ℕ × List ℕ) → is_in n a ≡ (is_in o a || (wants q others a && same_pair a (pair_of t))) → is_in o a ≡ (is_in first a || (wants q others a && has_pair (take i ts) a))
+    → is_in n a ≡ (is_in first a || (wants q others a && has_pair (take (i + 1) ts) a))
 tag_more q others n o first ts i t le is a put before =
     put ∙ ap (λ b. b || (wants q others a && same_pair a (pair_of t))) before
-    ∙ one_more (is_in first a) (wants q others a) (told_by (take i ts) a) (same_pair a (pair_of t))
-    ∙ ap (λ b. is_in first a || (wants q others a && b)) (ap (λ y. told_by (take i ts) a || same_pair a (pair_of y)) is ∙ sym (list_any_more (λ (y : Tag). same_pair a (pair_of y)) ts i t le))
+    ∙ one_more (is_in first a) (wants q others a) (has_pair (take i ts) a) (same_pair a (pair_of t))
+    ∙ ap (λ b. is_in first a || (wants q others a && b)) (ap (λ y. has_pair (take i ts) a || same_pair a (pair_of y)) is ∙ sym (list_any_more (λ (y : Tag). same_pair a (pair_of y)) ts i t le))
 
 abbrev pub fields_of : List Log → List Tag
 fields_of ls = flat_map (λ (l : Log). l.fields) ls
@@ -148,14 +148,14 @@ fields_last : (ls : List Log) (l : Log) → fields_of (ls ++ l ∷ []) ≡ field
 fields_last ls l = sym (flat_map_more (λ (x : Log). x.fields) [] ls l)
 
 pub log_more : (q : Find) (others n o first : List (List ℕ × List ℕ)) (ls : List Log) (i : ℕ) (l : Log) → i < length ls → l ≡ get_or ls i l
-    → (a : List ℕ × List ℕ) → is_in n a ≡ (is_in o a || (wants q others a && told_by l.fields a)) → is_in o a ≡ (is_in first a || (wants q others a && told_by (fields_of (take i ls)) a))
-    → is_in n a ≡ (is_in first a || (wants q others a && told_by (fields_of (take (i + 1) ls)) a))
+    → (a : List ℕ × List ℕ) → is_in n a ≡ (is_in o a || (wants q others a && has_pair l.fields a)) → is_in o a ≡ (is_in first a || (wants q others a && has_pair (fields_of (take i ls)) a))
+    → is_in n a ≡ (is_in first a || (wants q others a && has_pair (fields_of (take (i + 1) ls)) a))
 log_more q others n o first ls i l le is a put before =
-    put ∙ ap (λ b. b || (wants q others a && told_by l.fields a)) before
-    ∙ one_more (is_in first a) (wants q others a) (told_by (fields_of (take i ls)) a) (told_by l.fields a)
+    put ∙ ap (λ b. b || (wants q others a && has_pair l.fields a)) before
+    ∙ one_more (is_in first a) (wants q others a) (has_pair (fields_of (take i ls)) a) (has_pair l.fields a)
     ∙ ap (λ b. is_in first a || (wants q others a && b)) (
     sym (list_any-append (λ (y : Tag). same_pair a (pair_of y)) (fields_of (take i ls)) l.fields)
-    ∙ ap (λ ts. told_by ts a) (sym (fields_last (take i ls) l) ∙ ap (λ y. fields_of (take i ls ++ y ∷ [])) is ∙ ap fields_of (sym (take_more ls i l le))))
+    ∙ ap (λ ts. has_pair ts a) (sym (fields_last (take i ls) l) ∙ ap (λ y. fields_of (take i ls ++ y ∷ [])) is ∙ ap fields_of (sym (take_more ls i l le))))
 
 -- ---- the tags of a span
 then_both : (r s : Ordering) → is_eq (ordering_then r s) ≡ (is_eq r && is_eq s)
@@ -163,16 +163,16 @@ then_both Less s = refl
 then_both Equal s = refl
 then_both Greater s = refl
 
-tells_same : (a : List ℕ × List ℕ) (t : Tag) → tells a t ≡ same_pair a (pair_of t)
-tells_same a t = (λ i. texts_ties a.0 t.key i && texts_ties a.1 (tag_text t.value) i) ∙ sym (then_both (text_cmp a.0 t.key) (text_cmp a.1 (tag_text t.value)))
+tag_matches-same : (a : List ℕ × List ℕ) (t : Tag) → tag_matches a t ≡ same_pair a (pair_of t)
+tag_matches-same a t = (λ i. texts_ties a.0 t.key i && texts_ties a.1 (tag_text t.value) i) ∙ sym (then_both (text_cmp a.0 t.key) (text_cmp a.1 (tag_text t.value)))
 
-any_told : (a : List ℕ × List ℕ) (ts : List Tag) → list_any (tells a) ts ≡ told_by ts a
-any_told a [] = refl
-any_told a (t ∷ ts) = λ i. tells_same a t i || any_told a ts i
+any_has_pair : (a : List ℕ × List ℕ) (ts : List Tag) → list_any (tag_matches a) ts ≡ has_pair ts a
+any_has_pair a [] = refl
+any_has_pair a (t ∷ ts) = λ i. tag_matches-same a t i || any_has_pair a ts i
 
-told_alike : (ts : List Tag) (a b : List ℕ × List ℕ) → same_pair a b ≡ true → told_by ts a ≡ told_by ts b
-told_alike [] a b e = refl
-told_alike (t ∷ ts) a b e = λ i. pair_laws.congr a b (pair_of t) e i || told_alike ts a b e i
+has_pair-alike : (ts : List Tag) (a b : List ℕ × List ℕ) → same_pair a b ≡ true → has_pair ts a ≡ has_pair ts b
+has_pair-alike [] a b e = refl
+has_pair-alike (t ∷ ts) a b e = λ i. pair_laws.congr a b (pair_of t) e i || has_pair-alike ts a b e i
 
 regroup : (s o l : Bool) → ((s || o) || l) ≡ ((s || l) || o)
 regroup true o l = refl
@@ -184,28 +184,28 @@ module _ (q : Find) (o : Process) (s : Span) where
   abbrev here : Placed
   here = record { process = o; span = s }
 
-  has_told : (a : List ℕ × List ℕ) → has_tag here a ≡ ((told_by s.tags a || told_by (fields_of s.logs) a) || told_by o.tags a)
-  has_told a =
-      any_told a (tags_of here)
+  has_tag-pairs : (a : List ℕ × List ℕ) → has_tag here a ≡ ((has_pair s.tags a || has_pair (fields_of s.logs) a) || has_pair o.tags a)
+  has_tag-pairs a =
+      any_has_pair a (tags_of here)
       ∙ list_any-append (λ (y : Tag). same_pair a (pair_of y)) (s.tags ++ o.tags) (fields_of s.logs)
-      ∙ ap (λ b. b || told_by (fields_of s.logs) a) (list_any-append (λ (y : Tag). same_pair a (pair_of y)) s.tags o.tags)
-      ∙ regroup (told_by s.tags a) (told_by o.tags a) (told_by (fields_of s.logs) a)
+      ∙ ap (λ b. b || has_pair (fields_of s.logs) a) (list_any-append (λ (y : Tag). same_pair a (pair_of y)) s.tags o.tags)
+      ∙ regroup (has_pair s.tags a) (has_pair o.tags a) (has_pair (fields_of s.logs) a)
 
   has_alike : (a b : List ℕ × List ℕ) → same_pair a b ≡ true → has_tag here a ≡ has_tag here b
-  has_alike a b e = any_told a (tags_of here) ∙ told_alike (tags_of here) a b e ∙ sym (any_told b (tags_of here))
+  has_alike a b e = any_has_pair a (tags_of here) ∙ has_pair-alike (tags_of here) a b e ∙ sym (any_has_pair b (tags_of here))
 
-  pub all_asked : (own told : List (List ℕ × List ℕ)) (left : ℕ) → IsJudged q o told left → IsStrictlySortedBy pair_cmp own
-      → ((a : List ℕ × List ℕ) → is_in own a ≡ (wants q told a && (told_by s.tags a || told_by (fields_of s.logs) a)))
+  pub all_asked : (own met : List (List ℕ × List ℕ)) (left : ℕ) → IsJudged q o met left → IsStrictlySortedBy pair_cmp own
+      → ((a : List ℕ × List ℕ) → is_in own a ≡ (wants q met a && (has_pair s.tags a || has_pair (fields_of s.logs) a)))
       → (length own == left) ≡ list_all (has_tag here) q.tags
-  all_asked own told left j rising own_is =
-      counted pair_laws (has_tag here) (λ a. told_by s.tags a || told_by (fields_of s.logs) a) (told_by o.tags) has_alike has_told q.tags own told
-      (distinct_pairs own rising) (distinct_pairs told j.rising) own_is j.asked left j.count
+  all_asked own met left j rising own_is =
+      counted pair_laws (has_tag here) (λ a. has_pair s.tags a || has_pair (fields_of s.logs) a) (has_pair o.tags) has_alike has_tag-pairs q.tags own met
+      (distinct_pairs own rising) (distinct_pairs met j.rising) own_is j.asked left j.count
 
-  pub none_asked : (told : List (List ℕ × List ℕ)) (left : ℕ) → IsJudged q o told left → left ≡ 0 → true ≡ list_all (has_tag here) q.tags
-  none_asked told left j none =
+  pub none_asked : (met : List (List ℕ × List ℕ)) (left : ℕ) → IsJudged q o met left → left ≡ 0 → true ≡ list_all (has_tag here) q.tags
+  none_asked met left j none =
       let count = j.count in
-      none_left pair_laws (has_tag here) (λ a. told_by s.tags a || told_by (fields_of s.logs) a) (told_by o.tags) has_told q.tags told (distinct_pairs told j.rising) j.asked (omega arith)
+      none_left pair_laws (has_tag here) (λ a. has_pair s.tags a || has_pair (fields_of s.logs) a) (has_pair o.tags) has_tag-pairs q.tags met (distinct_pairs met j.rising) j.asked (omega arith)
 
 -- ---- the tags of a process
-pub told_few : (q : Find) (o : Process) (told : List (List ℕ × List ℕ)) → IsStrictlySortedBy pair_cmp told → ((a : List ℕ × List ℕ) → is_in told a ≡ (asks q a && told_by o.tags a)) → length told ≤ asked_count q
-told_few q o told rising is = few pair_laws q.tags told (distinct_pairs told rising) (λ a m. and_first (asks q a) (told_by o.tags a) (sym (is a) ∙ m))
+pub met_few : (q : Find) (o : Process) (met : List (List ℕ × List ℕ)) → IsStrictlySortedBy pair_cmp met → ((a : List ℕ × List ℕ) → is_in met a ≡ (asks q a && has_pair o.tags a)) → length met ≤ asked_count q
+met_few q o met rising is = few pair_laws q.tags met (distinct_pairs met rising) (λ a m. and_first (asks q a) (has_pair o.tags a) (sym (is a) ∙ m))

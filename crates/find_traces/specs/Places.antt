@@ -7,7 +7,7 @@ use Rattle.jaeger_model.specs.declared.ids.TraceId.{TraceId}
 use Rattle.jaeger_model.specs.declared.placed.Placed.{Placed}
 use Rattle.trace_model.specs.declared.query.Find.{Find}
 use Rattle.find_traces.specs.declared.matched.Hit.{Hit}
-use Rattle.trace_model.specs.Searching.{matches, first_start, ranked, cut, first_id}
+use Rattle.trace_model.specs.Searching.{matches, first_start, ranked_by_start, cut, first_id}
 
 -- each with its place, where the first stands at n
 abbrev pub numbered : {X : Type 0} → ℕ → List X → List (ℕ × X)
@@ -26,7 +26,7 @@ hits q ts = filter (is_hit q) (numbered 0 ts)
 
 -- the places of the answer, in its order
 abbrev pub places_found : Find → List (List Placed) → List ℕ
-places_found q ts = map (λ (e : ℕ × List Placed). e.0) (cut q.limit (ranked start_of (hits q ts)))
+places_found q ts = map (λ (e : ℕ × List Placed). e.0) (cut q.limit (ranked_by_start start_of (hits q ts)))
 
 -- what is sorted
 abbrev pub hit_of : ℕ × List Placed → Hit

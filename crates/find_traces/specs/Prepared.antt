@@ -6,15 +6,15 @@ use Rattle.std.specs.Ordering.{eq_by_cmp}
 use Rattle.jaeger_model.specs.declared.batch.Process.{Process}
 use Rattle.jaeger_model.specs.Texts.{text_cmp}
 use Rattle.trace_model.specs.declared.query.Find.{Find}
-use Rattle.find_traces.specs.Wanting.{pair_cmp, asks_key, asks, asked_count, told_by, is_in}
+use Rattle.find_traces.specs.Wanting.{pair_cmp, asks_key, asks, asked_count, has_pair, is_in}
 
 -- the keys and the pairs of a search
 pub record IsPrepared (q : Find) (keys : List (List ℕ)) (pairs : List (List ℕ × List ℕ)) : Type 0 where
   pub keys_asked : (k : List ℕ) → list_any (eq_by_cmp text_cmp k) keys ≡ asks_key q k
   pub pairs_asked : (a : List ℕ × List ℕ) → is_in pairs a ≡ asks q a
 
--- the asked pairs that the tags of a process tell, and how many it leaves
-pub record IsJudged (q : Find) (o : Process) (told : List (List ℕ × List ℕ)) (left : ℕ) : Type 0 where
-  pub rising : IsStrictlySortedBy pair_cmp told
-  pub asked : (a : List ℕ × List ℕ) → is_in told a ≡ (asks q a && told_by o.tags a)
-  pub count : left + length told ≡ asked_count q
+-- the asked pairs that the tags of a process have, and how many it leaves
+pub record IsJudged (q : Find) (o : Process) (met : List (List ℕ × List ℕ)) (left : ℕ) : Type 0 where
+  pub rising : IsStrictlySortedBy pair_cmp met
+  pub asked : (a : List ℕ × List ℕ) → is_in met a ≡ (asks q a && has_pair o.tags a)
+  pub count : left + length met ≡ asked_count q

@@ -1,4 +1,4 @@
--- The pairs of a key and a text that a search asks, and which of them tags tell.
+-- The pairs of a key and a text that a search asks, and which of them tags have.
 use Rattle.std.specs.Prelude.{ℕ, Bool, not, ◌&&◌, List, Option, Some, None, if◌then◌else◌}
 use Rattle.std.specs.List.{list_any}
 use Rattle.std.specs.Set.{distinct_count}
@@ -10,7 +10,7 @@ use Rattle.jaeger_model.specs.Tags.{tag_text}
 use Rattle.jaeger_model.specs.Texts.{text_cmp}
 use Rattle.trace_model.specs.declared.query.Find.{Find}
 
--- what a tag tells
+-- the pair of a tag
 abbrev pub pair_of : Tag → List ℕ × List ℕ
 pair_of t = (t.key, tag_text t.value)
 
@@ -36,9 +36,9 @@ asked_count q = distinct_count same_pair q.tags
 abbrev pub if_asked : Find → List ℕ × List ℕ → Option (List ℕ × List ℕ)
 if_asked q a = if asks q a then Some a else None
 
--- one of the tags tells the pair
-abbrev pub told_by : List Tag → List ℕ × List ℕ → Bool
-told_by ts a = list_any (λ (t : Tag). same_pair a (pair_of t)) ts
+-- one of the tags has the pair
+abbrev pub has_pair : List Tag → List ℕ × List ℕ → Bool
+has_pair ts a = list_any (λ (t : Tag). same_pair a (pair_of t)) ts
 
 -- the pair is among these
 abbrev pub is_in : List (List ℕ × List ℕ) → List ℕ × List ℕ → Bool

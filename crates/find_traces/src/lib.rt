@@ -2,7 +2,7 @@
 //! answered.
 //!
 //! * `wanted`: a search whose asked tags are put in order once.
-//! * `judged`: a process as such a search judges it, and whether a span of it meets every condition. Its
+//! * `judged_process`: a process as such a search judges it, and whether a span of it meets every condition. Its
 //!   tags are looked at once, and for each span the span's own.
 //! * `searched`: traces that are looked at one by one, wherever their spans stand.
 //! * `matched`: the traces that match, judged one after the other and then sorted.
@@ -12,12 +12,12 @@
 
 mod best;
 mod finding;
-mod judged;
+mod judged_process;
 mod matched;
 mod searched;
 mod wanted;
 
 pub use finding::{find, find_ids};
-pub use judged::Judged;
+pub use judged_process::JudgedProcess;
 pub use searched::Searched;
 pub use wanted::Wanted;

@@ -12,7 +12,7 @@ use Rattle.trace_model.specs.Held.{Held}
 use Rattle.trace_model.specs.Refusals.{admission}
 use Rattle.get_command.specs.declared.line_fault.LineFault.{LineFault}
 use Rattle.get_command.specs.declared.line_fault.LineFault.TheVariants.{BadHex, Undecodable}
-use Rattle.get_command.specs.Judging.{admitted, batch_in, judged, next_entry, without_blanks, of_bytes, of_batch}
+use Rattle.get_command.specs.Judging.{admitted, batch_in, judged_line, next_entry, without_blanks, of_bytes, of_batch}
 
 fails : {A : Type 0} (e : DecodeError) (r : Result A DecodeError) → (e ≡ Memory → ⊥) → Fails e r → r ≡ Err e
 fails Memory r other h = absurd (other refl)
@@ -34,16 +34,16 @@ pub batch_read : (text bytes : List ℕ) (b : Batch) → decode_of text ≡ Ok b
 unfolding batch_in
 batch_read text bytes b hex is = sym (ap of_bytes hex ∙ ap of_batch is)
 
-pub line_skipped : (held : Held) (line : List ℕ) → (length (without_blanks line) == 0) ≡ true → record { fault = None; held = held } ≡ judged held line
-unfolding judged
+pub line_skipped : (held : Held) (line : List ℕ) → (length (without_blanks line) == 0) ≡ true → record { fault = None; held = held } ≡ judged_line held line
+unfolding judged_line
 line_skipped held line none = rw none refl
 
 pub line_refused : (held : Held) (line : List ℕ) (f : LineFault) → (length (without_blanks line) == 0) ≡ false → Err f ≡ batch_in (without_blanks line)
-    → record { fault = Some f; held = held } ≡ judged held line
-unfolding judged
+    → record { fault = Some f; held = held } ≡ judged_line held line
+unfolding judged_line
 line_refused held line f some is = rw (some, ← is) refl
 
 pub line_judged : (held : Held) (line : List ℕ) (b : Batch) → (length (without_blanks line) == 0) ≡ false → Ok b ≡ batch_in (without_blanks line)
-    → admitted held (next_entry held b) (admission held.limits held.entries (next_entry held b)) ≡ judged held line
-unfolding judged
+    → admitted held (next_entry held b) (admission held.limits held.entries (next_entry held b)) ≡ judged_line held line
+unfolding judged_line
 line_judged held line b some is = rw (some, ← is) refl

@@ -1,7 +1,7 @@
 -- The lines of spans, one by one.
 use Rattle.std.proofs.Common.{◌≡◌, ℕ, zero, suc, arith, ◌+◌, ◌<◌, List, [], ◌∷◌, ◌++◌, length, take, drop, Option, subst, sym, ap, ◌∙◌, append-nil, append_assoc, add-one, refl}
 use Rattle.std.specs.Prelude.{flat_map}
-use Rattle.text_lines.specs.Halting.{Moves, WritesSome}
+use Rattle.text_lines.specs.RunErrors.{Moves, WritesSome}
 use Rattle.text_lines.proofs.Pages.{moves_more, moves_nothing, moves_then, some_written}
 use Rattle.text_lines.proofs.Wholes.{some_more}
 use Rattle.std.specs.List.{slice_index_or}

@@ -5,12 +5,12 @@ use Rattle.std.proofs.KnownBytes.{Appends-trans}
 use Rattle.jaeger_model.specs.declared.ids.TraceId.{TraceId}
 use Rattle.trace_model.specs.declared.limits.Limits.{Limits}
 use Rattle.trace_model.specs.Held.{Held}
-use Rattle.text_lines.specs.declared.halt.Halt.{Halt}
+use Rattle.text_lines.specs.declared.run_error.RunError.{RunError}
 use Rattle.text_lines.specs.Lines.{lines_of}
-use Rattle.text_lines.specs.Halting.{Finishes, IsWhyOf, StopsShort, WritesSome, status_by}
+use Rattle.text_lines.specs.RunErrors.{Finishes, IsWhyOf, StopsShort, WritesSome, status_by}
 use Rattle.text_lines.specs.Taking.{AnswersAll, AnswersSome, Said, TakesEach}
 use Rattle.text_lines.proofs.Wholes.{some_after, some_more, stops_all, stops_some}
-use Rattle.get_command.specs.Judging.{judged}
+use Rattle.get_command.specs.Judging.{judged_line}
 use Rattle.get_command.specs.Runs.{TakesBatch, fault_line, fault_lines, found_in, has_fault, held_after, nothing_held, output_of, status_by as status_at, status_of, trace_lines}
 
 -- what lines come to, taken one after the other
@@ -18,7 +18,7 @@ pub each_judged : (s : Held) (n : ℕ) (lines : List (List ℕ)) (said : Said) (
     → (t ≡ held_after s lines) × (said.text ≡ fault_lines n s lines) × (said.faulty ≡ has_fault s lines)
 each_judged s n [] said t e = (e.0, ap (λ (x : Said). x.text) e.1, ap (λ (x : Said). x.faulty) e.1)
 each_judged s n (line ∷ lines) said t e =
-    let here = judged s line in
+    let here = judged_line s line in
     let r = each_judged e.0 (n + 1) lines e.2 t e.4 in (
       r.0 ∙ ap (λ h. held_after h lines) e.3.0,
       ap (λ (x : Said). x.text) e.5 ∙ ap (λ (x : Said). x.text ++ e.2.text) e.3.1
@@ -30,7 +30,7 @@ each_judged s n (line ∷ lines) said t e =
 faults_append : (n : ℕ) (s : Held) (xs ys : List (List ℕ)) → (more : List ℕ) × (fault_lines n s (xs ++ ys) ≡ fault_lines n s xs ++ more)
 faults_append n s [] ys = (fault_lines n s ys, refl)
 faults_append n s (x ∷ xs) ys =
-    let here = judged s x in
+    let here = judged_line s x in
     let r = faults_append (n + 1) here.held xs ys in
     (r.0, ap (λ t. fault_line n here.fault ++ t) r.1 ∙ sym (append_assoc (fault_line n here.fault) (fault_lines (n + 1) here.held xs) r.0))
 
@@ -56,7 +56,7 @@ module _ (in0 in1 out0 out1 out2 : Option (List ℕ)) (i o : Bool) (limits : Lim
       }
 
   -- the lines of the trace were not written whole
-  pub stops_late : held0 ≡ nothing_held limits → AnswersAll TakesBatch in0 in1 out0 out1 held0 held1 faulty → (h : Halt)
+  pub stops_late : held0 ≡ nothing_held limits → AnswersAll TakesBatch in0 in1 out0 out1 held0 held1 faulty → (h : RunError)
       → WritesSome out1 out2 (trace_lines (found_in held1 id)) → IsWhyOf h o → i ≡ false
       → StopsShort in0 in1 out0 out2 i o (output_of limits id) (status_by h)
   stops_late start a h some why ie =
@@ -69,7 +69,7 @@ module _ (in0 in1 out0 out1 out2 : Option (List ℕ)) (i o : Bool) (limits : Lim
       stops_all TakesBatch in0 in1 out0 out1 out2 held0 held1 faulty i o h (output_of limits id) a (subst (WritesSome out0 out2) whole (some_after out0 out1 out2 _ _ a.written some)) why ie
 
   -- not all lines were taken
-  pub stops_early : held0 ≡ nothing_held limits → (h : Halt) → AnswersSome TakesBatch in0 in1 out0 out1 held0 i o h
+  pub stops_early : held0 ≡ nothing_held limits → (h : RunError) → AnswersSome TakesBatch in0 in1 out0 out1 held0 i o h
       → StopsShort in0 in1 out0 out1 i o (output_of limits id) (status_by h)
   stops_early start h a =
       let all = a.first.taken ++ a.first.rest in

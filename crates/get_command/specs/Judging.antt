@@ -43,7 +43,7 @@ abbrev pub next_entry : Held → Batch → Entry
 next_entry held batch = record { seat = 0; number = length held.entries + 1; work = brings.Batch batch }
 
 -- why a line can't be used, if it can't, and what is held after it
-pub record Judged : Type 0 where
+pub record JudgedLine : Type 0 where
   pub fault : Option LineFault
   pub held : Held
 
@@ -52,14 +52,14 @@ abbrev pub fault_by : Result Admission Refusal → Option LineFault
 fault_by (Ok a) = None
 fault_by (Err refusal) = Some (Refused refusal)
 
-abbrev pub admitted : Held → Entry → Result Admission Refusal → Judged
+abbrev pub admitted : Held → Entry → Result Admission Refusal → JudgedLine
 admitted held entry answer = record { fault = fault_by answer; held = with_admitted held entry answer }
 
-abbrev pub taken_in : Held → Option (Result Batch LineFault) → Judged
+abbrev pub taken_in : Held → Option (Result Batch LineFault) → JudgedLine
 taken_in held None = record { fault = None; held = held }
 taken_in held (Some (Err fault)) = record { fault = Some fault; held = held }
 taken_in held (Some (Ok batch)) = admitted held (next_entry held batch) (admission held.limits held.entries (next_entry held batch))
 
 -- a refused batch leaves what is held, and so does one that was sent before
-unfoldable pub judged : Held → List ℕ → Judged
-judged held line = taken_in held (batch_on line)
+unfoldable pub judged_line : Held → List ℕ → JudgedLine
+judged_line held line = taken_in held (batch_on line)

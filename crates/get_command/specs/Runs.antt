@@ -13,14 +13,14 @@ use Rattle.text_lines.specs.Lines.{lines_of}
 use Rattle.text_lines.specs.Taking.{Said, Takes}
 use Rattle.get_command.specs.LineFaults.{fault_text}
 use Rattle.get_command.specs.declared.line_fault.LineFault.{LineFault}
-use Rattle.get_command.specs.Judging.{Judged, judged}
+use Rattle.get_command.specs.Judging.{JudgedLine, judged_line}
 
 -- ---- the lines
 
 -- what is held after the lines
 abbrev pub held_after : Held → List (List ℕ) → Held
 held_after held [] = held
-held_after held (line ∷ rest) = held_after (judged held line).held rest
+held_after held (line ∷ rest) = held_after (judged_line held line).held rest
 
 abbrev pub fault_line : ℕ → Option LineFault → List ℕ
 fault_line n None = []
@@ -29,18 +29,18 @@ fault_line n (Some fault) = codes "line " ++ decimal n ++ codes ": " ++ fault_te
 -- a line for each that can't be used, where the first has the number n
 abbrev pub fault_lines : ℕ → Held → List (List ℕ) → List ℕ
 fault_lines n held [] = []
-fault_lines n held (line ∷ rest) = fault_line n (judged held line).fault ++ fault_lines (n + 1) (judged held line).held rest
+fault_lines n held (line ∷ rest) = fault_line n (judged_line held line).fault ++ fault_lines (n + 1) (judged_line held line).held rest
 
 abbrev pub has_fault : Held → List (List ℕ) → Bool
 has_fault held [] = false
-has_fault held (line ∷ rest) = is_some (judged held line).fault || has_fault (judged held line).held rest
+has_fault held (line ∷ rest) = is_some (judged_line held line).fault || has_fault (judged_line held line).held rest
 
 -- what is said to a line
-abbrev pub said_to : ℕ → Judged → Said
+abbrev pub said_to : ℕ → JudgedLine → Said
 said_to n j = record { text = fault_line n j.fault; faulty = is_some j.fault }
 
 abbrev pub TakesBatch : Takes Held
-TakesBatch held n line said after = (after ≡ (judged held line).held) × (said ≡ said_to n (judged held line))
+TakesBatch held n line said after = (after ≡ (judged_line held line).held) × (said ≡ said_to n (judged_line held line))
 
 -- ---- the trace
 

@@ -1,7 +1,7 @@
 //! A store that takes a batch from each line.
 ghost use Rattle.std.specs.Prelude.{◌≡◌, ◌≢◌, ◌++◌, IfOk, OnOk, Some};
 ghost use Rattle.trace_model.specs.Refusals.{admission};
-ghost use Rattle.get_command.specs.Judging.{admitted, batch_in, is_written, judged, next_entry, without_blanks};
+ghost use Rattle.get_command.specs.Judging.{admitted, batch_in, is_written, judged_line, next_entry, without_blanks};
 ghost use Rattle.get_command.specs.Runs.{fault_line, nothing_held};
 
 use crate::line_fault::LineFault;
@@ -100,7 +100,7 @@ fn take_batch(
     line: &mut Vec<u8>,
 ) -> Result<Option<LineFault>, AllocError>
     ensures { IfOk result (λ fault. record { fault = fault; held = store.new } ≡
-        judged store.old line.old.items) }
+        judged_line store.old line.old.items) }
 {
     drop_blanks(line);
     if line.is_empty() {

@@ -9,7 +9,7 @@
 #![tactic(auto)]
 
 ghost use Rattle.std.specs.Prelude.{◌≡◌, false, IfErr, IfOk};
-ghost use Rattle.text_lines.specs.Halting.{Finishes, RunsAs, StopsShort, status_by};
+ghost use Rattle.text_lines.specs.RunErrors.{Finishes, RunsAs, StopsShort, status_by};
 ghost use Rattle.get_command.specs.Runs.{nothing_held, output_of, status_by as status_at, status_of as status_for};
 
 mod batches;
@@ -23,7 +23,7 @@ pub use line_fault::LineFault;
 use session_devices::{Input, Output};
 use std::alloc::Global;
 use std::hash::RandomState;
-use text_lines::{Halt, answer_lines};
+use text_lines::{RunError, answer_lines};
 use trace_model::Limits;
 
 fn status_of(faulty: bool, found: bool) -> u8
@@ -44,7 +44,7 @@ fn take_all<R: Input, W: Output>(
     output: &mut W,
     limits: Limits,
     trace: TraceId,
-) -> Result<u8, Halt>
+) -> Result<u8, RunError>
     requires nothing { batches.old ≡ nothing_held limits }
     requires input_works { R.has_failed input.old ≡ false }
     requires output_works { W.has_failed output.old ≡ false }
@@ -70,7 +70,7 @@ fn finish<R: Input, W: Output>(
     output: &mut W,
     limits: Limits,
     trace: TraceId,
-) -> Result<u8, Halt>
+) -> Result<u8, RunError>
     requires input_works { R.has_failed input.old ≡ false }
     requires output_works { W.has_failed output.old ≡ false }
     ensures ends { IfOk result (Finishes (R.remaining input.old) (R.remaining input.new)
@@ -113,6 +113,6 @@ pub fn run_get<R: Input, W: Output>(
 {
     match finish(alloc, keys, input, output, limits, trace) {
         Ok(status) => status,
-        Err(halt) => halt.status(),
+        Err(error) => error.status(),
     }
 }

@@ -1,6 +1,6 @@
 //! The lines of a trace's spans.
 ghost use Rattle.std.specs.Prelude.{◌≡◌, ◌++◌, None, IfOk, OnOk, false, flat_map, is_some, map, option_map};
-ghost use Rattle.text_lines.specs.Halting.{Says};
+ghost use Rattle.text_lines.specs.RunErrors.{Says};
 ghost use Rattle.trace_model.specs.Adjusting.{unadjusted};
 ghost use Rattle.get_command.specs.Runs.{found_in, ids_text, names_text, shown_line, span_line, times_text, trace_lines};
 
@@ -9,7 +9,7 @@ use session_devices::Output;
 use span_store::SpanStore;
 use std::alloc::{AllocError, Global};
 use std::io::Write;
-use text_lines::{Halt, Page, say};
+use text_lines::{Page, RunError, say};
 use trace_model::{Answer, Query, Shown};
 
 fn say_ids(said: &mut Vec<u8>, placed: &Placed) -> Result<(), AllocError>
@@ -55,7 +55,7 @@ fn say_span(said: &mut Vec<u8>, placed: &Placed) -> Result<(), AllocError>
 }
 
 /// Writes the lines of the spans.
-fn say_spans<W: Output>(alloc: Global, output: &mut W, spans: &[Shown]) -> Result<(), Halt>
+fn say_spans<W: Output>(alloc: Global, output: &mut W, spans: &[Shown]) -> Result<(), RunError>
     requires { W.has_failed output.old ≡ false }
     ensures { Says (W.contents output.old) (W.contents output.new) (W.has_failed output.new)
         (flat_map shown_line spans.now) result }
@@ -88,7 +88,7 @@ fn find_trace(store: &SpanStore, trace: TraceId) -> Result<Option<Seq<Shown>>, A
 }
 
 /// Writes that the trace isn't found.
-fn say_none<W: Output>(alloc: Global, output: &mut W) -> Result<(), Halt>
+fn say_none<W: Output>(alloc: Global, output: &mut W) -> Result<(), RunError>
     requires { W.has_failed output.old ≡ false }
     ensures { Says (W.contents output.old) (W.contents output.new) (W.has_failed output.new)
         (trace_lines None) result }
@@ -102,7 +102,7 @@ pub(crate) fn say_trace<W: Output>(
     output: &mut W,
     store: &SpanStore,
     trace: TraceId,
-) -> Result<bool, Halt>
+) -> Result<bool, RunError>
     requires { W.has_failed output.old ≡ false }
     ensures found { IfOk result (λ found. found ≡ is_some (found_in store.now trace)) }
     ensures lines { Says (W.contents output.old) (W.contents output.new) (W.has_failed output.new)

@@ -131,10 +131,10 @@ target_may bytes lines rest (blank, method, target, token, uri, is) e ends never
     )
 
 -- no reason in the whole lines
-abbrev Goes : List ℕ → Type 0
-Goes bytes = (lines rest : List ℕ) → bytes ≡ lines ++ rest → EndsLine lines → NeverHasRequest lines → ⊥
+abbrev HasNoReason : List ℕ → Type 0
+HasNoReason bytes = (lines rest : List ℕ) → bytes ≡ lines ++ rest → EndsLine lines → NeverHasRequest lines → ⊥
 
-may_go_on : (bytes : List ℕ) → MayBecomeRequest bytes → Goes bytes
+may_go_on : (bytes : List ℕ) → MayBecomeRequest bytes → HasNoReason bytes
 may_go_on bytes (inl (more, h, reads)) lines rest e ends never =
     never (rest ++ more) h [] (reads.0, sym (append_assoc lines rest more) ∙ ap (λ l. l ++ more) (sym e) ∙ reads.1)
 may_go_on bytes (inr target) lines rest e ends never = target_may bytes lines rest target e ends never
@@ -154,4 +154,4 @@ no_trailer_yet text rest is e =
 pub awaits_head : (bytes beginning : List ℕ) → beginning ≡ take MOST_HEAD_BYTES bytes → length bytes < MOST_HEAD_BYTES → HasNoRequest beginning → MayBecomeRequest beginning → AwaitsHead bytes
 awaits_head bytes beginning f short none may =
     let same : beginning ≡ bytes = f ∙ take_all MOST_HEAD_BYTES bytes (omega (arith, short)) in
-    record { none = more_when_short bytes beginning f short none; short = short; may = subst Goes same (may_go_on beginning may) }
+    record { none = more_when_short bytes beginning f short none; short = short; may = subst HasNoReason same (may_go_on beginning may) }

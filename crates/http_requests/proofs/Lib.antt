@@ -5,6 +5,6 @@ pub mod Wholes
 pub mod Once
 pub mod Taking
 pub mod Ends
-pub mod Waits
+pub mod Awaiting
 pub mod Rooms
 pub mod Awaited

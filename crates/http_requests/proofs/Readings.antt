@@ -2,12 +2,12 @@
 use Rattle.std.proofs.Common.{◌≡◌, ℕ, ◌+◌, Bool, List, [], ◌++◌, length, Option, sym, ap, ◌∙◌, subst, arith, append_assoc, append-nil, length-append}
 use Rattle.std.proofs.KnownBytes.{Consumes-trans, Consumes-nil}
 use Rattle.http_requests.specs.Waiting.{Source, counted, ReadsWhile}
-use Rattle.http_requests.specs.Receiving.{Received, ReadsOn, ReadsOnWhile, IsRead, Halts, StopsWhile, put_back}
-use Rattle.http_requests.proofs.Waits.{no_read, one_read, reads_in_turn, reads_behind}
-use Rattle.http_requests.specs.declared.received.Interrupted.{Interrupted}
-use Rattle.http_requests.specs.declared.received.Interrupted.TheVariants.{Reading, Memory}
+use Rattle.http_requests.specs.Receiving.{ReadBuffer, ReadsOn, ReadsOnWhile, IsRead, ReadFails, StopsWhile, put_back}
+use Rattle.http_requests.proofs.Awaiting.{no_read, one_read, reads_in_turn, reads_behind}
+use Rattle.http_requests.specs.declared.read_buffer.ReadError.{ReadError}
+use Rattle.http_requests.specs.declared.read_buffer.ReadError.TheVariants.{Reading, Memory}
 
-pub nothing_read : (input : Option (List ℕ)) (r : Received) → ReadsOn input input r r
+pub nothing_read : (input : Option (List ℕ)) (r : ReadBuffer) → ReadsOn input input r r
 nothing_read input r = record {
   more = [];
   read = Consumes-nil input;
@@ -17,7 +17,7 @@ nothing_read input r = record {
   end = λ knows. knows;
 }
 
-pub reads_join : (in0 in1 in2 : Option (List ℕ)) (a b c : Received) → ReadsOn in0 in1 a b → ReadsOn in1 in2 b c → ReadsOn in0 in2 a c
+pub reads_join : (in0 in1 in2 : Option (List ℕ)) (a b c : ReadBuffer) → ReadsOn in0 in1 a b → ReadsOn in1 in2 b c → ReadsOn in0 in2 a c
 reads_join in0 in1 in2 a b c first second =
     let long : length (first.more ++ second.more) ≡ length first.more + length second.more = length-append first.more second.more in
     record {
@@ -32,8 +32,8 @@ reads_join in0 in1 in2 a b c first second =
 -- ---- with what was taken in front
 
 -- a text that stands in front is taken
-pub takes_front : (in0 in1 : Option (List ℕ)) (a b : Received) (text rest : List ℕ) → ReadsOn in0 in1 a b → b.held ≡ text ++ rest → ReadsOn in0 in1 a (put_back text (record b { held = rest }))
-takes_front in0 in1 a b text rest reads cut = record {
+pub takes_beginning : (in0 in1 : Option (List ℕ)) (a b : ReadBuffer) (text rest : List ℕ) → ReadsOn in0 in1 a b → b.held ≡ text ++ rest → ReadsOn in0 in1 a (put_back text (record b { held = rest }))
+takes_beginning in0 in1 a b text rest reads cut = record {
   more = reads.more;
   read = reads.read;
   held = sym cut ∙ reads.held;
@@ -43,7 +43,7 @@ takes_front in0 in1 a b text rest reads cut = record {
 }
 
 -- a text was taken, and then more was read
-pub takes_then_reads : (in0 in1 in2 : Option (List ℕ)) (a b c : Received) (text : List ℕ) → ReadsOn in0 in1 a (put_back text b) → ReadsOn in1 in2 b c → ReadsOn in0 in2 a (put_back text c)
+pub takes_then_reads : (in0 in1 in2 : Option (List ℕ)) (a b c : ReadBuffer) (text : List ℕ) → ReadsOn in0 in1 a (put_back text b) → ReadsOn in1 in2 b c → ReadsOn in0 in2 a (put_back text c)
 takes_then_reads in0 in1 in2 a b c text first second =
     let long : length (first.more ++ second.more) ≡ length first.more + length second.more = length-append first.more second.more in
     record {
@@ -55,7 +55,7 @@ takes_then_reads in0 in1 in2 a b c text first second =
       end = λ knows. second.end (first.end knows);
     }
 
-regroup : (a b : Received) (text more : List ℕ) (in0 in1 : Option (List ℕ)) → ReadsOn in0 in1 a (put_back text (put_back more b)) → ReadsOn in0 in1 a (put_back (text ++ more) b)
+regroup : (a b : ReadBuffer) (text more : List ℕ) (in0 in1 : Option (List ℕ)) → ReadsOn in0 in1 a (put_back text (put_back more b)) → ReadsOn in0 in1 a (put_back (text ++ more) b)
 regroup a b text more in0 in1 reads = record {
   more = reads.more;
   read = reads.read;
@@ -66,11 +66,11 @@ regroup a b text more in0 in1 reads = record {
 }
 
 -- a text was taken, and then another
-pub takes_join : (in0 in1 in2 : Option (List ℕ)) (a b c : Received) (text more : List ℕ) → ReadsOn in0 in1 a (put_back text b) → ReadsOn in1 in2 b (put_back more c) → ReadsOn in0 in2 a (put_back (text ++ more) c)
+pub takes_join : (in0 in1 in2 : Option (List ℕ)) (a b c : ReadBuffer) (text more : List ℕ) → ReadsOn in0 in1 a (put_back text b) → ReadsOn in1 in2 b (put_back more c) → ReadsOn in0 in2 a (put_back (text ++ more) c)
 takes_join in0 in1 in2 a b c text more first second = regroup a c text more in0 in2 (takes_then_reads in0 in1 in2 a b (put_back more c) text first second)
 
 -- and one more from the beginning of what is there
-pub takes_more : (in0 in1 : Option (List ℕ)) (a b : Received) (text more rest : List ℕ) → ReadsOn in0 in1 a (put_back text b) → b.held ≡ more ++ rest → ReadsOn in0 in1 a (put_back (text ++ more) (record b { held = rest }))
+pub takes_more : (in0 in1 : Option (List ℕ)) (a b : ReadBuffer) (text more rest : List ℕ) → ReadsOn in0 in1 a (put_back text b) → b.held ≡ more ++ rest → ReadsOn in0 in1 a (put_back (text ++ more) (record b { held = rest }))
 takes_more in0 in1 a b text more rest reads cut = record {
   more = reads.more;
   read = reads.read;
@@ -83,80 +83,80 @@ takes_more in0 in1 a b text more rest reads cut = record {
 -- ---- the same, each read made while more was awaited
 
 module _ {R : Type 0} (source : Source R) where
-  pub nothing_yet : (Awaits : List ℕ → Type 0) (s : R) (r : Received) → ReadsOnWhile source Awaits s s r r
+  pub nothing_yet : (Awaits : List ℕ → Type 0) (s : R) (r : ReadBuffer) → ReadsOnWhile source Awaits s s r r
   nothing_yet Awaits s r = record { on = nothing_read (source.remaining s) r; waits = no_read (counted source.gives) Awaits (s, r.left) r.held }
 
-  pub once : (Awaits : List ℕ → Type 0) (s t : R) (a b : Received) → Awaits a.held → ReadsOn (source.remaining s) (source.remaining t) a b → IsRead source.gives s t a b
+  pub once : (Awaits : List ℕ → Type 0) (s t : R) (a b : ReadBuffer) → Awaits a.held → ReadsOn (source.remaining s) (source.remaining t) a b → IsRead source.gives s t a b
       → ReadsOnWhile source Awaits s t a b
   once Awaits s t a b awaits on read = record { on = on; waits = one_read (counted source.gives) Awaits (s, a.left) (t, b.left) a.held b.held read.0 awaits (read.1, read.3) read.2 }
 
   -- seen from the beginning of what was taken before
-  pub front_then : (Awaits More : List ℕ → Type 0) (s m t : R) (a b c : Received) (text : List ℕ) → ((h : List ℕ) → More h → Awaits (text ++ h))
+  pub beginning_then : (Awaits More : List ℕ → Type 0) (s m t : R) (a b c : ReadBuffer) (text : List ℕ) → ((h : List ℕ) → More h → Awaits (text ++ h))
       → ReadsOnWhile source Awaits s m a (put_back text b) → ReadsOnWhile source More m t b c → ReadsOnWhile source Awaits s t a (put_back text c)
-  front_then Awaits More s m t a b c text more first second = record {
+  beginning_then Awaits More s m t a b c text more first second = record {
     on = takes_then_reads (source.remaining s) (source.remaining m) (source.remaining t) a b c text first.on second.on;
     waits = reads_in_turn (counted source.gives) Awaits (s, a.left) (m, b.left) (t, c.left) a.held (text ++ b.held) (text ++ c.held) first.waits
         (reads_behind (counted source.gives) More Awaits text more (m, b.left) (t, c.left) b.held c.held second.waits);
   }
 
-  pub then_on : (Awaits : List ℕ → Type 0) (s m t : R) (a b c : Received) → ReadsOnWhile source Awaits s m a b → ReadsOnWhile source Awaits m t b c → ReadsOnWhile source Awaits s t a c
+  pub then_on : (Awaits : List ℕ → Type 0) (s m t : R) (a b c : ReadBuffer) → ReadsOnWhile source Awaits s m a b → ReadsOnWhile source Awaits m t b c → ReadsOnWhile source Awaits s t a c
   then_on Awaits s m t a b c first second = record {
     on = reads_join (source.remaining s) (source.remaining m) (source.remaining t) a b c first.on second.on;
     waits = reads_in_turn (counted source.gives) Awaits (s, a.left) (m, b.left) (t, c.left) a.held b.held c.held first.waits second.waits;
   }
 
-  pub front_join : (Awaits More : List ℕ → Type 0) (s m t : R) (a b c : Received) (text more : List ℕ) → ((h : List ℕ) → More h → Awaits (text ++ h))
+  pub beginnings_join : (Awaits More : List ℕ → Type 0) (s m t : R) (a b c : ReadBuffer) (text more : List ℕ) → ((h : List ℕ) → More h → Awaits (text ++ h))
       → ReadsOnWhile source Awaits s m a (put_back text b) → ReadsOnWhile source More m t b (put_back more c) → ReadsOnWhile source Awaits s t a (put_back (text ++ more) c)
-  front_join Awaits More s m t a b c text more behind first second =
-      let all = front_then Awaits More s m t a b (put_back more c) text behind first second in
+  beginnings_join Awaits More s m t a b c text more behind first second =
+      let all = beginning_then Awaits More s m t a b (put_back more c) text behind first second in
       record {
         on = regroup a c text more (source.remaining s) (source.remaining t) all.on;
         waits = subst (λ (l : List ℕ). ReadsWhile (counted source.gives) Awaits (s, a.left) (t, c.left) a.held l) (sym (append_assoc text more c.held)) all.waits;
       }
 
   -- one more text from the beginning of what is there
-  pub front_more : (Awaits : List ℕ → Type 0) (s t : R) (a b : Received) (text more rest : List ℕ) → ReadsOnWhile source Awaits s t a (put_back text b) → b.held ≡ more ++ rest
+  pub beginning_more : (Awaits : List ℕ → Type 0) (s t : R) (a b : ReadBuffer) (text more rest : List ℕ) → ReadsOnWhile source Awaits s t a (put_back text b) → b.held ≡ more ++ rest
       → ReadsOnWhile source Awaits s t a (put_back (text ++ more) (record b { held = rest }))
-  front_more Awaits s t a b text more rest reads cut = record {
+  beginning_more Awaits s t a b text more rest reads cut = record {
     on = takes_more (source.remaining s) (source.remaining t) a b text more rest reads.on cut;
     waits = subst (λ (l : List ℕ). ReadsWhile (counted source.gives) Awaits (s, a.left) (t, b.left) a.held l) (ap (λ l. text ++ l) cut ∙ sym (append_assoc text more rest)) reads.waits;
   }
 
-  pub front_taken : (Awaits : List ℕ → Type 0) (s t : R) (a b : Received) (text rest : List ℕ) → ReadsOnWhile source Awaits s t a b → b.held ≡ text ++ rest
+  pub beginning_taken : (Awaits : List ℕ → Type 0) (s t : R) (a b : ReadBuffer) (text rest : List ℕ) → ReadsOnWhile source Awaits s t a b → b.held ≡ text ++ rest
       → ReadsOnWhile source Awaits s t a (put_back text (record b { held = rest }))
-  front_taken Awaits s t a b text rest reads cut = record {
-    on = takes_front (source.remaining s) (source.remaining t) a b text rest reads.on cut;
+  beginning_taken Awaits s t a b text rest reads cut = record {
+    on = takes_beginning (source.remaining s) (source.remaining t) a b text rest reads.on cut;
     waits = subst (λ (l : List ℕ). ReadsWhile (counted source.gives) Awaits (s, a.left) (t, b.left) a.held l) cut reads.waits;
   }
 
   -- who awaits less awaits this
-  pub widened : (Awaits More : List ℕ → Type 0) (s t : R) (a b : Received) → ((h : List ℕ) → More h → Awaits h) → ReadsOnWhile source More s t a b → ReadsOnWhile source Awaits s t a b
+  pub widened : (Awaits More : List ℕ → Type 0) (s t : R) (a b : ReadBuffer) → ((h : List ℕ) → More h → Awaits h) → ReadsOnWhile source More s t a b → ReadsOnWhile source Awaits s t a b
   widened Awaits More s t a b more reads = record { on = reads.on; waits = reads_behind (counted source.gives) More Awaits [] more (s, a.left) (t, b.left) a.held b.held reads.waits }
 
   -- ---- calls that ended in an error
 
   -- more was awaited of what is there, and one more read gave nothing
-  pub stops_there : (Awaits : List ℕ → Type 0) (s m t : R) (failed : Bool) (a b : Received) (bytes : List ℕ) (why : Interrupted) → ReadsOnWhile source Awaits s m a b → bytes ≡ b.held → Awaits bytes
-      → Halts source m t failed b why → StopsWhile source Awaits s t failed a why
+  pub stops_there : (Awaits : List ℕ → Type 0) (s m t : R) (failed : Bool) (a b : ReadBuffer) (bytes : List ℕ) (why : ReadError) → ReadsOnWhile source Awaits s m a b → bytes ≡ b.held → Awaits bytes
+      → ReadFails source m t failed b why → StopsWhile source Awaits s t failed a why
   stops_there Awaits s m t failed a b bytes why reads are awaits last = record { here = b; before = m; reads = reads; awaits = subst Awaits are awaits; last = last }
 
-  pub halts_put_back : (s t : R) (failed : Bool) (r : Received) (text : List ℕ) (why : Interrupted) → Halts source s t failed r why → Halts source s t failed (put_back text r) why
-  halts_put_back s t failed r text Reading last = last
-  halts_put_back s t failed r text Memory last = last
+  pub fails_put_back : (s t : R) (failed : Bool) (r : ReadBuffer) (text : List ℕ) (why : ReadError) → ReadFails source s t failed r why → ReadFails source s t failed (put_back text r) why
+  fails_put_back s t failed r text Reading last = last
+  fails_put_back s t failed r text Memory last = last
 
   -- what was awaited behind a text, seen from the beginning of the text
-  pub stops_behind : (Awaits More : List ℕ → Type 0) (s m t : R) (failed : Bool) (a b : Received) (text : List ℕ) (why : Interrupted) → ((h : List ℕ) → More h → Awaits (text ++ h))
+  pub stops_behind : (Awaits More : List ℕ → Type 0) (s m t : R) (failed : Bool) (a b : ReadBuffer) (text : List ℕ) (why : ReadError) → ((h : List ℕ) → More h → Awaits (text ++ h))
       → ReadsOnWhile source Awaits s m a (put_back text b) → StopsWhile source More m t failed b why → StopsWhile source Awaits s t failed a why
   stops_behind Awaits More s m t failed a b text why more first stops = record {
     here = put_back text stops.here;
     before = stops.before;
-    reads = front_then Awaits More s m stops.before a b stops.here text more first stops.reads;
+    reads = beginning_then Awaits More s m stops.before a b stops.here text more first stops.reads;
     awaits = more stops.here.held stops.awaits;
-    last = halts_put_back stops.before t failed stops.here text why stops.last;
+    last = fails_put_back stops.before t failed stops.here text why stops.last;
   }
 
   -- who awaits less awaits this
-  pub widened_stop : (Awaits More : List ℕ → Type 0) (s t : R) (failed : Bool) (a : Received) (why : Interrupted) → ((h : List ℕ) → More h → Awaits h) → StopsWhile source More s t failed a why
+  pub widened_stop : (Awaits More : List ℕ → Type 0) (s t : R) (failed : Bool) (a : ReadBuffer) (why : ReadError) → ((h : List ℕ) → More h → Awaits h) → StopsWhile source More s t failed a why
       → StopsWhile source Awaits s t failed a why
   widened_stop Awaits More s t failed a why more stops = record {
     here = stops.here;

@@ -13,18 +13,18 @@ use Rattle.chunked_bodies.proofs.Behind.{lacks_behind, behind_chunks, no_line, n
 use Rattle.http_requests.specs.declared.asked.TheConstants.{MOST_BODY_BYTES}
 use Rattle.http_requests.specs.Requests.{IsShorter, AwaitsChunks, AwaitsBody}
 use Rattle.http_requests.specs.Waiting.{Source}
-use Rattle.http_requests.specs.Receiving.{KnowsItsEnd, Received, ReadsOn, ReadsOnWhile, IsRead, Halts, StopsWhile, put_back}
-use Rattle.http_requests.specs.declared.received.Interrupted.{Interrupted}
+use Rattle.http_requests.specs.Receiving.{KnowsItsEnd, ReadBuffer, ReadsOn, ReadsOnWhile, IsRead, ReadFails, StopsWhile, put_back}
+use Rattle.http_requests.specs.declared.read_buffer.ReadError.{ReadError}
 use Rattle.http_requests.specs.Sinks.{Takings, TakesNothing, TakesJoined}
 use Rattle.http_requests.specs.Bodies.{Takes, Misses, AwaitsLine, AwaitsRest, IsLineEnd, begins_line_end, may_begin_line_end, TakesOrMisses, Gathers, Gathered, TakesContent, TakesContentOr, Fails, ChunksSoFar, TakesBody, BreaksBody, ReadsBody}
 use Rattle.http_requests.specs.declared.asked.BodyLength.TheVariants.{Bytes, Chunked, Unreadable, TooLarge}
 use Rattle.http_requests.specs.declared.asked.Breach.TheVariants as breach
 use Rattle.http_requests.proofs.Ends.{cut_before}
-use Rattle.http_requests.proofs.Readings.{nothing_yet, once, then_on, front_then, front_join, front_more, front_taken, widened, halts_put_back, stops_there, stops_behind, widened_stop}
+use Rattle.http_requests.proofs.Readings.{nothing_yet, once, then_on, beginning_then, beginnings_join, beginning_more, beginning_taken, widened, fails_put_back, stops_there, stops_behind, widened_stop}
 
 -- ---- nothing of a kind
 
-module _ {R : Type 0} (source : Source R) (Awaits : List ℕ → Type 0) (s t : R) (old here : Received) (Is : List ℕ → Type 0) (bytes : List ℕ) (reads : ReadsOnWhile source Awaits s t old here) (are : bytes ≡ here.held) where
+module _ {R : Type 0} (source : Source R) (Awaits : List ℕ → Type 0) (s t : R) (old here : ReadBuffer) (Is : List ℕ → Type 0) (bytes : List ℕ) (reads : ReadsOnWhile source Awaits s t old here) (are : bytes ≡ here.held) where
   pub misses_never : NeverHas Is bytes → Misses source Awaits s t old here Is
   misses_never never = record { reads = reads; lacks = inl (subst (NeverHas Is) are never) }
 
@@ -32,15 +32,15 @@ module _ {R : Type 0} (source : Source R) (Awaits : List ℕ → Type 0) (s t : 
   misses_at_end ended knows is over none = record { reads = reads; lacks = inr (reads.on.end knows (sym is ∙ over), subst (HasNone Is) are none) }
 
   -- a text at the beginning is taken
-  pub takes_it : (mid : Received) (len : ℕ) → Is (take len bytes) → len ≤ length bytes → mid ≡ record here { held = drop len here.held } → Takes source Awaits s t old mid Is
+  pub takes_it : (mid : ReadBuffer) (len : ℕ) → Is (take len bytes) → len ≤ length bytes → mid ≡ record here { held = drop len here.held } → Takes source Awaits s t old mid Is
   takes_it mid len is fits mid_is = rw mid_is (record {
     text = take len bytes;
     is = is;
-    reads = front_taken source Awaits s t old here (take len bytes) (drop len here.held) reads (sym (take-append-drop len here.held) ∙ ap (λ l. take len l ++ drop len here.held) (sym are));
+    reads = beginning_taken source Awaits s t old here (take len bytes) (drop len here.held) reads (sym (take-append-drop len here.held) ∙ ap (λ l. take len l ++ drop len here.held) (sym are));
   })
 
 -- one more read, where more was awaited of what is there
-pub reads_more : {R : Type 0} (source : Source R) (Awaits : List ℕ → Type 0) (s m t : R) (old here new : Received) (bytes : List ℕ) → ReadsOnWhile source Awaits s m old here → bytes ≡ here.held
+pub reads_more : {R : Type 0} (source : Source R) (Awaits : List ℕ → Type 0) (s m t : R) (old here new : ReadBuffer) (bytes : List ℕ) → ReadsOnWhile source Awaits s m old here → bytes ≡ here.held
     → Awaits bytes → ReadsOn (source.remaining m) (source.remaining t) here new → IsRead source.gives m t here new → ReadsOnWhile source Awaits s t old new
 reads_more source Awaits s m t old here new bytes so are awaits on read =
     then_on source Awaits s m t old here new so (once source Awaits m t here new (subst Awaits are awaits) on read)
@@ -48,20 +48,20 @@ reads_more source Awaits s m t old here new bytes so are awaits on read =
 -- ---- bytes gathered
 
 module _ {S R : Type 0} (takes : Takings S) (source : Source R) where
-  pub gathered_none : TakesNothing S takes → (s : R) (r : Received) (before : S) (size : ℕ) → Gathered takes source s s r r before before size size
+  pub gathered_none : TakesNothing S takes → (s : R) (r : ReadBuffer) (before : S) (size : ℕ) → Gathered takes source s s r r before before size size
   gathered_none nothing s r before size = record { content = []; reads = nothing_yet source (IsShorter size) s r; put = nothing before; sum = omega arith }
 
-  module _ (joined : TakesJoined S takes) (s t : R) (old r : Received) (before after later : S) (size left : ℕ) (so : Gathered takes source s t old r before after size left) where
+  module _ (joined : TakesJoined S takes) (s t : R) (old r : ReadBuffer) (before after later : S) (size left : ℕ) (so : Gathered takes source s t old r before after size left) where
     gather_all : left ≤ length r.held → takes after (take left r.held) later → Gathers takes source s t old (record r { held = drop left r.held }) before later size true
     gather_all fits put = record {
       content = so.content ++ take left r.held;
-      reads = front_more source (IsShorter size) s t old r so.content (take left r.held) (drop left r.held) so.reads (sym (take-append-drop left r.held));
+      reads = beginning_more source (IsShorter size) s t old r so.content (take left r.held) (drop left r.held) so.reads (sym (take-append-drop left r.held));
       put = joined before after later so.content (take left r.held) so.put put;
       whole = λ e. omega (arith, so.sum, length-append so.content (take left r.held), length-take-le left r.held fits);
       short = λ e. absurd (cc e);
     }
 
-    pub gather_whole : (mid : Received) (bytes : List ℕ) → bytes ≡ r.held → left ≤ length bytes → takes after (take left bytes) later → mid ≡ record r { held = drop left r.held }
+    pub gather_whole : (mid : ReadBuffer) (bytes : List ℕ) → bytes ≡ r.held → left ≤ length bytes → takes after (take left bytes) later → mid ≡ record r { held = drop left r.held }
         → Gathers takes source s t old mid before later size true
     gather_whole mid bytes bytes_are fits put mid_is =
         rw mid_is (gather_all (omega (arith, fits, ap length bytes_are)) (subst (λ (l : List ℕ). takes after (take left l) later) bytes_are put))
@@ -69,13 +69,13 @@ module _ {S R : Type 0} (takes : Takings S) (source : Source R) where
     gather_piece : length r.held < left → takes after r.held later → Gathered takes source s t old (record r { held = drop (length r.held) r.held }) before later size (left - length r.held)
     gather_piece short put = record {
       content = so.content ++ r.held;
-      reads = front_more source (IsShorter size) s t old r so.content r.held (drop (length r.held) r.held) so.reads
+      reads = beginning_more source (IsShorter size) s t old r so.content r.held (drop (length r.held) r.held) so.reads
           (sym (ap (λ l. r.held ++ l) (drop_all (length r.held) r.held (omega arith)) ∙ append-nil r.held));
       put = joined before after later so.content r.held so.put put;
       sum = omega (arith, so.sum, length-append so.content r.held, short);
     }
 
-  gather_short : (s t : R) (old r : Received) (before after : S) (size left : ℕ) → Gathered takes source s t old r before after size left
+  gather_short : (s t : R) (old r : ReadBuffer) (before after : S) (size left : ℕ) → Gathered takes source s t old r before after size left
       → r.held ≡ [] → 0 < left → IsAtEnd (source.remaining t) → Gathers takes source s t old r before after size false
   gather_short s t old r before after size left so none some at_end = record {
     content = so.content;
@@ -85,36 +85,36 @@ module _ {S R : Type 0} (takes : Takings S) (source : Source R) where
     short = λ e. (omega (arith, so.sum, some), none, at_end);
   }
 
-  gather_on : (s m t : R) (old r new : Received) (before after : S) (size left : ℕ) → Gathered takes source s m old r before after size left
+  gather_on : (s m t : R) (old r new : ReadBuffer) (before after : S) (size left : ℕ) → Gathered takes source s m old r before after size left
       → r.held ≡ [] → 0 < left → ReadsOn (source.remaining m) (source.remaining t) r new → IsRead source.gives m t r new → Gathered takes source s t old new before after size left
   gather_on s m t old r new before after size left so none some on read =
       let one = once source (λ h. h ≡ []) m t r new none on read in
       let few : (h : List ℕ) → h ≡ [] → IsShorter size (so.content ++ h) = λ h e. omega (arith, so.sum, some, length-append so.content h, ap length e) in
       record {
         content = so.content;
-        reads = front_then source (IsShorter size) (λ h. h ≡ []) s m t old r new so.content few so.reads one;
+        reads = beginning_then source (IsShorter size) (λ h. h ≡ []) s m t old r new so.content few so.reads one;
         put = so.put;
         sum = so.sum;
       }
 
-  module _ (joined : TakesJoined S takes) (s m t : R) (old r mid new : Received) (before after later : S) (bytes : List ℕ) (size left : ℕ)
+  module _ (joined : TakesJoined S takes) (s m t : R) (old r mid new : ReadBuffer) (before after later : S) (bytes : List ℕ) (size left : ℕ)
       (so : Gathered takes source s m old r before after size left) (bytes_are : bytes ≡ r.held) (put : takes after bytes later) (mid_is : mid ≡ record r { held = drop (length bytes) r.held }) where
     piece : length bytes < left → Gathered takes source s m old mid before later size (left - length bytes)
     piece short =
         rw (mid_is, bytes_are) (gather_piece joined s m old r before after later size left so (omega (arith, short, ap length bytes_are)) (subst (λ (l : List ℕ). takes after l later) bytes_are put))
 
     none_left : mid.held ≡ []
-    none_left = ap (λ (x : Received). x.held) mid_is ∙ drop_all (length bytes) r.held (omega (arith, ap length bytes_are))
+    none_left = ap (λ (x : ReadBuffer). x.held) mid_is ∙ drop_all (length bytes) r.held (omega (arith, ap length bytes_are))
 
     pub gather_step : length bytes < left → ReadsOn (source.remaining m) (source.remaining t) mid new → IsRead source.gives m t mid new → Gathered takes source s t old new before later size (left - length bytes)
     gather_step short on read = gather_on s m t old mid new before later size (left - length bytes) (piece short) none_left (omega (arith, short)) on read
 
-    pub gather_stops : length bytes < left → (failed : Bool) (why : Interrupted) → Halts source m t failed mid why → StopsWhile source (IsShorter size) s t failed old why
+    pub gather_stops : length bytes < left → (failed : Bool) (why : ReadError) → ReadFails source m t failed mid why → StopsWhile source (IsShorter size) s t failed old why
     gather_stops short failed why last =
         let so_far = piece short in
         let few : IsShorter size (so_far.content ++ mid.held) = omega (arith, so_far.sum, short, length-append so_far.content mid.held, ap length none_left) in
         stops_there source (IsShorter size) s m t failed old (put_back so_far.content mid) (so_far.content ++ mid.held) why so_far.reads refl few
-        (halts_put_back source m t failed mid so_far.content why last)
+        (fails_put_back source m t failed mid so_far.content why last)
 
     pub gather_end : length bytes < left → IsAtEnd (source.remaining m) → Gathers takes source s m old mid before later size false
     gather_end short at_end = gather_short s m old mid before later size (left - length bytes) (piece short) none_left (omega (arith, short)) at_end
@@ -152,7 +152,7 @@ never_line_end bytes e f more = no_line_end (bytes ++ more) (begins_none bytes m
 
 -- ---- the data of a chunk
 
-module _ {S R : Type 0} (takes : Takings S) (source : Source R) (s m t : R) (old here new : Received) (before after : S) (size : ℕ) where
+module _ {S R : Type 0} (takes : Takings S) (source : Source R) (s m t : R) (old here new : ReadBuffer) (before after : S) (size : ℕ) where
   too_few : (bytes : List ℕ) → length bytes < size → HasNone (IsContent size) bytes
   too_few bytes short text rest is e =
       absurd (omega (arith, short, is.size_is, ap length e, length-append text rest, ap length is.text_is, length-append is.content crlf_bytes))
@@ -190,7 +190,7 @@ module _ {S R : Type 0} (takes : Takings S) (source : Source R) (s m t : R) (old
   content_whole g e = record {
     content = g.content;
     reads = subst (λ (l : List ℕ). ReadsOnWhile source (AwaitsRest (IsContent size)) s t old (put_back (g.content ++ l) new)) e.is
-        (front_join source (AwaitsRest (IsContent size)) (AwaitsRest IsLineEnd) s m t old here new g.content e.text (end_awaited g.content (g.whole refl)) (first g) e.reads);
+        (beginnings_join source (AwaitsRest (IsContent size)) (AwaitsRest IsLineEnd) s m t old here new g.content e.text (end_awaited g.content (g.whole refl)) (first g) e.reads);
     put = g.put;
     size_is = g.whole refl;
   }
@@ -198,7 +198,7 @@ module _ {S R : Type 0} (takes : Takings S) (source : Source R) (s m t : R) (old
   pub content_open : Gathers takes source s m old here before after size true → Misses source (AwaitsRest IsLineEnd) m t here new IsLineEnd → Fails source s t old new (IsContent size)
   content_open g e = record {
     text = g.content;
-    reads = front_then source (AwaitsRest (IsContent size)) (AwaitsRest IsLineEnd) s m t old here new g.content (end_awaited g.content (g.whole refl)) (first g) e.reads;
+    reads = beginning_then source (AwaitsRest (IsContent size)) (AwaitsRest IsLineEnd) s m t old here new g.content (end_awaited g.content (g.whole refl)) (first g) e.reads;
     lacks = lacks_behind (IsAtEnd (source.remaining t)) IsLineEnd (IsContent size) g.content new.held (no_end g.content (g.whole refl)) e.lacks;
   }
 
@@ -212,16 +212,16 @@ module _ {S R : Type 0} (takes : Takings S) (source : Source R) (s m t : R) (old
       }
 
   -- what the line end makes of it
-  pub content_then : (r : Result Bool Interrupted) → Gathers takes source s m old here before after size true
+  pub content_then : (r : Result Bool ReadError) → Gathers takes source s m old here before after size true
       → IfOk r (TakesOrMisses source (AwaitsRest IsLineEnd) m t here new IsLineEnd) → IfOk r (TakesContentOr takes source s t old new before after size)
   content_then (Ok true) g e = content_whole g e
   content_then (Ok false) g e = content_open g e
   content_then (Err why) g e = tt
 
-  pub content_stops : (failed : Bool) (why : Interrupted) → StopsWhile source (IsShorter size) s m failed old why → StopsWhile source (AwaitsRest (IsContent size)) s m failed old why
+  pub content_stops : (failed : Bool) (why : ReadError) → StopsWhile source (IsShorter size) s m failed old why → StopsWhile source (AwaitsRest (IsContent size)) s m failed old why
   content_stops failed why stops = widened_stop source (AwaitsRest (IsContent size)) (IsShorter size) s m failed old why shorter stops
 
-  pub end_stops : (failed : Bool) (r : Result Bool Interrupted) → Gathers takes source s m old here before after size true → IfErr r (λ why. StopsWhile source (AwaitsRest IsLineEnd) m t failed here why)
+  pub end_stops : (failed : Bool) (r : Result Bool ReadError) → Gathers takes source s m old here before after size true → IfErr r (λ why. StopsWhile source (AwaitsRest IsLineEnd) m t failed here why)
       → IfErr r (λ why. StopsWhile source (AwaitsRest (IsContent size)) s t failed old why)
   end_stops failed (Ok b) g stops = tt
   end_stops failed (Err why) g stops =
@@ -229,7 +229,7 @@ module _ {S R : Type 0} (takes : Takings S) (source : Source R) (s m t : R) (old
 
 -- ---- chunks
 
-pub chunks_none : {S R : Type 0} (takes : Takings S) (source : Source R) → TakesNothing S takes → (s : R) (r : Received) (before : S) → ChunksSoFar takes source s s r r before before MOST_BODY_BYTES
+pub chunks_none : {S R : Type 0} (takes : Takings S) (source : Source R) → TakesNothing S takes → (s : R) (r : ReadBuffer) (before : S) → ChunksSoFar takes source s s r r before before MOST_BODY_BYTES
 chunks_none takes source nothing s r before = record { chunks = []; each = All-nil IsChunk; reads = nothing_yet source AwaitsChunks s r; put = nothing before; sum = omega arith }
 
 texts_more : (cs : List Chunk) (c : Chunk) → texts (cs ++ c ∷ []) ≡ texts cs ++ c.text
@@ -238,7 +238,7 @@ texts_more cs c = flat_map-append (λ (x : Chunk). x.text) cs (c ∷ []) ∙ ap 
 contents_more : (cs : List Chunk) (c : Chunk) → contents (cs ++ c ∷ []) ≡ contents cs ++ c.content
 contents_more cs c = flat_map-append (λ (x : Chunk). x.content) cs (c ∷ []) ∙ ap (λ l. contents cs ++ l) (append-nil c.content)
 
-module _ {S R : Type 0} (takes : Takings S) (source : Source R) (s m t : R) (old here behind : Received) (before now : S) (left : ℕ) (so : ChunksSoFar takes source s m old here before now left) where
+module _ {S R : Type 0} (takes : Takings S) (source : Source R) (s m t : R) (old here behind : ReadBuffer) (before now : S) (left : ℕ) (so : ChunksSoFar takes source s m old here before now left) where
   behind_texts : (h : List ℕ) → HasNone IsSomeSizeLine h → HasNone (IsDecided MOST_BODY_BYTES) (texts so.chunks ++ h)
   behind_texts h none = behind_chunks so.chunks left MOST_BODY_BYTES h so.each so.sum (no_line left h none)
 
@@ -252,12 +252,12 @@ module _ {S R : Type 0} (takes : Takings S) (source : Source R) (s m t : R) (old
         (sym (append_assoc lines cut.0 zero_line) ∙ ap (λ l. l ++ zero_line) (sym cut.1) ∙ sym (append-nil (texts so.chunks ++ zero_line)));
   }
 
-  pub size_stops : (failed : Bool) (why : Interrupted) → StopsWhile source AwaitsLine m t failed here why → StopsWhile source AwaitsChunks s t failed old why
+  pub size_stops : (failed : Bool) (why : ReadError) → StopsWhile source AwaitsLine m t failed here why → StopsWhile source AwaitsChunks s t failed old why
   size_stops failed why stops = stops_behind source AwaitsChunks AwaitsLine s m t failed old here (texts so.chunks) why line_awaited so.reads stops
 
   pub no_size : Misses source AwaitsLine m t here behind IsSomeSizeLine → ReadsBody takes source s t old behind before now Chunked (Err breach.Body)
   no_size miss =
-      let reads = front_then source AwaitsChunks AwaitsLine s m t old here behind (texts so.chunks) line_awaited so.reads miss.reads in
+      let reads = beginning_then source AwaitsChunks AwaitsLine s m t old here behind (texts so.chunks) line_awaited so.reads miss.reads in
       record {
         text = texts so.chunks;
         reads = reads;
@@ -266,7 +266,7 @@ module _ {S R : Type 0} (takes : Takings S) (source : Source R) (s m t : R) (old
 
   module _ (size : ℕ) (line : Takes source AwaitsLine m t here behind (λ text. IsSizeLine text size)) where
     pub with_line : ReadsOnWhile source AwaitsChunks s t old (put_back (texts so.chunks ++ line.text) behind)
-    with_line = front_join source AwaitsChunks AwaitsLine s m t old here behind (texts so.chunks) line.text line_awaited so.reads line.reads
+    with_line = beginnings_join source AwaitsChunks AwaitsLine s m t old here behind (texts so.chunks) line.text line_awaited so.reads line.reads
 
     -- what can't go on behind the line can't go on
     behind_line : (h : List ℕ) → HasNone (IsDecided left) (line.text ++ h) → HasNone (IsDecided MOST_BODY_BYTES) ((texts so.chunks ++ line.text) ++ h)
@@ -341,14 +341,14 @@ module _ {S R : Type 0} (takes : Takings S) (source : Source R) (s m t : R) (old
                 ∙ sym (append_assoc ((texts so.chunks ++ line.text) ++ h) awaits.more zero_line) ∙ ap (λ l. l ++ zero_line) whole ∙ sym (append-nil (more ++ zero_line)));
           }
 
-      module _ (u : R) (new : Received) where
-        pub chunk_stops : (failed : Bool) (why : Interrupted) → StopsWhile source (AwaitsRest (IsContent size)) t u failed behind why → StopsWhile source AwaitsChunks s u failed old why
+      module _ (u : R) (new : ReadBuffer) where
+        pub chunk_stops : (failed : Bool) (why : ReadError) → StopsWhile source (AwaitsRest (IsContent size)) t u failed behind why → StopsWhile source AwaitsChunks s u failed old why
         chunk_stops failed why stops =
             stops_behind source AwaitsChunks (AwaitsRest (IsContent size)) s t u failed old behind (texts so.chunks ++ line.text) why content_awaited with_line stops
 
         pub fails_content : Fails source t u behind new (IsContent size) → BreaksBody source s u old new Chunked breach.Body
         fails_content f =
-            let reads = front_join source AwaitsChunks (AwaitsRest (IsContent size)) s t u old behind new (texts so.chunks ++ line.text) f.text content_awaited with_line f.reads in
+            let reads = beginnings_join source AwaitsChunks (AwaitsRest (IsContent size)) s t u old behind new (texts so.chunks ++ line.text) f.text content_awaited with_line f.reads in
             record {
               text = (texts so.chunks ++ line.text) ++ f.text;
               reads = reads;
@@ -361,12 +361,12 @@ module _ {S R : Type 0} (takes : Takings S) (source : Source R) (s m t : R) (old
           chunks = so.chunks ++ chunk_of e.content ∷ [];
           each = each_with e.content e.size_is;
           reads = subst (λ (l : List ℕ). ReadsOnWhile source AwaitsChunks s u old (put_back l new)) (texts_with e.content)
-              (front_join source AwaitsChunks (AwaitsRest (IsContent size)) s t u old behind new (texts so.chunks ++ line.text) (e.content ++ crlf_bytes) content_awaited with_line e.reads);
+              (beginnings_join source AwaitsChunks (AwaitsRest (IsContent size)) s t u old behind new (texts so.chunks ++ line.text) (e.content ++ crlf_bytes) content_awaited with_line e.reads);
           put = subst (λ (l : List ℕ). takes before l after) (sym (contents_more so.chunks (chunk_of e.content))) (joined before now after (contents so.chunks) e.content so.put e.put);
           sum = omega (arith, so.sum, fits, sum_with e.content e.size_is);
         }
 
-  module _ (line : Takes source AwaitsLine m t here behind (λ text. IsSizeLine text 0)) (u : R) (new : Received) where
+  module _ (line : Takes source AwaitsLine m t here behind (λ text. IsSizeLine text 0)) (u : R) (new : ReadBuffer) where
     behind_last : (h : List ℕ) → HasNone IsTrailer h → HasNone (IsDecided MOST_BODY_BYTES) ((texts so.chunks ++ line.text) ++ h)
     behind_last h none = behind_line 0 line h (no_trailer left line.text h line.is none)
 
@@ -378,13 +378,13 @@ module _ {S R : Type 0} (takes : Takings S) (source : Source R) (s m t : R) (old
           (inl (record { chunks = so.chunks; last = line.text; each = so.each; last_is = line.is; text_is = refl; small = omega (arith, so.sum) })) (sym e);
     }
 
-    pub trailer_stops : (failed : Bool) (why : Interrupted) → StopsWhile source (HasNone IsTrailer) t u failed behind why → StopsWhile source AwaitsChunks s u failed old why
+    pub trailer_stops : (failed : Bool) (why : ReadError) → StopsWhile source (HasNone IsTrailer) t u failed behind why → StopsWhile source AwaitsChunks s u failed old why
     trailer_stops failed why stops =
         stops_behind source AwaitsChunks (HasNone IsTrailer) s t u failed old behind (texts so.chunks ++ line.text) why trailer_awaited (with_line 0 line) stops
 
     pub fails_trailer : Misses source (HasNone IsTrailer) t u behind new IsTrailer → ReadsBody takes source s u old new before now Chunked (Err breach.Body)
     fails_trailer miss =
-        let reads = front_then source AwaitsChunks (HasNone IsTrailer) s t u old behind new (texts so.chunks ++ line.text) trailer_awaited (with_line 0 line) miss.reads in
+        let reads = beginning_then source AwaitsChunks (HasNone IsTrailer) s t u old behind new (texts so.chunks ++ line.text) trailer_awaited (with_line 0 line) miss.reads in
         record {
           text = texts so.chunks ++ line.text;
           reads = reads;
@@ -393,7 +393,7 @@ module _ {S R : Type 0} (takes : Takings S) (source : Source R) (s m t : R) (old
 
     pub chunks_whole : Takes source (HasNone IsTrailer) t u behind new IsTrailer → ReadsBody takes source s u old new before now Chunked (Ok tt)
     chunks_whole e =
-        let reads = front_join source AwaitsChunks (HasNone IsTrailer) s t u old behind new (texts so.chunks ++ line.text) e.text trailer_awaited (with_line 0 line) e.reads in
+        let reads = beginnings_join source AwaitsChunks (HasNone IsTrailer) s t u old behind new (texts so.chunks ++ line.text) e.text trailer_awaited (with_line 0 line) e.reads in
         record {
           text = texts so.chunks ++ (line.text ++ e.text);
           body = contents so.chunks;
@@ -414,7 +414,7 @@ module _ {S R : Type 0} (takes : Takings S) (source : Source R) (s m t : R) (old
 
 -- ---- a body by its length
 
-module _ {S R : Type 0} (takes : Takings S) (source : Source R) (s t : R) (old new : Received) (before after : S) (size : ℕ) where
+module _ {S R : Type 0} (takes : Takings S) (source : Source R) (s t : R) (old new : ReadBuffer) (before after : S) (size : ℕ) where
   pub body_whole : Gathers takes source s t old new before after size true → TakesBody takes source s t old new before after (Bytes size)
   body_whole g = record { text = g.content; body = g.content; body_is = (refl, g.whole refl); reads = g.reads; put = g.put }
 
@@ -423,8 +423,8 @@ module _ {S R : Type 0} (takes : Takings S) (source : Source R) (s t : R) (old n
       let short = g.short refl in
       record { text = g.content; reads = g.reads; breaks = (omega (arith, short.0, ap length short.1, length-append g.content new.held), short.2) }
 
-pub body_unreadable : {R : Type 0} (source : Source R) (s : R) (r : Received) → BreaksBody source s s r r Unreadable breach.Body
+pub body_unreadable : {R : Type 0} (source : Source R) (s : R) (r : ReadBuffer) → BreaksBody source s s r r Unreadable breach.Body
 body_unreadable source s r = record { text = []; reads = nothing_yet source (AwaitsBody Unreadable) s r; breaks = tt }
 
-pub body_too_large : {R : Type 0} (source : Source R) (s : R) (r : Received) → BreaksBody source s s r r TooLarge breach.TooLarge
+pub body_too_large : {R : Type 0} (source : Source R) (s : R) (r : ReadBuffer) → BreaksBody source s s r r TooLarge breach.TooLarge
 body_too_large source s r = record { text = []; reads = nothing_yet source (AwaitsBody TooLarge) s r; breaks = tt }

@@ -12,13 +12,13 @@ use Rattle.http_requests.specs.declared.asked.Method.{Method}
 use Rattle.http_requests.specs.Asked.{asked_by, pairs_of, method_of, has_batch_type, closes_by}
 use Rattle.http_requests.specs.Requests.{HasBody, BodyBreaks, BreaksBehind, IsBroken, AwaitsBody, AwaitsRequest}
 use Rattle.http_requests.specs.Waiting.{Source}
-use Rattle.http_requests.specs.Receiving.{Received, ReadsOnWhile, StopsWhile, put_back, FindsHead, FindsNone, TakesRequest, FindsBreach}
+use Rattle.http_requests.specs.Receiving.{ReadBuffer, ReadsOnWhile, StopsWhile, put_back, FindsHead, FindsNone, TakesRequest, FindsBreach}
 use Rattle.http_requests.specs.Sinks.{Takings}
 use Rattle.http_requests.specs.Bodies.{TakesBody, BreaksBody}
 use Rattle.http_requests.specs.declared.asked.BodyLength.{BodyLength}
 use Rattle.http_requests.specs.declared.asked.Breach.{Breach}
-use Rattle.http_requests.specs.declared.received.Interrupted.{Interrupted}
-use Rattle.http_requests.proofs.Readings.{front_join, front_taken, widened, stops_behind}
+use Rattle.http_requests.specs.declared.read_buffer.ReadError.{ReadError}
+use Rattle.http_requests.proofs.Readings.{beginnings_join, beginning_taken, widened, stops_behind}
 use Rattle.http_requests.specs.Framing.{Frames}
 use Rattle.http_requests.specs.declared.asked.Breach.TheVariants as breach
 use Rattle.http_requests.specs.declared.asked.Request.{Request}
@@ -52,7 +52,7 @@ head_cut bytes len h takes fits =
     let is : len ≡ length (print_request h) = omega (arith, whole, fits, length-drop len bytes) in
     ap (take len) takes.reads.1 ∙ ap (λ k. take k (print_request h ++ drop len bytes)) is ∙ take-append_seam (print_request h) (drop len bytes)
 
-pub finds_head : {R : Type 0} (source : Source R) (s t : R) (old here : Received) (bytes : List ℕ) (len : ℕ) (r : Request) (size : BodyLength)
+pub finds_head : {R : Type 0} (source : Source R) (s t : R) (old here : ReadBuffer) (bytes : List ℕ) (len : ℕ) (r : Request) (size : BodyLength)
     → ReadsOnWhile source AwaitsHead s t old here → Frames bytes len r size → bytes ≡ here.held → FindsHead source s t old here r len size
 finds_head source s t old here bytes len r size reads framed are =
     let frames : Frames here.held len r size = subst (λ (l : List ℕ). Frames l len r size) are framed in
@@ -65,12 +65,12 @@ finds_head source s t old here bytes len r size reads framed are =
     }
 
 -- a request is awaited where a head is
-pub awaits_more : {R : Type 0} (source : Source R) (s t : R) (old new : Received) → ReadsOnWhile source AwaitsHead s t old new → ReadsOnWhile source AwaitsRequest s t old new
+pub awaits_more : {R : Type 0} (source : Source R) (s t : R) (old new : ReadBuffer) → ReadsOnWhile source AwaitsHead s t old new → ReadsOnWhile source AwaitsRequest s t old new
 awaits_more source s t old new reads = widened source AwaitsRequest AwaitsHead s t old new (λ h awaits. inl awaits) reads
 
 -- ---- the body behind the head, which was taken
 
-module _ {R : Type 0} (source : Source R) (s m t : R) (old here behind new : Received) (r : Request) (len : ℕ) (size : BodyLength)
+module _ {R : Type 0} (source : Source R) (s m t : R) (old here behind new : ReadBuffer) (r : Request) (len : ℕ) (size : BodyLength)
     (found : FindsHead source s m old here r len size) (behind_is : behind ≡ record here { held = drop len here.held }) where
   abbrev bytes : List ℕ
   bytes = take len here.held
@@ -79,8 +79,8 @@ module _ {R : Type 0} (source : Source R) (s m t : R) (old here behind new : Rec
   head_then text = record { reads = (found.takes.reads.0, ap (λ l. l ++ text) found.is.bytes_are); size = found.takes.size; fields = found.takes.fields }
 
   pub head_read : ReadsOnWhile source AwaitsRequest s m old (put_back bytes behind)
-  head_read = subst (λ (b : Received). ReadsOnWhile source AwaitsRequest s m old (put_back bytes b)) (sym behind_is)
-      (front_taken source AwaitsRequest s m old here bytes (drop len here.held) (awaits_more source s m old here found.reads) (sym (take-append-drop len here.held)))
+  head_read = subst (λ (b : ReadBuffer). ReadsOnWhile source AwaitsRequest s m old (put_back bytes b)) (sym behind_is)
+      (beginning_taken source AwaitsRequest s m old here bytes (drop len here.held) (awaits_more source s m old here found.reads) (sym (take-append-drop len here.held)))
 
   -- the body is awaited behind the head
   body_awaited : (h : List ℕ) → AwaitsBody size h → AwaitsRequest (bytes ++ h)
@@ -88,10 +88,10 @@ module _ {R : Type 0} (source : Source R) (s m t : R) (old here behind new : Rec
       inr (record { head = (found.is).head; after = h; takes = head_then h; awaits = subst (λ (z : BodyLength). AwaitsBody z h) found.size_is awaits })
 
   behind_head : (text : List ℕ) → ReadsOnWhile source (AwaitsBody size) m t behind (put_back text new) → ReadsOnWhile source AwaitsRequest s t old (put_back (bytes ++ text) new)
-  behind_head text second = front_join source AwaitsRequest (AwaitsBody size) s m t old behind new bytes text body_awaited head_read second
+  behind_head text second = beginnings_join source AwaitsRequest (AwaitsBody size) s m t old behind new bytes text body_awaited head_read second
 
   -- no more could be had of the body
-  pub body_stops : (failed : Bool) (why : Interrupted) → StopsWhile source (AwaitsBody size) m t failed behind why → StopsWhile source AwaitsRequest s t failed old why
+  pub body_stops : (failed : Bool) (why : ReadError) → StopsWhile source (AwaitsBody size) m t failed behind why → StopsWhile source AwaitsRequest s t failed old why
   body_stops failed why stops = stops_behind source AwaitsRequest (AwaitsBody size) s m t failed old behind bytes why body_awaited head_read stops
 
   pub takes_request : {S : Type 0} (takes : Takings S) (before after : S) (body : TakesBody takes source m t behind new before after size)
@@ -119,7 +119,7 @@ module _ {R : Type 0} (source : Source R) (s m t : R) (old here behind new : Rec
   finds_breach why b = record { text = bytes ++ b.text; reads = behind_head b.text b.reads; broken = breaks why b }
 
 -- no head is no request
-pub none_is_breach : {R : Type 0} (source : Source R) (s t : R) (old new : Received) → FindsNone source s t old new → FindsBreach source s t old new breach.Head
+pub none_is_breach : {R : Type 0} (source : Source R) (s t : R) (old new : ReadBuffer) → FindsNone source s t old new → FindsBreach source s t old new breach.Head
 none_is_breach source s t old new none = record { text = []; reads = awaits_more source s t old new none.reads; broken = none.broken }
 
 -- who stopped with fewer bytes than asked for has found the end

@@ -9,7 +9,7 @@ use Rattle.chunked_bodies.specs.declared.trailer.Trailer.TheVariants as trailer
 use Rattle.http_requests.specs.declared.asked.TheConstants.{MOST_BODY_BYTES}
 use Rattle.http_requests.specs.Requests.{HasBody, BodyBreaks, IsShorter, AwaitsBody}
 use Rattle.http_requests.specs.Waiting.{Source}
-use Rattle.http_requests.specs.Receiving.{Received, ReadsOnWhile, put_back}
+use Rattle.http_requests.specs.Receiving.{ReadBuffer, ReadsOnWhile, put_back}
 use Rattle.http_requests.specs.Sinks.{Takings}
 use Rattle.http_requests.specs.declared.asked.BodyLength.{BodyLength}
 use Rattle.http_requests.specs.declared.asked.BodyLength.TheVariants.{Chunked}
@@ -18,13 +18,13 @@ use Rattle.http_requests.specs.declared.asked.Breach.{Breach}
 -- ---- a text of one kind at the beginning
 
 -- a text of this kind was taken from the beginning
-pub record Takes {R : Type 0} (source : Source R) (Awaits : List ℕ → Type 0) (s t : R) (old new : Received) (Is : List ℕ → Type 0) : Type 0 where
+pub record Takes {R : Type 0} (source : Source R) (Awaits : List ℕ → Type 0) (s t : R) (old new : ReadBuffer) (Is : List ℕ → Type 0) : Type 0 where
   pub text : List ℕ
   pub is : Is text
   pub reads : ReadsOnWhile source Awaits s t old (put_back text new)
 
 -- no text of this kind can be taken from the beginning
-pub record Misses {R : Type 0} (source : Source R) (Awaits : List ℕ → Type 0) (s t : R) (old new : Received) (Is : List ℕ → Type 0) : Type 0 where
+pub record Misses {R : Type 0} (source : Source R) (Awaits : List ℕ → Type 0) (s t : R) (old new : ReadBuffer) (Is : List ℕ → Type 0) : Type 0 where
   pub reads : ReadsOnWhile source Awaits s t old new
   pub lacks : Lacks (IsAtEnd (source.remaining t)) Is new.held
 
@@ -33,12 +33,12 @@ abbrev pub AwaitsLine : List ℕ → Type 0
 AwaitsLine bytes = HasNone IsSomeSizeLine bytes × EndsNoLine bytes
 
 -- a size line was taken, or there is none
-abbrev pub TakesSize : {R : Type 0} → Source R → R → R → Received → Received → Option ℕ → Type 0
+abbrev pub TakesSize : {R : Type 0} → Source R → R → R → ReadBuffer → ReadBuffer → Option ℕ → Type 0
 TakesSize source s t old new (Some size) = Takes source AwaitsLine s t old new (λ text. IsSizeLine text size)
 TakesSize source s t old new None = Misses source AwaitsLine s t old new IsSomeSizeLine
 
 -- a text of this kind was taken, or there is none
-abbrev pub TakesOrMisses : {R : Type 0} → Source R → (List ℕ → Type 0) → R → R → Received → Received → (List ℕ → Type 0) → Bool → Type 0
+abbrev pub TakesOrMisses : {R : Type 0} → Source R → (List ℕ → Type 0) → R → R → ReadBuffer → ReadBuffer → (List ℕ → Type 0) → Bool → Type 0
 TakesOrMisses source Awaits s t old new Is true = Takes source Awaits s t old new Is
 TakesOrMisses source Awaits s t old new Is false = Misses source Awaits s t old new Is
 
@@ -72,7 +72,7 @@ pub record AwaitsRest (Is : List ℕ → Type 0) (bytes : List ℕ) : Type 0 whe
 -- ---- bytes for the sink
 
 -- Bytes were taken and put into the sink: so many, or all up to the end of the input.
-pub record Gathers {S R : Type 0} (takes : Takings S) (source : Source R) (s t : R) (old new : Received) (before after : S) (size : ℕ) (all : Bool) : Type 0 where
+pub record Gathers {S R : Type 0} (takes : Takings S) (source : Source R) (s t : R) (old new : ReadBuffer) (before after : S) (size : ℕ) (all : Bool) : Type 0 where
   pub content : List ℕ
   pub reads : ReadsOnWhile source (IsShorter size) s t old (put_back content new)
   pub put : takes before content after
@@ -80,31 +80,31 @@ pub record Gathers {S R : Type 0} (takes : Takings S) (source : Source R) (s t :
   pub short : all ≡ false → (length content < size) × (new.held ≡ []) × IsAtEnd (source.remaining t)
 
 -- bytes gathered so far, where so many are left
-pub record Gathered {S R : Type 0} (takes : Takings S) (source : Source R) (s t : R) (old new : Received) (before after : S) (size left : ℕ) : Type 0 where
+pub record Gathered {S R : Type 0} (takes : Takings S) (source : Source R) (s t : R) (old new : ReadBuffer) (before after : S) (size left : ℕ) : Type 0 where
   pub content : List ℕ
   pub reads : ReadsOnWhile source (IsShorter size) s t old (put_back content new)
   pub put : takes before content after
   pub sum : length content + left ≡ size
 
 -- so many data were put into the sink, and they and CR LF were taken
-pub record TakesContent {S R : Type 0} (takes : Takings S) (source : Source R) (s t : R) (old new : Received) (before after : S) (size : ℕ) : Type 0 where
+pub record TakesContent {S R : Type 0} (takes : Takings S) (source : Source R) (s t : R) (old new : ReadBuffer) (before after : S) (size : ℕ) : Type 0 where
   pub content : List ℕ
   pub reads : ReadsOnWhile source (AwaitsRest (IsContent size)) s t old (put_back (content ++ crlf_bytes) new)
   pub put : takes before content after
   pub size_is : length content ≡ size
 
 -- a text was taken, and with what is left it begins with none of this kind
-pub record Fails {R : Type 0} (source : Source R) (s t : R) (old new : Received) (Is : List ℕ → Type 0) : Type 0 where
+pub record Fails {R : Type 0} (source : Source R) (s t : R) (old new : ReadBuffer) (Is : List ℕ → Type 0) : Type 0 where
   pub text : List ℕ
   pub reads : ReadsOnWhile source (AwaitsRest Is) s t old (put_back text new)
   pub lacks : Lacks (IsAtEnd (source.remaining t)) Is (text ++ new.held)
 
-abbrev pub TakesContentOr : {S R : Type 0} → Takings S → Source R → R → R → Received → Received → S → S → ℕ → Bool → Type 0
+abbrev pub TakesContentOr : {S R : Type 0} → Takings S → Source R → R → R → ReadBuffer → ReadBuffer → S → S → ℕ → Bool → Type 0
 TakesContentOr takes source s t old new before after size true = TakesContent takes source s t old new before after size
 TakesContentOr takes source s t old new before after size false = Fails source s t old new (IsContent size)
 
 -- chunks so far, and how many bytes of data may still come
-pub record ChunksSoFar {S R : Type 0} (takes : Takings S) (source : Source R) (s t : R) (old new : Received) (before after : S) (left : ℕ) : Type 0 where
+pub record ChunksSoFar {S R : Type 0} (takes : Takings S) (source : Source R) (s t : R) (old new : ReadBuffer) (before after : S) (left : ℕ) : Type 0 where
   pub chunks : List Chunk
   pub each : All IsChunk chunks
   pub reads : ReadsOnWhile source (AwaitsBody Chunked) s t old (put_back (texts chunks) new)
@@ -114,7 +114,7 @@ pub record ChunksSoFar {S R : Type 0} (takes : Takings S) (source : Source R) (s
 -- ---- bodies
 
 -- a body as the head says was taken, and put into the sink; each read for it was made while more of it was awaited
-pub record TakesBody {S R : Type 0} (takes : Takings S) (source : Source R) (s t : R) (old new : Received) (before after : S) (size : BodyLength) : Type 0 where
+pub record TakesBody {S R : Type 0} (takes : Takings S) (source : Source R) (s t : R) (old new : ReadBuffer) (before after : S) (size : BodyLength) : Type 0 where
   pub text : List ℕ
   pub body : List ℕ
   pub body_is : HasBody size text body
@@ -123,11 +123,11 @@ pub record TakesBody {S R : Type 0} (takes : Takings S) (source : Source R) (s t
 
 -- a text was taken, and with what is left it has no body as the head says, for that reason; each read was made
 -- while more of a body was awaited
-pub record BreaksBody {R : Type 0} (source : Source R) (s t : R) (old new : Received) (size : BodyLength) (why : Breach) : Type 0 where
+pub record BreaksBody {R : Type 0} (source : Source R) (s t : R) (old new : ReadBuffer) (size : BodyLength) (why : Breach) : Type 0 where
   pub text : List ℕ
   pub reads : ReadsOnWhile source (AwaitsBody size) s t old (put_back text new)
   pub breaks : BodyBreaks (IsAtEnd (source.remaining t)) why size (text ++ new.held)
 
-abbrev pub ReadsBody : {S R : Type 0} → Takings S → Source R → R → R → Received → Received → S → S → BodyLength → Result (Unit {0}) Breach → Type 0
+abbrev pub ReadsBody : {S R : Type 0} → Takings S → Source R → R → R → ReadBuffer → ReadBuffer → S → S → BodyLength → Result (Unit {0}) Breach → Type 0
 ReadsBody takes source s t old new before after size (Ok _) = TakesBody takes source s t old new before after size
 ReadsBody takes source s t old new before after size (Err why) = BreaksBody source s t old new size why

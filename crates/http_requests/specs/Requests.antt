@@ -1,7 +1,7 @@
 -- A request as a text, and why there is none.
 use Rattle.std.specs.Prelude.{◌≡◌, ℕ, ◌<◌, ◌≤◌, ◌⊎◌, List, ◌++◌, length, slice_range}
 use Rattle.httparse.specs.Grammar.{RequestHead, IsRequestHead, print_request}
-use Rattle.chunked_bodies.specs.Chunks.{IsBody, IsTooLarge, IsDecided, IsSized, Begins, HasNone, NeverHas, Lacks}
+use Rattle.chunked_bodies.specs.Chunks.{IsBody, IsTooLarge, IsDecided, IsSized, BeginsWith, HasNone, NeverHas, Lacks}
 use Rattle.http_requests.specs.declared.asked.TheConstants.{MOST_BODY_BYTES}
 use Rattle.http_requests.specs.Heads.{TakesHead, HasNoHead, NeverHasHead, EndsLine, AwaitsHead}
 use Rattle.http_requests.specs.Asked.{asked_by, body_length}
@@ -34,7 +34,7 @@ IsUnreadable AtEnd TooLarge after = ⊥
 -- the head says that the body is too large, or the size line of a chunk does
 abbrev pub PassesMost : BodyLength → List ℕ → Type 0
 PassesMost (Bytes n) after = ⊥
-PassesMost Chunked after = Begins (IsTooLarge MOST_BODY_BYTES) after
+PassesMost Chunked after = BeginsWith (IsTooLarge MOST_BODY_BYTES) after
 PassesMost Unreadable after = ⊥
 PassesMost TooLarge after = Unit {0}
 

@@ -8,7 +8,7 @@ ghost use Rattle.http_requests.specs.declared.asked.BodyLength.TheVariants.{Chun
 
 use crate::asked::{BodyLength, Breach, MOST_BODY_BYTES};
 use crate::line_ends::has_line_end;
-use crate::received::{Interrupted, Received};
+use crate::read_buffer::{ReadBuffer, ReadError};
 use crate::sink::Sink;
 use chunked_bodies::{MOST_TRAILER_BYTES, SizeLine, Trailer, look_for_size, look_for_trailer};
 use session_devices::Input;
@@ -17,10 +17,10 @@ use session_devices::Input;
 /// there were so many.
 fn gather<R: Input, S: Sink>(
     input: &mut R,
-    received: &mut Received,
+    received: &mut ReadBuffer,
     sink: &mut S,
     size: usize,
-) -> Result<bool, Interrupted>
+) -> Result<bool, ReadError>
     requires end { KnowsItsEnd received.old.ended (R.remaining input.old) }
     ensures gathers { IfOk result (Gathers S.takes (source_of R.remaining R.gives)
         input.old input.new received.old received.new sink.old sink.new size) }
@@ -62,7 +62,7 @@ fn may_begin_line_end(bytes: &[u8]) -> bool
 }
 
 /// Takes CR LF; whether it was there.
-fn take_line_end<R: Input>(input: &mut R, received: &mut Received) -> Result<bool, Interrupted>
+fn take_line_end<R: Input>(input: &mut R, received: &mut ReadBuffer) -> Result<bool, ReadError>
     requires end { KnowsItsEnd received.old.ended (R.remaining input.old) }
     ensures takes { IfOk result (TakesOrMisses (source_of R.remaining R.gives)
         (AwaitsRest IsLineEnd) input.old input.new received.old received.new IsLineEnd) }
@@ -87,7 +87,7 @@ fn take_line_end<R: Input>(input: &mut R, received: &mut Received) -> Result<boo
 }
 
 /// Takes a size line; the size, or none where there is no such line.
-fn take_size<R: Input>(input: &mut R, received: &mut Received) -> Result<Option<u64>, Interrupted>
+fn take_size<R: Input>(input: &mut R, received: &mut ReadBuffer) -> Result<Option<u64>, ReadError>
     requires end { KnowsItsEnd received.old.ended (R.remaining input.old) }
     ensures takes { IfOk result (TakesSize (source_of R.remaining R.gives) input.old input.new
         received.old received.new) }
@@ -126,7 +126,7 @@ fn trailer_when_due(bytes: &[u8], seen: usize) -> Trailer
 }
 
 /// Takes a trailer; whether there was one.
-fn take_trailer<R: Input>(input: &mut R, received: &mut Received) -> Result<bool, Interrupted>
+fn take_trailer<R: Input>(input: &mut R, received: &mut ReadBuffer) -> Result<bool, ReadError>
     requires end { KnowsItsEnd received.old.ended (R.remaining input.old) }
     ensures takes { IfOk result (TakesOrMisses (source_of R.remaining R.gives)
         (HasNone IsTrailer) input.old input.new received.old received.new IsTrailer) }
@@ -157,10 +157,10 @@ fn take_trailer<R: Input>(input: &mut R, received: &mut Received) -> Result<bool
 /// there.
 fn take_content<R: Input, S: Sink>(
     input: &mut R,
-    received: &mut Received,
+    received: &mut ReadBuffer,
     sink: &mut S,
     size: usize,
-) -> Result<bool, Interrupted>
+) -> Result<bool, ReadError>
     requires end { KnowsItsEnd received.old.ended (R.remaining input.old) }
     ensures takes { IfOk result (TakesContentOr S.takes (source_of R.remaining R.gives)
         input.old input.new received.old received.new sink.old sink.new size) }
@@ -178,9 +178,9 @@ fn take_content<R: Input, S: Sink>(
 /// Takes a chunked body, and puts its data into the sink.
 fn read_chunks<R: Input, S: Sink>(
     input: &mut R,
-    received: &mut Received,
+    received: &mut ReadBuffer,
     sink: &mut S,
-) -> Result<Result<(), Breach>, Interrupted>
+) -> Result<Result<(), Breach>, ReadError>
     requires end { KnowsItsEnd received.old.ended (R.remaining input.old) }
     ensures body { IfOk result (ReadsBody S.takes (source_of R.remaining R.gives)
         input.old input.new received.old received.new sink.old sink.new Chunked) }
@@ -219,10 +219,10 @@ fn read_chunks<R: Input, S: Sink>(
 /// The input failed, or memory ran out for what is read at once, before it was read.
 pub fn read_body<R: Input, S: Sink>(
     input: &mut R,
-    received: &mut Received,
+    received: &mut ReadBuffer,
     sink: &mut S,
     size: BodyLength,
-) -> Result<Result<(), Breach>, Interrupted>
+) -> Result<Result<(), Breach>, ReadError>
     requires end { KnowsItsEnd received.old.ended (R.remaining input.old) }
     ensures body { IfOk result (ReadsBody S.takes (source_of R.remaining R.gives)
         input.old input.new received.old received.new sink.old sink.new size) }

@@ -5,7 +5,7 @@ ghost use Rattle.std.specs.Prelude.{◌≡◌, ℕ, List, [], ◌++◌};
 ghost use Rattle.httparse.specs.Grammar.{RequestHead as RequestHeadValue, NeverHasRequest};
 ghost use Rattle.http_requests.specs.declared.head.TheConstants.{MOST_HEAD_BYTES, MOST_FIELDS};
 ghost use Rattle.http_requests.specs.declared.asked.TheConstants.{MOST_BODY_BYTES};
-ghost use Rattle.http_requests.specs.declared.received.TheConstants.{MOST_READS};
+ghost use Rattle.http_requests.specs.declared.read_buffer.TheConstants.{MOST_READS};
 ghost use Rattle.http_requests.specs.declared.room.TheConstants.{PIECE};
 ghost use Rattle.http_requests.specs.Heads.{TakesHead, EndsLine};
 ghost use Rattle.http_requests.specs.Requests.{Spells, IsBroken, AwaitsRequest};

@@ -11,7 +11,7 @@
 //! * `fields`: the fields of a head, by name.
 //! * `asked`: what a session asks of a head: method, target, how long the body is, whether it closes.
 //! * `bodies`: taking a body, by its length or in chunks.
-//! * `received`: the bytes that were read and are not taken yet.
+//! * `read_buffer`: the bytes that were read and are not taken yet.
 //! * `room`: the room that they lie in, which is used again.
 //! * `line_ends`: whether a line ends in bytes.
 //! * `reading`: the head of the next request of an input.
@@ -25,14 +25,14 @@ mod fields;
 mod head;
 pub mod laws;
 mod line_ends;
+mod read_buffer;
 mod reading;
-mod received;
 mod room;
 mod sink;
 
 pub use asked::{BodyLength, Breach, Method, Request};
 pub use bodies::read_body;
+pub use read_buffer::{MOST_READS, ReadBuffer, ReadError};
 pub use reading::{Next, next_head};
-pub use received::{Interrupted, MOST_READS, Received};
 pub use room::PIECE;
 pub use sink::Sink;

@@ -7,7 +7,7 @@ ghost use Rattle.http_requests.specs.Searching.{SearchFinds};
 
 use crate::asked::{BodyLength, Request, frame};
 use crate::head::{Look, head_when_due};
-use crate::received::{Interrupted, Received};
+use crate::read_buffer::{ReadBuffer, ReadError};
 use httparse::spans::{EMPTY_HEADER_SPAN, HeaderSpan, RequestSpans};
 use session_devices::Input;
 
@@ -38,9 +38,9 @@ enum Found {
 /// Reads until a head stands at the beginning, or none can.
 fn find_head<R: Input>(
     input: &mut R,
-    received: &mut Received,
+    received: &mut ReadBuffer,
     headers: &mut [HeaderSpan],
-) -> Result<Found, Interrupted>
+) -> Result<Found, ReadError>
     requires room { MOST_FIELDS ≤ length headers.old }
     requires end { KnowsItsEnd received.old.ended (R.remaining input.old) }
     ensures reads { OnOk result (ReadsOnWhile (source_of R.remaining R.gives) AwaitsHead
@@ -75,7 +75,7 @@ fn find_head<R: Input>(
 /// # Errors
 ///
 /// The input failed, or memory ran out for what is read at once, before it was read.
-pub fn next_head<R: Input>(input: &mut R, received: &mut Received) -> Result<Next, Interrupted>
+pub fn next_head<R: Input>(input: &mut R, received: &mut ReadBuffer) -> Result<Next, ReadError>
     requires end { KnowsItsEnd received.old.ended (R.remaining input.old) }
     ensures found { IfOk result (Finds (source_of R.remaining R.gives) input.old input.new
         received.old received.new) }

@@ -49,7 +49,7 @@ impl Room {
     }
 
     /// Moves the bytes held to the beginning of the room, where something was taken in front of them.
-    fn move_to_front(&mut self)
+    fn move_to_beginning(&mut self)
         ensures { held self.new ≡ held self.old }
     {
         if self.start > 0 {
@@ -72,7 +72,7 @@ impl Room {
         if self.bytes.len() - self.end >= PIECE {
             return Ok(());
         }
-        self.move_to_front();
+        self.move_to_beginning();
         if self.bytes.len() - self.end >= PIECE {
             return Ok(());
         }

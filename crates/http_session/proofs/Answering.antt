@@ -3,7 +3,7 @@ use Rattle.std.proofs.Common.{◌≡◌, ◌≢◌, ℕ, ◌+◌, ◌*◌, ◌<�
 use Rattle.std.specs.Io.KnownBytes.{Appends}
 use Rattle.http_requests.specs.declared.room.TheConstants.{PIECE}
 use Rattle.http_requests.specs.Waiting.{Source}
-use Rattle.http_requests.specs.Receiving.{Received, put_back}
+use Rattle.http_requests.specs.Receiving.{ReadBuffer, put_back}
 use Rattle.http_requests.proofs.Once.{request_is_some}
 use Rattle.http_session.specs.Hearing.{HearsOne}
 use Rattle.http_session.specs.Replies.{closes, takes_no_memory, response_of}
@@ -12,11 +12,11 @@ use Rattle.http_session.specs.InTurn.{EndsInTurn, FailsInTurn}
 use Rattle.http_session.specs.Underway.{SoFar}
 use Rattle.http_session.specs.declared.verdict.Verdict.{Verdict}
 use Rattle.http_session.specs.declared.reply.Reply.{Reply}
-use Rattle.http_session.specs.declared.exchanges.Cause.TheVariants.{Memory}
+use Rattle.http_session.specs.declared.exchanges.SessionErrorKind.TheVariants.{Memory}
 use Rattle.http_session.specs.declared.exchanges.Silence.{Silence}
 use Rattle.http_session.proofs.Turns.{reads_on, goes_on, ends_closing, fails_due}
 
-module _ {R : Type 0} (source : Source R) (i1 i2 : R) (old here : Received) (v : Verdict) (asked : Bool) (found : HearsOne source i1 i2 old here v asked) where
+module _ {R : Type 0} (source : Source R) (i1 i2 : R) (old here : ReadBuffer) (v : Verdict) (asked : Bool) (found : HearsOne source i1 i2 old here v asked) where
   -- a request has a byte
   some_text : 0 < length found.request.text
   some_text = request_is_some found.request.text found.head found.body found.request.spells
@@ -28,10 +28,10 @@ module _ {R : Type 0} (source : Source R) (i1 i2 : R) (old here : Received) (v :
       let cut : length (found.request.text ++ here.held) ≡ length (old.held ++ reads.more) = ap length reads.held in
       omega (arith, some_text, cut, reads.most, length-append found.request.text here.held, length-append old.held reads.more)
 
-module _ {S R : Type 0} (submits : Submits S) (reads : Reads S) (source : Source R) (i0 i1 i2 : R) (out0 out1 : Option (List ℕ)) (s t : S) (old here : Received) (answered : ℕ)
+module _ {S R : Type 0} (submits : Submits S) (reads : Reads S) (source : Source R) (i0 i1 i2 : R) (out0 out1 : Option (List ℕ)) (s t : S) (old here : ReadBuffer) (answered : ℕ)
     (v : Verdict) (asked : Bool) (so : SoFar submits reads source i0 i1 out0 out1 s t old answered) (found : HearsOne source i1 i2 old here v asked) where
   -- with the request's text in front again
-  abbrev pub whole : Received
+  abbrev pub whole : ReadBuffer
   whole = put_back found.request.text here
 
   so_whole : SoFar submits reads source i0 i2 out0 out1 s t whole answered

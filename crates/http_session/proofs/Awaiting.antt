@@ -2,7 +2,7 @@
 use Rattle.std.proofs.Common.{◌≡◌, ℕ, List, [], ◌++◌, refl, sym, ap, ◌∙◌, subst, append_assoc, append-nil}
 use Rattle.http_requests.specs.Requests.{AwaitsRequest}
 use Rattle.http_requests.specs.Waiting.{Gives, ReadsWhile}
-use Rattle.http_requests.proofs.Waits.{no_read, reads_in_turn, reads_behind}
+use Rattle.http_requests.proofs.Awaiting.{no_read, reads_in_turn, reads_behind}
 use Rattle.http_session.specs.Sessions.{Exchange, texts}
 use Rattle.http_session.specs.InTurn.{AwaitsNext, ReadsInTurn}
 

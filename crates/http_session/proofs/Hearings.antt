@@ -4,13 +4,13 @@ use Rattle.http_requests.specs.Asked.{Asked, asked_by}
 use Rattle.http_requests.specs.Requests.{AwaitsRequest}
 use Rattle.http_requests.specs.Waiting.{Source}
 use Rattle.http_requests.specs.Sinks.{Takings}
-use Rattle.http_requests.specs.Receiving.{Received, StopsWhile, SameUnlessReading, FindsHead, FindsEnd}
+use Rattle.http_requests.specs.Receiving.{ReadBuffer, StopsWhile, SameUnlessReading, FindsHead, FindsEnd}
 use Rattle.http_requests.specs.Bodies.{TakesBody, ReadsBody}
 use Rattle.http_requests.specs.declared.asked.BodyLength.{BodyLength}
 use Rattle.http_requests.specs.declared.asked.Request.{Request}
 use Rattle.http_requests.specs.declared.asked.Breach.{Breach}
-use Rattle.http_requests.specs.declared.received.Interrupted.{Interrupted}
-use Rattle.http_requests.specs.declared.received.Interrupted.TheVariants as why
+use Rattle.http_requests.specs.declared.read_buffer.ReadError.{ReadError}
+use Rattle.http_requests.specs.declared.read_buffer.ReadError.TheVariants as why
 use Rattle.http_requests.proofs.Wholes.{awaits_more, takes_request}
 use Rattle.http_session.specs.Verdicts.{Judges, AsksQuery, asked_of}
 use Rattle.http_session.specs.Questions.{Decides, Asks}
@@ -19,7 +19,7 @@ use Rattle.http_session.specs.declared.question.Question.{Question}
 use Rattle.http_session.specs.declared.verdict.Verdict.{Verdict}
 use Rattle.http_session.proofs.Texts.{asked_is}
 
-module _ {R : Type 0} (source : Source R) (s m t : R) (old here behind new : Received) (r : Request) (len : ℕ) (size : BodyLength)
+module _ {R : Type 0} (source : Source R) (s m t : R) (old here behind new : ReadBuffer) (r : Request) (len : ℕ) (size : BodyLength)
     (found : FindsHead source s m old here r len size) (behind_is : behind ≡ record here { held = drop len here.held }) where
   abbrev bytes : List ℕ
   bytes = take len here.held
@@ -38,7 +38,7 @@ module _ {R : Type 0} (source : Source R) (s m t : R) (old here behind new : Rec
       }
 
 -- there was no memory for the query that it asks
-pub hears_no_query : {R : Type 0} (source : Source R) (s t : R) (old here : Received) (r : Request) (len : ℕ) (size : BodyLength) → FindsHead source s t old here r len size
+pub hears_no_query : {R : Type 0} (source : Source R) (s t : R) (old here : ReadBuffer) (r : Request) (len : ℕ) (size : BodyLength) → FindsHead source s t old here r len size
     → AsksQuery (asked_of (take len here.held) r) → HearsNoQuery source s t old
 hears_no_query source s t old here r len size found asks = record {
   here = here;
@@ -47,30 +47,30 @@ hears_no_query source s t old here r len size found asks = record {
 }
 
 -- nothing is left of an input that has ended
-pub hears_end : {R : Type 0} (source : Source R) (s t : R) (old new : Received) → FindsEnd source s t old new → HearsEnd source s t old new
+pub hears_end : {R : Type 0} (source : Source R) (s t : R) (old new : ReadBuffer) → FindsEnd source s t old new → HearsEnd source s t old new
 hears_end source s t old new found = record { reads = awaits_more source s t old new found.reads; at_end = found.at_end; nothing = found.nothing }
 
 -- no more could be had
-pub hears_nothing : {R : Type 0} (source : Source R) (s t : R) (failed : Bool) (old : Received) (why : Interrupted) → StopsWhile source AwaitsRequest s t failed old why → HearsNothing source s t failed old why
+pub hears_nothing : {R : Type 0} (source : Source R) (s t : R) (failed : Bool) (old : ReadBuffer) (why : ReadError) → StopsWhile source AwaitsRequest s t failed old why → HearsNothing source s t failed old why
 hears_nothing source s t failed old why.Reading stops = stops
 hears_nothing source s t failed old why.Memory stops = inl stops
 
 -- ---- the verdict behind a body
 
-pub reported_heard : {S R : Type 0} (takes : Takings S) (source : Source R) (s t : R) (old new : Received) (before after : S) (size : BodyLength) (q : Question) (v : Verdict)
-    (read : Result (Result (Unit {0}) Breach) Interrupted) → ((body : List ℕ) → takes before body after → Decides q body v) → IfOk read (ReadsBody takes source s t old new before after size)
+pub reported_heard : {S R : Type 0} (takes : Takings S) (source : Source R) (s t : R) (old new : ReadBuffer) (before after : S) (size : BodyLength) (q : Question) (v : Verdict)
+    (read : Result (Result (Unit {0}) Breach) ReadError) → ((body : List ℕ) → takes before body after → Decides q body v) → IfOk read (ReadsBody takes source s t old new before after size)
     → IfOk (reported_behind read v) (HearsBody source s t old new size q)
 reported_heard takes source s t old new before after size q v (Ok (Ok x)) decides body =
     record { text = body.text; body = body.body; body_is = body.body_is; reads = body.reads; decides = decides body.body body.put }
 reported_heard takes source s t old new before after size q v (Ok (Err why)) decides breaks = breaks
 reported_heard takes source s t old new before after size q v (Err why) decides read = tt
 
-pub reported_err : (v : Verdict) (P : Interrupted → Type 0) (read : Result (Result (Unit {0}) Breach) Interrupted) → IfErr read P → IfErr (reported_behind read v) P
+pub reported_err : (v : Verdict) (P : ReadError → Type 0) (read : Result (Result (Unit {0}) Breach) ReadError) → IfErr read P → IfErr (reported_behind read v) P
 reported_err v P (Ok (Ok x)) p = tt
 reported_err v P (Ok (Err why)) p = tt
 reported_err v P (Err why) p = p
 
-pub reported_same : (v : Verdict) (failed0 failed1 : Bool) (read : Result (Result (Unit {0}) Breach) Interrupted) → SameUnlessReading failed0 failed1 read → SameUnlessReading failed0 failed1 (reported_behind read v)
+pub reported_same : (v : Verdict) (failed0 failed1 : Bool) (read : Result (Result (Unit {0}) Breach) ReadError) → SameUnlessReading failed0 failed1 read → SameUnlessReading failed0 failed1 (reported_behind read v)
 reported_same v failed0 failed1 (Ok (Ok x)) same = same
 reported_same v failed0 failed1 (Ok (Err breach)) same = same
 reported_same v failed0 failed1 (Err why.Memory) same = same

@@ -8,7 +8,7 @@ use Rattle.trace_model.specs.declared.answer.Answer.{Answer}
 use Rattle.trace_model.specs.declared.refusal.Refusal.{Refusal}
 use Rattle.trace_model.specs.Histories.{IsLegal}
 use Rattle.trace_model.specs.Answers.{answer}
-use Rattle.store_backend.specs.Knowing.{History, Begins, HasAt, Keeps, Places, AnswersAt, SubmitKnows, ReadKnows}
+use Rattle.store_backend.specs.Knowing.{History, IsBeginning, HasAt, Keeps, Places, AnswersAt, SubmitKnows, ReadKnows}
 use Rattle.http_session.specs.Sessions.{Exchange, Submits, Reads, Step, Run}
 use Rattle.http_session.specs.Related.{Seen, IsPoint, Gets, Related, nothing_seen}
 use Rattle.http_session.specs.declared.verdict.Verdict.{Verdict}
@@ -17,7 +17,7 @@ use Rattle.http_session.specs.declared.reply.Reply.{Reply}
 use Rattle.http_session.specs.declared.reply.Reply.TheVariants.{Accepted, Answered, Refused, Said}
 
 -- a list that goes on from one that has the batch has it too
-still_has : (h long : History) (place : ℕ) (b : Batch) → HasAt h place b → Begins h long → HasAt long place b
+still_has : (h long : History) (place : ℕ) (b : Batch) → HasAt h place b → IsBeginning h long → HasAt long place b
 still_has h long place b has goes = record {
   before = has.before;
   entry = has.entry;
@@ -51,8 +51,8 @@ module _ {S : Type 0} (limits : S → Limits) (knows : S → History → Type 0)
     placed = All-weaker (Placed s) (Placed t) (λ pair p. (p.0, p.1, keeps.knowledge p.0 p.2)) seen.accepted holds.placed;
   }
 
-  behind : (knew : History → Type 0) (s : S) (o : Option History) (h : History) → ((l : History) → knew l → knows s l) → IfSome o (λ l. knows s l) → ((l : History) → knows s l → Begins l h)
-      → MatchOption o ((l : History) → knew l → Begins l h) (λ before. Begins before h)
+  behind : (knew : History → Type 0) (s : S) (o : Option History) (h : History) → ((l : History) → knew l → knows s l) → IfSome o (λ l. knows s l) → ((l : History) → knows s l → IsBeginning l h)
+      → MatchOption o ((l : History) → knew l → IsBeginning l h) (λ before. IsBeginning before h)
   behind knew s None h old last all = λ l k. all l (old l k)
   behind knew s (Some before) h old last all = all before last
 

@@ -3,14 +3,14 @@ use Rattle.std.proofs.Common.{◌≡◌, ◌≢◌, ℕ, ◌+◌, ◌<◌, ◌�
 use Rattle.std.specs.Io.KnownBytes.{Appends, Consumes, IsAtEnd, Keeps}
 use Rattle.std.proofs.KnownBytes.{Consumes-trans, Appends-trans, Consumes-nil, Appends-nil}
 use Rattle.std.proofs.lemmas.List.Elements.{All-append, All-cons, All-nil}
-use Rattle.http_requests.specs.declared.received.TheConstants.{MOST_READS}
+use Rattle.http_requests.specs.declared.read_buffer.TheConstants.{MOST_READS}
 use Rattle.http_requests.specs.Requests.{IsBroken, AwaitsRequest}
 use Rattle.http_requests.specs.Waiting.{Source, counted, FailsToRead}
-use Rattle.http_requests.specs.Receiving.{Received, ReadsOnWhile, StopsWhile, SameUnlessReading}
+use Rattle.http_requests.specs.Receiving.{ReadBuffer, ReadsOnWhile, StopsWhile, SameUnlessReading}
 use Rattle.http_requests.specs.declared.asked.Breach.{Breach}
-use Rattle.http_requests.specs.declared.received.Interrupted.{Interrupted}
-use Rattle.http_requests.specs.declared.received.Interrupted.TheVariants as why
-use Rattle.http_requests.proofs.Waits.{uncounted}
+use Rattle.http_requests.specs.declared.read_buffer.ReadError.{ReadError}
+use Rattle.http_requests.specs.declared.read_buffer.ReadError.TheVariants as why
+use Rattle.http_requests.proofs.Awaiting.{uncounted}
 use Rattle.http_requests.proofs.Ends.{no_bytes_await}
 use Rattle.http_session.specs.Hearing.{HearsNothing}
 use Rattle.http_session.specs.Replies.{response_of, takes_no_memory}
@@ -18,8 +18,8 @@ use Rattle.http_session.specs.Sessions.{Exchange, IsExchange, IsOpen, texts, res
 use Rattle.http_session.specs.InTurn.{AwaitsNext, ReadsInTurn, EndsInTurn, FailsInTurn}
 use Rattle.http_session.specs.Underway.{SoFar}
 use Rattle.http_session.specs.declared.reply.Reply.TheVariants.{Broken}
-use Rattle.http_session.specs.declared.exchanges.Cause.{Cause}
-use Rattle.http_session.specs.declared.exchanges.Cause.TheVariants.{Reading, Writing, Memory}
+use Rattle.http_session.specs.declared.exchanges.SessionErrorKind.{SessionErrorKind}
+use Rattle.http_session.specs.declared.exchanges.SessionErrorKind.TheVariants.{Reading, Writing, Memory}
 use Rattle.http_session.specs.declared.exchanges.Silence.{Silence}
 use Rattle.http_session.proofs.Awaiting.{nothing_taken, taken_on, taken_with}
 
@@ -76,7 +76,7 @@ module _ {S R : Type 0} (submits : Submits S) (reads : Reads S) (source : Source
   }
 
   -- more was read
-  pub reads_on : (i0 i1 i2 : R) (out0 out1 : Option (List ℕ)) (s t : S) (old new : Received) (answered : ℕ)
+  pub reads_on : (i0 i1 i2 : R) (out0 out1 : Option (List ℕ)) (s t : S) (old new : ReadBuffer) (answered : ℕ)
       → SoFar submits reads source i0 i1 out0 out1 s t old answered → ReadsOnWhile source AwaitsRequest i1 i2 old new → SoFar submits reads source i0 i2 out0 out1 s t new answered
   reads_on i0 i1 i2 out0 out1 s t old new answered so more =
       let on = more.on in
@@ -100,7 +100,7 @@ module _ {S R : Type 0} (submits : Submits S) (reads : Reads S) (source : Source
       }
 
   -- a request was answered, and the session goes on
-  pub goes_on : (i0 i1 : R) (out0 out1 out2 : Option (List ℕ)) (s t u : S) (old : Received) (rest : List ℕ) (answered : ℕ) (x : Exchange)
+  pub goes_on : (i0 i1 : R) (out0 out1 out2 : Option (List ℕ)) (s t u : S) (old : ReadBuffer) (rest : List ℕ) (answered : ℕ) (x : Exchange)
       → SoFar submits reads source i0 i1 out0 out1 s t old answered → IsExchange x → x.close ≡ false → old.held ≡ x.text ++ rest → 0 < length x.text
       → Step submits reads t x.verdict x.reply u → Appends out1 out2 (response_to x)
       → SoFar submits reads source i0 i1 out0 out2 s u (record old { held = rest }) (answered + 1)
@@ -122,23 +122,23 @@ module _ {S R : Type 0} (submits : Submits S) (reads : Reads S) (source : Source
       }
 
   -- the reads so far, and how many of all may still be made
-  in_turn_and : (i0 i1 : R) (out0 out1 : Option (List ℕ)) (s t : S) (old : Received) (answered : ℕ) (so : SoFar submits reads source i0 i1 out0 out1 s t old answered)
+  in_turn_and : (i0 i1 : R) (out0 out1 : Option (List ℕ)) (s t : S) (old : ReadBuffer) (answered : ℕ) (so : SoFar submits reads source i0 i1 out0 out1 s t old answered)
       → (in_turn : ReadsInTurn source.gives i0 i1 so.opens so.taken) × (old.left + length in_turn.pieces ≡ MOST_READS)
   in_turn_and i0 i1 out0 out1 s t old answered so = uncounted source.gives (AwaitsNext so.opens) i0 i1 MOST_READS old.left [] so.taken so.waits
 
-  in_turn : (i0 i1 : R) (out0 out1 : Option (List ℕ)) (s t : S) (old : Received) (answered : ℕ) (so : SoFar submits reads source i0 i1 out0 out1 s t old answered)
+  in_turn : (i0 i1 : R) (out0 out1 : Option (List ℕ)) (s t : S) (old : ReadBuffer) (answered : ℕ) (so : SoFar submits reads source i0 i1 out0 out1 s t old answered)
       → ReadsInTurn source.gives i0 i1 so.opens so.taken
   in_turn i0 i1 out0 out1 s t old answered so = (in_turn_and i0 i1 out0 out1 s t old answered so).0
 
-  abbrev made : (i0 i1 : R) (out0 out1 : Option (List ℕ)) (s t : S) (old : Received) (answered : ℕ) (so : SoFar submits reads source i0 i1 out0 out1 s t old answered) → ℕ
+  abbrev made : (i0 i1 : R) (out0 out1 : Option (List ℕ)) (s t : S) (old : ReadBuffer) (answered : ℕ) (so : SoFar submits reads source i0 i1 out0 out1 s t old answered) → ℕ
   made i0 i1 out0 out1 s t old answered so = length (in_turn i0 i1 out0 out1 s t old answered so).pieces
 
-  made_in_all : (i0 i1 : R) (out0 out1 : Option (List ℕ)) (s t : S) (old : Received) (answered : ℕ) (so : SoFar submits reads source i0 i1 out0 out1 s t old answered)
+  made_in_all : (i0 i1 : R) (out0 out1 : Option (List ℕ)) (s t : S) (old : ReadBuffer) (answered : ℕ) (so : SoFar submits reads source i0 i1 out0 out1 s t old answered)
       → old.left + made i0 i1 out0 out1 s t old answered so ≡ MOST_READS
   unfolding in_turn
   made_in_all i0 i1 out0 out1 s t old answered so = (in_turn_and i0 i1 out0 out1 s t old answered so).1
 
-  pub ends_clean : (i0 i1 : R) (out0 out1 : Option (List ℕ)) (s t : S) (old : Received) (answered : ℕ)
+  pub ends_clean : (i0 i1 : R) (out0 out1 : Option (List ℕ)) (s t : S) (old : ReadBuffer) (answered : ℕ)
       → SoFar submits reads source i0 i1 out0 out1 s t old answered → IsAtEnd (source.remaining i1) × (old.held ≡ []) → EndsInTurn submits reads source i0 i1 out0 out1 s t answered true
   ends_clean i0 i1 out0 out1 s t old answered so found = (
     record {
@@ -158,7 +158,7 @@ module _ {S R : Type 0} (submits : Submits S) (reads : Reads S) (source : Source
     in_turn i0 i1 out0 out1 s t old answered so,
   )
 
-  pub ends_broken : (i0 i1 : R) (out0 out1 out2 : Option (List ℕ)) (s t : S) (old : Received) (answered : ℕ) (b : Breach)
+  pub ends_broken : (i0 i1 : R) (out0 out1 out2 : Option (List ℕ)) (s t : S) (old : ReadBuffer) (answered : ℕ) (b : Breach)
       → SoFar submits reads source i0 i1 out0 out1 s t old answered → IsBroken (IsAtEnd (source.remaining i1)) old.held b → Appends out1 out2 (response_of (Broken b) true)
       → EndsInTurn submits reads source i0 i1 out0 out2 s t (answered + 1) false
   ends_broken i0 i1 out0 out1 out2 s t old answered b so is wrote = (
@@ -180,7 +180,7 @@ module _ {S R : Type 0} (submits : Submits S) (reads : Reads S) (source : Source
     in_turn i0 i1 out0 out1 s t old answered so,
   )
 
-  pub ends_closing : (i0 i1 : R) (out0 out1 out2 : Option (List ℕ)) (s t u : S) (old : Received) (rest : List ℕ) (answered : ℕ) (x : Exchange)
+  pub ends_closing : (i0 i1 : R) (out0 out1 out2 : Option (List ℕ)) (s t u : S) (old : ReadBuffer) (rest : List ℕ) (answered : ℕ) (x : Exchange)
       → SoFar submits reads source i0 i1 out0 out1 s t old answered → IsExchange x → x.close ≡ true → old.held ≡ x.text ++ rest
       → Step submits reads t x.verdict x.reply u → Appends out1 out2 (response_to x)
       → EndsInTurn submits reads source i0 i1 out0 out2 s u (answered + 1) false
@@ -206,7 +206,7 @@ module _ {S R : Type 0} (submits : Submits S) (reads : Reads S) (source : Source
   -- ---- a session that fails
 
   -- where nothing was due
-  fails_none : (i0 i1 i2 : R) (out0 out1 : Option (List ℕ)) (s t : S) (here : Received) (answered : ℕ) (in_failed out_failed : Bool) (cause : Cause)
+  fails_none : (i0 i1 i2 : R) (out0 out1 : Option (List ℕ)) (s t : S) (here : ReadBuffer) (answered : ℕ) (in_failed out_failed : Bool) (cause : SessionErrorKind)
       → (so : SoFar submits reads source i0 i1 out0 out1 s t here answered) → NothingWasDue cause here.held → (i2 ≡ i1) ⊎ FailsToRead source i1 i2 in_failed
       → ((made : ℕ) → here.left + made ≡ MOST_READS → IsCause cause in_failed out_failed so.taken made)
       → FailsInTurn submits reads source i0 i2 out0 out1 s t in_failed out_failed (record { answered = answered; written = 0; cause = cause })
@@ -233,7 +233,7 @@ module _ {S R : Type 0} (submits : Submits S) (reads : Reads S) (source : Source
   )
 
   -- no more could be read for the request that was awaited
-  fails_stopped : (A : Type 0) (i0 i1 i2 : R) (out0 out1 : Option (List ℕ)) (s t : S) (old : Received) (answered : ℕ) (before in_failed out_failed : Bool) (stop : Interrupted)
+  fails_stopped : (A : Type 0) (i0 i1 i2 : R) (out0 out1 : Option (List ℕ)) (s t : S) (old : ReadBuffer) (answered : ℕ) (before in_failed out_failed : Bool) (stop : ReadError)
       → SoFar submits reads source i0 i1 out0 out1 s t old answered → StopsWhile source AwaitsRequest i1 i2 in_failed old stop
       → SameUnlessReading {A = A} before in_failed (Err stop) → before ≡ false → out_failed ≡ false
       → FailsInTurn submits reads source i0 i2 out0 out1 s t in_failed out_failed (record { answered = answered; written = 0; cause = cause_by stop })
@@ -251,7 +251,7 @@ module _ {S R : Type 0} (submits : Submits S) (reads : Reads S) (source : Source
       let all = reads_on i0 i1 stops.before out0 out1 s t old stops.here answered so stops.reads in
       fails_none i0 stops.before i2 out0 out1 s t stops.here answered in_failed out_failed Memory all (inl stops.awaits) (inl stops.last) (λ made sum. (same ∙ was, out))
 
-  pub fails_reading : (A : Type 0) (i0 i1 i2 : R) (out0 out1 : Option (List ℕ)) (s t : S) (old : Received) (answered : ℕ) (before in_failed out_failed : Bool) (stop : Interrupted)
+  pub fails_reading : (A : Type 0) (i0 i1 i2 : R) (out0 out1 : Option (List ℕ)) (s t : S) (old : ReadBuffer) (answered : ℕ) (before in_failed out_failed : Bool) (stop : ReadError)
       → SoFar submits reads source i0 i1 out0 out1 s t old answered → HearsNothing source i1 i2 in_failed old stop
       → SameUnlessReading {A = A} before in_failed (Err stop) → before ≡ false → out_failed ≡ false
       → FailsInTurn submits reads source i0 i2 out0 out1 s t in_failed out_failed (record { answered = answered; written = 0; cause = cause_by stop })
@@ -270,19 +270,19 @@ module _ {S R : Type 0} (submits : Submits S) (reads : Reads S) (source : Source
       fails_none i0 i0 i0 out0 out0 s s (record { held = []; left = MOST_READS; ended = false }) 0 in_failed out_failed Memory (begins i0 out0 s) nothing_was_due (inl refl)
       (λ made sum. (in_works, out_works))
 
-  cause_of_silence : (cause : Cause) (written : ℕ) (in_failed out_failed : Bool) (taken : List ℕ) (made : ℕ) → in_failed ≡ false → cause ≢ Reading → (cause ≡ Writing → out_failed ≡ true)
+  cause_of_silence : (cause : SessionErrorKind) (written : ℕ) (in_failed out_failed : Bool) (taken : List ℕ) (made : ℕ) → in_failed ≡ false → cause ≢ Reading → (cause ≡ Writing → out_failed ≡ true)
       → (cause ≡ Memory → (out_failed ≡ false) × (written ≡ 0)) → IsCause cause in_failed out_failed taken made
   cause_of_silence Reading written in_failed out_failed taken made i r w m = absurd (r refl)
   cause_of_silence Writing written in_failed out_failed taken made i r w m = (w refl, i)
   cause_of_silence Memory written in_failed out_failed taken made i r w m = (i, (m refl).0)
 
-  unwritten_of_silence : (cause : Cause) (written : ℕ) (out_failed : Bool) → cause ≢ Reading → (cause ≡ Memory → (out_failed ≡ false) × (written ≡ 0))
+  unwritten_of_silence : (cause : SessionErrorKind) (written : ℕ) (out_failed : Bool) → cause ≢ Reading → (cause ≡ Memory → (out_failed ≡ false) × (written ≡ 0))
       → cause ≢ Writing → written ≡ 0
   unwritten_of_silence Reading written out_failed r m n = absurd (r refl)
   unwritten_of_silence Writing written out_failed r m n = absurd (n refl)
   unwritten_of_silence Memory written out_failed r m n = (m refl).1
 
-  pub fails_due : (i0 i1 : R) (out0 out1 out2 : Option (List ℕ)) (s t u : S) (old : Received) (rest : List ℕ) (answered : ℕ) (in_failed out_failed : Bool) (x : Exchange) (silence : Silence)
+  pub fails_due : (i0 i1 : R) (out0 out1 out2 : Option (List ℕ)) (s t u : S) (old : ReadBuffer) (rest : List ℕ) (answered : ℕ) (in_failed out_failed : Bool) (x : Exchange) (silence : Silence)
       → SoFar submits reads source i0 i1 out0 out1 s t old answered → IsExchange x → old.held ≡ x.text ++ rest
       → Step submits reads t x.verdict x.reply u → Says out1 out2 false out_failed (response_to x) (Err silence) → in_failed ≡ false
       → (takes_no_memory x.reply ≡ true → silence.cause ≢ Memory)
@@ -309,7 +309,7 @@ module _ {S R : Type 0} (submits : Submits S) (reads : Reads S) (source : Source
     record { before = i1; reads = in_turn i0 i1 out0 out1 s t old answered so; count = refl; last = inl refl },
   )
 
-  pub fails_parting : (i0 i1 : R) (out0 out1 out2 : Option (List ℕ)) (s t : S) (old : Received) (answered : ℕ) (in_failed out_failed : Bool) (b : Breach) (silence : Silence)
+  pub fails_parting : (i0 i1 : R) (out0 out1 out2 : Option (List ℕ)) (s t : S) (old : ReadBuffer) (answered : ℕ) (in_failed out_failed : Bool) (b : Breach) (silence : Silence)
       → SoFar submits reads source i0 i1 out0 out1 s t old answered → IsBroken (IsAtEnd (source.remaining i1)) old.held b
       → Says out1 out2 false out_failed (response_of (Broken b) true) (Err silence) → in_failed ≡ false
       → FailsInTurn submits reads source i0 i1 out0 out2 s t in_failed out_failed (record { answered = answered; written = silence.written; cause = silence.cause })

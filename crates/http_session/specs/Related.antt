@@ -4,7 +4,7 @@ use Rattle.jaeger_model.specs.declared.batch.Batch.{Batch}
 use Rattle.trace_model.specs.declared.limits.Limits.{Limits}
 use Rattle.trace_model.specs.Histories.{IsLegal}
 use Rattle.trace_model.specs.Answers.{answer}
-use Rattle.store_backend.specs.Knowing.{History, Begins, HasAt}
+use Rattle.store_backend.specs.Knowing.{History, IsBeginning, HasAt}
 use Rattle.http_session.specs.Sessions.{Exchange}
 use Rattle.http_session.specs.declared.verdict.Verdict.{Verdict}
 use Rattle.http_session.specs.declared.verdict.Verdict.TheVariants.{Submit, Ask, Say}
@@ -23,7 +23,7 @@ nothing_seen = record { point = None; accepted = [] }
 -- with every list that the store knew), and it has each accepted batch at its place.
 pub record IsPoint (knew : History → Type 0) (limits : Limits) (seen : Seen) (h : History) : Type 0 where
   pub legal : IsLegal limits h
-  pub behind : MatchOption seen.point ((l : History) → knew l → Begins l h) (λ before. Begins before h)
+  pub behind : MatchOption seen.point ((l : History) → knew l → IsBeginning l h) (λ before. IsBeginning before h)
   pub has : All (λ (pair : Batch × ℕ). HasAt h pair.1 pair.0) seen.accepted
 
 -- what a verdict may get, and what is seen then

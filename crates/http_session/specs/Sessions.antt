@@ -7,11 +7,11 @@ use Rattle.jaeger_model.specs.declared.batch.Batch.{Batch}
 use Rattle.trace_model.specs.declared.query.Query.{Query}
 use Rattle.trace_model.specs.declared.answer.Answer.{Answer}
 use Rattle.trace_model.specs.declared.refusal.Refusal.{Refusal}
-use Rattle.http_requests.specs.declared.received.TheConstants.{MOST_READS}
+use Rattle.http_requests.specs.declared.read_buffer.TheConstants.{MOST_READS}
 use Rattle.http_requests.specs.Asked.{asked_by}
 use Rattle.http_requests.specs.Requests.{Spells, IsBroken, AwaitsRequest}
-use Rattle.http_requests.specs.declared.received.Interrupted.{Interrupted}
-use Rattle.http_requests.specs.declared.received.Interrupted.TheVariants as why
+use Rattle.http_requests.specs.declared.read_buffer.ReadError.{ReadError}
+use Rattle.http_requests.specs.declared.read_buffer.ReadError.TheVariants as why
 use Rattle.http_requests.specs.declared.asked.Breach.{Breach}
 use Rattle.http_session.specs.Verdicts.{Judges, BeginsWithQuery}
 use Rattle.http_session.specs.Replies.{closes, takes_no_memory, response_of}
@@ -19,8 +19,8 @@ use Rattle.http_session.specs.declared.verdict.Verdict.{Verdict}
 use Rattle.http_session.specs.declared.verdict.Verdict.TheVariants.{Submit, Ask, Say}
 use Rattle.http_session.specs.declared.reply.Reply.{Reply}
 use Rattle.http_session.specs.declared.reply.Reply.TheVariants.{Accepted, Answered, Refused, Said, Broken}
-use Rattle.http_session.specs.declared.exchanges.Cause.{Cause}
-use Rattle.http_session.specs.declared.exchanges.Cause.TheVariants.{Reading, Writing, Memory}
+use Rattle.http_session.specs.declared.exchanges.SessionErrorKind.{SessionErrorKind}
+use Rattle.http_session.specs.declared.exchanges.SessionErrorKind.TheVariants.{Reading, Writing, Memory}
 use Rattle.http_session.specs.declared.exchanges.SessionError.{SessionError}
 use Rattle.http_session.specs.declared.exchanges.Silence.{Silence}
 
@@ -139,13 +139,13 @@ exchange_due (due_parting b) = []
 
 -- Nothing was due: the next request was awaited, or memory ran out for a query whose head stood at the beginning. A request
 -- that came whole and hands in a batch is answered, whatever memory there is.
-abbrev pub NothingWasDue : Cause → List ℕ → Type 0
+abbrev pub NothingWasDue : SessionErrorKind → List ℕ → Type 0
 NothingWasDue Reading rest = AwaitsRequest rest
 NothingWasDue Writing rest = ⊥
 NothingWasDue Memory rest = AwaitsRequest rest ⊎ BeginsWithQuery rest
 
 -- where a response was due, nothing was read before it was written
-abbrev pub IsDue : Type 0 → Cause → List ℕ → Due → Type 0
+abbrev pub IsDue : Type 0 → SessionErrorKind → List ℕ → Due → Type 0
 IsDue AtEnd cause rest none_yet = NothingWasDue cause rest
 IsDue AtEnd cause rest (due x) = IsExchange x × (cause ≢ Reading)
 IsDue AtEnd cause rest (due_parting b) = IsBroken AtEnd rest b × (cause ≢ Reading)
@@ -163,7 +163,7 @@ is_spared (due_parting b) = false
 
 -- each cause comes only with its device, or where all reads were made, each of which gave a byte; and with no failure of
 -- another device
-abbrev pub IsCause : Cause → Bool → Bool → List ℕ → ℕ → Type 0
+abbrev pub IsCause : SessionErrorKind → Bool → Bool → List ℕ → ℕ → Type 0
 IsCause Reading in_failed out_failed taken made =
     ((in_failed ≡ true) ⊎ ((made ≡ MOST_READS) × (MOST_READS ≤ length taken))) × (out_failed ≡ false)
 IsCause Writing in_failed out_failed taken made = (out_failed ≡ true) × (in_failed ≡ false)
@@ -200,6 +200,6 @@ Says out0 out1 failed0 failed1 bytes (Err e) =
     × (e.cause ≢ Reading) × (e.cause ≡ Writing → failed1 ≡ true)
     × (e.cause ≡ Memory → (failed1 ≡ failed0) × (e.written ≡ 0))
 
-abbrev pub cause_by : Interrupted → Cause
+abbrev pub cause_by : ReadError → SessionErrorKind
 cause_by why.Reading = Reading
 cause_by why.Memory = Memory

@@ -2,7 +2,7 @@ ghost use Rattle.std.specs.Prelude.{◌≡◌, ◌≢◌, true, false, IfOk, IfE
 ghost use Rattle.http_requests.specs.Waiting.{source_of};
 ghost use Rattle.query_http.specs.Paths.{endpoint_rows};
 ghost use Rattle.http_session.specs.Replies.{response_of, closes, takes_no_memory};
-ghost use Rattle.http_session.specs.declared.exchanges.Cause.TheVariants.{Writing, Memory};
+ghost use Rattle.http_session.specs.declared.exchanges.SessionErrorKind.TheVariants.{Writing, Memory};
 ghost use Rattle.http_session.specs.Sessions.{EndsAs, FailsAs, Step, Says, cause_by, last_of, exchange_due};
 ghost use Rattle.http_session.specs.InTurn.{ReadsInTurn, ReadsInTurnUpTo, EndsInTurn, FailsInTurn};
 ghost use Rattle.http_session.specs.Related.{Related, nothing_seen};
@@ -11,7 +11,7 @@ use crate::hearing::{Heard, hear};
 use crate::reply::{Reply, Response};
 use crate::send::send;
 use crate::verdict::Verdict;
-use http_requests::{Interrupted, Received};
+use http_requests::{ReadBuffer, ReadError};
 use matchit::Router;
 use query_http::{Endpoint, endpoints};
 use session_devices::{Input, Output};
@@ -30,7 +30,7 @@ pub struct Ended {
 
 /// Why a session could not go on.
 #[derive(Clone, Copy, Debug, PartialEq, Eq)]
-pub enum Cause {
+pub enum SessionErrorKind {
     /// The input failed, or was to be read more often than a session may.
     Reading,
     /// The output failed.
@@ -45,14 +45,14 @@ pub struct SessionError {
     pub answered: u64,
     /// How many bytes of the next one were written.
     pub written: u64,
-    pub cause: Cause,
+    pub cause: SessionErrorKind,
 }
 
 /// Why a response wasn't written whole.
 #[derive(Clone, Copy, Debug)]
 pub(crate) struct Silence {
     pub(crate) written: usize,
-    pub(crate) cause: Cause,
+    pub(crate) cause: SessionErrorKind,
 }
 
 impl Silence {
@@ -68,12 +68,12 @@ impl Silence {
     }
 }
 
-fn cause_of(why: Interrupted) -> Cause
+fn cause_of(why: ReadError) -> SessionErrorKind
     ensures { result ≡ cause_by why }
 {
     match why {
-        Interrupted::Reading => Cause::Reading,
-        Interrupted::Memory => Cause::Memory,
+        ReadError::Reading => SessionErrorKind::Reading,
+        ReadError::Memory => SessionErrorKind::Memory,
     }
 }
 
@@ -111,7 +111,7 @@ fn speak<W: Output>(output: &mut W, response: &[u8]) -> Result<(), Silence>
         Ok(()) => Ok(()),
         Err(written) => Err(Silence {
             written,
-            cause: Cause::Writing,
+            cause: SessionErrorKind::Writing,
         }),
     }
 }
@@ -127,7 +127,7 @@ fn speak_whole<W: Output>(output: &mut W, response: &Response) -> Result<(), Sil
         Ok(()) => Ok(()),
         Err(written) => Err(Silence {
             written: response.first.len() + written,
-            cause: Cause::Writing,
+            cause: SessionErrorKind::Writing,
         }),
     }
 }
@@ -144,7 +144,7 @@ fn say<W: Output>(alloc: Global, output: &mut W, reply: &Reply, close: bool) -> 
     let Ok(response) = reply.response(alloc, close) else {
         return Err(Silence {
             written: 0,
-            cause: Cause::Memory,
+            cause: SessionErrorKind::Memory,
         });
     };
     speak_whole(output, &response)
@@ -172,7 +172,7 @@ fn run_session<T, R: Input, W: Output, B: Backend<T>>(
         (W.contents output.new) backend.old backend.new (R.has_failed input.new)
         (W.has_failed output.new) f) }
 {
-    let mut received = Received::new(alloc);
+    let mut received = ReadBuffer::new(alloc);
     let mut answered = 0u64;
     'requests: loop {
         let (verdict, asked) = match hear(alloc, router, input, &mut received) {
@@ -269,7 +269,7 @@ pub fn session<T, R: Input, W: Output, B: Backend<T>>(
         return Err(SessionError {
             answered: 0,
             written: 0,
-            cause: Cause::Memory,
+            cause: SessionErrorKind::Memory,
         });
     };
     match run_session(rt, alloc, &router, input, output, backend) {

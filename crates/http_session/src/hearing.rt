@@ -14,7 +14,7 @@ use crate::question::{Question, question_of};
 use crate::verdict::{Remark, Verdict};
 use batch_codec::DecodeError;
 use batch_feeder::Feeder;
-use http_requests::{BodyLength, Breach, Interrupted, Next, Received, Sink, next_head, read_body};
+use http_requests::{BodyLength, Breach, Next, ReadBuffer, ReadError, Sink, next_head, read_body};
 use matchit::Router;
 use query_http::Endpoint;
 use session_devices::Input;
@@ -96,9 +96,9 @@ impl Sink for BatchBody {
 
 /// The verdict, where the body was read to its end.
 fn reported(
-    read: Result<Result<(), Breach>, Interrupted>,
+    read: Result<Result<(), Breach>, ReadError>,
     verdict: Verdict,
-) -> Result<Result<Verdict, Breach>, Interrupted>
+) -> Result<Result<Verdict, Breach>, ReadError>
     ensures { result ≡ reported_behind read verdict }
 {
     match read {
@@ -112,10 +112,10 @@ fn reported(
 fn hear_body<R: Input>(
     alloc: Global,
     input: &mut R,
-    received: &mut Received,
+    received: &mut ReadBuffer,
     size: BodyLength,
     question: Question,
-) -> Result<Result<Verdict, Breach>, Interrupted>
+) -> Result<Result<Verdict, Breach>, ReadError>
     requires end { KnowsItsEnd received.old.ended (R.remaining input.old) }
     ensures heard { IfOk result (HearsBody (source_of R.remaining R.gives) input.old input.new
         received.old received.new size question) }
@@ -146,8 +146,8 @@ pub(crate) fn hear<R: Input>(
     alloc: Global,
     router: &Router<Endpoint>,
     input: &mut R,
-    received: &mut Received,
-) -> Result<Heard, Interrupted>
+    received: &mut ReadBuffer,
+) -> Result<Heard, ReadError>
     requires routes { router.now ≡ endpoint_rows }
     requires end { KnowsItsEnd received.old.ended (R.remaining input.old) }
     ensures heard { IfOk result (Hears (source_of R.remaining R.gives) input.old input.new

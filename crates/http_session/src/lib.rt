@@ -21,6 +21,6 @@ mod reply;
 mod send;
 mod verdict;
 
-pub use exchanges::{Cause, Ended, SessionError, session};
+pub use exchanges::{Ended, SessionError, SessionErrorKind, session};
 pub use reply::{Reply, Response};
 pub use verdict::{Remark, Verdict};

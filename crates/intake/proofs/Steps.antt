@@ -125,14 +125,14 @@ puts n pass v j may not is next items views room b at =
     )
 
 -- which view a seat has, after seat `at` was given to `pass`, or ended
-abbrev pub given : (ℕ → Option ℕ) → ℕ → Option ℕ → ℕ → Option ℕ
-given holder at pass s = cond (s == at) pass (holder s)
+abbrev pub seat_given : (ℕ → Option ℕ) → ℕ → Option ℕ → ℕ → Option ℕ
+seat_given holder at pass s = cond (s == at) pass (holder s)
 
-pub given-here : (holder : ℕ → Option ℕ) (at : ℕ) (pass : Option ℕ) → given holder at pass at ≡ pass
-given-here holder at pass = rw (eq-eqb at at refl) refl
+pub seat_given-here : (holder : ℕ → Option ℕ) (at : ℕ) (pass : Option ℕ) → seat_given holder at pass at ≡ pass
+seat_given-here holder at pass = rw (eq-eqb at at refl) refl
 
-pub given-else : (holder : ℕ → Option ℕ) (at : ℕ) (pass : Option ℕ) (s : ℕ) → s ≢ at → given holder at pass s ≡ holder s
-given-else holder at pass s n = rw (ne_eqb s at n) refl
+pub seat_given-else : (holder : ℕ → Option ℕ) (at : ℕ) (pass : Option ℕ) (s : ℕ) → s ≢ at → seat_given holder at pass s ≡ holder s
+seat_given-else holder at pass s n = rw (ne_eqb s at n) refl
 
 -- what stands in a list that is one longer
 pub at_end : {A : Type 0} (l : List A) (a b : A) (j : ℕ) → get_elem? (l ++ a ∷ []) j ≡ some b → ((get_elem? l j ≡ some b) × (j < length l)) ⊎ ((j ≡ length l) × (a ≡ b))
@@ -150,9 +150,9 @@ seats pass v may not items views b at =
     let handed = b.2 in
     let taken = b.3 in
     let mine = (b.6 pass v at).1 may in
-    let holder' = given holder v.made (some here) in
+    let holder' = seat_given holder v.made (some here) in
     let fresh = mine.2 v.made (omega arith) in
-    let older : (s : ℕ) → s ≢ v.made → holder' s ≡ holder s = λ s n. given-else holder v.made (some here) s n in (
+    let older : (s : ℕ) → s ≢ v.made → holder' s ≡ holder s = λ s n. seat_given-else holder v.made (some here) s n in (
       b.0,
       holder',
       handed,
@@ -176,7 +176,7 @@ seats pass v may not items views b at =
           ))
           (at_set views pass k w u p.0))
           (λ t. subst (λ (z : QueueView). FitsSeat holder' handed k z × FitsClerk b.0 holder' handed taken k z) t.1
-          ((λ y. (given-here holder v.made (some here) ∙ ap some (sym t.0), sym fresh.1)), (λ y. absurd (cc y))))
+          ((λ y. (seat_given-here holder v.made (some here) ∙ ap some (sym t.0), sym fresh.1)), (λ y. absurd (cc y))))
           (at_end (set views pass w) (new_seat v) u k e)),
     )
 
@@ -189,8 +189,8 @@ resigns pass v may not items views b at =
     let handed = b.2 in
     let taken = b.3 in
     let mine = (b.6 pass v at).0 may in
-    let holder' = given holder v.seat (some here) in
-    let other : (s : ℕ) → holder s ≡ none → holder' s ≡ none = λ s free. given-else holder v.seat (some here) s (λ same. some-ne-none pass (sym mine.0 ∙ (ap holder (sym same) ∙ free))) ∙ free in (
+    let holder' = seat_given holder v.seat (some here) in
+    let other : (s : ℕ) → holder s ≡ none → holder' s ≡ none = λ s free. seat_given-else holder v.seat (some here) s (λ same. some-ne-none pass (sym mine.0 ∙ (ap holder (sym same) ∙ free))) ∙ free in (
       b.0,
       holder',
       handed,
@@ -201,12 +201,12 @@ resigns pass v may not items views b at =
           (λ p. ⊎_elim
           (λ t. subst (λ (z : QueueView). FitsSeat holder' handed k z × FitsClerk b.0 holder' handed taken k z) t.1 ((λ y. absurd (cc y)), (λ y. absurd (cc (y, not)))))
           (λ t. let f = b.6 k u t.1 in (
-            (λ y. (given-else holder v.seat (some here) u.seat (λ same. t.0 (some-injective k pass (sym ((f.0 y).0) ∙ (ap holder same ∙ mine.0)))) ∙ (f.0 y).0, (f.0 y).1)),
+            (λ y. (seat_given-else holder v.seat (some here) u.seat (λ same. t.0 (some-injective k pass (sym ((f.0 y).0) ∙ (ap holder same ∙ mine.0)))) ∙ (f.0 y).0, (f.0 y).1)),
             (λ y. ((f.1 y).0, (f.1 y).1, (λ s le. let g = (f.1 y).2 s le in (other s g.0, g.1)), ended-on holder holder' handed handed u.made u.made u.ended (omega arith) (λ s l free. (other s free, refl)) (f.1 y).3)),
           ))
           (at_set views pass k w u p.0))
           (λ t. subst (λ (z : QueueView). FitsSeat holder' handed k z × FitsClerk b.0 holder' handed taken k z) t.1
-          ((λ y. (given-here holder v.seat (some here) ∙ ap some (sym t.0), mine.1)), (λ y. absurd (cc (y, not)))))
+          ((λ y. (seat_given-here holder v.seat (some here) ∙ ap some (sym t.0), mine.1)), (λ y. absurd (cc (y, not)))))
           (at_end (set views pass w) v u k e)),
     )
 
@@ -220,7 +220,7 @@ takes_in pass v other w may not theirs quiet items views b at apart its =
     let mine = (b.6 pass v at).1 may in
     let it : get_elem? views other ≡ some w = sym (set_else views pass other both apart) ∙ its in
     let seat = (b.6 other w it).0 theirs in
-    let holder' = given holder w.seat none in
+    let holder' = seat_given holder w.seat none in
     let freed : (s : ℕ) → holder s ≡ none → holder' s ≡ none = λ s free. stays-none (s == w.seat) (holder s) free in
     let within : w.seat < v.made = lt_of_not-le (λ le. some-ne-none other (sym seat.0 ∙ (mine.2 w.seat (omega (arith, le))).0)) in (
       b.0,
@@ -238,11 +238,11 @@ takes_in pass v other w may not theirs quiet items views b at apart its =
               t.0 ∙ mine.0,
               mine.1,
               (λ s le. let g = mine.2 s le in (freed s g.0, g.1)),
-              ((within, given-here holder w.seat none, sym seat.1), ended-on holder holder' handed handed v.made v.made v.ended (omega arith) (λ s l free. (freed s free, refl)) mine.3),
+              ((within, seat_given-here holder w.seat none, sym seat.1), ended-on holder holder' handed handed v.made v.made v.ended (omega arith) (λ s l free. (freed s free, refl)) mine.3),
             )),
           ))
           (λ t. let f = b.6 k u t.1 in (
-            (λ y. (given-else holder w.seat none u.seat (λ same. p.0 (some-injective k other (sym ((f.0 y).0) ∙ (ap holder same ∙ seat.0)))) ∙ (f.0 y).0, (f.0 y).1)),
+            (λ y. (seat_given-else holder w.seat none u.seat (λ same. p.0 (some-injective k other (sym ((f.0 y).0) ∙ (ap holder same ∙ seat.0)))) ∙ (f.0 y).0, (f.0 y).1)),
             (λ y. absurd (t.0 ((f.1 y).0 ∙ sym mine.0))),
           ))
           (at_set views pass k both u p.1))

@@ -11,13 +11,13 @@ use Rattle.read_side.specs.Receipts.{AnsweredAt}
 use Rattle.intake.specs.declared.account.Account.{Account}
 use Rattle.intake.specs.declared.queue.EndedSeat.{EndedSeat}
 use Rattle.intake.specs.Queues.{jobs_of, CountUp}
-use Rattle.intake.specs.Turns.{Accounted, Judged}
+use Rattle.intake.specs.Turns.{Accounted, JudgesEntry}
 
 -- these jobs were judged one after the other, with these answers
 abbrev pub JudgedInTurn : Limits → Lists → List Entry → List Account → Lists → Type 0
 JudgedInTurn limits k [] [] end = end ≡ k
 JudgedInTurn limits k (j ∷ js) (a ∷ rest) end =
-    (m : Lists) × Judged limits k j a.answer m × JudgedInTurn limits m js rest end
+    (m : Lists) × JudgesEntry limits k j a.answer m × JudgedInTurn limits m js rest end
 JudgedInTurn limits k _ _ end = ⊥
 
 -- the entry was acknowledged, or it waits for a publish

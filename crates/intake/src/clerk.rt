@@ -5,14 +5,14 @@ ghost use Rattle.std.specs.Arc.{arc_value};
 ghost use Rattle.trace_model.specs.declared.refusal.Refusal.TheVariants.{NoMemory};
 ghost use Rattle.read_side.specs.Receipts.{AnsweredAt};
 ghost use Rattle.intake.specs.Seats.{IsUnacknowledged};
-ghost use Rattle.intake.specs.Turns.{IsNewInbox, IsNewClerk, Accounted, Judged, place_or_refusal, Serves, IfServed, IfNotServed, IfNoJob, WasEmpty};
+ghost use Rattle.intake.specs.Turns.{IsNewInbox, IsNewClerk, Accounted, JudgesEntry, place_or_refusal, Serves, IfServed, IfNotServed, IfNoJob, WasEmpty};
 ghost use Rattle.intake.specs.Books.{Ran, Balances, acknowledged, refused};
 
 use crate::account::Account;
 use crate::accounts::Accounts;
 use crate::books::Books;
 use crate::inbox::Inbox;
-use crate::job::Reply;
+use crate::job::JobOutcome;
 use crate::shared::Shared;
 use crate::ticket::Ack;
 use read_side::{Keeper, Receipt, StoreName};
@@ -85,13 +85,13 @@ fn fill<N: StoreName, R: Wait>(
 }
 
 /// Has an entry judged. Where there is no room for a receipt it isn't admitted.
-fn judged<N: StoreName, R: Wait>(
+fn judge_entry<N: StoreName, R: Wait>(
     rt: &R,
     alloc: Global,
     keeper: &mut Keeper<N>,
     entry: Arc<Entry>,
 ) -> Result<Ack<N>, Refusal>
-    ensures judged { Judged N.limits keeper.old (arc_value entry)
+    ensures judged { JudgesEntry N.limits keeper.old (arc_value entry)
         (place_or_refusal (λ a. a.place) result) keeper.new }
     ensures answered { IfOk result (λ a.
         AnsweredAt (arc_value a.receipt).entries a.place (arc_value entry)) }
@@ -159,14 +159,14 @@ impl<N: StoreName> Clerk<N> {
         };
         let (entry, named, cell) = job.split();
         let (seat, number) = (entry.seat, entry.number);
-        let answer = judged(rt, self.alloc, keeper, entry);
+        let answer = judge_entry(rt, self.alloc, keeper, entry);
         let account = Account {
             seat,
             number,
             answer: place_or_refusal(&answer),
         };
         self.accounts.add(rt, &account);
-        let reply = Reply::new(named, answer);
+        let reply = JobOutcome::new(named, answer);
         self.ending.shared.lay_down(rt, seat, &cell, reply);
         Ok(Turn::Served { seat, number })
     }

@@ -14,12 +14,12 @@ use trace_model::{Entry, Refusal};
 
 /// What became of an entry. Contracts see the entry.
 #[derive(Drop)]
-pub(crate) struct Reply<N: StoreName> {
+pub(crate) struct JobOutcome<N: StoreName> {
     entry: Arc<Entry>,
     answer: Result<Ack<N>, Refusal>,
 }
 
-impl<N: StoreName> Model for Reply<N> {
+impl<N: StoreName> Model for JobOutcome<N> {
     ghost use Rattle.std.specs.Prelude.{IfOk, IfErr};
     ghost use Rattle.std.specs.Arc.{arc_value};
     ghost use Rattle.trace_model.specs.declared.entry.Entry.{Entry};
@@ -36,7 +36,7 @@ impl<N: StoreName> Model for Reply<N> {
 }
 
 /// Where a reply is laid down.
-pub(crate) type Cell<N> = Mutex<Option<Reply<N>>>;
+pub(crate) type Cell<N> = Mutex<Option<JobOutcome<N>>>;
 
 /// An entry on its way to the clerk, and where its reply goes. Contracts see the entry.
 #[derive(Drop)]
@@ -67,15 +67,15 @@ fn is_same(entry: &Entry, other: &Entry) -> bool
     entry.seat == other.seat && entry.number == other.number && entry.work.is_same(&other.work)
 }
 
-impl<N: StoreName> Reply<N> {
+impl<N: StoreName> JobOutcome<N> {
     /// The answer to an entry. An acknowledgement's list has at its place an entry that answers for this one.
-    pub(crate) fn new(entry: Arc<Entry>, answer: Result<Ack<N>, Refusal>) -> Reply<N>
+    pub(crate) fn new(entry: Arc<Entry>, answer: Result<Ack<N>, Refusal>) -> JobOutcome<N>
         requires answered { IfOk answer (λ a.
             AnsweredAt (arc_value a.receipt).entries a.place (arc_value entry)) }
         requires reason { IfErr answer IsUnacknowledged }
         ensures { result ≡ arc_value entry }
     {
-        Reply { entry, answer }
+        JobOutcome { entry, answer }
     }
 
     /// The receipt of an acknowledgement.
@@ -96,7 +96,7 @@ impl<N: StoreName> Reply<N> {
             AnsweredAt (arc_value a.receipt).entries a.place entry.now) }
         ensures reason { IfErr result IsUnacknowledged }
     {
-        let Reply {
+        let JobOutcome {
             entry: named,
             answer,
         } = self;

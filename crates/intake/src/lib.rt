@@ -10,7 +10,7 @@
 //! * `queue`: the queue, and the rule that holds between any two steps.
 //! * `job`: what is queued, and what is laid down for its ticket. `ticket`: the [`Ticket`].
 //! * `seat`: the [`Seat`]. `inbox`: the clerk's end of the queue.
-//! * `account`: what became of a job. `accounts`: the same of all. `clerk`: the [`Clerk`]. `books`: what it leaves; `ledger`: the same but for the
+//! * `account`: what became of a job. `accounts`: the same of all. `clerk`: the [`Clerk`]. `books`: what it leaves; `books_alone`: the same but for the
 //!   keeper.
 //! * `shared_clerk`: a clerk without a thread of its own, whose work is done by whoever waits.
 //! * `shared`: what all of them share. `bell`: how a sleeper is woken.
@@ -21,11 +21,11 @@ mod account;
 mod accounts;
 mod bell;
 mod books;
+mod books_alone;
 mod clerk;
 mod closing;
 mod inbox;
 mod job;
-mod ledger;
 mod opening;
 mod queue;
 mod seat;
@@ -36,10 +36,10 @@ mod ticket;
 pub use account::Account;
 pub use accounts::Accounts;
 pub use books::Books;
+pub use books_alone::BooksAlone;
 pub use clerk::{Clerk, Turn};
 pub use closing::Desk;
 pub use inbox::Inbox;
-pub use ledger::Ledger;
 pub use opening::desk;
 pub use queue::{EndedSeat, QueueView};
 pub use seat::Seat;

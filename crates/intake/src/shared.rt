@@ -4,7 +4,7 @@ ghost use Rattle.std.specs.Prelude.{◌≡◌, ◌⊎◌};
 ghost use Rattle.trace_model.specs.declared.refusal.Refusal.TheVariants.{Closed, NoReply};
 
 use crate::bell::Bell;
-use crate::job::{Cell, Reply};
+use crate::job::{Cell, JobOutcome};
 use crate::queue::Queue;
 use read_side::{Receipt, StoreName};
 use std::sync::atomic::{AtomicBool, Ordering};
@@ -58,7 +58,13 @@ impl<N: StoreName> Shared<N> {
     }
 
     /// Lays a reply to a seat down, and its receipt, if it has one.
-    pub(crate) fn lay_down<R: Wait>(&self, rt: &R, seat: u16, cell: &Cell<N>, reply: Reply<N>) {
+    pub(crate) fn lay_down<R: Wait>(
+        &self,
+        rt: &R,
+        seat: u16,
+        cell: &Cell<N>,
+        reply: JobOutcome<N>,
+    ) {
         if let Some(receipt) = reply.receipt() {
             *self.last.lock(rt) = receipt;
         }

@@ -5,7 +5,7 @@ ghost use Rattle.std.specs.Arc.{arc_value};
 ghost use Rattle.read_side.specs.Receipts.{AnsweredAt};
 ghost use Rattle.intake.specs.Seats.{IsUnacknowledged};
 
-use crate::job::{Cell, Reply};
+use crate::job::{Cell, JobOutcome};
 use crate::shared::Shared;
 use read_side::{Receipt, StoreName};
 use std::marker::Model;
@@ -39,7 +39,7 @@ impl<N: StoreName> Model for Ticket<N> {
 }
 
 /// What was laid down, if anything was.
-fn laid_down<N: StoreName, R: Wait>(rt: &R, cell: &Cell<N>) -> Option<Reply<N>> {
+fn laid_down<N: StoreName, R: Wait>(rt: &R, cell: &Cell<N>) -> Option<JobOutcome<N>> {
     cell.lock(rt).take()
 }
 

@@ -12,7 +12,7 @@ use Rattle.jaeger_model.specs.declared.batch.Process.{Process}
 use Rattle.jaeger_model.specs.declared.placed.Placed.{Placed}
 use Rattle.jaeger_model.specs.Tags.{tag_text}
 use Rattle.jaeger_model.specs.Texts.{same_text}
-use Rattle.trace_model.specs.Searching.{tells, has_tag, tags_of}
+use Rattle.trace_model.specs.Searching.{tag_matches, has_tag, tags_of}
 use Rattle.arrival_journal.specs.Tagging.{tag_place, bit_of, with_tag, fields_of, own_tags, bits_of}
 use Rattle.journal_traces.specs.Pruned.{is_marked}
 
@@ -67,27 +67,27 @@ all_set b =
     let each = each_set 0 (b.process.tags ++ flat_map own_tags b.spans) in
     each_span (bits_of b) b.process b.spans (in_front (IsSet (bits_of b)) b.process.tags (flat_map own_tags b.spans) each) (behind (IsSet (bits_of b)) b.process.tags (flat_map own_tags b.spans) each)
 
--- ---- what is told is marked
+-- ---- what matches is marked
 both_true : (a b : Bool) → (a && b) ≡ true → (a ≡ true) × (b ≡ true)
 both_true true b e = (refl, e)
 both_true false b e = absurd (false≢true e)
 
-told_place : (asked : List ℕ × List ℕ) (t : Tag) → tells asked t ≡ true → tag_place t.key (tag_text t.value) ≡ tag_place asked.0 asked.1
-told_place asked t e =
+matching_place : (asked : List ℕ × List ℕ) (t : Tag) → tag_matches asked t ≡ true → tag_place t.key (tag_text t.value) ≡ tag_place asked.0 asked.1
+matching_place asked t e =
     let ab = both_true (same_text asked.0 t.key) (same_text asked.1 (tag_text t.value)) e in
     let key = texts_are asked.0 t.key (sym ab.0) in
     let text = texts_are asked.1 (tag_text t.value) (sym ab.1) in
     λ i. tag_place (sym key i) (sym text i)
 
-marked : (bits : ℕ) (asked : List ℕ × List ℕ) (t : Tag) → IsSet bits t → tells asked t ≡ true → is_marked bits asked ≡ true
-marked bits asked t set e = eq-eqb (bit_at bits (tag_place asked.0 asked.1)) 1 (ap (bit_at bits) (sym (told_place asked t e)) ∙ set)
+marked : (bits : ℕ) (asked : List ℕ × List ℕ) (t : Tag) → IsSet bits t → tag_matches asked t ≡ true → is_marked bits asked ≡ true
+marked bits asked t set e = eq-eqb (bit_at bits (tag_place asked.0 asked.1)) 1 (ap (bit_at bits) (sym (matching_place asked t e)) ∙ set)
 
-one_marked : (bits : ℕ) (asked : List ℕ × List ℕ) (ts : List Tag) → AllByRecursion (IsSet bits) ts → list_any (tells asked) ts ≡ true → is_marked bits asked ≡ true
+one_marked : (bits : ℕ) (asked : List ℕ × List ℕ) (ts : List Tag) → AllByRecursion (IsSet bits) ts → list_any (tag_matches asked) ts ≡ true → is_marked bits asked ≡ true
 one_marked bits asked [] set e = absurd (false≢true e)
-one_marked bits asked (t ∷ ts) set e = by (tells asked t) refl e (one_marked bits asked ts set.1)
+one_marked bits asked (t ∷ ts) set e = by (tag_matches asked t) refl e (one_marked bits asked ts set.1)
   where
-    by : (b : Bool) → tells asked t ≡ b → (b || list_any (tells asked) ts) ≡ true → (list_any (tells asked) ts ≡ true → is_marked bits asked ≡ true) → is_marked bits asked ≡ true
-    by true told f rest = marked bits asked t set.0 told
+    by : (b : Bool) → tag_matches asked t ≡ b → (b || list_any (tag_matches asked) ts) ≡ true → (list_any (tag_matches asked) ts ≡ true → is_marked bits asked ≡ true) → is_marked bits asked ≡ true
+    by true matches f rest = marked bits asked t set.0 matches
     by false other f rest = rest f
 
 pub all_marked : (bits : ℕ) (p : Placed) (asked : List (List ℕ × List ℕ)) → AllByRecursion (IsSet bits) (tags_of p) → list_all (has_tag p) asked ≡ true → list_all (is_marked bits) asked ≡ true

@@ -11,12 +11,12 @@ use Rattle.call_links.specs.declared.numbered.NumberedSpan.{NumberedSpan}
 abbrev pub adopted : Placed → Placed
 adopted p = record { process = p.process; span = with_parent p.span }
 
-abbrev pub given : Seen → Placed
-given s = adopted (seen s)
+abbrev pub given_span : Seen → Placed
+given_span s = adopted (seen s)
 
 -- those that have the numbers of their services
 abbrev pub given_all : List NumberedSpan → List Placed
-given_all ss = map (λ s. given s.seen) ss
+given_all ss = map (λ s. given_span s.seen) ss
 
 abbrev pub given_traces : List (Vec NumberedSpan Global) → List (List Placed)
 given_traces ts = map (λ (t : Vec NumberedSpan Global). given_all t.items) ts

@@ -21,11 +21,11 @@ abbrev pub is_marked : ℕ → List ℕ × List ℕ → Bool
 is_marked bits asked = bit_at bits (tag_place asked.0 asked.1) == 1
 
 -- that of each asked tag is
-abbrev pub may_tell : Find → ℕ → Bool
-may_tell q bits = list_all (is_marked bits) q.tags
+abbrev pub may_match_tags : Find → ℕ → Bool
+may_match_tags q bits = list_all (is_marked bits) q.tags
 
 abbrev pub may_meet : Find → Outline → Bool
-may_meet q o = may_last q o.times && may_start q o.times && may_tell q o.tags
+may_meet q o = may_last q o.times && may_start q o.times && may_match_tags q o.tags
 
 -- some start between these bounds may lie strictly between those of the window
 abbrev pub may_reach : ℤ → ℤ → Times → Bool

@@ -1,7 +1,7 @@
 //! Entries that a search, or a look at a window of time, passes over by their outlines.
 
 ghost use Rattle.std.specs.Prelude.{◌≡◌};
-ghost use Rattle.journal_traces.specs.Pruned.{may_last, may_start, is_marked, may_tell, may_meet, may_reach};
+ghost use Rattle.journal_traces.specs.Pruned.{may_last, may_start, is_marked, may_match_tags, may_meet, may_reach};
 
 use arrival_journal::{Outline, Times, tag_place};
 use jaeger_model::Text;
@@ -31,8 +31,8 @@ fn is_marked(bits: u128, asked: &(Text, Text)) -> bool
 }
 
 /// Whether spans with these bits may have each of the asked tags.
-fn may_tell(bits: u128, query: &Find) -> bool
-    ensures { result ≡ may_tell query.now bits }
+fn may_match_tags(bits: u128, query: &Find) -> bool
+    ensures { result ≡ may_match_tags query.now bits }
 {
     query
         .tags
@@ -48,7 +48,7 @@ pub(crate) fn may_meet(outline: Outline, query: &Find) -> bool
 {
     may_last(outline.times, query)
         && may_start(outline.times, query)
-        && may_tell(outline.tags, query)
+        && may_match_tags(outline.tags, query)
 }
 
 /// Whether spans with starts in these bounds may start strictly within the window. Where they may not, none

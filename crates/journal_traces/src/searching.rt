@@ -11,7 +11,7 @@ ghost use Rattle.journal_traces.specs.Picked.{reaches, meets, met, met_at, met_a
 use crate::pruning::may_meet;
 use crate::standing::batch_at;
 use arrival_journal::Journal;
-use find_traces::{Judged, Wanted};
+use find_traces::{JudgedProcess, Wanted};
 use jaeger_model::{Span, TraceId};
 use service_places::Places;
 use std::alloc::{AllocError, Global};
@@ -45,7 +45,7 @@ fn is_again(before: Option<TraceId>, trace: TraceId) -> bool
 fn is_news(
     alloc: Global,
     before: Option<TraceId>,
-    judged: &Judged<'_>,
+    judged: &JudgedProcess<'_>,
     span: &Span,
 ) -> Result<bool, AllocError>
     ensures { IfOk result (λ b. b ≡ (not (same_before before span.now.trace)
@@ -59,7 +59,7 @@ fn mark_spans(
     alloc: Global,
     marks: &mut [bool],
     ring: &Ring,
-    judged: &Judged<'_>,
+    judged: &JudgedProcess<'_>,
     spans: &[Span],
 ) -> Result<(), AllocError>
     requires once { NoneTwice ring.now.ids }
@@ -108,7 +108,7 @@ fn mark_entry(
         return Ok(());
     }
     if let Some(batch) = batch_at(journal, place) {
-        let judged = Judged::new(alloc, wanted, batch.process.get())?;
+        let judged = JudgedProcess::new(alloc, wanted, batch.process.get())?;
         mark_spans(alloc, marks, ring, &judged, batch.spans.as_slice())?;
     }
     Ok(())

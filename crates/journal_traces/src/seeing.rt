@@ -6,7 +6,7 @@ ghost use Rattle.trace_model.specs.Linking.{in_window};
 ghost use Rattle.trace_assembly.specs.Located.{span_at};
 ghost use Rattle.trace_assembly.specs.Rows.{spots_of};
 ghost use Rattle.service_places.specs.Reported.{AreGroups};
-ghost use Rattle.journal_traces.specs.Given.{given, given_all, given_traces};
+ghost use Rattle.journal_traces.specs.Given.{given_span, given_all, given_traces};
 ghost use Rattle.journal_traces.specs.Standing.{spans_named, trace_named, HasNumber, HaveNumbers};
 
 use crate::standing::{reaches_window, seen_at};
@@ -26,7 +26,7 @@ fn numbered_at<'a>(
 ) -> Option<NumberedSpan<'a>>
     requires few { length journal.now.held.entries < 2 ^ 32 }
     requires numbers { AreGroups journal.now.held.entries reported.now.groups }
-    ensures given { option_map (λ s. given s.seen) result ≡ span_at journal.now.held.entries spot }
+    ensures given_span { option_map (λ s. given_span s.seen) result ≡ span_at journal.now.held.entries spot }
     ensures numbered { IfSome result (HasNumber journal.now.held.entries) }
 {
     let seen = seen_at(journal, spot)?;
@@ -44,7 +44,7 @@ fn see<'a>(
 ) -> Result<Vec<NumberedSpan<'a>>, AllocError>
     requires few { length journal.now.held.entries < 2 ^ 32 }
     requires numbers { AreGroups journal.now.held.entries reported.now.groups }
-    ensures given { IfOk result (λ v. given_all v.items ≡
+    ensures given_span { IfOk result (λ v. given_all v.items ≡
         spans_named journal.now.held.entries spots.entry) }
     ensures numbered { IfOk result (λ v. HaveNumbers journal.now.held.entries v.items) }
 {
@@ -90,7 +90,7 @@ pub fn see_within<'a>(
 ) -> Result<Vec<Vec<NumberedSpan<'a>>>, AllocError>
     requires few { length journal.now.held.entries < 2 ^ 32 }
     requires numbers { AreGroups journal.now.held.entries reported.now.groups }
-    ensures given { IfOk result (λ v. given_traces v.items ≡
+    ensures given_span { IfOk result (λ v. given_traces v.items ≡
         filter (list_any (in_window end_ms lookback_ms))
         (map (trace_named journal.now.held.entries (spots_of assembly.now)) ids.now)) }
     ensures numbered { IfOk result (λ v.

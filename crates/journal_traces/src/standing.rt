@@ -8,12 +8,12 @@ ghost use Rattle.trace_model.specs.Searching.{matches, first_start, first_id};
 ghost use Rattle.trace_model.specs.Linking.{in_window};
 ghost use Rattle.trace_model.specs.Seeing.{seen};
 ghost use Rattle.trace_assembly.specs.Located.{span_at};
-ghost use Rattle.journal_traces.specs.Given.{given};
+ghost use Rattle.journal_traces.specs.Given.{given_span};
 ghost use Rattle.journal_traces.specs.Standing.{batch_at, spans_named};
 
 use crate::pruning::may_reach;
 use arrival_journal::Journal;
-use find_traces::{Judged, Wanted};
+use find_traces::{JudgedProcess, Wanted};
 use jaeger_model::{Batch, Seen, TraceId};
 use span_steps::{is_in_window, is_named, is_timed};
 use std::alloc::{AllocError, Global};
@@ -31,7 +31,7 @@ pub(crate) fn batch_at(journal: &Journal, place: u64) -> Option<&Batch>
 
 /// The span of a batch at an index.
 fn seen_in(batch: &Batch, index: u32) -> Option<Seen<'_>>
-    ensures { option_map given result ≡ slice_get (domain batch.now) index }
+    ensures { option_map given_span result ≡ slice_get (domain batch.now) index }
 {
     let span = batch.spans.as_slice().get(index as usize)?;
     Some(Seen {
@@ -43,7 +43,7 @@ fn seen_in(batch: &Batch, index: u32) -> Option<Seen<'_>>
 /// The span that a spot names.
 #[tactic(auto, using(crate::proofs::Spots::span_there, crate::proofs::Spots::no_span_there))]
 pub(crate) fn seen_at(journal: &Journal, spot: Spot) -> Option<Seen<'_>>
-    ensures { option_map given result ≡ span_at journal.now.held.entries spot }
+    ensures { option_map given_span result ≡ span_at journal.now.held.entries spot }
 {
     match batch_at(journal, spot.place) {
         Some(batch) => seen_in(batch, spot.index),
@@ -53,7 +53,7 @@ pub(crate) fn seen_at(journal: &Journal, spot: Spot) -> Option<Seen<'_>>
 
 /// The first span that the spots name.
 fn first_seen<'a>(journal: &'a Journal, spots: Spots<'_>) -> Option<Seen<'a>>
-    ensures { option_map given result ≡ slice_get
+    ensures { option_map given_span result ≡ slice_get
         (spans_named journal.now.held.entries spots.entry) 0 }
 {
     for spot in spots {
@@ -99,7 +99,7 @@ fn is_match(alloc: Global, wanted: &Wanted<'_>, at: Seen<'_>) -> Result<bool, Al
     if !is_named(at, query) || !is_timed(at, query) {
         return Ok(false);
     }
-    let judged = Judged::new(alloc, wanted, at.process)?;
+    let judged = JudgedProcess::new(alloc, wanted, at.process)?;
     judged.is_match(alloc, at.span)
 }
 

@@ -17,7 +17,7 @@ use Rattle.trace_model.proofs.Prefixes.{prefix_self, prefix_trans}
 use Rattle.read_side.specs.Receipts.{AnsweredAt}
 use Rattle.intake.specs.Seats.{SeatValue, IsNotTaken, IsUnacknowledged, next_job, with_job}
 use Rattle.intake.proofs.Places.{stands-split}
-use Rattle.store_backend.specs.Knowing.{History, Begins, HasAt, Keeps, SubmitKnows, ReadKnows}
+use Rattle.store_backend.specs.Knowing.{History, IsBeginning, HasAt, Keeps, SubmitKnows, ReadKnows}
 
 -- the seat, and the longest list that the pass knows
 pub record LiveValue : Type 0 where
@@ -87,6 +87,6 @@ submit_knows limits s b (Err why) t d =
 
 pub read_knows : (limits : Limits) (s : LiveValue) (q : Query) (r : Result Answer Refusal) (t : LiveValue) → LiveReads limits s q r t → ReadKnows (λ _. limits) LiveKnows s q r t
 read_knows limits s q (Ok a) t d =
-    let begins : (h : History) → LiveKnows s h → Begins h t.known = λ h k. (let p = prefix_trans h s.known t.known k d.0 in (p.0, sym p.1)) in
+    let begins : (h : History) → LiveKnows s h → IsBeginning h t.known = λ h k. (let p = prefix_trans h s.known t.known k d.0 in (p.0, sym p.1)) in
     (keeps limits s t d.0, record { history = t.known; legal = d.2; behind = begins; answer_is = d.3; known = prefix_self t.known })
 read_knows limits s q (Err why) t d = keeps limits s t d.0

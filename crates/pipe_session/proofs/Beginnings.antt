@@ -5,10 +5,10 @@ use mathlib.Core.List.{IsPrefix}
 use Rattle.trace_model.specs.Held.{Held}
 use Rattle.trace_model.proofs.Prefixes.{prefix_trans}
 use Rattle.http_requests.proofs.Once.{Breaks, breaks_all}
-use Rattle.http_session.specs.declared.exchanges.Cause.{Cause}
+use Rattle.http_session.specs.declared.exchanges.SessionErrorKind.{SessionErrorKind}
 use Rattle.http_session.specs.Sessions.{Exchange, IsExchange, IsOpen, texts, response_to, responses, Ending, Ending.{closing, broken}, last_of, parting, Due, Due.{none_yet, due, due_parting}, exchange_due, IsDue, bytes_due}
 use Rattle.pipe_session.specs.Exact.{held_after}
-use Rattle.pipe_session.proofs.Courses.{Asks, same_exchange, ComesNext, one_next, Goes, goes_on, goes_behind, Stand, first_asks, rest_stands}
+use Rattle.pipe_session.proofs.Courses.{Asks, same_exchange, ComesNext, one_next, RunsTo, goes_on, goes_behind, Stand, first_asks, rest_stands}
 
 -- all that is written on a course
 abbrev pub spoken : List Exchange → Ending → List ℕ
@@ -21,9 +21,9 @@ abbrev first : List Exchange → Ending → Ending
 first [] e = e
 first (x ∷ xs) e = closing x
 
-first_comes : (bytes : List ℕ) (s : Held) (xs : List Exchange) (e : Ending) (t : Held) → Goes bytes s xs e t → (rest : List ℕ) × ComesNext bytes s (first xs e) rest
-first_comes bytes s [] e t goes = (goes.0, goes.1)
-first_comes bytes s (x ∷ xs) e t goes = (goes.0, goes.1)
+first_comes : (bytes : List ℕ) (s : Held) (xs : List Exchange) (e : Ending) (t : Held) → RunsTo bytes s xs e t → (rest : List ℕ) × ComesNext bytes s (first xs e) rest
+first_comes bytes s [] e t runs_to = (runs_to.0, runs_to.1)
+first_comes bytes s (x ∷ xs) e t runs_to = (runs_to.0, runs_to.1)
 
 spoken_first : (xs : List Exchange) (e : Ending) → IsPrefix (spoken [] (first xs e)) (spoken xs e)
 spoken_first [] e = ([], append-nil (spoken [] e))
@@ -33,10 +33,10 @@ spoken_first (x ∷ xs) e = (
 )
 
 -- what is first said at these bytes begins all that is said
-says_first : (bytes : List ℕ) (s : Held) (n : Ending) (rest : List ℕ) (xs : List Exchange) (e : Ending) (t : Held) → ComesNext bytes s n rest → Goes bytes s xs e t
+says_first : (bytes : List ℕ) (s : Held) (n : Ending) (rest : List ℕ) (xs : List Exchange) (e : Ending) (t : Held) → ComesNext bytes s n rest → RunsTo bytes s xs e t
     → IsPrefix (spoken [] n) (spoken xs e)
-says_first bytes s n rest xs e t next goes =
-    let comes = first_comes bytes s xs e t goes in
+says_first bytes s n rest xs e t next runs_to =
+    let comes = first_comes bytes s xs e t runs_to in
     subst (λ (m : Ending). IsPrefix (spoken [] m) (spoken xs e)) (sym (one_next bytes s n (first xs e) rest comes.0 next comes.1).0) (spoken_first xs e)
 
 -- ---- up to where a session failed
@@ -62,17 +62,17 @@ longer y x some all more behind same begins = (
       ∙ sym (append_assoc (response_to x) all behind),
 )
 
-pub meant_begins : (bytes : List ℕ) (s : Held) (ys : List Exchange) (d : Due) (xs : List Exchange) (e : Ending) (t : Held) → Stops bytes s ys d → Goes bytes s xs e t
+pub meant_begins : (bytes : List ℕ) (s : Held) (ys : List Exchange) (d : Due) (xs : List Exchange) (e : Ending) (t : Held) → Stops bytes s ys d → RunsTo bytes s xs e t
     → IsPrefix (meant ys d) (spoken xs e)
-meant_begins bytes s [] none_yet xs e t stops goes = (spoken xs e, refl)
-meant_begins bytes s [] (due y) xs e t stops goes =
-    subst (λ (l : List ℕ). IsPrefix l (spoken xs e)) (append-nil (response_to y ++ []) ∙ append-nil (response_to y)) (says_first bytes s (closing y) stops.0 xs e t stops.1 goes)
-meant_begins bytes s [] (due_parting b) xs e t stops goes = says_first bytes s (broken b) [] xs e t (stops, refl) goes
-meant_begins bytes s (y ∷ ys) d [] e t stops goes = absurd (goes_on bytes s y e stops.0 goes.0 stops.1 stops.2 goes.1 goes.2)
-meant_begins bytes s (y ∷ ys) d (x ∷ xs) e t stops goes =
-    let now = same_exchange bytes s y x stops.0 goes.0 stops.1 goes.1 in
+meant_begins bytes s [] none_yet xs e t stops runs_to = (spoken xs e, refl)
+meant_begins bytes s [] (due y) xs e t stops runs_to =
+    subst (λ (l : List ℕ). IsPrefix l (spoken xs e)) (append-nil (response_to y ++ []) ∙ append-nil (response_to y)) (says_first bytes s (closing y) stops.0 xs e t stops.1 runs_to)
+meant_begins bytes s [] (due_parting b) xs e t stops runs_to = says_first bytes s (broken b) [] xs e t (stops, refl) runs_to
+meant_begins bytes s (y ∷ ys) d [] e t stops runs_to = absurd (goes_on bytes s y e stops.0 runs_to.0 stops.1 stops.2 runs_to.1 runs_to.2)
+meant_begins bytes s (y ∷ ys) d (x ∷ xs) e t stops runs_to =
+    let now = same_exchange bytes s y x stops.0 runs_to.0 stops.1 runs_to.1 in
     longer y x (responses ys) (responses (xs ++ last_of e)) (bytes_due d) (parting e) now.0
-    (meant_begins stops.0 (held_after s y.verdict) ys d xs e t stops.3 (goes_behind s y x stops.0 goes.0 xs e t now.0 now.1 goes.3))
+    (meant_begins stops.0 (held_after s y.verdict) ys d xs e t stops.3 (goes_behind s y x stops.0 runs_to.0 xs e t now.0 now.1 runs_to.3))
 
 -- ---- the course up to there
 
@@ -81,7 +81,7 @@ DueAt behind none_yet = Unit {0}
 DueAt behind (due x) = IsExchange x
 DueAt behind (due_parting b) = Breaks behind b
 
-pub due_at : (cause : Cause) (rest left : List ℕ) (d : Due) → IsDue (left ≡ []) cause rest d → DueAt (rest ++ left) d
+pub due_at : (cause : SessionErrorKind) (rest left : List ℕ) (d : Due) → IsDue (left ≡ []) cause rest d → DueAt (rest ++ left) d
 due_at cause rest left none_yet is = tt
 due_at cause rest left (due x) is = is.0
 due_at cause rest left (due_parting b) is = breaks_all rest left b is.0

@@ -78,9 +78,9 @@ Shuts (closing x) = x.close ≡ true
 Shuts (broken b) = Unit {0}
 
 -- the exchanges come in turn and leave the session open, then comes the end, and t is held
-abbrev pub Goes : List ℕ → Held → List Exchange → Ending → Held → Type 0
-Goes bytes s [] e t = (rest : List ℕ) × ComesNext bytes s e rest × Shuts e × (t ≡ held_at_last s (verdicts (last_of e)))
-Goes bytes s (x ∷ xs) e t = (rest : List ℕ) × Asks bytes s x rest × (x.close ≡ false) × Goes rest (held_after s x.verdict) xs e t
+abbrev pub RunsTo : List ℕ → Held → List Exchange → Ending → Held → Type 0
+RunsTo bytes s [] e t = (rest : List ℕ) × ComesNext bytes s e rest × Shuts e × (t ≡ held_at_last s (verdicts (last_of e)))
+RunsTo bytes s (x ∷ xs) e t = (rest : List ℕ) × Asks bytes s x rest × (x.close ≡ false) × RunsTo rest (held_after s x.verdict) xs e t
 
 -- where the next exchange leaves the session open, the session doesn't end
 pub goes_on : (bytes : List ℕ) (s : Held) (x : Exchange) (e : Ending) (rest more : List ℕ) → Asks bytes s x rest → x.close ≡ false → ComesNext bytes s e more → Shuts e → ⊥
@@ -90,11 +90,11 @@ goes_on bytes s x e rest more asks is_open next shuts =
 
 -- a course behind the same exchange
 pub goes_behind : (s : Held) (x y : Exchange) (rest more : List ℕ) (ys : List Exchange) (e : Ending) (t : Held) → x ≡ y → rest ≡ more
-    → Goes more (held_after s y.verdict) ys e t → Goes rest (held_after s x.verdict) ys e t
-goes_behind s x y rest more ys e t same behind goes =
-    subst (λ (z : Exchange). Goes rest (held_after s z.verdict) ys e t) (sym same) (subst (λ (l : List ℕ). Goes l (held_after s y.verdict) ys e t) (sym behind) goes)
+    → RunsTo more (held_after s y.verdict) ys e t → RunsTo rest (held_after s x.verdict) ys e t
+goes_behind s x y rest more ys e t same behind runs_to =
+    subst (λ (z : Exchange). RunsTo rest (held_after s z.verdict) ys e t) (sym same) (subst (λ (l : List ℕ). RunsTo l (held_after s y.verdict) ys e t) (sym behind) runs_to)
 
-pub one_course : (bytes : List ℕ) (s : Held) (xs ys : List Exchange) (e f : Ending) (t u : Held) → Goes bytes s xs e t → Goes bytes s ys f u → (xs ≡ ys) × (e ≡ f) × (t ≡ u)
+pub one_course : (bytes : List ℕ) (s : Held) (xs ys : List Exchange) (e f : Ending) (t u : Held) → RunsTo bytes s xs e t → RunsTo bytes s ys f u → (xs ≡ ys) × (e ≡ f) × (t ≡ u)
 one_course bytes s [] [] e f t u one other =
     let same = (one_next bytes s e f one.0 other.0 one.1 other.1).0 in
     (refl, same, one.3 ∙ ap (λ (g : Ending). held_at_last s (verdicts (last_of g))) same ∙ sym other.3)
@@ -143,14 +143,14 @@ ends_at rest left clean ends = (λ i. ends.1 i ++ ends.0 i)
 ends_at rest left (closing x) ends = ends
 ends_at rest left (broken b) ends = breaks_all rest left b ends
 
-last_goes : (bytes : List ℕ) (s : Held) (e : Ending) (behind : List ℕ) (t : Held) → Stand bytes s (last_of e) behind t → EndsAt behind e → Goes bytes s [] e t
+last_goes : (bytes : List ℕ) (s : Held) (e : Ending) (behind : List ℕ) (t : Held) → Stand bytes s (last_of e) behind t → EndsAt behind e → RunsTo bytes s [] e t
 last_goes bytes s clean behind t stand ends = ([], (stand.front ∙ ends, refl), tt, stand.held)
 last_goes bytes s (closing x) behind t stand ends = (behind, first_asks bytes s x [] behind t ends.0 stand, ends.1, stand.held)
 last_goes bytes s (broken b) behind t stand ends = ([], (subst (λ (l : List ℕ). Breaks l b) (sym stand.front) ends, refl), tt, stand.held)
 
-pub goes : (bytes : List ℕ) (s : Held) (xs : List Exchange) (e : Ending) (behind : List ℕ) (t : Held) → All IsOpen xs → Stand bytes s (xs ++ last_of e) behind t → EndsAt behind e → Goes bytes s xs e t
-goes bytes s [] e behind t opens stand ends = last_goes bytes s e behind t stand ends
-goes bytes s (x ∷ xs) e behind t opens stand ends =
+pub runs_to : (bytes : List ℕ) (s : Held) (xs : List Exchange) (e : Ending) (behind : List ℕ) (t : Held) → All IsOpen xs → Stand bytes s (xs ++ last_of e) behind t → EndsAt behind e → RunsTo bytes s xs e t
+runs_to bytes s [] e behind t opens stand ends = last_goes bytes s e behind t stand ends
+runs_to bytes s (x ∷ xs) e behind t opens stand ends =
     let is = All-head IsOpen x xs opens in
-    let later = goes (texts (xs ++ last_of e) ++ behind) (held_after s x.verdict) xs e behind t (All-tail IsOpen x xs opens) (rest_stands bytes s x (xs ++ last_of e) behind t stand) ends in
+    let later = runs_to (texts (xs ++ last_of e) ++ behind) (held_after s x.verdict) xs e behind t (All-tail IsOpen x xs opens) (rest_stands bytes s x (xs ++ last_of e) behind t stand) ends in
     (texts (xs ++ last_of e) ++ behind, first_asks bytes s x (xs ++ last_of e) behind t is.exchange stand, is.open_is, later)

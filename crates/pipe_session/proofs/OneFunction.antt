@@ -8,7 +8,7 @@ use Rattle.http_session.specs.Sessions.{Exchange, texts, Run, EndsAs, FailsAs, l
 use Rattle.http_session.specs.declared.exchanges.SessionError.{SessionError}
 use Rattle.pipe_session.specs.OneFunction.{NeverWants, Finished, Failed}
 use Rattle.pipe_session.proofs.Exactly.{exact}
-use Rattle.pipe_session.proofs.Courses.{Stand, ends_at, Goes, goes, one_course}
+use Rattle.pipe_session.proofs.Courses.{Stand, ends_at, RunsTo, runs_to, one_course}
 use Rattle.pipe_session.proofs.Beginnings.{spoken, Stops, stops, due_at, meant_begins, part_begins}
 
 -- the exchanges of a run in which memory didn't run out stand at the beginning of the bytes
@@ -26,10 +26,10 @@ stand bytes taken rest left s t xs read split run memory =
 -- ---- the course of a session that ended
 
 course : (bytes before out : List ℕ) (left : Option (List ℕ)) (s t : Held) (n : ℕ) (c : Bool) (ends : EndsAs DirectSubmits DirectReads (Some bytes) left (Some before) (Some out) s t n c)
-    → NeverWants (ends.opens ++ last_of ends.ending) → Goes bytes s ends.opens ends.ending t
+    → NeverWants (ends.opens ++ last_of ends.ending) → RunsTo bytes s ends.opens ends.ending t
 course bytes before out None s t n c ends memory = absurd ends.read
 course bytes before out (Some left) s t n c ends memory =
-    goes bytes s ends.opens ends.ending (ends.rest ++ left) t ends.each
+    runs_to bytes s ends.opens ends.ending (ends.rest ++ left) t ends.each
     (stand bytes ends.taken ends.rest left s t (ends.opens ++ last_of ends.ending) ends.read ends.split ends.run memory) (ends_at ends.rest left ends.ending ends.ends)
 
 said : (bytes : List ℕ) (s : Held) (w : List ℕ) (t : Held) (n : ℕ) (c : Bool) (f : Finished bytes s w t n c) → w ≡ spoken f.ends.opens f.ends.ending

@@ -5,7 +5,7 @@ ghost use Rattle.std.specs.List.{list_any, list_all};
 ghost use Rattle.jaeger_model.specs.declared.span.Log.{Log as LogValue};
 ghost use Rattle.jaeger_model.specs.Tags.{tag_text};
 ghost use Rattle.jaeger_model.specs.Texts.{same_text};
-ghost use Rattle.trace_model.specs.Searching.{matches, tells, has_tag, found_in, first_id, ids_of, cut};
+ghost use Rattle.trace_model.specs.Searching.{matches, tag_matches, has_tag, found_in, first_id, ids_of, cut};
 
 use crate::ranks::rank;
 use jaeger_model::{Log, Placed, Seen, Seq, Tag, Text, TraceId, Value, tag_text};
@@ -23,7 +23,7 @@ fn is_text_of(alloc: Global, value: &Value, asked: &Text) -> Result<bool, AllocE
 
 /// Whether one of the tags has the asked key and text.
 fn is_among(alloc: Global, tags: &[Tag], asked: &(Text, Text)) -> Result<bool, AllocError>
-    ensures { IfOk result (λ b. b ≡ list_any (tells asked.now) tags.now) }
+    ensures { IfOk result (λ b. b ≡ list_any (tag_matches asked.now) tags.now) }
 {
     for tag in tags {
         if asked.0 == tag.key && is_text_of(alloc, &tag.value, &asked.1)? {
@@ -35,7 +35,7 @@ fn is_among(alloc: Global, tags: &[Tag], asked: &(Text, Text)) -> Result<bool, A
 
 /// Whether one of the logs has a field with the asked key and text.
 fn is_logged(alloc: Global, logs: &[Log], asked: &(Text, Text)) -> Result<bool, AllocError>
-    ensures { IfOk result (λ b. b ≡ list_any (tells asked.now)
+    ensures { IfOk result (λ b. b ≡ list_any (tag_matches asked.now)
         (flat_map (λ (l : LogValue). l.fields) logs.now)) }
 {
     for log in logs {

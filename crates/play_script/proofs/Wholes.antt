@@ -3,9 +3,9 @@ use Rattle.std.proofs.Common.{◌≡◌, ℕ, ◌+◌, Bool, false, ◌||◌, Li
 use Rattle.std.specs.Io.KnownBytes.{Appends}
 use Rattle.trace_model.specs.declared.limits.Limits.{Limits}
 use Rattle.schedule_core.specs.Machine.{Machine, new_machine}
-use Rattle.text_lines.specs.declared.halt.Halt.{Halt}
+use Rattle.text_lines.specs.declared.run_error.RunError.{RunError}
 use Rattle.text_lines.specs.Lines.{lines_of}
-use Rattle.text_lines.specs.Halting.{Finishes, StopsShort, status_by}
+use Rattle.text_lines.specs.RunErrors.{Finishes, StopsShort, status_by}
 use Rattle.text_lines.specs.Taking.{AnswersAll, AnswersSome, Said, TakesEach}
 use Rattle.text_lines.proofs.Wholes.{some_more, stops_some}
 use Rattle.play_script.specs.Playing.{StandsAt, TakesStep, any_faulty, output_of, play_status, played, status_of, texts_of}
@@ -43,7 +43,7 @@ module _ (in0 in1 out0 out1 : Option (List ℕ)) (i o : Bool) (limits : Limits) 
         output_works = oe;
       }
 
-  pub stops : StandsAt w0 (new_machine limits) → (h : Halt) → AnswersSome TakesStep in0 in1 out0 out1 w0 i o h → (status : ℕ) → status ≡ status_by h
+  pub stops : StandsAt w0 (new_machine limits) → (h : RunError) → AnswersSome TakesStep in0 in1 out0 out1 w0 i o h → (status : ℕ) → status ≡ status_by h
       → StopsShort in0 in1 out0 out1 i o (output_of limits) status
   stops stands h a status is =
       let start = new_machine limits in

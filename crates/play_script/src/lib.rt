@@ -7,7 +7,7 @@
 #![tactic(auto)]
 
 ghost use Rattle.std.specs.Prelude.{◌≡◌, false};
-ghost use Rattle.text_lines.specs.Halting.{RunsAs};
+ghost use Rattle.text_lines.specs.RunErrors.{RunsAs};
 ghost use Rattle.trace_model.specs.declared.limits.Limits.{Limits as LimitsValue};
 ghost use Rattle.schedule_core.specs.Machine.{new_machine};
 ghost use Rattle.play_script.specs.Playing.{StandsAt, output_of, play_status, status_of as status_for};
@@ -43,7 +43,7 @@ fn play_lines<R: Input, W: Output>(
 {
     match answer_lines(alloc, input, output, script) {
         Ok(faulty) => status_of(faulty),
-        Err(halt) => halt.status(),
+        Err(error) => error.status(),
     }
 }
 

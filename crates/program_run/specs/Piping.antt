@@ -4,12 +4,12 @@ use Rattle.trace_model.specs.declared.limits.Limits.{Limits}
 use Rattle.trace_model.specs.Held.{Held}
 use Rattle.direct_store.specs.Exactly.{DirectSubmits, DirectReads}
 use Rattle.http_session.specs.Sessions.{EndsAs, FailsAs, last_of, exchange_due}
-use Rattle.http_session.specs.declared.exchanges.Cause.{Cause}
-use Rattle.http_session.specs.declared.exchanges.Cause.TheVariants.{Reading, Writing, Memory}
+use Rattle.http_session.specs.declared.exchanges.SessionErrorKind.{SessionErrorKind}
+use Rattle.http_session.specs.declared.exchanges.SessionErrorKind.TheVariants.{Reading, Writing, Memory}
 use Rattle.http_session.specs.declared.exchanges.SessionError.{SessionError}
 use Rattle.pipe_session.specs.Exact.{IsExact}
 
-abbrev pub cause_status : Cause → ℕ
+abbrev pub cause_status : SessionErrorKind → ℕ
 cause_status Reading = 4
 cause_status Writing = 4
 cause_status Memory = 5

@@ -3,7 +3,7 @@ use Rattle.std.specs.Prelude.{◌≡◌, ℕ, Bool, false, List, Option, codes, 
 use Rattle.std.specs.Io.KnownBytes.{Appends}
 use Rattle.clap.specs.Words.{Text}
 use Rattle.trace_model.specs.declared.limits.Limits.{Limits}
-use Rattle.text_lines.specs.Halting.{RunsAs}
+use Rattle.text_lines.specs.RunErrors.{RunsAs}
 use Rattle.get_command.specs.Runs.{output_of as get_output, status_of as get_status}
 use Rattle.play_script.specs.Playing.{output_of as play_output, status_of as play_status}
 use Rattle.command_words.specs.Words.{IsFaultOf, TakesGet}

@@ -3,7 +3,7 @@ ghost use Rattle.std.specs.Prelude.{◌≡◌, false};
 ghost use Rattle.program_run.specs.Piping.{Pipes, cause_status};
 
 use direct_store::Direct;
-use http_session::Cause;
+use http_session::SessionErrorKind;
 use pipe_session::pipe;
 use session_devices::{Input, Output};
 use span_store::SpanStore;
@@ -11,12 +11,12 @@ use std::alloc::Global;
 use std::hash::RandomState;
 use trace_model::Limits;
 
-fn status_of(cause: Cause) -> u8
+fn status_of(cause: SessionErrorKind) -> u8
     ensures { result ≡ cause_status cause }
 {
     match cause {
-        Cause::Reading | Cause::Writing => 4,
-        Cause::Memory => 5,
+        SessionErrorKind::Reading | SessionErrorKind::Writing => 4,
+        SessionErrorKind::Memory => 5,
     }
 }
 

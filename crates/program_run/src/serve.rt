@@ -13,7 +13,7 @@ use std::sync::Wait;
 use std::thread::Threads;
 use std::time::Clock;
 use text_lines::say;
-use trace_server::{NoGate, Options, serve_with};
+use trace_server::{NoGate, ServerConfig, serve_with};
 
 /// The line that says why nothing can be served on a port.
 fn why_not(alloc: Global, port: u16, error: &io::Error) -> Result<Vec<u8>, AllocError> {
@@ -35,7 +35,7 @@ fn turn_down<W: Output>(alloc: Global, output: &mut W, port: u16, error: &io::Er
     };
     match say(alloc, output, line.as_slice()) {
         Ok(()) => 4,
-        Err(halt) => halt.status(),
+        Err(error) => error.status(),
     }
 }
 
@@ -63,7 +63,7 @@ where
         Ok(listener) => listener,
         Err(error) => return turn_down(alloc, output, options.port, &error),
     };
-    let plan = Options {
+    let plan = ServerConfig {
         limits: options.limits,
         keys,
         workers: options.workers,

@@ -33,12 +33,12 @@ first_of name [] = None
 first_of name (p ∷ ps) = if same_text p.0 name then Some p.1 else first_of name ps
 
 -- absent where the value is empty
-abbrev pub given : Option (List ℕ) → Option (List ℕ)
-given None = None
-given (Some v) = if nat_lt 0 (length v) then Some v else None
+abbrev pub given_value : Option (List ℕ) → Option (List ℕ)
+given_value None = None
+given_value (Some v) = if nat_lt 0 (length v) then Some v else None
 
 abbrev pub parameter : List ℕ → List (List ℕ × List ℕ) → Option (List ℕ)
-parameter name ps = given (first_of name ps)
+parameter name ps = given_value (first_of name ps)
 
 -- it has this name, and a value that isn't empty
 abbrev pub is_given : List ℕ → List ℕ × List ℕ → Bool

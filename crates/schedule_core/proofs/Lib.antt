@@ -7,7 +7,7 @@ pub mod Growth
 pub mod Looks
 pub mod Jobs
 pub mod Fronts
-pub mod Staging
+pub mod StateSteps
 pub mod Stepping
 pub mod Playing
 pub mod Naming

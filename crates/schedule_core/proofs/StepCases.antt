@@ -17,7 +17,7 @@ use Rattle.schedule_core.specs.declared.step.Step.{Step}
 use Rattle.schedule_core.specs.declared.step.Step.TheVariants as ask
 use Rattle.schedule_core.specs.declared.outcome.Outcome.{Outcome}
 use Rattle.schedule_core.specs.declared.outcome.Outcome.TheVariants.{Again, Refused, Idle, Published, Held, Left, Inside, Outside, Unknown}
-use Rattle.schedule_core.specs.Machine.{Machine, Reader, Visit, Stepped, stays, accepted, handed_in, puts, full, drops, outcome_by, judged, takes_by, takes, holds, published, publishes_by, with_reader, enters, reads, longer, learns_list, learns, leaves, front_of, step}
+use Rattle.schedule_core.specs.Machine.{Machine, Reader, Visit, Stepped, stays, accepted, handed_in, puts, full, drops, outcome_by, judged_job, takes_by, takes, holds, published, publishes_by, with_reader, enters, reads, longer, learns_list, learns, leaves, front_of, step}
 use Rattle.schedule_core.specs.Runs.{job_of, verdict_of, reported_by, front_in, IsOf}
 
 -- the step changed nothing, and its outcome reports nothing
@@ -44,7 +44,7 @@ pub record StepCases (m : Machine) (P : Step → Stepped → Type 0) : Type 0 wh
       → P (ask.Limit seat n) (handed_in m seat (brings.TraceLimit n) (last + 1))
   pub taken : (job : Entry) (rest : List Entry) → m.waiting ≡ job ∷ rest → sent_before (accepted m) job ≡ None
       → has_room m.limits (accepted m) job ≡ true
-      → P ask.Take (judged m job rest true)
+      → P ask.Take (judged_job m job rest true)
   pub dropped : (job : Entry) (rest : List Entry) (o : Outcome) → m.waiting ≡ job ∷ rest → Drops o → P ask.Take (drops m rest o)
   pub shown : P ask.Publish (record { outcome = Published (length (accepted m)); machine = published m })
   pub entered : (r : ℕ) (reader : Reader) → slice_get m.readers r ≡ Some reader → P (ask.Enter r) (enters m r None)
@@ -89,7 +89,7 @@ module _ (m : Machine) (P : Step → Stepped → Type 0) (c : StepCases m P) whe
 
   on_verdict : (job : Entry) (rest : List Entry) (b : Bool) → m.waiting ≡ job ∷ rest → sent_before (accepted m) job ≡ None
       → has_room m.limits (accepted m) job ≡ b
-      → P ask.Take (judged m job rest b)
+      → P ask.Take (judged_job m job rest b)
   on_verdict job rest true e unsent room = c.taken job rest e unsent room
   on_verdict job rest false e unsent room = refused job rest (Refused (full m)) e refl refl refl refl (λ l h. tt)
 

@@ -12,13 +12,13 @@ use Rattle.trace_model.specs.declared.entry.Entry.{Entry}
 use Rattle.schedule_core.specs.declared.outcome.Outcome.{Outcome}
 use Rattle.schedule_core.specs.declared.outcome.Outcome.TheVariants.{Entered, Learnt, Left, Unknown}
 use Rattle.schedule_core.specs.declared.readers.Inside.{Inside}
-use Rattle.schedule_core.specs.declared.readers.Place.{Place}
+use Rattle.schedule_core.specs.declared.readers.ReaderState.{ReaderState}
 use Rattle.schedule_core.specs.Machine.{Machine, Reader, Stepped, by_reader, enters, front_of, leaves, learns, learns_list, longer, stays, with_reader}
 use Rattle.schedule_core.specs.Copied.{Copied}
 use Rattle.schedule_core.specs.Queued.{Queued}
 use Rattle.schedule_core.specs.Standing.{visit_at, reader_at, Stands}
-use Rattle.schedule_core.specs.Staged.{IsStaged, machine_of}
-use Rattle.schedule_core.proofs.Staging.{reader_of, view_set, visit_of}
+use Rattle.schedule_core.specs.MachineStates.{IsState, machine_of}
+use Rattle.schedule_core.proofs.StateSteps.{reader_of, view_set, visit_of}
 
 abbrev pub after : Outcome → Machine → Stepped
 after o m = record { outcome = o; machine = m }
@@ -53,11 +53,11 @@ front_within fronts bound k front e all =
       | false ↦ λ e. absurd cc
     ] e
 
-module _ (c : Copied) (q : Queued) (fronts : List ℕ) (places : List Place) (r : ℕ) (p : Place) (here : slice_get places r ≡ Some p) where
+module _ (c : Copied) (q : Queued) (fronts : List ℕ) (places : List ReaderState) (r : ℕ) (p : ReaderState) (here : slice_get places r ≡ Some p) where
   abbrev m : Machine
   m = machine_of c q fronts places
 
-  pub stands_there : IsStaged c q fronts places → Stands c.before c.history (length fronts) p
+  pub stands_there : IsState c q fronts places → Stands c.before c.history (length fronts) p
   stands_there s = at_place (Stands c.before c.history (length fronts)) places r p here s.standing
 
   by_place : (f : Reader → Stepped) → by_reader m r f ≡ f (reader_at c.history p)
@@ -84,7 +84,7 @@ module _ (c : Copied) (q : Queued) (fronts : List ℕ) (places : List Place) (r 
       ∙ sym (by_place (λ reader. enters m r reader.inside) ∙ ap (λ o. enters m r (option_map (visit_at c.history) o)) (none_is p.inside out))
 
   -- ---- it learns
-  pub learnt_alike : (k front seen : ℕ) → IsStaged c q fronts places → front_of m k ≡ Some front → is_some p.inside ≡ false → seen ≡ max p.seen front
+  pub learnt_alike : (k front seen : ℕ) → IsState c q fronts places → front_of m k ≡ Some front → is_some p.inside ≡ false → seen ≡ max p.seen front
       → after (Learnt seen) (machine_of c q fronts (slice_set places r (record { seen = seen; inside = None })))
       ≡ by_reader m r (λ reader. option_map_or (learns m r reader) (front_of m k) (stays m Unknown))
   learnt_alike k front seen s at out is =

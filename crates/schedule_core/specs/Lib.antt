@@ -4,6 +4,6 @@ pub mod Machine
 pub mod Numbering
 pub mod Queued
 pub mod Runs
-pub mod Staged
+pub mod MachineStates
 pub mod Standing
 pub mod Worlds

@@ -89,9 +89,9 @@ abbrev pub drops : Machine → List Entry → Outcome → Stepped
 drops m rest o = record { outcome = o; machine = record m { waiting = rest } }
 
 -- the first job goes to pending if no limit is passed by history and pending with it, and is dropped otherwise
-abbrev pub judged : Machine → Entry → List Entry → Bool → Stepped
-judged m job rest true = record { outcome = Taken job.seat job.number; machine = record m { waiting = rest; pending = m.pending ++ job ∷ [] } }
-judged m job rest false = drops m rest (Refused (full m))
+abbrev pub judged_job : Machine → Entry → List Entry → Bool → Stepped
+judged_job m job rest true = record { outcome = Taken job.seat job.number; machine = record m { waiting = rest; pending = m.pending ++ job ∷ [] } }
+judged_job m job rest false = drops m rest (Refused (full m))
 
 -- how the outcome reports what has become of a job
 abbrev pub outcome_by : Entry → Result Admission Refusal → Outcome
@@ -102,7 +102,7 @@ outcome_by job (Err why) = Refused why
 -- a job whose batch was sent before, behind so many entries, is dropped; any other one is judged by the limits
 abbrev pub takes_by : Machine → Entry → List Entry → Option ℕ → Stepped
 takes_by m job rest (Some before) = drops m rest (outcome_by job (repeated (accepted m) job before))
-takes_by m job rest None = judged m job rest (has_room m.limits (accepted m) job)
+takes_by m job rest None = judged_job m job rest (has_room m.limits (accepted m) job)
 
 -- by the jobs that wait
 abbrev pub takes : Machine → List Entry → Stepped

@@ -4,17 +4,17 @@ use Rattle.std.specs.Option.{option_map_or}
 use Rattle.trace_model.specs.declared.entry.Entry.{Entry}
 use Rattle.schedule_core.specs.Machine.{Reader, Visit}
 use Rattle.schedule_core.specs.declared.readers.Inside.{Inside}
-use Rattle.schedule_core.specs.declared.readers.Place.{Place}
+use Rattle.schedule_core.specs.declared.readers.ReaderState.{ReaderState}
 
 -- inside since before the last of so many publishes
-abbrev pub is_held : ℕ → Place → Bool
+abbrev pub is_held : ℕ → ReaderState → Bool
 is_held publishes p = option_map_or (λ (v : Inside). nat_lt v.publishes publishes) p.inside false
 
 -- the reader that stands there
 abbrev pub visit_at : List Entry → Inside → Visit
 visit_at history v = record { list = take v.front history; publishes = v.publishes }
 
-abbrev pub reader_at : List Entry → Place → Reader
+abbrev pub reader_at : List Entry → ReaderState → Reader
 reader_at history p = record { seen = take p.seen history; inside = option_map (visit_at history) p.inside }
 
 -- it entered the history, or what the history was before the last publish
@@ -22,5 +22,5 @@ abbrev pub Visits : List Entry → List Entry → ℕ → Inside → Type 0
 Visits before history publishes v = (v.front ≤ length history)
     × (((v.publishes ≡ publishes) × (take v.front history ≡ history)) ⊎ ((v.publishes + 1 ≡ publishes) × (take v.front history ≡ before)))
 
-abbrev pub Stands : List Entry → List Entry → ℕ → Place → Type 0
+abbrev pub Stands : List Entry → List Entry → ℕ → ReaderState → Type 0
 Stands before history publishes p = (p.seen ≤ length history) × IfSome p.inside (Visits before history publishes)

@@ -9,7 +9,7 @@
 //! * `seats`: jobs that wait, and the numbers of the seats.
 //! * `readers`: where the readers stand.
 //! * `copies`: what is accepted, and two copies of a store that hold beginnings of it.
-//! * `stage`: the machine over them.
+//! * `machine_state`: the machine over them.
 //! * `world`: the machine, as far as memory was found.
 //! * `script`: a whole list of steps.
 //! * `laws`: facts about runs of the machine.
@@ -17,11 +17,11 @@
 
 mod copies;
 pub mod laws;
+mod machine_state;
 mod outcome;
 mod readers;
 mod script;
 mod seats;
-mod stage;
 mod step;
 mod world;
 

@@ -21,13 +21,13 @@ pub(crate) struct Inside {
 
 /// Where a reader stands.
 #[derive(Clone, Copy)]
-pub(crate) struct Place {
+pub(crate) struct ReaderState {
     /// How many entries the longest list has that it has seen.
     pub seen: u64,
     pub inside: Option<Inside>,
 }
 
-impl Place {
+impl ReaderState {
     /// It is inside since before the last of so many publishes.
     fn is_held(&self, publishes: u64) -> bool
         ensures { result ≡ is_held publishes self.now }
@@ -40,14 +40,14 @@ impl Place {
 /// The places of all readers.
 #[derive(Drop)]
 pub(crate) struct Readers {
-    places: Vec<Place>,
+    places: Vec<ReaderState>,
 }
 
 impl Model for Readers {
     ghost use Rattle.std.specs.Prelude.{◌≡◌, List, length};
-    ghost use Rattle.schedule_core.specs.declared.readers.Place.{Place};
+    ghost use Rattle.schedule_core.specs.declared.readers.ReaderState.{ReaderState};
 
-    ghost Value = { List Place };
+    ghost Value = { List ReaderState };
 
     ghost view = { λ s. s.places.items };
 
@@ -63,7 +63,7 @@ impl Readers {
     pub fn new(alloc: Global) -> Result<Readers, AllocError>
         ensures { IfOk result (λ s. s ≡ replicate 64 (record { seen = 0; inside = None })) }
     {
-        let outside = Place {
+        let outside = ReaderState {
             seen: 0,
             inside: None,
         };
@@ -73,14 +73,14 @@ impl Readers {
     }
 
     /// The reader's place, if there is such a reader.
-    pub fn get(&self, reader: u32) -> Option<Place>
+    pub fn get(&self, reader: u32) -> Option<ReaderState>
         ensures { result ≡ slice_get self.now reader }
     {
         self.places.get(reader as usize).copied()
     }
 
     /// The reader stands there from here on.
-    pub fn set(&mut self, reader: u32, place: Place)
+    pub fn set(&mut self, reader: u32, place: ReaderState)
         requires { reader < length self.old }
         ensures { self.new ≡ slice_set self.old reader place }
     {

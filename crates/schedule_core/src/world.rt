@@ -2,8 +2,8 @@ ghost use Rattle.std.specs.Prelude.{◌≡◌, Option, Some, IfOk};
 ghost use Rattle.schedule_core.specs.Machine.{Machine, new_machine};
 ghost use Rattle.schedule_core.specs.Worlds.{Steps};
 
+use crate::machine_state::MachineState;
 use crate::outcome::Outcome;
-use crate::stage::Stage;
 use crate::step::Step;
 use std::alloc::{AllocError, Global};
 use std::hash::RandomState;
@@ -13,13 +13,13 @@ use trace_model::{Limits, Refusal};
 /// The stepped machine. Where it has found no memory, every later step is refused for that.
 #[derive(Drop)]
 pub struct World {
-    stage: Option<Stage>,
+    state: Option<MachineState>,
 }
 
 impl Model for World {
     ghost Value = { Option Machine };
 
-    ghost view = { λ s. s.stage };
+    ghost view = { λ s. s.state };
 }
 
 impl World {
@@ -31,22 +31,22 @@ impl World {
     pub fn new(alloc: Global, keys: RandomState, limits: Limits) -> Result<Self, AllocError>
         ensures { IfOk result (λ world. world ≡ Some (new_machine limits)) }
     {
-        let stage = Stage::new(alloc, keys, limits)?;
-        Ok(World { stage: Some(stage) })
+        let state = MachineState::new(alloc, keys, limits)?;
+        Ok(World { state: Some(state) })
     }
 
     /// Makes a step and returns what came of it.
     pub fn step(&mut self, step: Step) -> Outcome
         ensures { Steps self.old step result self.new }
     {
-        let Some(stage) = &mut self.stage else {
+        let Some(state) = &mut self.state else {
             drop(step);
             return Outcome::Refused(Refusal::NoMemory);
         };
-        match stage.step(step) {
+        match state.step(step) {
             Ok(outcome) => outcome,
             Err(_) => {
-                drop(self.stage.take());
+                drop(self.state.take());
                 Outcome::Refused(Refusal::NoMemory)
             }
         }

@@ -39,29 +39,29 @@ is_position p xs d = elim (cases_lt (position_or_len p xs) (length xs)) [
   | inr past ↦ not_lt (position_or_len p xs) (length xs) past ∙ sym (none_is p xs d (λ k within. fails_before_first p xs k d (omega arith)))
 ]
 
--- a test of what is told of numbers passes where the label is the sought one
-abbrev pub Tells : {X : Type 0} → Labelling → LabelValue → (ℕ → X) → (X → Bool) → Type 0
-Tells labels l told test = (n : ℕ) → n < labels.count → same_label l (labels.at n) ≡ test (told n)
+-- a test of the numbers' keys passes where the label is the sought one
+abbrev pub FindsLabel : {X : Type 0} → Labelling → LabelValue → (ℕ → X) → (X → Bool) → Type 0
+FindsLabel labels l key test = (n : ℕ) → n < labels.count → same_label l (labels.at n) ≡ test (key n)
 
--- the row of a label is that of what is told
-pub row_told : {X : Type 0} (labels : Labelling) (l : LabelValue) (told : ℕ → X) (test : X → Bool) (numbers : List ℕ) (d : X) → Tells labels l told test → AreNumbers labels.count numbers
-    → row_of labels numbers l ≡ position_or_len test (map told numbers)
-row_told labels l told test numbers d tells held =
+-- the row of a label is that of its key
+pub row_by_key : {X : Type 0} (labels : Labelling) (l : LabelValue) (key : ℕ → X) (test : X → Bool) (numbers : List ℕ) (d : X) → FindsLabel labels l key test → AreNumbers labels.count numbers
+    → row_of labels numbers l ≡ position_or_len test (map key numbers)
+row_by_key labels l key test numbers d finds held =
     let known = map labels.at numbers in
     let r = row_of labels numbers l in
     let m = length-map numbers labels.at in
-    let o = length-map numbers told in
+    let o = length-map numbers key in
     let w = prefix_len-le-length (λ x. not (same_label l x)) known in
-    let at : (k : ℕ) → k < length numbers → same_label l (label_at known k) ≡ test (get_or (map told numbers) k d) = λ k below.
-    ap (same_label l) (label_of labels numbers k below) ∙ tells (get_or numbers k 0) (held.held k below) ∙ ap test (sym (get_or-map told numbers k 0 d below)) in
-    sym (position_or_len_is test (map told numbers) r d (omega arith) (λ k below. sym (at k (omega arith)) ∙ fails_before_first (same_label l) known k no_label below)
+    let at : (k : ℕ) → k < length numbers → same_label l (label_at known k) ≡ test (get_or (map key numbers) k d) = λ k below.
+    ap (same_label l) (label_of labels numbers k below) ∙ finds (get_or numbers k 0) (held.held k below) ∙ ap test (sym (get_or-map key numbers k 0 d below)) in
+    sym (position_or_len_is test (map key numbers) r d (omega arith) (λ k below. sym (at k (omega arith)) ∙ fails_before_first (same_label l) known k no_label below)
     (λ below. sym (at r (omega arith)) ∙ passes_at_first (same_label l) known no_label (omega arith)))
 
-pub told_known : {X : Type 0} (labels : Labelling) (l : LabelValue) (told : ℕ → X) (test : X → Bool) (numbers : List ℕ) (d : X) → Tells labels l told test → AreNumbers labels.count numbers
-    → nat_lt (row_of labels numbers l) (length numbers) ≡ list_any test (map told numbers)
-told_known labels l told test numbers d tells held =
-    ap (λ r. nat_lt r (length numbers)) (row_told labels l told test numbers d tells held)
-    ∙ ap (nat_lt (position_or_len test (map told numbers))) (sym (length-map numbers told)) ∙ is_position test (map told numbers) d
+pub known_by_key : {X : Type 0} (labels : Labelling) (l : LabelValue) (key : ℕ → X) (test : X → Bool) (numbers : List ℕ) (d : X) → FindsLabel labels l key test → AreNumbers labels.count numbers
+    → nat_lt (row_of labels numbers l) (length numbers) ≡ list_any test (map key numbers)
+known_by_key labels l key test numbers d finds held =
+    ap (λ r. nat_lt r (length numbers)) (row_by_key labels l key test numbers d finds held)
+    ∙ ap (nat_lt (position_or_len test (map key numbers))) (sym (length-map numbers key)) ∙ is_position test (map key numbers) d
 
 -- a number of a known label is not kept, another is
 pub number_known : (labels : Labelling) (numbers : List ℕ) (n : ℕ) → row_of labels numbers (labels.at n) < length numbers → with_number labels numbers n ≡ numbers
@@ -87,37 +87,37 @@ service_new services s r is past = sym (is_position (same_text s) services []) �
 abbrev pub Distinct : List (List ℕ) → Type 0
 Distinct services = (i j : ℕ) → i < j → j < length services → get_or services i [] ≡ get_or services j [] → ⊥
 
--- numbers have one label exactly where the same is told of them
-abbrev pub AreTold : Labelling → (ℕ → List ℕ) → Type 0
-AreTold labels told = (m : ℕ) → m < labels.count → Tells labels (labels.at m) told (same_text (told m))
+-- numbers have one label exactly where they have one key
+abbrev pub AreKeys : Labelling → (ℕ → List ℕ) → Type 0
+AreKeys labels key = (m : ℕ) → m < labels.count → FindsLabel labels (labels.at m) key (same_text (key m))
 
-pub distinct : (labels : Labelling) (told : ℕ → List ℕ) (t : Table) → AreTold labels told → IsNamed labels t → Distinct (map told t.numbers)
-distinct labels told t are h i j below within same =
+pub distinct : (labels : Labelling) (key : ℕ → List ℕ) (t : Table) → AreKeys labels key → IsNamed labels t → Distinct (map key t.numbers)
+distinct labels key t are h i j below within same =
     let l = length-map t.numbers labels.at in
-    let m = length-map t.numbers told in
+    let m = length-map t.numbers key in
     let a = get_or t.numbers i 0 in
     let b = get_or t.numbers j 0 in
     let held = h.numbers.held in
-    let texts : told a ≡ told b = sym (get_or-map told t.numbers i 0 [] (omega arith)) ∙ same ∙ get_or-map told t.numbers j 0 [] (omega arith) in
-    let tied : same_label (labels.at a) (labels.at b) ≡ true = are a (held i (omega arith)) b (held j (omega arith)) ∙ ap (same_text (told a)) (sym texts) ∙ text_self (told a) in
+    let texts : key a ≡ key b = sym (get_or-map key t.numbers i 0 [] (omega arith)) ∙ same ∙ get_or-map key t.numbers j 0 [] (omega arith) in
+    let tied : same_label (labels.at a) (labels.at b) ≡ true = are a (held i (omega arith)) b (held j (omega arith)) ∙ ap (same_text (key a)) (sym texts) ∙ text_self (key a) in
     h.once i j below (omega arith) (label_of labels t.numbers i (omega arith) ∙ same_is (labels.at a) (labels.at b) tied ∙ sym (label_of labels t.numbers j (omega arith)))
 
 -- ---- the labels of an index
 abbrev alone : Names → ℕ → List ℕ
 alone names n = (names.at n).service
 
-pub groups_told : (names : Names) → IsGrouped names → AreTold (group_labels names) (λ n. (names.at n).service)
-groups_told names g m below n within = and_true (names.group m == names.group n) ∙ g.same m n below within
+pub groups_keyed : (names : Names) → IsGrouped names → AreKeys (group_labels names) (λ n. (names.at n).service)
+groups_keyed names g m below n within = and_true (names.group m == names.group n) ∙ g.same m n below within
 
-operations_told : (names : Names) → IsGrouped names → (m : ℕ) → m < names.count → Tells (operation_labels names) ((operation_labels names).at m) names.at (same_listed (names.at m))
-operations_told names g m below n within = ap (λ b. b && same_operation (names.at m).operation (names.at n).operation) (g.same m n below within)
+operations_keyed : (names : Names) → IsGrouped names → (m : ℕ) → m < names.count → FindsLabel (operation_labels names) ((operation_labels names).at m) names.at (same_listed (names.at m))
+operations_keyed names g m below n within = ap (λ b. b && same_operation (names.at m).operation (names.at n).operation) (g.same m n below within)
 
 -- what is asked for
-group_asked : (names : Names) (s : List ℕ) (group : ℕ) → IsGroupOf names s (Some group) → Tells (group_labels names) (group_alone group) (alone names) (same_text s)
+group_asked : (names : Names) (s : List ℕ) (group : ℕ) → IsGroupOf names s (Some group) → FindsLabel (group_labels names) (group_alone group) (alone names) (same_text s)
 group_asked names s group is n within = and_true (group == names.group n) ∙ is n within
 
 operation_asked : (names : Names) (l : Listed) (group : ℕ) → IsGroupOf names l.service (Some group)
-    → Tells (operation_labels names) (record { group = group; name = l.operation.name; kind = l.operation.kind }) names.at (same_listed l)
+    → FindsLabel (operation_labels names) (record { group = group; name = l.operation.name; kind = l.operation.kind }) names.at (same_listed l)
 operation_asked names l group is n within = ap (λ b. b && same_operation l.operation (names.at n).operation) (is n within)
 
 -- ---- one more row
@@ -248,7 +248,7 @@ listed_again names numbers n g held below known =
     let labels = operation_labels names in
     sym (known_again (sorted_set listed_cmp (map names.at numbers)) (names.at n) (sorted_set-rises listed_total (map names.at numbers))
     (any_set listed_exact (same_listed (names.at n)) (map names.at numbers)
-    ∙ sym (told_known labels (labels.at n) names.at (same_listed (names.at n)) numbers (service_alone []) (operations_told names g n below) (record { held = held.held }))
+    ∙ sym (known_by_key labels (labels.at n) names.at (same_listed (names.at n)) numbers (service_alone []) (operations_keyed names g n below) (record { held = held.held }))
     ∙ lt-ltb (row_of labels numbers (labels.at n)) (length numbers) known))
 
 pub listed_new : (names : Names) (numbers : List ℕ) (n : ℕ) → sorted_set listed_cmp (map names.at (numbers ++ n ∷ [])) ≡ insert_once listed_cmp (sorted_set listed_cmp (map names.at numbers)) (names.at n)
@@ -266,9 +266,9 @@ indexed_own names g old operations services newest earlier n s row used room hel
     let m = length-map others (λ k. (names.at k).service) in
     let w = row_within (operation_labels names) numbers ((operation_labels names).at n) in
     let new : row ≡ length (owners names numbers) = omega arith in
-    let found : s ≡ position_or_len (same_text (alone names n)) (owners names others) = at ∙ row_told (group_labels names) (group_alone (names.group n)) (alone names) (same_text (alone names n)) others [] (groups_told names g n held) h.services.numbers in
+    let found : s ≡ position_or_len (same_text (alone names n)) (owners names others) = at ∙ row_by_key (group_labels names) (group_alone (names.group n)) (alone names) (same_text (alone names n)) others [] (groups_keyed names g n held) h.services.numbers in
     let own = service_own (owners names others) (alone names n) s found (omega arith) in
-    let linked = linked_known (owners names numbers) (owners names others) old.newest old.earlier s (alone names n) h.linked (distinct (group_labels names) (alone names) old.services (groups_told names g) h.services) (omega arith) own in
+    let linked = linked_known (owners names numbers) (owners names others) old.newest old.earlier s (alone names n) h.linked (distinct (group_labels names) (alone names) old.services (groups_keyed names g) h.services) (omega arith) own in
     let rows : operations.numbers ≡ numbers ++ n ∷ [] = more ∙ number_new (operation_labels names) numbers n (omega arith) in
     let same : services.numbers ≡ others = less ∙ number_known (group_labels names) others n (omega arith) in
     record {
@@ -294,7 +294,7 @@ indexed_new names g old operations services newest earlier n s row used room hel
     let w = row_within (operation_labels names) numbers ((operation_labels names).at n) in
     let new : row ≡ length (owners names numbers) = omega arith in
     let m = length-map others (λ k. (names.at k).service) in
-    let found : s ≡ position_or_len (same_text (alone names n)) (owners names others) = at ∙ row_told (group_labels names) (group_alone (names.group n)) (alone names) (same_text (alone names n)) others [] (groups_told names g n held) h.services.numbers in
+    let found : s ≡ position_or_len (same_text (alone names n)) (owners names others) = at ∙ row_by_key (group_labels names) (group_alone (names.group n)) (alone names) (same_text (alone names n)) others [] (groups_keyed names g n held) h.services.numbers in
     let absent = service_new (owners names others) (alone names n) s found (omega arith) in
     let linked = linked_new (owners names numbers) (owners names others) old.newest old.earlier (alone names n) h.linked absent in
     let rows : operations.numbers ≡ numbers ++ n ∷ [] = more ∙ number_new (operation_labels names) numbers n (omega arith) in
@@ -315,7 +315,7 @@ indexed_new names g old operations services newest earlier n s row used room hel
 pub name_known : (names : Names) (index : Index) (l : Listed) (group : ℕ) → IsIndexed names index → IsGroupOf names l.service (Some group)
     → nat_lt (row_of (operation_labels names) index.operations.numbers (record { group = group; name = l.operation.name; kind = l.operation.kind })) (length index.operations.numbers) ≡ list_any (same_listed l) (listing_by names index)
 name_known names index l group h is =
-    told_known (operation_labels names) (record { group = group; name = l.operation.name; kind = l.operation.kind }) names.at (same_listed l) index.operations.numbers (service_alone []) (operation_asked names l group is) h.operations.numbers
+    known_by_key (operation_labels names) (record { group = group; name = l.operation.name; kind = l.operation.kind }) names.at (same_listed l) index.operations.numbers (service_alone []) (operation_asked names l group is) h.operations.numbers
     ∙ sym (any_set listed_exact (same_listed l) (map names.at index.operations.numbers))
 
 -- where no number has the service, none has its operation
@@ -330,7 +330,7 @@ name_unknown names index l h none =
 -- the row of a service, found by its group
 pub service_found : (names : Names) (index : Index) (s : List ℕ) (group : ℕ) → IsIndexed names index → IsGroupOf names s (Some group)
     → row_of (group_labels names) index.services.numbers (group_alone group) ≡ service_row names index s
-service_found names index s group h is = row_told (group_labels names) (group_alone group) (alone names) (same_text s) index.services.numbers [] (group_asked names s group is) h.services.numbers
+service_found names index s group h is = row_by_key (group_labels names) (group_alone group) (alone names) (same_text s) index.services.numbers [] (group_asked names s group is) h.services.numbers
 
 pub service_missing : (names : Names) (index : Index) (s : List ℕ) → IsIndexed names index → IsGroupOf names s None → length index.services.numbers ≡ service_row names index s
 service_missing names index s h none =

@@ -11,7 +11,7 @@ use Rattle.trace_model.specs.declared.entry.Entry.{Entry}
 use Rattle.service_index.specs.Probes.{Table, AreNumbers, IsNamed, row_of, with_number}
 use Rattle.service_index.specs.Indexes.{IsNewest, IsLinked}
 use Rattle.service_index.proofs.Extending.{Grows, map_agree, named_extends}
-use Rattle.service_index.proofs.Linking.{Tells, AreTold, distinct, linked_known, linked_new, row_told, row_within, number_known, number_new, service_own, service_new, none_of, and_true, is_position}
+use Rattle.service_index.proofs.Linking.{FindsLabel, AreKeys, distinct, linked_known, linked_new, row_by_key, row_within, number_known, number_new, service_own, service_new, none_of, and_true, is_position}
 use Rattle.service_places.specs.Reported.{Reported, service_brought, reporters, service_at, service_label, service_labels, group_in, group_of, AreGroups, IsKept}
 use Rattle.service_places.proofs.Grouping.{reporters_push, as_many_reporters, service_old, service_last, group_old, group_new, groups_more}
 
@@ -29,15 +29,15 @@ extends_one h0 h e is =
     record { count = omega arith; same = λ n below. ap service_label (service_old h0 h e n is below) }
 
 -- ---- labels tell services
-services_told : (h : List Entry) → AreTold (service_labels h) (service_at h)
-services_told h m below n within = and_true (same_text (service_at h m) (service_at h n))
+services_keyed : (h : List Entry) → AreKeys (service_labels h) (service_at h)
+services_keyed h m below n within = and_true (same_text (service_at h m) (service_at h n))
 
-service_asked : (h : List Entry) (s : List ℕ) → Tells (service_labels h) (service_label s) (service_at h) (same_text s)
+service_asked : (h : List Entry) (s : List ℕ) → FindsLabel (service_labels h) (service_label s) (service_at h) (same_text s)
 service_asked h s n within = and_true (same_text s (service_at h n))
 
 -- the row of a service
 pub row_is : (h : List Entry) (numbers : List ℕ) (s : List ℕ) → AreNumbers (length h) numbers → row_of (service_labels h) numbers (service_label s) ≡ position_or_len (same_text s) (map (service_at h) numbers)
-row_is h numbers s held = row_told (service_labels h) (service_label s) (service_at h) (same_text s) numbers [] (service_asked h s) held
+row_is h numbers s held = row_by_key (service_labels h) (service_label s) (service_at h) (same_text s) numbers [] (service_asked h s) held
 
 linked_still : (h0 h : List Entry) (e : Entry) (old : Reported) → h0 ++ e ∷ [] ≡ h → IsKept h0 old → IsLinked (reporters h0) (map (service_at h) old.services.numbers) old.newest old.earlier
 linked_still h0 h e old is k =
@@ -78,7 +78,7 @@ kept_own h0 h e old services newest earlier groups s n group is at k named more 
     let still : IsNamed labels old.services = named_extends (service_labels h0) labels old.services (extends_one h0 h e is) k.named in
     let found : s ≡ position_or_len (same_text (service_at h n)) (map (service_at h) numbers) = row ∙ row_is h numbers (service_at h n) still.numbers in
     let own : get_or (map (service_at h) numbers) s [] ≡ new = service_own (map (service_at h) numbers) (service_at h n) s found (omega arith) ∙ last in
-    let linked = linked_known (reporters h0) (map (service_at h) numbers) old.newest old.earlier s new (linked_still h0 h e old is k) (distinct labels (service_at h) old.services (services_told h) still) (omega arith) own in
+    let linked = linked_known (reporters h0) (map (service_at h) numbers) old.newest old.earlier s new (linked_still h0 h e old is k) (distinct labels (service_at h) old.services (services_keyed h) still) (omega arith) own in
     let same : services.numbers ≡ numbers = more ∙ number_known labels numbers n (omega arith) in
     let count : length (reporters h0) + 1 ≡ n + 1 = omega arith in
     let fewer : length services.numbers ≤ length h = subst (λ (x : List ℕ). length x ≤ length h) (sym same) (omega arith) in

@@ -18,7 +18,7 @@ use Rattle.trace_model.proofs.Traces.{ring_within, newest_short}
 use Rattle.trace_ring.specs.Windows.{Window, opened_by}
 use Rattle.trace_assembly.specs.declared.spot.Spot.{Spot}
 use Rattle.trace_assembly.specs.Rows.{with_spot}
-use Rattle.trace_assembly.specs.Located.{span_at, located, located_in, located_by, located_upto, events_in, shown_spots, after_leaving, without_left}
+use Rattle.trace_assembly.specs.Located.{span_at, located_events, located_in, located_by, located_upto, events_in, shown_spots, after_leaving, without_left}
 use Rattle.trace_assembly.proofs.Feeding.{after_arrival_law, after_limit_law, spans_at_shown_law}
 use Rattle.trace_assembly.proofs.Places.{located_push_law, upto_none, upto_all}
 use Rattle.journal_traces.specs.Standing.{spans_named, trace_named}
@@ -60,25 +60,25 @@ follows_more n es spot p own left old new spots spots' f same steady is opened g
     }
 
 -- ---- the spans of one batch, one by one
-pub follows_none : (n : ℕ) (h : List Entry) (b : Batch) (newest : Window) (spots : TraceId → List Spot) → Follows n (located h) newest spots → Follows n (located_upto h b 0) newest spots
+pub follows_none : (n : ℕ) (h : List Entry) (b : Batch) (newest : Window) (spots : TraceId → List Spot) → Follows n (located_events h) newest spots → Follows n (located_upto h b 0) newest spots
 follows_none n h b newest spots f = subst (λ es. Follows n es newest spots) (sym (upto_none h b)) f
 
 pub upto_end : (h : List Entry) (b : Batch) (i : ℕ) → length b.spans ≤ i → located_upto h b i ≡ located_upto h b (length b.spans)
 upto_end h b i past =
-    ap (λ ss. located h ++ map came (located_in (length h + 1) 0 (map (placed b) ss))) (take_all i b.spans past ∙ sym (take_all (length b.spans) b.spans (omega arith)))
+    ap (λ ss. located_events h ++ map came (located_in (length h + 1) 0 (map (placed b) ss))) (take_all i b.spans past ∙ sym (take_all (length b.spans) b.spans (omega arith)))
 
 pub follows_batch : (n : ℕ) (h : List Entry) (e : Entry) (b : Batch) → e.work ≡ brings.Batch b → (newest : Window) (spots : TraceId → List Spot)
-    → Follows n (located_upto h b (length b.spans)) newest spots → Follows n (located (h ++ e ∷ [])) newest spots
+    → Follows n (located_upto h b (length b.spans)) newest spots → Follows n (located_events (h ++ e ∷ [])) newest spots
 follows_batch n h e b is newest spots f = subst (λ es. Follows n es newest spots) (upto_all h e b is) f
 
 -- ---- a limit
 pub follows_limit : (n : ℕ) (h : List Entry) (e : Entry) (m : ℕ) → e.work ≡ brings.TraceLimit m → (old new : Window) (spots spots' : TraceId → List Spot)
-    → Follows n (located h) old spots → new.limit ≡ m → new.ids ≡ newest m old.ids → ((t : TraceId) → spots' t ≡ without_left old.ids new.ids spots t)
-    → Follows n (located (h ++ e ∷ [])) new spots'
+    → Follows n (located_events h) old spots → new.limit ≡ m → new.ids ≡ newest m old.ids → ((t : TraceId) → spots' t ≡ without_left old.ids new.ids spots t)
+    → Follows n (located_events (h ++ e ∷ [])) new spots'
 follows_limit n h e m set old new spots spots' f limit_is is changed =
-    let es = located h in
+    let es = located_events h in
     let push = sym (events-push es (limited m)) in
-    let all : located (h ++ e ∷ []) ≡ es ++ limited m ∷ [] = located_push_law h e ∙ ap (λ w. es ++ located_by (length h + 1) w) set in
+    let all : located_events (h ++ e ∷ []) ≡ es ++ limited m ∷ [] = located_push_law h e ∙ ap (λ w. es ++ located_by (length h + 1) w) set in
     subst (λ xs. Follows n xs new spots') (sym all) (record {
       limit = limit_is ∙ sym (limit_limited n (events_in es) m) ∙ ap (limit_after n) push;
       ring = ring_fewer n (events_in es) m old.ids new.ids f.ring is ∙ ap (ring n) push;
@@ -87,7 +87,7 @@ follows_limit n h e m set old new spots spots' f limit_is is changed =
 
 -- ---- what the spots of a trace name
 pub spots_name : (n : ℕ) (h : List Entry) (newest : Window) (spots : TraceId → List Spot) (t : TraceId) (found : List Spot)
-    → Follows n (located h) newest spots → found ≡ spots t → map (span_at h) found ≡ map Some (spans_of_trace n (events h) t)
+    → Follows n (located_events h) newest spots → found ≡ spots t → map (span_at h) found ≡ map Some (spans_of_trace n (events h) t)
 spots_name n h newest spots t found f is = ap (map (span_at h)) (is ∙ f.spots t) ∙ spans_at_shown_law n h t
 
 pub none_found : (f : List Placed → List Shown) (h : List Entry) (found : List Spot) (spans : List Placed) → map (span_at h) found ≡ map Some spans → length found ≡ 0 → None ≡ option_map f (if_any spans)
@@ -102,5 +102,5 @@ some_found f h (s ∷ found) [] items shown same got some is = absurd cc
 some_found f h (s ∷ found) (p ∷ spans) items shown same got some is = ap Some (is ∙ ap f (got ∙ named_is h (s ∷ found) (p ∷ spans) same))
 
 -- ---- the spans of a trace where they stand
-pub trace_stands : (n : ℕ) (h : List Entry) (spots : TraceId → List Spot) → ((t : TraceId) → spots t ≡ shown_spots n (located h) t) → (t : TraceId) → trace_named h spots t ≡ spans_of_trace n (events h) t
+pub trace_stands : (n : ℕ) (h : List Entry) (spots : TraceId → List Spot) → ((t : TraceId) → spots t ≡ shown_spots n (located_events h) t) → (t : TraceId) → trace_named h spots t ≡ spans_of_trace n (events h) t
 trace_stands n h spots all t = named_is h (spots t) (spans_of_trace n (events h) t) (ap (map (span_at h)) (all t) ∙ spans_at_shown_law n h t)

@@ -14,7 +14,7 @@ use Rattle.trace_model.specs.Refusals.{followed_by}
 use Rattle.trace_model.specs.Searching.{traces}
 use Rattle.trace_model.specs.Showing.{ring, spans_of_trace}
 use Rattle.trace_assembly.specs.Rows.{Assembled, spots_of}
-use Rattle.trace_assembly.specs.Located.{located, shown_spots}
+use Rattle.trace_assembly.specs.Located.{located_events, shown_spots}
 use Rattle.trace_assembly.proofs.Places.{events-located}
 use Rattle.arrival_names.specs.Kept.{Kept as Names}
 use Rattle.service_places.specs.Reported.{Reported}
@@ -31,7 +31,7 @@ pub record Grows (newest newest' : Window) (spots spots' : Assembled) (more : �
 -- one more entry
 pub kept_more : (old held : Held) (e : Entry) (newest newest' : Window) (spots spots' : Assembled) (index index' : Names) (reported reported' : Reported)
     → IsKept old newest spots index reported → held ≡ followed_by old e → Grows newest newest' spots spots' (length (spans_brought e.work))
-    → Follows old.limits.traces (located (old.entries ++ e ∷ [])) newest' (spots_of spots')
+    → Follows old.limits.traces (located_events (old.entries ++ e ∷ [])) newest' (spots_of spots')
     → IsNamed (followed_by old e) index' → IsPlaced (followed_by old e) reported' → IsKept held newest' spots' index' reported'
 kept_more old held e newest newest' spots spots' index index' reported reported' k h grows f listed placed =
     let now : Held = followed_by old e in
@@ -41,7 +41,7 @@ kept_more old held e newest newest' spots spots' index index' reported reported'
       few = subst (λ (v : Held). length newest'.seen ≤ span_count v.entries) back (let few = k.few in let count = span_count_push old.entries e in let seen = grows.seen in omega arith);
       spots_room = grows.spots_room ∙ k.spots_room ∙ ap (λ (v : Held). v.limits.spans) back;
       spots_used = grows.spots_used ∙ ap (λ n. n + length (spans_brought e.work)) k.spots_used ∙ sym (span_count_push old.entries e) ∙ ap (λ (v : Held). span_count v.entries) back;
-      follows = subst (λ (v : Held). Follows v.limits.traces (located v.entries) newest' (spots_of spots')) back f;
+      follows = subst (λ (v : Held). Follows v.limits.traces (located_events v.entries) newest' (spots_of spots')) back f;
       named = subst (λ (v : Held). IsNamed v index') back listed;
       placed = subst (λ (v : Held). IsPlaced v reported') back placed;
     }
@@ -69,11 +69,11 @@ kept_room held e newest spots index reported k may =
 
 -- the ring is within the limit in force
 pub kept_within : (held : Held) (newest : Window) (spots : Assembled) (index : Names) (reported : Reported) → IsKept held newest spots index reported → IsWithin newest
-kept_within held newest spots index reported k = follows_within held.limits.traces (located held.entries) newest (spots_of spots) k.follows
+kept_within held newest spots index reported k = follows_within held.limits.traces (located_events held.entries) newest (spots_of spots) k.follows
 
 -- ---- what is kept is what the limits of the entries say
 pub kept_spots : (held : Held) (newest : Window) (spots : Assembled) (index : Names) (reported : Reported) → IsKept held newest spots index reported
-    → (t : TraceId) → spots_of spots t ≡ shown_spots held.limits.traces (located held.entries) t
+    → (t : TraceId) → spots_of spots t ≡ shown_spots held.limits.traces (located_events held.entries) t
 kept_spots held newest spots index reported k t = k.follows.spots t
 
 pub kept_ring : (held : Held) (newest : Window) (spots : Assembled) (index : Names) (reported : Reported) → IsKept held newest spots index reported

@@ -24,7 +24,7 @@ use Rattle.trace_model.specs.Works.{batch_brought, placed_brought}
 use Rattle.trace_model.specs.Events.{Event, came, limited, without_limits}
 use Rattle.trace_model.specs.Histories.{arrivals, events}
 use Rattle.trace_model.proofs.Arriving.{came_of}
-use Rattle.trace_model.specs.Searching.{matches, matching, found_in, ranked, first_start, cut, is_named, is_timed, has_tag, traces}
+use Rattle.trace_model.specs.Searching.{matches, matching, found_in, ranked_by_start, first_start, cut, is_named, is_timed, has_tag, traces}
 use Rattle.trace_model.specs.Showing.{ring, shown, spans_of_trace, lasting_after, longer_beginnings, stands, trace_of}
 use Rattle.trace_model.proofs.NameLaws.{any_filter}
 use Rattle.trace_model.proofs.Parents.{with_parent-trace}
@@ -180,7 +180,7 @@ pub found_among : (q : Find) (n : ℕ) (h : List Entry) (service : List ℕ) (r 
     → found_in q (map (spans_of_trace n (events h)) (filter (reaches (met_along q h (places_of h service))) r)) ≡ found_in q (map (spans_of_trace n (events h)) r)
 found_among q n h service r same =
     ap (λ s. found_in q (map (spans_of_trace n (events h)) (filter (reaches (met_along q h (places_of h s))) r))) (sym same)
-    ∙ ap (λ l. cut q.limit (ranked first_start l)) (match_among q (spans_of_trace n (events h)) (reaches (met_along q h (places_of h q.service))) (covered q n h) r)
+    ∙ ap (λ l. cut q.limit (ranked_by_start first_start l)) (match_among q (spans_of_trace n (events h)) (reaches (met_along q h (places_of h q.service))) (covered q n h) r)
 
 -- ---- where no arrival has the service, or the operation of the service, nothing is found
 pub nothing_found : (q : Find) → found_in q [] ≡ []
@@ -198,7 +198,7 @@ none_matches q f h (x ∷ xs) = ap (λ b. cond b (f x ∷ matching q (map f xs))
 -- of no arrival the search has the name
 unnamed : (q : Find) (n : ℕ) (es : List (Event Placed)) → list_any (is_named q) (without_limits es) ≡ false → found_in q (traces n es) ≡ []
 unnamed q n es e =
-    ap (λ l. cut q.limit (ranked first_start l)) (none_matches q (spans_of_trace n es) (λ t. denied (list_any (matches q) (spans_of_trace n es t)) (list_any (is_named q) (without_limits es)) (λ m. any_weaker (λ p. same_trace t (trace_of p) && matches q p) (is_named q) (λ p own. name_of p (and_true (same_trace t (trace_of p)) (matches q p) own).1) (without_limits es) (matched_arrival q n es t m)) e) (ring n es))
+    ap (λ l. cut q.limit (ranked_by_start first_start l)) (none_matches q (spans_of_trace n es) (λ t. denied (list_any (matches q) (spans_of_trace n es t)) (list_any (is_named q) (without_limits es)) (λ m. any_weaker (λ p. same_trace t (trace_of p) && matches q p) (is_named q) (λ p own. name_of p (and_true (same_trace t (trace_of p)) (matches q p) own).1) (without_limits es) (matched_arrival q n es t m)) e) (ring n es))
     ∙ nothing_found q
   where
     name_of : (p : Placed) → matches q p ≡ true → is_named q p ≡ true

@@ -9,7 +9,7 @@ use Rattle.trace_model.specs.Showing.{ring, limit_after}
 use Rattle.trace_ring.specs.Windows.{Window}
 use Rattle.trace_assembly.specs.declared.spot.Spot.{Spot}
 use Rattle.trace_assembly.specs.Rows.{Assembled, spots_of}
-use Rattle.trace_assembly.specs.Located.{located, events_in, shown_spots}
+use Rattle.trace_assembly.specs.Located.{located_events, events_in, shown_spots}
 use Rattle.service_places.specs.Reported.{Reported, IsKept as PlacesKept}
 use Rattle.arrival_names.specs.Kept.{Kept as Names, IsKept as NamesKept}
 
@@ -41,6 +41,6 @@ pub record IsKept (held : Held) (newest : Window) (spots : Assembled) (names : N
   pub few : length newest.seen ≤ span_count held.entries
   pub spots_room : spots.room ≡ held.limits.spans
   pub spots_used : spots.used ≡ span_count held.entries
-  pub follows : Follows held.limits.traces (located held.entries) newest (spots_of spots)
+  pub follows : Follows held.limits.traces (located_events held.entries) newest (spots_of spots)
   pub named : IsNamed held names
   pub placed : IsPlaced held reported

@@ -10,7 +10,7 @@ ghost use Rattle.trace_model.specs.Showing.{trace_of};
 ghost use Rattle.trace_model.specs.Works.{spans_brought};
 ghost use Rattle.trace_assembly.specs.declared.spot.Spot.{Spot as SpotValue};
 ghost use Rattle.trace_assembly.specs.Rows.{spots_of};
-ghost use Rattle.trace_assembly.specs.Located.{located, located_upto, after_leaving, without_left};
+ghost use Rattle.trace_assembly.specs.Located.{located_events, located_upto, after_leaving, without_left};
 ghost use Rattle.span_store.specs.Kept.{Follows, IsWithin};
 
 use jaeger_model::{Batch, TraceId};
@@ -62,7 +62,7 @@ fn let_all_in(batch: &Batch, place: u64, ring: &mut Ring, assembly: &mut Assembl
     requires ring_room { length ring.old.seen + length batch.now.spans ≤ ring.old.room }
     requires assembly_room { assembly.old.used + length batch.now.spans ≤ assembly.old.room }
     ensures follows { (n : ℕ) (h : List EntryValue) → place ≡ length h + 1 →
-        Follows n (located h) ring.old (spots_of assembly.old) →
+        Follows n (located_events h) ring.old (spots_of assembly.old) →
         Follows n (located_upto h batch.now (length batch.now.spans)) ring.new
         (spots_of assembly.new) }
     ensures ring_room { ring.new.room ≡ ring.old.room }
@@ -105,8 +105,8 @@ pub(crate) fn follow(entry: &Entry, place: u64, ring: &mut Ring, assembly: &mut 
     requires assembly_room { assembly.old.used + length (spans_brought entry.now.work) ≤
         assembly.old.room }
     ensures follows { (n : ℕ) (h : List EntryValue) → place ≡ length h + 1 →
-        Follows n (located h) ring.old (spots_of assembly.old) →
-        Follows n (located (h ++ entry.now ∷ [])) ring.new (spots_of assembly.new) }
+        Follows n (located_events h) ring.old (spots_of assembly.old) →
+        Follows n (located_events (h ++ entry.now ∷ [])) ring.new (spots_of assembly.new) }
     ensures ring_room { ring.new.room ≡ ring.old.room }
     ensures seen { length ring.new.seen ≤
         length ring.old.seen + length (spans_brought entry.now.work) }

@@ -11,7 +11,7 @@ ghost use Rattle.trace_model.specs.Showing.{ring};
 ghost use Rattle.trace_model.specs.declared.admission.Admission.TheVariants.{Added};
 ghost use Rattle.trace_model.specs.Refusals.{followed_by, with_admitted};
 ghost use Rattle.arrival_journal.specs.Journals.{admission_by, place_by};
-ghost use Rattle.trace_assembly.specs.Located.{located, shown_spots};
+ghost use Rattle.trace_assembly.specs.Located.{located_events, shown_spots};
 ghost use Rattle.trace_assembly.specs.Rows.{spots_of};
 ghost use Rattle.trace_adjust.specs.Hosts.{ShareProcesses};
 ghost use Rattle.call_links.specs.Seen.{AreNumbered};
@@ -71,7 +71,7 @@ fn room_for_traces(
     keys: RandomState,
     limits: Limits,
 ) -> Result<(Ring, Assembly), AllocError>
-    ensures follows { IfOk result (λ r. Follows limits.traces (located []) r.0 (spots_of r.1)) }
+    ensures follows { IfOk result (λ r. Follows limits.traces (located_events []) r.0 (spots_of r.1)) }
     ensures room { IfOk result (λ r. r.0.room ≡ limits.spans) }
     ensures seen { IfOk result (λ r. r.0.seen ≡ []) }
     ensures spots_room { IfOk result (λ r. r.1.room ≡ limits.spans) }
@@ -216,7 +216,7 @@ impl SpanStore {
     /// Where the shown spans of a trace stand in the entries, in the order of their arrival: none where
     /// the trace isn't shown.
     pub fn spots(&self, id: TraceId) -> Spots<'_>
-        ensures { result ≡ shown_spots self.now.limits.traces (located self.now.entries) id }
+        ensures { result ≡ shown_spots self.now.limits.traces (located_events self.now.entries) id }
     {
         self.assembly.spots(id)
     }

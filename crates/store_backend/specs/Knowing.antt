@@ -14,8 +14,8 @@ abbrev pub History : Type 0
 History = List Entry
 
 -- short is the beginning of long, or all of it
-abbrev pub Begins : History → History → Type 0
-Begins short long = (more : History) × (long ≡ short ++ more)
+abbrev pub IsBeginning : History → History → Type 0
+IsBeginning short long = (more : History) × (long ≡ short ++ more)
 
 -- an entry with the batch stands at the place, the first one being 1
 pub record HasAt (h : History) (place : ℕ) (batch : Batch) : Type 0 where
@@ -42,7 +42,7 @@ pub record Places {S : Type 0} (limits : S → Limits) (knows : S → History �
 pub record AnswersAt {S : Type 0} (limits : S → Limits) (knows : S → History → Type 0) (s : S) (q : Query) (a : Answer) (t : S) : Type 0 where
   pub history : History
   pub legal : IsLegal (limits t) history
-  pub behind : (h : History) → knows s h → Begins h history
+  pub behind : (h : History) → knows s h → IsBeginning h history
   pub answer_is : a ≡ answer (limits t) history q
   pub known : knows t history
 

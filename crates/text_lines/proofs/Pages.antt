@@ -4,9 +4,9 @@ use Rattle.std.proofs.lemmas.List.{take-append-drop, take_all}
 use Rattle.std.specs.Io.KnownBytes.{Appends}
 use Rattle.std.proofs.KnownBytes.{Appends-nil, Appends-trans}
 use Rattle.std.specs.Result.{IsErrAnd}
-use Rattle.text_lines.specs.declared.halt.Halt.{Halt}
-use Rattle.text_lines.specs.declared.halt.Halt.TheVariants.{Device, Memory}
-use Rattle.text_lines.specs.Halting.{Moves, Says, WritesSome}
+use Rattle.text_lines.specs.declared.run_error.RunError.{RunError}
+use Rattle.text_lines.specs.declared.run_error.RunError.TheVariants.{Device, Memory}
+use Rattle.text_lines.specs.RunErrors.{Moves, Says, WritesSome}
 
 drop_none : (b : ℕ) → [] ≡ drop {A = ℕ} b []
 drop_none zero = refl
@@ -46,7 +46,7 @@ some_written a b text waits p = (p.0, p.1, (waits, sym p.2))
 
 -- ---- a page that holds a text and is handed out
 
-pub handed_out : (a b : Option (List ℕ)) (w0 w1 text : List ℕ) (failed : Bool) (r : Result (Unit {0}) Halt) → w0 ≡ text → Moves a b w0 w1 → OnOk r (w1 ≡ [])
+pub handed_out : (a b : Option (List ℕ)) (w0 w1 text : List ℕ) (failed : Bool) (r : Result (Unit {0}) RunError) → w0 ≡ text → Moves a b w0 w1 → OnOk r (w1 ≡ [])
     → OnOk r (failed ≡ false) → IfErr r (λ h. (h ≡ Device) × (failed ≡ true)) → Says a b failed text r
 handed_out a b w0 w1 text failed (Ok u) is m none works err =
     (subst (Appends a b) (sym (append-nil m.0) ∙ ap (λ l. m.0 ++ l) (sym none) ∙ sym m.2 ∙ is) m.1, works)
@@ -54,6 +54,6 @@ handed_out a b w0 w1 text failed (Err h) is m none works err =
     (subst (WritesSome a b) is (some_written a b w0 w1 m), rw err.0 err.1)
 
 -- memory ran out before anything was written
-pub nothing_said : (a : Option (List ℕ)) (failed : Bool) (text : List ℕ) (r : Result (Unit {0}) Halt) → IsErrAnd r (λ h. h ≡ Memory) → failed ≡ false → Says a a failed text r
+pub nothing_said : (a : Option (List ℕ)) (failed : Bool) (text : List ℕ) (r : Result (Unit {0}) RunError) → IsErrAnd r (λ h. h ≡ Memory) → failed ≡ false → Says a a failed text r
 nothing_said a failed text (Ok u) e works = absurd e
 nothing_said a failed text (Err h) e works = (([], Appends-nil a, (text, refl)), rw e works)

@@ -2,12 +2,12 @@
 use Rattle.std.proofs.Common.{◌≡◌, ℕ, ◌+◌, ◌≤◌, Bool, true, false, ◌||◌, inl, inr, List, [], ◌∷◌, ◌++◌, length, Option, Some, None, refl, sym, ap, ◌∙◌, subst, arith, append-nil, append_assoc, length-append}
 use Rattle.std.specs.Io.KnownBytes.{Appends, Consumes, IsAtEnd}
 use Rattle.std.proofs.KnownBytes.{Consumes-nil, Consumes-trans}
-use Rattle.text_lines.specs.declared.halt.Halt.{Halt}
-use Rattle.text_lines.specs.declared.halt.Halt.TheVariants.{Device, Memory}
-use Rattle.text_lines.specs.declared.lines.TheConstants.{MOST_READS}
+use Rattle.text_lines.specs.declared.run_error.RunError.{RunError}
+use Rattle.text_lines.specs.declared.run_error.RunError.TheVariants.{Device, Memory}
+use Rattle.text_lines.specs.declared.line_buffer.TheConstants.{MOST_READS}
 use Rattle.text_lines.specs.Lines.{lines_of}
 use Rattle.text_lines.specs.Reading.{Feed, StopsReading, TakesLine, TakesNone}
-use Rattle.text_lines.specs.Halting.{Holds, IsWhy, Moves}
+use Rattle.text_lines.specs.RunErrors.{Holds, IsWhy, Moves}
 use Rattle.text_lines.specs.Taking.{AnswersAll, AnswersSome, Said, SoFar, Takes, TakesEach, TookAll, TookSome, joined, nothing_said}
 use Rattle.text_lines.proofs.Pages.{moves_nothing, moves_more, moves_then, some_written}
 
@@ -148,13 +148,13 @@ none_at_end (Some x) None in2 a b c d e = absurd c
 none_at_end (Some x) (Some y) None a b c d e = refl
 none_at_end (Some x) (Some y) (Some z) a b c d e = none_behind b z (sym d ∙ e)
 
-why_weaker : (h : Halt) (i o : Bool) (A B : Type 0) → (A → B) → IsWhy h i o A → IsWhy h i o B
+why_weaker : (h : RunError) (i o : Bool) (A B : Type 0) → (A → B) → IsWhy h i o A → IsWhy h i o B
 why_weaker Device i o A B f (inl e) = inl e
 why_weaker Device i o A B f (inr (inl e)) = inr (inl e)
 why_weaker Device i o A B f (inr (inr a)) = inr (inr (f a))
 why_weaker Memory i o A B f e = e
 
-pub stops : {S : Type 0} (takes : Takes S) (in0 in1 in2 out0 out1 out2 : Option (List ℕ)) (s t : S) (feed : Feed) (w1 w2 : List ℕ) (n : ℕ) (faulty i o : Bool) (h : Halt)
+pub stops : {S : Type 0} (takes : Takes S) (in0 in1 in2 out0 out1 out2 : Option (List ℕ)) (s t : S) (feed : Feed) (w1 w2 : List ℕ) (n : ℕ) (faulty i o : Bool) (h : RunError)
     → SoFar takes in0 in1 out0 out1 s t feed w1 n faulty → StopsReading in1 in2 feed i o h → Moves out1 out2 w1 w2 → TookSome takes in0 in2 out0 out2 s w2 i o h
 stops takes in0 in1 in2 out0 out1 out2 s t feed w1 w2 n faulty i o h f l last =
     let rest = rest_behind in0 in2 in
@@ -178,7 +178,7 @@ stops takes in0 in1 in2 out0 out1 out2 s t feed w1 w2 n faulty i o h f l last =
     }
 
 -- nothing was read any more
-pub stays : (in1 : Option (List ℕ)) (feed : Feed) (i o : Bool) (h : Halt) → IsWhy h i o ⊥ → StopsReading in1 in1 feed i o h
+pub stays : (in1 : Option (List ℕ)) (feed : Feed) (i o : Bool) (h : RunError) → IsWhy h i o ⊥ → StopsReading in1 in1 feed i o h
 stays in1 feed i o h why = record {
   taken = [];
   read = Consumes-nil in1;
@@ -217,7 +217,7 @@ holds_all None in1 taken c e = tt
 holds_all (Some x) None taken c e = absurd c
 holds_all (Some x) (Some y) taken c e = c ∙ ap (λ z. taken ++ z) e
 
-pub all_lost : {S : Type 0} (takes : Takes S) (in0 in1 out0 out1 out2 : Option (List ℕ)) (s t : S) (w w2 : List ℕ) (faulty i o : Bool) (h : Halt)
+pub all_lost : {S : Type 0} (takes : Takes S) (in0 in1 out0 out1 out2 : Option (List ℕ)) (s t : S) (w w2 : List ℕ) (faulty i o : Bool) (h : RunError)
     → TookAll takes in0 in1 out0 out1 s t w faulty → Moves out1 out2 w w2 → h ≡ Device → o ≡ true → AnswersSome takes in0 in1 out0 out2 s i o h
 all_lost takes in0 in1 out0 out1 out2 s t w w2 faulty i o h a last is failed = rw is record {
   first = record {
@@ -236,7 +236,7 @@ all_lost takes in0 in1 out0 out1 out2 s t w w2 faulty i o h a last is failed = r
   written = some_written out0 out2 a.said.text w2 (moves_then out0 out1 out2 a.said.text w w2 a.wrote last);
 }
 
-pub some_answered : {S : Type 0} (takes : Takes S) (in0 in1 out0 out1 out2 : Option (List ℕ)) (s : S) (w w2 : List ℕ) (i o o2 : Bool) (h h2 : Halt)
+pub some_answered : {S : Type 0} (takes : Takes S) (in0 in1 out0 out1 out2 : Option (List ℕ)) (s : S) (w w2 : List ℕ) (i o o2 : Bool) (h h2 : RunError)
     → (a : TookSome takes in0 in1 out0 out1 s w i o h) → Moves out1 out2 w w2 → (IsWhy h i o (MOST_READS ≤ length a.first.taken) → IsWhy h2 i o2 (MOST_READS ≤ length a.first.taken)) → AnswersSome takes in0 in1 out0 out2 s i o2 h2
 some_answered takes in0 in1 out0 out1 out2 s w w2 i o o2 h h2 a last why = record {
   first = record {
@@ -256,7 +256,7 @@ some_answered takes in0 in1 out0 out1 out2 s w w2 i o o2 h h2 a last why = recor
 }
 
 -- what waits to be written is left
-pub some_left : {S : Type 0} (takes : Takes S) (in0 in1 out0 out1 : Option (List ℕ)) (s : S) (w : List ℕ) (i o : Bool) (h h2 : Halt)
+pub some_left : {S : Type 0} (takes : Takes S) (in0 in1 out0 out1 : Option (List ℕ)) (s : S) (w : List ℕ) (i o : Bool) (h h2 : RunError)
     → h ≡ h2 → TookSome takes in0 in1 out0 out1 s w i o h → AnswersSome takes in0 in1 out0 out1 s i o h2
 some_left takes in0 in1 out0 out1 s w i o h h2 is a = rw (sym is) record {
   first = a.first;

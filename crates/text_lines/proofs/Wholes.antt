@@ -2,9 +2,9 @@
 use Rattle.std.proofs.Common.{◌≡◌, ℕ, Bool, false, inl, inr, List, [], ◌++◌, Option, refl, sym, ap, ◌∙◌, subst, append-nil, append_assoc}
 use Rattle.std.specs.Io.KnownBytes.{Appends}
 use Rattle.std.proofs.KnownBytes.{Appends-nil, Appends-trans, Consumes-nil}
-use Rattle.text_lines.specs.declared.halt.Halt.{Halt}
-use Rattle.text_lines.specs.declared.halt.Halt.TheVariants.{Device, Memory}
-use Rattle.text_lines.specs.Halting.{IsWhy, IsWhyOf, StopsShort, WritesSome, status_by}
+use Rattle.text_lines.specs.declared.run_error.RunError.{RunError}
+use Rattle.text_lines.specs.declared.run_error.RunError.TheVariants.{Device, Memory}
+use Rattle.text_lines.specs.RunErrors.{IsWhy, IsWhyOf, StopsShort, WritesSome, status_by}
 use Rattle.text_lines.specs.Taking.{AnswersAll, AnswersSome, Takes}
 use Rattle.text_lines.proofs.Progress.{holds_all, holds_nothing_read, nothing_read}
 
@@ -18,16 +18,16 @@ pub some_after : (a b c : Option (List ℕ)) (text other : List ℕ) → Appends
 some_after a b c text other first w =
     (text ++ w.0, Appends-trans a b c text w.0 first w.1, (w.2.0, append_assoc text w.0 w.2.0 ∙ ap (λ x. text ++ x) w.2.1))
 
-why_by : (h : Halt) (i o : Bool) (Met : Type 0) → IsWhyOf h o → i ≡ false → IsWhy h i o Met
+why_by : (h : RunError) (i o : Bool) (Met : Type 0) → IsWhyOf h o → i ≡ false → IsWhy h i o Met
 why_by Device i o Met e ie = inr (inl e)
 why_by Memory i o Met e ie = (ie, e)
 
 -- all lines were taken, and then something stopped the run
-pub stops_all : {S : Type 0} (takes : Takes S) (in0 in1 out0 out1 out2 : Option (List ℕ)) (s t : S) (faulty i o : Bool) (h : Halt) (output_of : List ℕ → List ℕ)
+pub stops_all : {S : Type 0} (takes : Takes S) (in0 in1 out0 out1 out2 : Option (List ℕ)) (s t : S) (faulty i o : Bool) (h : RunError) (output_of : List ℕ → List ℕ)
     → (a : AnswersAll takes in0 in1 out0 out1 s t faulty) → WritesSome out0 out2 (output_of a.input) → IsWhyOf h o → i ≡ false
     → StopsShort in0 in1 out0 out2 i o output_of (status_by h)
 stops_all takes in0 in1 out0 out1 out2 s t faulty i o h output_of a some why ie = record {
-  halt = h;
+  error = h;
   taken = a.input;
   rest = [];
   read = a.read;
@@ -38,10 +38,10 @@ stops_all takes in0 in1 out0 out1 out2 s t faulty i o h output_of a some why ie 
 }
 
 -- not all lines were taken
-pub stops_some : {S : Type 0} (takes : Takes S) (in0 in1 out0 out1 : Option (List ℕ)) (s : S) (i o : Bool) (h : Halt) (output_of : List ℕ → List ℕ)
+pub stops_some : {S : Type 0} (takes : Takes S) (in0 in1 out0 out1 : Option (List ℕ)) (s : S) (i o : Bool) (h : RunError) (output_of : List ℕ → List ℕ)
     → (a : AnswersSome takes in0 in1 out0 out1 s i o h) → WritesSome out0 out1 (output_of (a.first.taken ++ a.first.rest)) → StopsShort in0 in1 out0 out1 i o output_of (status_by h)
 stops_some takes in0 in1 out0 out1 s i o h output_of a some = record {
-  halt = h;
+  error = h;
   taken = a.first.taken;
   rest = a.first.rest;
   read = a.first.read;
@@ -54,7 +54,7 @@ stops_some takes in0 in1 out0 out1 s i o h output_of a some = record {
 -- memory ran out before anything was read
 pub stops_at_once : (in0 out0 : Option (List ℕ)) (i o : Bool) (output_of : List ℕ → List ℕ) → i ≡ false → o ≡ false → StopsShort in0 in0 out0 out0 i o output_of 5
 stops_at_once in0 out0 i o output_of ie oe = record {
-  halt = Memory;
+  error = Memory;
   taken = [];
   rest = nothing_read in0;
   read = Consumes-nil in0;

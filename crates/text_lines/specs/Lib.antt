@@ -1,4 +1,4 @@
 pub mod Lines
 pub mod Reading
-pub mod Halting
+pub mod RunErrors
 pub mod Taking

@@ -2,8 +2,8 @@
 use Rattle.std.specs.Prelude.{◌≡◌, ℕ, ◌+◌, ◌*◌, ◌≤◌, ◌<◌, Bool, true, false, List, [], ◌∷◌, ◌++◌, length, Option}
 use Rattle.std.specs.Io.KnownBytes.{Consumes, IsAtEnd}
 use Rattle.text_lines.specs.Lines.{lines_of, HasNoFeed}
-use Rattle.text_lines.specs.Halting.{IsWhy}
-use Rattle.text_lines.specs.declared.halt.Halt.{Halt}
+use Rattle.text_lines.specs.RunErrors.{IsWhy}
+use Rattle.text_lines.specs.declared.run_error.RunError.{RunError}
 
 -- bytes that were read and not yet taken, how many reads may still be made, and whether a read found the end
 pub record Feed : Type 0 where
@@ -61,8 +61,8 @@ pub record Gathers (in0 in1 : Option (List ℕ)) (old now : Feed) (line : List �
   pub least : now.ended ≡ false → old.left ≤ length taken + now.left
 
 -- some bytes were read, and no further line can be had; the limit is met where no read is left
-pub record StopsReading (in0 in1 : Option (List ℕ)) (old : Feed) (in_failed out_failed : Bool) (halt : Halt) : Type 0 where
+pub record StopsReading (in0 in1 : Option (List ℕ)) (old : Feed) (in_failed out_failed : Bool) (error : RunError) : Type 0 where
   pub taken : List ℕ
   pub read : Consumes in0 in1 taken
   pub stays : old.ended ≡ true → taken ≡ []
-  pub why : IsWhy halt in_failed out_failed ((old.ended ≡ false) × (old.left ≤ length taken))
+  pub why : IsWhy error in_failed out_failed ((old.ended ≡ false) × (old.left ≤ length taken))

@@ -3,9 +3,9 @@ use Rattle.std.specs.Prelude.{◌≡◌, ℕ, ◌+◌, ◌*◌, ◌≤◌, ◌||
 use Rattle.std.specs.Io.KnownBytes.{Appends, Consumes, IsAtEnd}
 use Rattle.text_lines.specs.Lines.{lines_of}
 use Rattle.text_lines.specs.Reading.{Feed, KnowsEnd, MayCome, most_left}
-use Rattle.text_lines.specs.Halting.{Holds, IsWhy, Moves, WritesSome}
-use Rattle.text_lines.specs.declared.halt.Halt.{Halt}
-use Rattle.text_lines.specs.declared.lines.TheConstants.{MOST_READS}
+use Rattle.text_lines.specs.RunErrors.{Holds, IsWhy, Moves, WritesSome}
+use Rattle.text_lines.specs.declared.run_error.RunError.{RunError}
+use Rattle.text_lines.specs.declared.line_buffer.TheConstants.{MOST_READS}
 
 -- what is said to a line, and whether the line is a fault
 pub record Said : Type 0 where
@@ -39,7 +39,7 @@ pub record AnswersAll {S : Type 0} (takes : Takes S) (in0 in1 out0 out1 : Option
   pub faulty_is : faulty ≡ said.faulty
 
 -- the first lines of the input were taken, and no more for this reason
-pub record FirstLines {S : Type 0} (takes : Takes S) (in0 in1 : Option (List ℕ)) (s : S) (in_failed out_failed : Bool) (halt : Halt) : Type 0 where
+pub record FirstLines {S : Type 0} (takes : Takes S) (in0 in1 : Option (List ℕ)) (s : S) (in_failed out_failed : Bool) (error : RunError) : Type 0 where
   pub taken : List ℕ
   pub rest : List ℕ
   pub lines : List (List ℕ)
@@ -50,11 +50,11 @@ pub record FirstLines {S : Type 0} (takes : Takes S) (in0 in1 : Option (List ℕ
   pub held : Holds in0 (taken ++ rest)
   pub split : lines_of (taken ++ rest) ≡ lines ++ others
   pub each : TakesEach takes s 1 lines said last
-  pub why : IsWhy halt in_failed out_failed (MOST_READS ≤ length taken)
+  pub why : IsWhy error in_failed out_failed (MOST_READS ≤ length taken)
 
 -- the first lines of the input were taken, and a beginning of what was said to them was written
-pub record AnswersSome {S : Type 0} (takes : Takes S) (in0 in1 out0 out1 : Option (List ℕ)) (s : S) (in_failed out_failed : Bool) (halt : Halt) : Type 0 where
-  pub first : FirstLines takes in0 in1 s in_failed out_failed halt
+pub record AnswersSome {S : Type 0} (takes : Takes S) (in0 in1 out0 out1 : Option (List ℕ)) (s : S) (in_failed out_failed : Bool) (error : RunError) : Type 0 where
+  pub first : FirstLines takes in0 in1 s in_failed out_failed error
   pub written : WritesSome out0 out1 first.said.text
 
 -- ---- on the way, with a page of text that waits to be written
@@ -85,6 +85,6 @@ pub record TookAll {S : Type 0} (takes : Takes S) (in0 in1 out0 out1 : Option (L
   pub faulty_is : faulty ≡ said.faulty
 
 -- the first lines of it were
-pub record TookSome {S : Type 0} (takes : Takes S) (in0 in1 out0 out1 : Option (List ℕ)) (s : S) (waits : List ℕ) (in_failed out_failed : Bool) (halt : Halt) : Type 0 where
-  pub first : FirstLines takes in0 in1 s in_failed out_failed halt
+pub record TookSome {S : Type 0} (takes : Takes S) (in0 in1 out0 out1 : Option (List ℕ)) (s : S) (waits : List ℕ) (in_failed out_failed : Bool) (error : RunError) : Type 0 where
+  pub first : FirstLines takes in0 in1 s in_failed out_failed error
   pub wrote : Moves out0 out1 first.said.text waits

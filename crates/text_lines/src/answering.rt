@@ -1,10 +1,10 @@
 ghost use Rattle.std.specs.Prelude.{◌≡◌, [], false, IfErr, IfOk, OnOk};
-ghost use Rattle.text_lines.specs.Halting.{BothWork};
+ghost use Rattle.text_lines.specs.RunErrors.{BothWork};
 ghost use Rattle.text_lines.specs.Taking.{AnswersAll, AnswersSome, TookAll, TookSome};
 
-use crate::halt::Halt;
-use crate::lines::Lines;
+use crate::line_buffer::LineBuffer;
 use crate::page::Page;
+use crate::run_error::RunError;
 use crate::taker::LineTaker;
 use session_devices::{Input, Output};
 use std::alloc::Global;
@@ -17,7 +17,7 @@ fn take_lines<R: Input, W: Output, T: LineTaker>(
     output: &mut W,
     page: &mut Page,
     taker: &mut T,
-) -> Result<bool, Halt>
+) -> Result<bool, RunError>
     requires input_works { R.has_failed input.old ≡ false }
     requires output_works { W.has_failed output.old ≡ false }
     requires empty { page.old ≡ [] }
@@ -28,7 +28,7 @@ fn take_lines<R: Input, W: Output, T: LineTaker>(
         (W.contents output.old) (W.contents output.new) taker.old page.new
         (R.has_failed input.new) (W.has_failed output.new)) }
 {
-    let mut lines = Lines::new(alloc)?;
+    let mut lines = LineBuffer::new(alloc)?;
     let mut line = Vec::new(alloc);
     let mut said = Vec::new(alloc);
     let mut number = 0u64;
@@ -54,7 +54,7 @@ pub fn answer_lines<R: Input, W: Output, T: LineTaker>(
     input: &mut R,
     output: &mut W,
     taker: &mut T,
-) -> Result<bool, Halt>
+) -> Result<bool, RunError>
     requires input_works { R.has_failed input.old ≡ false }
     requires output_works { W.has_failed output.old ≡ false }
     ensures all { IfOk result (AnswersAll T.takes (R.remaining input.old) (R.remaining input.new)
@@ -70,10 +70,10 @@ pub fn answer_lines<R: Input, W: Output, T: LineTaker>(
             page.hand_out(output)?;
             Ok(faulty)
         }
-        Err(Halt::Memory) => {
+        Err(RunError::Memory) => {
             page.hand_out(output)?;
-            Err(Halt::Memory)
+            Err(RunError::Memory)
         }
-        Err(Halt::Device) => Err(Halt::Device),
+        Err(RunError::Device) => Err(RunError::Device),
     }
 }

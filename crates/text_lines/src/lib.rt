@@ -8,19 +8,19 @@
 //!
 //! * `answering`: the lines of an input, answered one by one.
 //! * `taker`: what takes lines.
-//! * `lines`: the lines of an input, one at a time.
+//! * `line_buffer`: the lines of an input, one at a time.
 //! * `page`: text that waits to be written.
-//! * `halt`: why a run stops before the end of its input.
+//! * `run_error`: why a run stops before the end of its input.
 #![tactic(auto)]
 
 mod answering;
-mod halt;
-mod lines;
+mod line_buffer;
 mod page;
+mod run_error;
 mod taker;
 
 pub use answering::answer_lines;
-pub use halt::Halt;
-pub use lines::MOST_READS;
+pub use line_buffer::MOST_READS;
 pub use page::{Page, say};
+pub use run_error::RunError;
 pub use taker::LineTaker;

@@ -1,7 +1,7 @@
 ghost use Rattle.std.specs.Prelude.{◌≡◌, ◌≤◌, ◌++◌, [], false, true, IfErr, IfOk, OnErr, OnOk, drop, length, vec_len};
-ghost use Rattle.text_lines.specs.Halting.{Moves, Says};
+ghost use Rattle.text_lines.specs.RunErrors.{Moves, Says};
 
-use crate::halt::Halt;
+use crate::run_error::RunError;
 use session_devices::Output;
 use std::alloc::{AllocError, Global};
 use std::marker::Model;
@@ -54,12 +54,12 @@ impl Page {
     /// # Errors
     ///
     /// The output failed; what it didn't take waits still.
-    pub fn hand_out<W: Output>(&mut self, output: &mut W) -> Result<(), Halt>
+    pub fn hand_out<W: Output>(&mut self, output: &mut W) -> Result<(), RunError>
         requires { W.has_failed output.old ≡ false }
         ensures moves { Moves (W.contents output.old) (W.contents output.new) self.old self.new }
         ensures ok { OnOk result (self.new ≡ []) }
         ensures works { OnOk result (W.has_failed output.new ≡ false) }
-        ensures err { IfErr result (λ h. (h ≡ Halt.Device) × (W.has_failed output.new ≡ true)) }
+        ensures err { IfErr result (λ h. (h ≡ RunError.Device) × (W.has_failed output.new ≡ true)) }
     {
         'writes: while self.at < self.text.len() {
             let count = output.write(&self.text.as_slice()[self.at..])?;
@@ -75,11 +75,11 @@ impl Page {
     /// # Errors
     ///
     /// The output failed; what it didn't take waits still.
-    pub fn make_room<W: Output>(&mut self, output: &mut W) -> Result<(), Halt>
+    pub fn make_room<W: Output>(&mut self, output: &mut W) -> Result<(), RunError>
         requires { W.has_failed output.old ≡ false }
         ensures moves { Moves (W.contents output.old) (W.contents output.new) self.old self.new }
         ensures works { OnOk result (W.has_failed output.new ≡ false) }
-        ensures err { IfErr result (λ h. (h ≡ Halt.Device) × (W.has_failed output.new ≡ true)) }
+        ensures err { IfErr result (λ h. (h ≡ RunError.Device) × (W.has_failed output.new ≡ true)) }
     {
         if self.text.len() >= MOST_WAITING {
             self.hand_out(output)?;
@@ -93,7 +93,7 @@ impl Page {
 /// # Errors
 ///
 /// The output failed, or memory ran out.
-pub fn say<W: Output>(alloc: Global, output: &mut W, text: &[u8]) -> Result<(), Halt>
+pub fn say<W: Output>(alloc: Global, output: &mut W, text: &[u8]) -> Result<(), RunError>
     requires { W.has_failed output.old ≡ false }
     ensures { Says (W.contents output.old) (W.contents output.new)
         (W.has_failed output.new) text.now result }

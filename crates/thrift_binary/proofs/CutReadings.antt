@@ -9,7 +9,7 @@ use Rattle.thrift_binary.specs.Reading.{◌>>=◌, Read, byte_at, bool_at, bytes
 use Rattle.thrift_binary.specs.Skipping.{width}
 use Rattle.thrift_binary.specs.Cuts.{whole, unsettled, IsCutSafe}
 use Rattle.thrift_binary.proofs.Found.{big_number-take}
-use Rattle.thrift_binary.proofs.Cuts.{cut_ok, cut_err, cut_front, cut_then, cut_if}
+use Rattle.thrift_binary.proofs.Cuts.{cut_ok, cut_err, cut_beginning, cut_then, cut_if}
 
 pub byte_cut : IsCutSafe Truncated byte_at
 byte_cut [] = unsettled nothing
@@ -26,13 +26,13 @@ byte_cut (b ∷ w) = whole b (record {
 })
 
 pub bytes_cut : (n : ℕ) → IsCutSafe Truncated (bytes_at n)
-bytes_cut n = cut_front Truncated n (take n) (λ w le. sym (take_at (take n w) [] n (length-take-le n w le)) ∙ ap (take n) (append-nil (take n w)))
+bytes_cut n = cut_beginning Truncated n (take n) (λ w le. sym (take_at (take n w) [] n (length-take-le n w le)) ∙ ap (take n) (append-nil (take n w)))
 
 pub number_cut : (n : ℕ) → IsCutSafe Truncated (number_at n)
-number_cut n = cut_front Truncated n (big_number n) (λ w le. big_number-take n w le)
+number_cut n = cut_beginning Truncated n (big_number n) (λ w le. big_number-take n w le)
 
 pub signed_cut : (width : Width) (n : ℕ) → IsCutSafe Truncated (signed_at width n)
-signed_cut width n = cut_front Truncated n (λ w. cast_signed width (big_number n w)) (λ w le. ap (cast_signed width) (big_number-take n w le))
+signed_cut width n = cut_beginning Truncated n (λ w. cast_signed width (big_number n w)) (λ w le. ap (cast_signed width) (big_number-take n w le))
 
 abbrev said : Bool → List ℕ → Read Bool
 said x v = Ok (x, v)

@@ -7,7 +7,7 @@ use Rattle.thrift_binary.specs.Skipping.{Skip, past, both, times, text, struct, 
 use Rattle.thrift_binary.specs.Cuts.{IsCutSafe}
 use Rattle.thrift_binary.proofs.SkipFound.{value_found}
 use Rattle.thrift_binary.proofs.SkipAgain.{value_some}
-use Rattle.thrift_binary.proofs.Cuts.{cut_ok, cut_err, cut_front, cut_then, cut_if, cut_map, cut_unless_empty}
+use Rattle.thrift_binary.proofs.Cuts.{cut_ok, cut_err, cut_beginning, cut_then, cut_if, cut_map, cut_unless_empty}
 use Rattle.thrift_binary.proofs.CutReadings.{string_cut, list_head_cut, map_head_cut}
 use Rattle.thrift_binary.proofs.CutFields.{fields_cut}
 
@@ -18,7 +18,7 @@ refused_cut : (e : WireError) → IsCutSafe Truncated (refused e)
 refused_cut e = cut_err Truncated (refused e) e (λ v. refl)
 
 pub past_cut : (n : ℕ) → IsCutSafe Truncated (past n)
-past_cut n = cut_front Truncated n (λ w. tt) (λ w le. refl)
+past_cut n = cut_beginning Truncated n (λ w. tt) (λ w le. refl)
 
 both_cut : (a b : Skip) → IsCutSafe Truncated a → IsCutSafe Truncated b → IsCutSafe Truncated (both a b)
 both_cut a b one two = cut_then Truncated a (λ x. b) one (λ x. two)

@@ -10,8 +10,8 @@ use Rattle.thrift_binary.specs.Cuts.{Settled, Cut, whole, faulty, unsettled, IsC
 
 -- ---- a beginning of two texts
 
-take_front : (m : ℕ) (a b : List ℕ) → m < length a → take m (a ++ b) ≡ take m a
-take_front m a b lt = take-append-le m a b (omega arith)
+take_beginning : (m : ℕ) (a b : List ℕ) → m < length a → take m (a ++ b) ≡ take m a
+take_beginning m a b lt = take-append-le m a b (omega arith)
 
 take_past : (m : ℕ) (a b : List ℕ) → length a ≤ m → take m (a ++ b) ≡ a ++ take (m - length a) b
 take_past m a b le =
@@ -60,7 +60,7 @@ module _ {A E : Type 0} (short : E) (read : List ℕ → Result (A × List ℕ) 
           let within : length s.text ≤ length w = omega (arith, ap length s.parts, length-append s.text s.rest) in (
             length s.text,
             within,
-            λ m lt. ap (λ (v : List ℕ). read (take m v)) s.parts ∙ ap read (take_front m s.text s.rest lt) ∙ s.before m lt,
+            λ m lt. ap (λ (v : List ℕ). read (take m v)) s.parts ∙ ap read (take_beginning m s.text s.rest lt) ∙ s.before m lt,
             λ v. ap (λ (t : List ℕ). read (t ++ v)) front ∙ s.same v ∙ ap (λ (x : E). Err x) here,
           )
       by (unsettled b) = absurd (not_short (err_is e short (sym is ∙ ap read (sym (take-length w)) ∙ b (length w))))
@@ -85,7 +85,7 @@ module _ {A E : Type 0} (short : E) (read : List ℕ → Result (A × List ℕ) 
           fault : e ≡ short → Settled short read w (λ v. Err e) → (b : Bool) → ltb m (length s.text) ≡ b → read (take m w) ≡ Err short
           fault same t true lt =
               let in_front : m < length s.text = ltb-true _ _ lt in
-              ap (λ (v : List ℕ). read (take m v)) s.parts ∙ ap read (take_front m s.text s.rest in_front) ∙ s.before m in_front
+              ap (λ (v : List ℕ). read (take m v)) s.parts ∙ ap read (take_beginning m s.text s.rest in_front) ∙ s.before m in_front
           fault same t false lt =
               let le : length s.text ≤ m = ltb-false _ _ lt in
               ap (λ (v : List ℕ). read (take m v)) s.parts ∙ ap read (take_past m s.text s.rest le) ∙ s.same (take (m - length s.text) s.rest) ∙ ap (λ (x : E). Err x) same
@@ -100,17 +100,17 @@ module _ {A E : Type 0} (short : E) (read : List ℕ → Result (A × List ℕ) 
   cut_err e is w = faulty e (record { text = []; rest = w; parts = refl; same = is; before = λ m lt. absurd (omega arith) })
 
 -- n bytes, of which the value is made
-abbrev pub front_at : {A E : Type 0} → E → ℕ → (List ℕ → A) → List ℕ → Result (A × List ℕ) E
-front_at short n value w = cond (ltb (length w) n) (Err short) (Ok (value w, drop n w))
+abbrev pub beginning_at : {A E : Type 0} → E → ℕ → (List ℕ → A) → List ℕ → Result (A × List ℕ) E
+beginning_at short n value w = cond (ltb (length w) n) (Err short) (Ok (value w, drop n w))
 
-pub cut_front : {A E : Type 0} (short : E) (n : ℕ) (value : List ℕ → A) → ((w : List ℕ) → n ≤ length w → value w ≡ value (take n w))
-    → IsCutSafe short (front_at short n value)
-cut_front {A = A} {E = E} short n value near w = by (ltb (length w) n) refl
+pub cut_beginning : {A E : Type 0} (short : E) (n : ℕ) (value : List ℕ → A) → ((w : List ℕ) → n ≤ length w → value w ≡ value (take n w))
+    → IsCutSafe short (beginning_at short n value)
+cut_beginning {A = A} {E = E} short n value near w = by (ltb (length w) n) refl
   where
-    less : (v : List ℕ) → length v < n → front_at short n value v ≡ Err short
+    less : (v : List ℕ) → length v < n → beginning_at short n value v ≡ Err short
     less v lt = let small : ltb (length v) n ≡ true = lt-ltb _ _ lt in rw small refl
 
-    by : (b : Bool) → ltb (length w) n ≡ b → Cut short (front_at short n value) w
+    by : (b : Bool) → ltb (length w) n ≡ b → Cut short (beginning_at short n value) w
     by true e = let lt : length w < n = ltb-true _ _ e in unsettled (λ m. less (take m w) (omega (arith, length-take m w)))
     by false e =
         let le : n ≤ length w = ltb-false _ _ e in
@@ -147,7 +147,7 @@ module _ {A B E : Type 0} (short : E) (read : List ℕ → Result (A × List ℕ
       early : (m : ℕ) (b : Bool) → ltb m (length s.text) ≡ b → m < length (s.text ++ t.text) → (read (take m (s.text ++ t.text)) >>= λ y. next y.0 y.1) ≡ Err short
       early m true e lt =
           let in_first : m < length s.text = ltb-true _ _ e in
-          first_err _ short (ap read (take_front m s.text t.text in_first) ∙ s.before m in_first)
+          first_err _ short (ap read (take_beginning m s.text t.text in_first) ∙ s.before m in_first)
       early m false e lt =
           let le : length s.text ≤ m = ltb-false _ _ e in
           let k : ℕ = m - length s.text in
@@ -163,7 +163,7 @@ module _ {A B E : Type 0} (short : E) (read : List ℕ → Result (A × List ℕ
       late : ((m : ℕ) → next x (take m s.rest) ≡ Err short) → (m : ℕ) (b : Bool) → ltb m (length s.text) ≡ b → (read (take m w) >>= λ y. next y.0 y.1) ≡ Err short
       late h m true e =
           let in_first : m < length s.text = ltb-true _ _ e in
-          first_err _ short (ap (λ (v : List ℕ). read (take m v)) s.parts ∙ ap read (take_front m s.text s.rest in_first) ∙ s.before m in_first)
+          first_err _ short (ap (λ (v : List ℕ). read (take m v)) s.parts ∙ ap read (take_beginning m s.text s.rest in_first) ∙ s.before m in_first)
       late h m false e =
           let le : length s.text ≤ m = ltb-false _ _ e in
           first_ok _ (take (m - length s.text) s.rest) x (Err short) (ap (λ (v : List ℕ). read (take m v)) s.parts ∙ ap read (take_past m s.text s.rest le) ∙ s.same (take (m - length s.text) s.rest)) (h (m - length s.text))

@@ -10,7 +10,7 @@ use Rattle.thrift_binary.specs.declared.fault.WireError.{WireError}
 use Rattle.thrift_binary.specs.declared.fault.WireError.TheVariants.{Truncated, BadLength, BadType, BadBool}
 use Rattle.thrift_binary.specs.Reading.{◌>>=◌, lift, Read, Reads, stopped, typed, bool_at, bytes_at, number_at, signed_at, size_at, string_at, field_at, field_behind, is_code}
 use Rattle.thrift_binary.specs.Fields.{Take, fields_in, fields_at, behind_field}
-use Rattle.thrift_binary.specs.Spelling.{Front, IsBool, IsI32, IsI64, IsDouble, IsSize, IsString, Field, IsFieldHead, IsFields, has, IsLast}
+use Rattle.thrift_binary.specs.Spelling.{Beginning, IsBool, IsI32, IsI64, IsDouble, IsSize, IsString, Field, IsFieldHead, IsFields, has, IsLast}
 
 -- the value of a step that did not fail
 pub bind_ok : {A B E : Type 0} (r : Result A E) (f : A → Result B E) (y : B) → (r >>= f) ≡ Ok y → (x : A) × (r ≡ Ok x) × (f x ≡ Ok y)
@@ -92,10 +92,10 @@ signed_found width n w z r e =
 abbrev said : Bool → List ℕ → Read Bool
 said x v = Ok (x, v)
 
-bool_behind_found : (b : ℕ) (v : List ℕ) (x : Bool) (r : List ℕ) → cond (eqb b 0) (said false v) (cond (eqb b 1) (said true v) (Err BadBool)) ≡ Ok (x, r) → Front (λ t. IsBool t x) (b ∷ v) r
+bool_behind_found : (b : ℕ) (v : List ℕ) (x : Bool) (r : List ℕ) → cond (eqb b 0) (said false v) (cond (eqb b 1) (said true v) (Err BadBool)) ≡ Ok (x, r) → Beginning (λ t. IsBool t x) (b ∷ v) r
 bool_behind_found b v x r e = by (eqb b 0) (eqb b 1) refl refl e
   where
-    here : (k : ℕ) (y : Bool) → b ≡ k → IsBool (k ∷ []) y → said y v ≡ said x r → Front (λ t. IsBool t x) (b ∷ v) r
+    here : (k : ℕ) (y : Bool) → b ≡ k → IsBool (k ∷ []) y → said y v ≡ said x r → Beginning (λ t. IsBool t x) (b ∷ v) r
     here k y b-is is h =
         let made : Bool × List ℕ = (y, v) in
         let same : made ≡ (x, r) = ok_is made (x, r) h in
@@ -103,23 +103,23 @@ bool_behind_found b v x r e = by (eqb b 0) (eqb b 1) refl refl e
         let r-is : v ≡ r = ap (λ (p : Bool × List ℕ). p.1) same in
         record { text = k ∷ []; parts = ap (λ (a : ℕ). a ∷ v) b-is ∙ ap (λ (t : List ℕ). k ∷ t) r-is; spells = subst (λ z. IsBool (k ∷ []) z) y-is is }
 
-    by : (p q : Bool) → eqb b 0 ≡ p → eqb b 1 ≡ q → cond p (said false v) (cond q (said true v) (Err BadBool)) ≡ Ok (x, r) → Front (λ t. IsBool t x) (b ∷ v) r
+    by : (p q : Bool) → eqb b 0 ≡ p → eqb b 1 ≡ q → cond p (said false v) (cond q (said true v) (Err BadBool)) ≡ Ok (x, r) → Beginning (λ t. IsBool t x) (b ∷ v) r
     by true q zero_is one_is h = here 0 false (eqb-true b 0 zero_is) refl h
     by false true zero_is one_is h = here 1 true (eqb-true b 1 one_is) refl h
     by false false zero_is one_is h = absurd cc
 
-pub bool_found : (w : List ℕ) (x : Bool) (r : List ℕ) → bool_at w ≡ Ok (x, r) → Front (λ t. IsBool t x) w r
+pub bool_found : (w : List ℕ) (x : Bool) (r : List ℕ) → bool_at w ≡ Ok (x, r) → Beginning (λ t. IsBool t x) w r
 unfolding bool_at
 bool_found [] x r e = absurd cc
 bool_found (b ∷ v) x r e = bool_behind_found b v x r e
 
-pub i32_found : (w : List ℕ) (z : ℤ) (r : List ℕ) → signed_at w32 4 w ≡ Ok (z, r) → Front (λ t. IsI32 t z) w r
+pub i32_found : (w : List ℕ) (z : ℤ) (r : List ℕ) → signed_at w32 4 w ≡ Ok (z, r) → Beginning (λ t. IsI32 t z) w r
 i32_found w z r e = let s = signed_found w32 4 w z r e in record { text = s.text; parts = s.parts; spells = (s.long, s.value) }
 
-pub i64_found : (w : List ℕ) (z : ℤ) (r : List ℕ) → signed_at w64 8 w ≡ Ok (z, r) → Front (λ t. IsI64 t z) w r
+pub i64_found : (w : List ℕ) (z : ℤ) (r : List ℕ) → signed_at w64 8 w ≡ Ok (z, r) → Beginning (λ t. IsI64 t z) w r
 i64_found w z r e = let s = signed_found w64 8 w z r e in record { text = s.text; parts = s.parts; spells = (s.long, s.value) }
 
-pub bytes_found : (n : ℕ) (w bytes r : List ℕ) → bytes_at n w ≡ Ok (bytes, r) → Front (λ t. (length t ≡ n) × (t ≡ bytes)) w r
+pub bytes_found : (n : ℕ) (w bytes r : List ℕ) → bytes_at n w ≡ Ok (bytes, r) → Beginning (λ t. (length t ≡ n) × (t ≡ bytes)) w r
 bytes_found n w bytes r e =
     let g = guard_ok (ltb (length w) n) Truncated (take n w, drop n w) (bytes, r) e in
     let long : n ≤ length w = ltb-false _ _ g.0 in
@@ -127,7 +127,7 @@ bytes_found n w bytes r e =
     let r-is : drop n w ≡ r = ap (λ (p : List ℕ × List ℕ). p.1) g.1 in
     record { text = take n w; parts = rw (← r-is) (sym (take-append-drop n w)); spells = (omega (arith, length-take n w), bytes-is) }
 
-pub double_found : (w bytes r : List ℕ) → bytes_at 8 w ≡ Ok (bytes, r) → Front (λ t. IsDouble t bytes) w r
+pub double_found : (w bytes r : List ℕ) → bytes_at 8 w ≡ Ok (bytes, r) → Beginning (λ t. IsDouble t bytes) w r
 double_found w bytes r e = bytes_found 8 w bytes r e
 
 pub record Sized (w : List ℕ) (m : ℕ) (r : List ℕ) : Type 0 where
@@ -287,13 +287,13 @@ path_last {A = A} P place c i Spells one (f ∷ fs) s t (u, d, p) = by (path_las
 -- ---- what a call on a cursor gave
 
 pub reads_spelled : {X Y : Type 0} (view : X → Y) (read : List ℕ → Read Y) (Spells : List ℕ → Y → Type 0)
-    → ((w : List ℕ) (y : Y) (r : List ℕ) → read w ≡ Ok (y, r) → Front (λ t. Spells t y) w r)
-    → (old : List ℕ) (result : Result X WireError) (new : List ℕ) → Reads view read old result new → IfOk result (λ x. Front (λ t. Spells t (view x)) old new)
+    → ((w : List ℕ) (y : Y) (r : List ℕ) → read w ≡ Ok (y, r) → Beginning (λ t. Spells t y) w r)
+    → (old : List ℕ) (result : Result X WireError) (new : List ℕ) → Reads view read old result new → IfOk result (λ x. Beginning (λ t. Spells t (view x)) old new)
 reads_spelled view read Spells f old (Ok x) new h = f old (view x) new h
 reads_spelled view read Spells f old (Err e) new h = tt
 
-pub string_front : (w bytes r : List ℕ) → string_at w ≡ Ok (bytes, r) → Front (λ t. IsString t bytes) w r
-string_front w bytes r e = let s = string_found w bytes r e in record { text = s.text; parts = s.parts; spells = s.spells }
+pub string_beginning : (w bytes r : List ℕ) → string_at w ≡ Ok (bytes, r) → Beginning (λ t. IsString t bytes) w r
+string_beginning w bytes r e = let s = string_found w bytes r e in record { text = s.text; parts = s.parts; spells = s.spells }
 
-pub field_front : (w : List ℕ) (c : ℕ) (i : ℤ) (r : List ℕ) → field_at w ≡ Ok (Some (c, i), r) → Front (IsFieldHead c i) w r
-field_front w c i r e = let h = field_found w c i r e in record { text = c ∷ h.text; parts = h.parts; spells = (h.text, h.long, h.value, refl, h.coded) }
+pub field_beginning : (w : List ℕ) (c : ℕ) (i : ℤ) (r : List ℕ) → field_at w ≡ Ok (Some (c, i), r) → Beginning (IsFieldHead c i) w r
+field_beginning w c i r e = let h = field_found w c i r e in record { text = c ∷ h.text; parts = h.parts; spells = (h.text, h.long, h.value, refl, h.coded) }

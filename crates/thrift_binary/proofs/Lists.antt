@@ -6,7 +6,7 @@ use Rattle.thrift_binary.specs.declared.fault.WireError.{WireError}
 use Rattle.thrift_binary.specs.declared.fault.WireError.TheVariants.{BadType}
 use Rattle.thrift_binary.specs.Reading.{◌>>=◌, lift, size_at, list_at, is_code}
 use Rattle.thrift_binary.specs.Lists.{items_at, list_of}
-use Rattle.thrift_binary.specs.Spelling.{Front, IsSize, IsEach, IsListHead, IsTypedList}
+use Rattle.thrift_binary.specs.Spelling.{Beginning, IsSize, IsEach, IsListHead, IsTypedList}
 use Rattle.thrift_binary.proofs.Found.{bind_ok, lift_ok, ok_is}
 use Rattle.thrift_binary.proofs.SkipFound.{list_head_found}
 use Rattle.thrift_binary.proofs.Again.{size_again}
@@ -16,8 +16,8 @@ one_then_other w a v b r p q = p ∙ ap (λ (t : List ℕ). a ++ t) q ∙ sym (a
 
 -- the values that were read, and the spelling of each
 pub items_found : {A E : Type 0} (one : List ℕ → Result (A × List ℕ) E) (Spells : List ℕ → A → Type 0)
-    → ((w : List ℕ) (x : A) (r : List ℕ) → one w ≡ Ok (x, r) → Front (λ t. Spells t x) w r)
-    → (n : ℕ) (w : List ℕ) (xs : List A) (r : List ℕ) → items_at one n w ≡ Ok (xs, r) → (length xs ≡ n) × Front (IsEach Spells xs) w r
+    → ((w : List ℕ) (x : A) (r : List ℕ) → one w ≡ Ok (x, r) → Beginning (λ t. Spells t x) w r)
+    → (n : ℕ) (w : List ℕ) (xs : List A) (r : List ℕ) → items_at one n w ≡ Ok (xs, r) → (length xs ≡ n) × Beginning (IsEach Spells xs) w r
 unfolding items_at
 items_found {A = A} one Spells f zero w xs r e =
     let none : List A = [] in
@@ -25,7 +25,7 @@ items_found {A = A} one Spells f zero w xs r e =
     let same : made ≡ (xs, r) = ok_is made (xs, r) e in
     let xs-is : none ≡ xs = ap (λ (p : List A × List ℕ). p.0) same in
     let r-is : w ≡ r = ap (λ (p : List A × List ℕ). p.1) same in
-    subst (λ (ys : List A). (length ys ≡ zero) × Front (IsEach Spells ys) w r) xs-is (refl, record { text = []; parts = r-is; spells = refl })
+    subst (λ (ys : List A). (length ys ≡ zero) × Beginning (IsEach Spells ys) w r) xs-is (refl, record { text = []; parts = r-is; spells = refl })
 items_found {A = A} one Spells f (suc n) w xs r e =
     let k = bind_ok (one w) (λ x. items_at one n x.1 >>= λ y. Ok (x.0 ∷ y.0, y.1)) (xs, r) e in
     let m = bind_ok (items_at one n k.0.1) (λ y. Ok (k.0.0 ∷ y.0, y.1)) (xs, r) k.2 in
@@ -36,13 +36,13 @@ items_found {A = A} one Spells f (suc n) w xs r e =
     let same : made ≡ (xs, r) = ok_is made (xs, r) m.2 in
     let xs-is : whole ≡ xs = ap (λ (p : List A × List ℕ). p.0) same in
     let r-is : m.0.1 ≡ r = ap (λ (p : List A × List ℕ). p.1) same in
-    let front : Front (IsEach Spells whole) w r = record {
+    let front : Beginning (IsEach Spells whole) w r = record {
       text = first.text ++ others.1.text;
       parts = one_then_other w first.text k.0.1 others.1.text r first.parts (others.1.parts ∙ ap (λ (t : List ℕ). others.1.text ++ t) r-is);
       spells = (first.text, others.1.text, first.spells, refl, others.1.spells);
     } in
     let long : length whole ≡ suc n = omega (arith, others.0) in
-    subst (λ (ys : List A). (length ys ≡ suc n) × Front (IsEach Spells ys) w r) xs-is (long, front)
+    subst (λ (ys : List A). (length ys ≡ suc n) × Beginning (IsEach Spells ys) w r) xs-is (long, front)
 
 pub items_again : {A E : Type 0} (one : List ℕ → Result (A × List ℕ) E) (Spells : List ℕ → A → Type 0)
     → ((t r : List ℕ) (x : A) → Spells t x → one (t ++ r) ≡ Ok (x, r))
@@ -65,15 +65,15 @@ allowed n e c h some = by (eqb n 0) (eqb e c) refl refl h
     by false false p q h = absurd cc
 
 pub list_found : {A E : Type 0} (wire : WireError → E) (c : ℕ) (one : List ℕ → Result (A × List ℕ) E) (Spells : List ℕ → A → Type 0)
-    → ((w : List ℕ) (x : A) (r : List ℕ) → one w ≡ Ok (x, r) → Front (λ t. Spells t x) w r)
-    → (w : List ℕ) (xs : List A) (r : List ℕ) → list_of wire c one w ≡ Ok (xs, r) → Front (λ t. IsTypedList c Spells t xs) w r
+    → ((w : List ℕ) (x : A) (r : List ℕ) → one w ≡ Ok (x, r) → Beginning (λ t. Spells t x) w r)
+    → (w : List ℕ) (xs : List A) (r : List ℕ) → list_of wire c one w ≡ Ok (xs, r) → Beginning (λ t. IsTypedList c Spells t xs) w r
 unfolding list_of
 list_found {A = A} {E = E} wire c one Spells f w xs r e =
     let k = bind_ok (lift wire (list_at w)) (λ h. cond (eqb h.0.1 0 || eqb h.0.0 c) (items_at one h.0.1 h.1) (Err (wire BadType))) (xs, r) e in
     let head = list_head_found w k.0.0.0 k.0.0.1 k.0.1 (lift_ok wire (list_at w) k.0 k.1) in
     by k.0.0.0 k.0.0.1 k.0.1 head.size head.parts head.spells (eqb k.0.0.1 0 || eqb k.0.0.0 c) refl k.2
   where
-    by : (a n : ℕ) (v size : List ℕ) → w ≡ a ∷ (size ++ v) → IsSize size n → (z : Bool) → (eqb n 0 || eqb a c) ≡ z → cond z (items_at one n v) (Err (wire BadType)) ≡ Ok (xs, r) → Front (λ t. IsTypedList c Spells t xs) w r
+    by : (a n : ℕ) (v size : List ℕ) → w ≡ a ∷ (size ++ v) → IsSize size n → (z : Bool) → (eqb n 0 || eqb a c) ≡ z → cond z (items_at one n v) (Err (wire BadType)) ≡ Ok (xs, r) → Beginning (λ t. IsTypedList c Spells t xs) w r
     by a n v size parts spells true z h =
         let items = items_found one Spells f n v xs r h in
         let len : n ≡ length xs = sym items.0 in

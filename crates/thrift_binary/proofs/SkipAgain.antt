@@ -8,7 +8,7 @@ use Rattle.thrift_binary.specs.declared.fault.WireError.{WireError}
 use Rattle.thrift_binary.specs.declared.fault.WireError.TheVariants.{BadType, TooDeep}
 use Rattle.thrift_binary.specs.Reading.{Reads, size_at, list_at, map_at, is_code}
 use Rattle.thrift_binary.specs.Skipping.{Skip, past, both, times, text, struct, items, pairs, container, width, leaf, is_container, value_at, skip_at}
-use Rattle.thrift_binary.specs.Spelling.{Front, IsString, Field, IsFields, IsRun, IsLeaf, IsStructOf, IsListOf, IsPair, IsMapOf, IsContainer, IsValue}
+use Rattle.thrift_binary.specs.Spelling.{Beginning, IsString, Field, IsFields, IsRun, IsLeaf, IsStructOf, IsListOf, IsPair, IsMapOf, IsContainer, IsValue}
 use Rattle.thrift_binary.proofs.Found.{Path}
 use Rattle.thrift_binary.proofs.SkipFound.{Kept, gone, rest_is, skip_found}
 use Rattle.thrift_binary.proofs.Again.{size_again, string_again, fields_again}
@@ -202,7 +202,7 @@ skip_again c t r is = rw some (value_again 64 c t r is)
 
 -- ---- what a call of `skip` gave
 
-pub skip_reads_found : (c : ℕ) (old : List ℕ) (result : Result (Unit {0}) WireError) (new : List ℕ) → Reads (λ x. tt) (skip_at c) old result new → OnOk result (Front (IsValue 64 c) old new)
+pub skip_reads_found : (c : ℕ) (old : List ℕ) (result : Result (Unit {0}) WireError) (new : List ℕ) → Reads (λ x. tt) (skip_at c) old result new → OnOk result (Beginning (IsValue 64 c) old new)
 skip_reads_found c old (Ok x) new h = skip_found c old new h
 skip_reads_found c old (Err e) new h = tt
 

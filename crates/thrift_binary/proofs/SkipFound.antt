@@ -7,12 +7,12 @@ use Rattle.std.proofs.lemmas.List.{take-append-drop, length-take}
 use Rattle.thrift_binary.specs.declared.fault.WireError.TheVariants.{Truncated, BadType, TooDeep}
 use Rattle.thrift_binary.specs.Reading.{Read, size_at, string_at, list_at, map_at, is_code}
 use Rattle.thrift_binary.specs.Skipping.{Skip, past, both, times, text, struct, items, pairs, container, width, leaf, is_container, skip_at, value_at}
-use Rattle.thrift_binary.specs.Spelling.{Front, IsSize, IsString, Field, IsRun, IsLeaf, IsStructOf, IsListOf, IsPair, IsMapOf, IsContainer, IsValue, IsListHead}
+use Rattle.thrift_binary.specs.Spelling.{Beginning, IsSize, IsString, Field, IsRun, IsLeaf, IsStructOf, IsListOf, IsPair, IsMapOf, IsContainer, IsValue, IsListHead}
 use Rattle.thrift_binary.proofs.Found.{bind_ok, guard_ok, pass_ok, ok_is, Path, Took, fields_found, string_found, size_found}
 
 -- a reading that takes only such fronts
 abbrev pub Finds : Skip → (List ℕ → Type 0) → Type 0
-Finds read Is = (w r : List ℕ) → read w ≡ Ok (tt, r) → Front Is w r
+Finds read Is = (w r : List ℕ) → read w ≡ Ok (tt, r) → Beginning Is w r
 
 abbrev pub gone : List ℕ → Read (Unit {0})
 gone w = Ok (tt, w)
@@ -142,18 +142,18 @@ pairs_found value Value f w r e =
 leaf_found : (c : ℕ) → Finds (leaf c) (IsLeaf c)
 leaf_found c w r e = by (eqb c 11) e
   where
-    fixed : (z : Bool) → ltb 0 (width c) ≡ z → cond z (past (width c) w) (Err BadType) ≡ Ok (tt, r) → Front (λ t. (length t ≡ width c) × (0 < width c)) w r
+    fixed : (z : Bool) → ltb 0 (width c) ≡ z → cond z (past (width c) w) (Err BadType) ≡ Ok (tt, r) → Beginning (λ t. (length t ≡ width c) × (0 < width c)) w r
     fixed true z h = let f = past_found (width c) w r h in record { text = f.text; parts = f.parts; spells = (f.spells, ltb-true 0 (width c) z) }
     fixed false z h = absurd cc
 
-    by : (a : Bool) → cond a (text w) (cond (ltb 0 (width c)) (past (width c) w) (Err BadType)) ≡ Ok (tt, r) → Front (λ t. MatchBool a ((bytes : List ℕ) × IsString t bytes) ((length t ≡ width c) × (0 < width c))) w r
+    by : (a : Bool) → cond a (text w) (cond (ltb 0 (width c)) (past (width c) w) (Err BadType)) ≡ Ok (tt, r) → Beginning (λ t. MatchBool a ((bytes : List ℕ) × IsString t bytes) ((length t ≡ width c) × (0 < width c))) w r
     by true h = text_found w r h
     by false h = fixed (ltb 0 (width c)) refl h
 
 container_found : (value : ℕ → Skip) (Value : ℕ → List ℕ → Type 0) → ((c : ℕ) → Finds (value c) (Value c)) → (c : ℕ) → Finds (container value c) (IsContainer Value c)
 container_found value Value f c w r e = by (eqb c 12) (eqb c 13) e
   where
-    by : (a b : Bool) → cond a (struct value w) (cond b (pairs value w) (items value w)) ≡ Ok (tt, r) → Front (λ t. MatchBool a (IsStructOf Value t) (MatchBool b (IsMapOf Value t) (IsListOf Value t))) w r
+    by : (a b : Bool) → cond a (struct value w) (cond b (pairs value w) (items value w)) ≡ Ok (tt, r) → Beginning (λ t. MatchBool a (IsStructOf Value t) (MatchBool b (IsMapOf Value t) (IsListOf Value t))) w r
     by true b h = struct_found value Value f w r h
     by false true h = pairs_found value Value f w r h
     by false false h = items_found value Value f w r h
@@ -162,24 +162,24 @@ pub value_found : (levels c : ℕ) → Finds (value_at levels c) (IsValue levels
 unfolding value_at IsValue
 value_found zero c w r e = by (is_container c) e
   where
-    by : (a : Bool) → cond a (Err TooDeep) (leaf c w) ≡ Ok (tt, r) → Front (λ t. MatchBool a ⊥ (IsLeaf c t)) w r
+    by : (a : Bool) → cond a (Err TooDeep) (leaf c w) ≡ Ok (tt, r) → Beginning (λ t. MatchBool a ⊥ (IsLeaf c t)) w r
     by true h = absurd cc
     by false h = leaf_found c w r h
 value_found (suc levels) c w r e = by (container_found (value_at levels) (IsValue levels) (λ d. value_found levels d) c) (is_container c) e
   where
-    by : Finds (container (value_at levels) c) (IsContainer (IsValue levels) c) → (a : Bool) → cond a (container (value_at levels) c w) (leaf c w) ≡ Ok (tt, r) → Front (λ t. MatchBool a (IsContainer (IsValue levels) c t) (IsLeaf c t)) w r
+    by : Finds (container (value_at levels) c) (IsContainer (IsValue levels) c) → (a : Bool) → cond a (container (value_at levels) c w) (leaf c w) ≡ Ok (tt, r) → Beginning (λ t. MatchBool a (IsContainer (IsValue levels) c t) (IsLeaf c t)) w r
     by f true h = f w r h
     by f false h = leaf_found c w r h
 
 -- what is skipped is a value of the type
-pub skip_found : (c : ℕ) (w r : List ℕ) → skip_at c w ≡ Ok (tt, r) → Front (IsValue 64 c) w r
+pub skip_found : (c : ℕ) (w r : List ℕ) → skip_at c w ≡ Ok (tt, r) → Beginning (IsValue 64 c) w r
 unfolding skip_at
 skip_found c w r e = by (eqb (length w) 0) e
   where
-    by : (a : Bool) → cond a (Err Truncated) (value_at 64 c w) ≡ Ok (tt, r) → Front (IsValue 64 c) w r
+    by : (a : Bool) → cond a (Err Truncated) (value_at 64 c w) ≡ Ok (tt, r) → Beginning (IsValue 64 c) w r
     by true h = absurd cc
     by false h = value_found 64 c w r h
 
 -- the head of a list
-pub list_head_front : (w : List ℕ) (h : ℕ × ℕ) (r : List ℕ) → list_at w ≡ Ok (h, r) → Front (IsListHead h.0 h.1) w r
-list_head_front w (c, n) r e = let h = list_head_found w c n r e in record { text = c ∷ h.size; parts = h.parts; spells = (c, h.size, (λ some. refl), h.spells, refl) }
+pub list_head_beginning : (w : List ℕ) (h : ℕ × ℕ) (r : List ℕ) → list_at w ≡ Ok (h, r) → Beginning (IsListHead h.0 h.1) w r
+list_head_beginning w (c, n) r e = let h = list_head_found w c n r e in record { text = c ∷ h.size; parts = h.parts; spells = (c, h.size, (λ some. refl), h.spells, refl) }

@@ -1,6 +1,6 @@
 ghost use Rattle.std.specs.Prelude.{◌≡◌, ◌<◌, ◌≤◌, List, ℕ, length, take, drop, [], ◌∷◌, OnOk, IfOk, MatchOption};
 ghost use Rattle.std.specs.Int.{w16, w32, w64};
-ghost use Rattle.thrift_binary.specs.Spelling.{Front, IsBool, IsI32, IsI64, IsDouble, IsString, IsFieldHead, IsListHead};
+ghost use Rattle.thrift_binary.specs.Spelling.{Beginning, IsBool, IsI32, IsI64, IsDouble, IsString, IsFieldHead, IsListHead};
 ghost use Rattle.thrift_binary.specs.Reading.{Reads, bytes_at, byte_at, bool_at, number_at, signed_at, is_code, size_at, string_at, field_at, list_at, map_at};
 
 use crate::fault::WireError;
@@ -79,7 +79,7 @@ impl<'a> Cursor<'a> {
     pub fn read_bool(&mut self) -> Result<bool, WireError>
         ensures exact { Reads (λ x. x) bool_at self.old result self.new }
         ensures shorter { OnOk result (length self.new < length self.old) }
-        ensures spelled { IfOk result (λ b. Front (λ t. IsBool t b) self.old self.new) }
+        ensures spelled { IfOk result (λ b. Beginning (λ t. IsBool t b) self.old self.new) }
     {
         match self.read_byte()? {
             0 => Ok(false),
@@ -99,7 +99,7 @@ impl<'a> Cursor<'a> {
     pub fn read_double(&mut self) -> Result<[u8; 8], WireError>
         ensures exact { Reads (λ x. x) (bytes_at 8) self.old result self.new }
         ensures no_longer { OnOk result (length self.new ≤ length self.old) }
-        ensures spelled { IfOk result (λ d. Front (λ t. IsDouble t d) self.old self.new) }
+        ensures spelled { IfOk result (λ d. Beginning (λ t. IsDouble t d) self.old self.new) }
     {
         let front = self.take(8)?;
         let mut bytes = [0; 8];
@@ -118,7 +118,7 @@ impl<'a> Cursor<'a> {
     pub fn read_i32(&mut self) -> Result<i32, WireError>
         ensures exact { Reads (λ x. x) (signed_at w32 4) self.old result self.new }
         ensures no_longer { OnOk result (length self.new ≤ length self.old) }
-        ensures spelled { IfOk result (λ z. Front (λ t. IsI32 t z) self.old self.new) }
+        ensures spelled { IfOk result (λ z. Beginning (λ t. IsI32 t z) self.old self.new) }
     {
         if self.bytes.len() < 4 {
             return self.refuse(WireError::Truncated);
@@ -139,7 +139,7 @@ impl<'a> Cursor<'a> {
     pub fn read_i64(&mut self) -> Result<i64, WireError>
         ensures exact { Reads (λ x. x) (signed_at w64 8) self.old result self.new }
         ensures no_longer { OnOk result (length self.new ≤ length self.old) }
-        ensures spelled { IfOk result (λ z. Front (λ t. IsI64 t z) self.old self.new) }
+        ensures spelled { IfOk result (λ z. Beginning (λ t. IsI64 t z) self.old self.new) }
     {
         if self.bytes.len() < 8 {
             return self.refuse(WireError::Truncated);
@@ -215,7 +215,7 @@ impl<'a> Cursor<'a> {
     pub fn read_bytes(&mut self) -> Result<&'a [u8], WireError>
         ensures exact { Reads (λ x. x.now) string_at self.old result self.new }
         ensures shorter { OnOk result (length self.new < length self.old) }
-        ensures spelled { IfOk result (λ b. Front (λ t. IsString t b.now) self.old self.new) }
+        ensures spelled { IfOk result (λ b. Beginning (λ t. IsString t b.now) self.old self.new) }
     {
         let len = self.read_size()?;
         self.take(len as usize)
@@ -236,7 +236,7 @@ impl<'a> Cursor<'a> {
         ensures shorter { OnOk result (length self.new < length self.old) }
         ensures spelled { IfOk result (λ f.
             MatchOption f (self.old ≡ 0 ∷ self.new) (λ h.
-            Front (IsFieldHead h.0 h.1) self.old self.new)) }
+            Beginning (IsFieldHead h.0 h.1) self.old self.new)) }
     {
         let code = self.read_byte()?;
         if code == 0 {
@@ -262,7 +262,7 @@ impl<'a> Cursor<'a> {
     pub fn list_head(&mut self) -> Result<(u8, u32), WireError>
         ensures exact { Reads (λ x. x) list_at self.old result self.new }
         ensures shorter { OnOk result (length self.new < length self.old) }
-        ensures spelled { IfOk result (λ h. Front (IsListHead h.0 h.1) self.old self.new) }
+        ensures spelled { IfOk result (λ h. Beginning (IsListHead h.0 h.1) self.old self.new) }
     {
         let code = self.read_byte()?;
         let size = self.read_size()?;

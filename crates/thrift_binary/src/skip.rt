@@ -1,5 +1,5 @@
 ghost use Rattle.std.specs.Prelude.{◌≡◌, ◌<◌, ◌≤◌, ◌++◌, List, ℕ, length, OnOk};
-ghost use Rattle.thrift_binary.specs.Spelling.{Front, IsValue};
+ghost use Rattle.thrift_binary.specs.Spelling.{Beginning, IsValue};
 ghost use Rattle.thrift_binary.specs.Reading.{Reads};
 ghost use Rattle.thrift_binary.specs.Skipping.{value_at, skip_at, past, text, struct, items, pairs, times, both, container, leaf, is_container};
 
@@ -58,7 +58,7 @@ impl<'a> Cursor<'a> {
     pub fn skip(&mut self, code: u8) -> Result<(), WireError>
         ensures exact { Reads (λ _. tt) (skip_at code) self.old result self.new }
         ensures no_longer { OnOk result (length self.new ≤ length self.old) }
-        ensures found { OnOk result (Front (IsValue 64 code) self.old self.new) }
+        ensures found { OnOk result (Beginning (IsValue 64 code) self.old self.new) }
         ensures complete { (value rest : List ℕ) → IsValue 64 code value → self.old ≡ value ++ rest
             → (result ≡ Ok tt) × (self.new ≡ rest) }
     {

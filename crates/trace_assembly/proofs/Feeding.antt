@@ -17,7 +17,7 @@ use Rattle.trace_model.proofs.Shows.{by_pushes, in_ring, in_ring_by, ring_came, 
 use Rattle.trace_model.proofs.Traces.{same_is, spans_gone, arrived}
 use Rattle.trace_assembly.specs.declared.spot.Spot.{Spot}
 use Rattle.trace_assembly.specs.Rows.{with_spot}
-use Rattle.trace_assembly.specs.Located.{spans_in, spots_in, located_trace, events_in, shown_in, own_of, shown_spots, with_event, without_left, located, span_at, after_leaving, after_arrival}
+use Rattle.trace_assembly.specs.Located.{spans_in, spots_in, located_trace, events_in, shown_in, own_of, shown_spots, with_event, without_left, located_events, span_at, after_leaving, after_arrival}
 use Rattle.trace_assembly.proofs.Lists.{filter_within, map_filter, map_nil}
 use Rattle.trace_assembly.proofs.Places.{at_spots, shown-lies, events-located}
 
@@ -82,10 +82,10 @@ spans-own : (n : ℕ) (es : List (Event (Spot × Placed))) (t : TraceId) → spa
 spans-own n es t = map_filter span_of (λ p. same_trace t (trace_of p)) (shown_in n es) ∙ ap (of_trace t) (spans-shown_in n es)
 
 -- the spans at a trace's shown spots are its shown spans
-pub spans_at_shown_law : (n : ℕ) (h : List Entry) (t : TraceId) → map (span_at h) (shown_spots n (located h) t) ≡ map (λ p. Some p) (spans_of_trace n (events h) t)
+pub spans_at_shown_law : (n : ℕ) (h : List Entry) (t : TraceId) → map (span_at h) (shown_spots n (located_events h) t) ≡ map (λ p. Some p) (spans_of_trace n (events h) t)
 spans_at_shown_law n h t =
-    at_spots h (own_of t (shown_in n (located h))) (shown-lies h n t)
-    ∙ ap (map (λ p. Some p)) (spans-own n (located h) t ∙ ap (λ es. spans_of_trace n es t) (events-located h))
+    at_spots h (own_of t (shown_in n (located_events h))) (shown-lies h n t)
+    ∙ ap (map (λ p. Some p)) (spans-own n (located_events h) t ∙ ap (λ es. spans_of_trace n es t) (events-located h))
 
 -- a trace that isn't in the ring has no spots
 pub shown_spots-gone : (n : ℕ) (es : List (Event (Spot × Placed))) (t : TraceId) → holds (ring n (events_in es)) t ≡ false → shown_spots n es t ≡ []

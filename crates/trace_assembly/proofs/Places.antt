@@ -18,7 +18,7 @@ use Rattle.trace_model.specs.Histories.{arrivals, events}
 use Rattle.trace_model.specs.Works.{events_brought, placed_brought}
 use Rattle.trace_model.specs.Showing.{trace_of, stands}
 use Rattle.trace_assembly.specs.declared.spot.Spot.{Spot}
-use Rattle.trace_assembly.specs.Located.{located_in, located_by, located_from, located, span_at, spans_in, spots_in, events_in, located_trace, shown_in, own_of, located_upto}
+use Rattle.trace_assembly.specs.Located.{located_in, located_by, located_from, located_events, span_at, spans_in, spots_in, events_in, located_trace, shown_in, own_of, located_upto}
 use Rattle.trace_assembly.proofs.Lists.{Each, OfCame, each_append, each_came, each_filter, each_lasting, each_without_limits, slice_get_middle}
 
 spans-located_in : (place index : ℕ) (ps : List Placed) → spans_in (located_in place index ps) ≡ ps
@@ -43,7 +43,7 @@ events-located_from place (e ∷ es) =
     ∙ (λ i. events-located_by place e.work i ++ events-located_from (suc place) es i)
 
 -- the located events are those of the history, in their order
-pub events-located : (h : List Entry) → events_in (located h) ≡ events h
+pub events-located : (h : List Entry) → events_in (located_events h) ≡ events h
 events-located h = events-located_from 1 h
 
 located_from-push : (place last : ℕ) (h : List Entry) (e : Entry) → last ≡ place + length h → located_from place (h ++ e ∷ []) ≡ located_from place h ++ located_by last e.work
@@ -53,7 +53,7 @@ located_from-push place last (d ∷ h) e at =
     ∙ sym (append_assoc (located_by place d.work) (located_from (suc place) h) (located_by last e.work))
 
 -- one more entry
-pub located_push_law : (h : List Entry) (e : Entry) → located (h ++ e ∷ []) ≡ located h ++ located_by (length h + 1) e.work
+pub located_push_law : (h : List Entry) (e : Entry) → located_events (h ++ e ∷ []) ≡ located_events h ++ located_by (length h + 1) e.work
 located_push_law h e = located_from-push 1 (length h + 1) h e (omega arith)
 
 -- one more span of a batch
@@ -87,7 +87,7 @@ located_from-lies before (e ∷ es) =
     (located_by-lies (before ++ e ∷ es) e (length before) e.work refl (slice_get_middle before e es)) later
 
 -- each span of a history lies at its spot
-pub located-lies : (h : List Entry) → Each (OfCame (LiesIn h)) (located h)
+pub located-lies : (h : List Entry) → Each (OfCame (LiesIn h)) (located_events h)
 located-lies h = located_from-lies [] h
 
 -- what lies at its spot is found there
@@ -101,33 +101,33 @@ spans_of_events (came l ∷ es) = ap (λ ps. l.1 ∷ ps) (spans_of_events es)
 spans_of_events (limited m ∷ es) = spans_of_events es
 
 -- what the spots of a history name are its arrivals
-pub spans_at_located_law : (h : List Entry) → map (span_at h) (spots_in (without_limits (located h))) ≡ map (λ p. Some p) (arrivals h)
+pub spans_at_located_law : (h : List Entry) → map (span_at h) (spots_in (without_limits (located_events h))) ≡ map (λ p. Some p) (arrivals h)
 spans_at_located_law h =
-    at_spots h (without_limits (located h)) (each_without_limits (LiesIn h) (located h) (located-lies h))
-    ∙ ap (map (λ p. Some p)) (spans_of_events (located h) ∙ ap without_limits (events-located h) ∙ came_of h)
+    at_spots h (without_limits (located_events h)) (each_without_limits (LiesIn h) (located_events h) (located-lies h))
+    ∙ ap (map (λ p. Some p)) (spans_of_events (located_events h) ∙ ap without_limits (events-located h) ∙ came_of h)
 
-pub shown-lies : (h : List Entry) (n : ℕ) (t : TraceId) → Each (LiesIn h) (own_of t (shown_in n (located h)))
+pub shown-lies : (h : List Entry) (n : ℕ) (t : TraceId) → Each (LiesIn h) (own_of t (shown_in n (located_events h)))
 shown-lies h n t =
-    each_filter (LiesIn h) _ (shown_in n (located h)) (each_without_limits (LiesIn h) _ (each_lasting (OfCame (LiesIn h)) (stands located_trace n) [] (located h) (located-lies h)))
+    each_filter (LiesIn h) _ (shown_in n (located_events h)) (each_without_limits (LiesIn h) _ (each_lasting (OfCame (LiesIn h)) (stands located_trace n) [] (located_events h) (located-lies h)))
 
 -- ---- one more batch, span by span
 pub trace_of-placed : (b : Batch) (s : Span) → trace_of (placed b s) ≡ s.trace
 trace_of-placed b s = with_parent-trace s
 
-pub upto_none : (h : List Entry) (b : Batch) → located_upto h b 0 ≡ located h
-upto_none h b = append-nil (located h)
+pub upto_none : (h : List Entry) (b : Batch) → located_upto h b 0 ≡ located_events h
+upto_none h b = append-nil (located_events h)
 
 pub upto_more : (h : List Entry) (b : Batch) (i : ℕ) (s : Span) → i < length b.spans → get_or b.spans i s ≡ s
     → located_upto h b (i + 1) ≡ located_upto h b i ++ came (record { place = length h + 1; index = i }, placed b s) ∷ []
 upto_more h b i s below at =
     let long : i ≡ 0 + length (map (placed b) (take i b.spans)) = omega (arith, length-map (take i b.spans) (placed b), length-take i b.spans) in
     let now = located_in (length h + 1) 0 (map (placed b) (take i b.spans)) in
-    ap (λ ps. located h ++ map came (located_in (length h + 1) 0 ps)) (map_more (placed b) b.spans i s below ∙ ap (λ x. map (placed b) (take i b.spans) ++ placed b x ∷ []) at)
-    ∙ ap (λ ls. located h ++ map came ls) (located_in-push (length h + 1) 0 i (map (placed b) (take i b.spans)) (placed b s) long)
-    ∙ ap (λ es. located h ++ es) (map-append came now ((record { place = length h + 1; index = i }, placed b s) ∷ []))
-    ∙ sym (append_assoc (located h) (map came now) (came (record { place = length h + 1; index = i }, placed b s) ∷ []))
+    ap (λ ps. located_events h ++ map came (located_in (length h + 1) 0 ps)) (map_more (placed b) b.spans i s below ∙ ap (λ x. map (placed b) (take i b.spans) ++ placed b x ∷ []) at)
+    ∙ ap (λ ls. located_events h ++ map came ls) (located_in-push (length h + 1) 0 i (map (placed b) (take i b.spans)) (placed b s) long)
+    ∙ ap (λ es. located_events h ++ es) (map-append came now ((record { place = length h + 1; index = i }, placed b s) ∷ []))
+    ∙ sym (append_assoc (located_events h) (map came now) (came (record { place = length h + 1; index = i }, placed b s) ∷ []))
 
-pub upto_all : (h : List Entry) (e : Entry) (b : Batch) → e.work ≡ brings.Batch b → located_upto h b (length b.spans) ≡ located (h ++ e ∷ [])
+pub upto_all : (h : List Entry) (e : Entry) (b : Batch) → e.work ≡ brings.Batch b → located_upto h b (length b.spans) ≡ located_events (h ++ e ∷ [])
 upto_all h e b is =
-    ap (λ ss. located h ++ map came (located_in (length h + 1) 0 (map (placed b) ss))) (take_all (length b.spans) b.spans (omega arith))
-    ∙ ap (λ c. located h ++ located_by (length h + 1) c) (sym is) ∙ sym (located_push_law h e)
+    ap (λ ss. located_events h ++ map came (located_in (length h + 1) 0 (map (placed b) ss))) (take_all (length b.spans) b.spans (omega arith))
+    ∙ ap (λ c. located_events h ++ located_by (length h + 1) c) (sym is) ∙ sym (located_push_law h e)

@@ -32,12 +32,12 @@ located_from place [] = []
 located_from place (e ∷ es) = located_by place e.work ++ located_from (suc place) es
 
 -- the events of a history, each span with its spot; the first entry stands at place 1
-abbrev pub located : List Entry → List (Event (Spot × Placed))
-located h = located_from 1 h
+abbrev pub located_events : List Entry → List (Event (Spot × Placed))
+located_events h = located_from 1 h
 
 -- those of a history and of the spans below this index of one more batch
 abbrev pub located_upto : List Entry → Batch → ℕ → List (Event (Spot × Placed))
-located_upto h b index = located h ++ map came (located_in (length h + 1) 0 (map (placed b) (take index b.spans)))
+located_upto h b index = located_events h ++ map came (located_in (length h + 1) 0 (map (placed b) (take index b.spans)))
 
 -- the span at a spot
 abbrev pub span_at : List Entry → Spot → Option Placed

@@ -10,12 +10,12 @@ ghost use Rattle.trace_model.specs.Showing.{trace_of, ring, limit_after, spans_o
 ghost use Rattle.trace_model.specs.Events.{Event, came, limited, without_limits};
 ghost use Rattle.trace_model.specs.Histories.{events};
 ghost use Rattle.trace_assembly.specs.declared.spot.Spot.{Spot as SpotValue};
-ghost use Rattle.trace_assembly.specs.Located.{located_by, located, events_in, span_at, spots_in, shown_spots, with_event, without_left, after_arrival};
+ghost use Rattle.trace_assembly.specs.Located.{located_by, located_events, events_in, span_at, spots_in, shown_spots, with_event, without_left, after_arrival};
 
 #[tactic(auto, using(crate::proofs::Places::spans_at_located_law))]
 /// The spans at the spots of a history, in order, are its arrivals.
 pub fn spots_name_the_arrivals()
-    ensures { (h : List Entry) → map (span_at h) (spots_in (without_limits (located h))) ≡
+    ensures { (h : List Entry) → map (span_at h) (spots_in (without_limits (located_events h))) ≡
         map (λ p. Some p) (arrivals h) }
 {}
 
@@ -24,7 +24,7 @@ pub fn spots_name_the_arrivals()
 /// limit.
 pub fn an_entry_adds_its_spans()
     ensures { (h : List Entry) (e : Entry) →
-        located (h ++ e ∷ []) ≡ located h ++ located_by (length h + 1) e.work }
+        located_events (h ++ e ∷ []) ≡ located_events h ++ located_by (length h + 1) e.work }
 {}
 
 #[tactic(auto, using(crate::proofs::Feeding::shown_spots_push_law))]
@@ -67,6 +67,6 @@ pub fn lowered_as_the_ring_says()
 /// The spans at a trace's shown spots are its shown spans, in the order of their arrival.
 pub fn shown_spots_name_the_shown_spans()
     ensures { (n : ℕ) (h : List Entry) (t : TraceIdValue) →
-        map (span_at h) (shown_spots n (located h) t) ≡
+        map (span_at h) (shown_spots n (located_events h) t) ≡
         map (λ p. Some p) (spans_of_trace n (events h) t) }
 {}

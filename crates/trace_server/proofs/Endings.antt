@@ -7,9 +7,9 @@ use Rattle.std.proofs.KnownBytes.{Appends-trans}
 use Rattle.atomic_table.specs.Seated.{TableId}
 use Rattle.trace_model.specs.declared.limits.Limits.{Limits}
 use Rattle.intake.specs.Seats.{SeatValue}
-use Rattle.text_lines.specs.Halting.{WritesSome, IsWhyOf, Says, status_by}
-use Rattle.text_lines.specs.declared.halt.Halt.{Halt}
-use Rattle.text_lines.specs.declared.halt.Halt.TheVariants.{Device, Memory}
+use Rattle.text_lines.specs.RunErrors.{WritesSome, IsWhyOf, Says, status_by}
+use Rattle.text_lines.specs.declared.run_error.RunError.{RunError}
+use Rattle.text_lines.specs.declared.run_error.RunError.TheVariants.{Device, Memory}
 use Rattle.text_lines.proofs.Pages.{moves_nothing, some_written}
 use Rattle.text_lines.proofs.Wholes.{some_after, some_more}
 use Rattle.trace_server.specs.WorkerSeats.{AreNew}
@@ -22,17 +22,17 @@ all_written : (a b : Option (List ℕ)) (text : List ℕ) → Appends a b text �
 all_written a b text all = (text, all, ([], append-nil text))
 
 -- the second of two lines was said, or was not
-pub said_both : (a b c : Option (List ℕ)) (failed : Bool) (first second : List ℕ) (r : Result (Unit {0}) Halt) → Appends a b first → Says b c failed second r → Says a c failed (first ++ second) r
+pub said_both : (a b c : Option (List ℕ)) (failed : Bool) (first second : List ℕ) (r : Result (Unit {0}) RunError) → Appends a b first → Says b c failed second r → Says a c failed (first ++ second) r
 said_both a b c failed first second (Ok u) said s = (Appends-trans a b c first second said s.0, s.1)
 said_both a b c failed first second (Err h) said s = (some_after a b c first second said s.0, s.1)
 
 -- the first of two lines was not said whole
-pub said_some : (a b : Option (List ℕ)) (failed : Bool) (first second : List ℕ) (h : Halt) → WritesSome a b first → IsWhyOf h failed → WritesSome a b (first ++ second) × IsWhyOf h failed
+pub said_some : (a b : Option (List ℕ)) (failed : Bool) (first second : List ℕ) (h : RunError) → WritesSome a b first → IsWhyOf h failed → WritesSome a b (first ++ second) × IsWhyOf h failed
 said_some a b failed first second h some why = (some_more a b first second (first ++ second) refl some, why)
 
 -- a text was not written whole
-pub halted : (a b : Option (List ℕ)) (failed : Bool) (text : List ℕ) (h : Halt) (status : ℕ) → status ≡ status_by h → WritesSome a b text × IsWhyOf h failed → StopsIn a b failed text status
-halted a b failed text h status is w = (h, is, w.0, w.1)
+pub stopped : (a b : Option (List ℕ)) (failed : Bool) (text : List ℕ) (h : RunError) (status : ℕ) → status ≡ status_by h → WritesSome a b text × IsWhyOf h failed → StopsIn a b failed text status
+stopped a b failed text h status is w = (h, is, w.0, w.1)
 
 -- all of it was written, and then memory ran out
 pub wanting : (a b : Option (List ℕ)) (failed : Bool) (text : List ℕ) (status : ℕ) → status ≡ 5 → Appends a b text → failed ≡ false → StopsIn a b failed text status
@@ -43,7 +43,7 @@ pub broken_off : (a : Option (List ℕ)) (failed : Bool) (text : List ℕ) → f
 broken_off a failed text works = (Memory, refl, none_written a text, works)
 
 -- the first line was not written whole
-pub unheard : (a b : Option (List ℕ)) (failed : Bool) (port : ℕ) (h : Halt) (status : ℕ) → status ≡ status_by h → WritesSome a b (listening_line port) × IsWhyOf h failed → StopsEarly a b failed status
+pub unheard : (a b : Option (List ℕ)) (failed : Bool) (port : ℕ) (h : RunError) (status : ℕ) → status ≡ status_by h → WritesSome a b (listening_line port) × IsWhyOf h failed → StopsEarly a b failed status
 unheard a b failed port h status is w = record {
   port = port;
   served = 0;

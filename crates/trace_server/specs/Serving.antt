@@ -11,8 +11,8 @@ use Rattle.intake.specs.declared.account.Account.{Account}
 use Rattle.intake.specs.Seats.{SeatValue}
 use Rattle.intake.specs.Books.{Ran, AllTaken}
 use Rattle.intake.specs.Books.{acknowledged as acknowledged_of, refused as refused_of}
-use Rattle.text_lines.specs.declared.halt.Halt.{Halt}
-use Rattle.text_lines.specs.Halting.{WritesSome, IsWhyOf, status_by}
+use Rattle.text_lines.specs.declared.run_error.RunError.{RunError}
+use Rattle.text_lines.specs.RunErrors.{WritesSome, IsWhyOf, status_by}
 use Rattle.trace_server.specs.WorkerSeats.{AreNew, GoOn}
 
 abbrev pub listening_line : ℕ → List ℕ
@@ -58,7 +58,7 @@ status_if failed = if failed then 4 else 0
 -- a beginning of the text was written: 4 where the output failed, 5 where memory or threads ran out
 abbrev pub StopsIn : Option (List ℕ) → Option (List ℕ) → Bool → List ℕ → ℕ → Type 0
 StopsIn out0 out1 out_failed text status =
-    (halt : Halt) × (status ≡ status_by halt) × WritesSome out0 out1 text × IsWhyOf halt out_failed
+    (error : RunError) × (status ≡ status_by error) × WritesSome out0 out1 text × IsWhyOf error out_failed
 
 -- all of the text was written, or it stopped
 abbrev pub Ends : Option (List ℕ) → Option (List ℕ) → Bool → List ℕ → Bool → ℕ → Type 0

@@ -6,7 +6,7 @@
 //! history, never before what was vouched for when it began. An error of a connection ends that connection
 //! alone.
 //!
-//! * `options`: how many workers, how long a queue, how many sessions.
+//! * `config`: how many workers, how long a queue, how many sessions.
 //! * `gate`: what hears of each call that a worker makes of the store.
 //! * `gated`: a store of whose calls a gate hears.
 //! * `connection`: one connection, from its first byte to its last.
@@ -17,18 +17,18 @@
 //! * `serving`: [`serve_with`].
 #![tactic(auto)]
 
+mod config;
 mod connection;
 mod ending;
 mod gate;
 mod gated;
 mod notices;
-mod options;
 mod reporting;
 mod serving;
 mod shared;
 mod threads;
 mod worker;
 
+pub use config::ServerConfig;
 pub use gate::{Gate, NoGate};
-pub use options::Options;
 pub use serving::serve_with;

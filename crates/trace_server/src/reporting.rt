@@ -2,7 +2,7 @@
 
 ghost use Rattle.std.specs.Prelude.{◌≡◌, false, min, sum_by, IfOk};
 ghost use Rattle.std.specs.List.{list_any};
-ghost use Rattle.text_lines.specs.Halting.{Says};
+ghost use Rattle.text_lines.specs.RunErrors.{Says};
 ghost use Rattle.trace_server.specs.Serving.{listening_line, served_line, books_line, last_lines, Ends, StopsIn};
 
 use crate::ending::Totals;
@@ -12,7 +12,7 @@ use read_side::StoreName;
 use session_devices::Output;
 use std::alloc::{AllocError, Global};
 use std::io::Write;
-use text_lines::{Halt, say};
+use text_lines::{RunError, say};
 
 /// The line that says where the server listens.
 fn listening_line(alloc: Global, port: u16) -> Result<Vec<u8>, AllocError>
@@ -54,7 +54,11 @@ fn books_line(alloc: Global, totals: Totals) -> Result<Vec<u8>, AllocError>
 }
 
 /// Says where the server listens.
-pub(crate) fn say_listening<W: Output>(alloc: Global, output: &mut W, port: u16) -> Result<(), Halt>
+pub(crate) fn say_listening<W: Output>(
+    alloc: Global,
+    output: &mut W,
+    port: u16,
+) -> Result<(), RunError>
     requires { W.has_failed output.old ≡ false }
     ensures { Says (W.contents output.old) (W.contents output.new) (W.has_failed output.new)
         (listening_line port) result }
@@ -64,7 +68,7 @@ pub(crate) fn say_listening<W: Output>(alloc: Global, output: &mut W, port: u16)
 }
 
 /// Says how many connections were taken.
-fn say_served<W: Output>(alloc: Global, output: &mut W, served: u64) -> Result<(), Halt>
+fn say_served<W: Output>(alloc: Global, output: &mut W, served: u64) -> Result<(), RunError>
     requires { W.has_failed output.old ≡ false }
     ensures { Says (W.contents output.old) (W.contents output.new) (W.has_failed output.new)
         (served_line served) result }
@@ -74,7 +78,7 @@ fn say_served<W: Output>(alloc: Global, output: &mut W, served: u64) -> Result<(
 }
 
 /// Says what became of the batches.
-fn say_books<W: Output>(alloc: Global, output: &mut W, totals: Totals) -> Result<(), Halt>
+fn say_books<W: Output>(alloc: Global, output: &mut W, totals: Totals) -> Result<(), RunError>
     requires { W.has_failed output.old ≡ false }
     ensures { Says (W.contents output.old) (W.contents output.new) (W.has_failed output.new)
         (books_line totals.acknowledged totals.refused totals.left) result }
@@ -106,14 +110,14 @@ fn say_end<W: Output>(
     output: &mut W,
     served: u64,
     totals: Totals,
-) -> Result<(), Halt>
+) -> Result<(), RunError>
     requires { W.has_failed output.old ≡ false }
     ensures { Says (W.contents output.old) (W.contents output.new) (W.has_failed output.new)
         (last_lines served totals.acknowledged totals.refused totals.left) result }
 {
     match say_served(alloc, output, served) {
         Ok(()) => say_books(alloc, output, totals),
-        Err(halt) => Err(halt),
+        Err(error) => Err(error),
     }
 }
 
@@ -131,7 +135,7 @@ pub(crate) fn report<W: Output>(
     match say_end(alloc, output, all.served, totals) {
         Ok(()) if all.failed => 4,
         Ok(()) => 0,
-        Err(halt) => halt.status(),
+        Err(error) => error.status(),
     }
 }
 
@@ -142,7 +146,7 @@ pub(crate) fn report_unclosed<W: Output>(alloc: Global, output: &mut W, all: Wor
         (served_line all.served) result }
 {
     match say_served(alloc, output, all.served) {
-        Ok(()) => Halt::Memory.status(),
-        Err(halt) => halt.status(),
+        Ok(()) => RunError::Memory.status(),
+        Err(error) => error.status(),
     }
 }

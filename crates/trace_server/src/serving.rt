@@ -6,10 +6,10 @@ ghost use Rattle.intake.specs.Turns.{IsNewClerk};
 ghost use Rattle.trace_server.specs.Serving.{OneForEach, Reports, Serves};
 ghost use Rattle.trace_server.specs.WorkerSeats.{AreNew, GoOn, HasJudged};
 
+use crate::config::ServerConfig;
 use crate::ending::{close_books, close_store};
 use crate::gate::Gate;
 use crate::notices::{Notices, say_limits};
-use crate::options::Options;
 use crate::reporting::{report, report_unclosed, say_listening, together};
 use crate::shared::SharedStore;
 use crate::threads::each_done;
@@ -58,7 +58,7 @@ fn serve_sessions<
     alloc: Global,
     shared: SharedStore<N>,
     listener: &TcpListener,
-    options: &Options,
+    config: &ServerConfig,
     gate: &G,
 ) -> Left<N>
     requires keeper { shared.keeper ≡ no_entries }
@@ -89,9 +89,9 @@ fn serve_sessions<
             gate,
             notices: &notices,
             clerk: &clerk,
-            sessions: options.sessions,
+            sessions: config.sessions,
             claimed: &claimed,
-            idle: options.idle,
+            idle: config.idle,
         };
         work_all(rt, &server, lives)
     };
@@ -111,20 +111,20 @@ fn serve_store<
     alloc: Global,
     shared: SharedStore<N>,
     listener: &TcpListener,
-    options: &Options,
+    config: &ServerConfig,
     gate: &G,
     output: &mut W,
 ) -> u8
     requires keeper { shared.keeper ≡ no_entries }
     requires clerk { IsNewClerk shared.clerk }
     requires new { AreNew shared.clerk.desk (map (λ p. p.1.seat) shared.lives.items) }
-    requires numbers { OneForEach options.now.workers (map (λ p. p.1.seat) shared.lives.items) }
+    requires numbers { OneForEach config.now.workers (map (λ p. p.1.seat) shared.lives.items) }
     requires output_works { W.has_failed output.old ≡ false }
-    ensures { Reports N.limits options.now.workers (map (λ p. p.1.seat) shared.lives.items)
+    ensures { Reports N.limits config.now.workers (map (λ p. p.1.seat) shared.lives.items)
         (W.contents output.old) (W.contents output.new) (W.has_failed output.new) result }
 {
     let (books, workers) = serve_sessions::<N, Brand, G, R>(
-        rt, alloc, shared, listener, options, gate,
+        rt, alloc, shared, listener, config, gate,
     );
     let Ok(workers) = workers else {
         close_store(rt, books);
@@ -160,30 +160,30 @@ fn serve_named<
     name: Opened,
     limits: Limits,
     listener: &TcpListener,
-    options: &Options,
+    config: &ServerConfig,
     gate: &G,
     output: &mut W,
 ) -> u8
     requires book { name.seen.book ≡ N.book }
     requires limits { limits ≡ N.limits }
-    requires workers { (1 ≤ options.now.workers) × (options.now.workers ≤ 64) }
-    requires queue { (1 ≤ options.now.queue) × (options.now.queue ≤ 4096) }
+    requires workers { (1 ≤ config.now.workers) × (config.now.workers ≤ 64) }
+    requires queue { (1 ≤ config.now.queue) × (config.now.queue ≤ 4096) }
     requires output_works { W.has_failed output.old ≡ false }
-    ensures { Serves limits options.now.workers (W.contents output.old) (W.contents output.new)
+    ensures { Serves limits config.now.workers (W.contents output.old) (W.contents output.new)
         (W.has_failed output.new) result }
 {
     let Ok(address) = listener.local_addr() else {
         return 5;
     };
-    let Ok(shared) = SharedStore::<N>::open(rt, alloc, name, limits, options) else {
+    let Ok(shared) = SharedStore::<N>::open(rt, alloc, name, limits, config) else {
         return 5;
     };
-    if let Err(halt) = say_listening(alloc, output, address.port()) {
+    if let Err(error) = say_listening(alloc, output, address.port()) {
         shared.close(rt);
-        return halt.status();
+        return error.status();
     }
-    say_limits(rt, &options.limits);
-    serve_store(rt, alloc, shared, listener, options, gate, output)
+    say_limits(rt, &config.limits);
+    serve_store(rt, alloc, shared, listener, config, gate, output)
 }
 
 /// Serves the connections of a socket that listens on this machine's own address, over an empty store,
@@ -202,19 +202,19 @@ pub fn serve_with<G: Gate + Sync, W: Output, R: Threads + Wait + Clock + Eprint 
     rt: &R,
     alloc: Global,
     listener: &TcpListener,
-    options: &Options,
+    config: &ServerConfig,
     gate: &G,
     output: &mut W,
 ) -> u8
-    requires workers { (1 ≤ options.now.workers) × (options.now.workers ≤ 64) }
-    requires queue { (1 ≤ options.now.queue) × (options.now.queue ≤ 4096) }
+    requires workers { (1 ≤ config.now.workers) × (config.now.workers ≤ 64) }
+    requires queue { (1 ≤ config.now.queue) × (config.now.queue ≤ 4096) }
     requires output_works { W.has_failed output.old ≡ false }
-    ensures { Serves options.now.limits options.now.workers (W.contents output.old)
+    ensures { Serves config.now.limits config.now.workers (W.contents output.old)
         (W.contents output.new) (W.has_failed output.new) result }
 {
     if !can_start(rt) {
         return 5;
     }
-    let (name, limits) = (Opened::new(), options.limits);
-    serve_named::<Brand, G, W, R>(rt, alloc, name, limits, listener, options, gate, output)
+    let (name, limits) = (Opened::new(), config.limits);
+    serve_named::<Brand, G, W, R>(rt, alloc, name, limits, listener, config, gate, output)
 }

@@ -6,7 +6,7 @@ ghost use Rattle.intake.specs.Turns.{IsNewClerk};
 ghost use Rattle.trace_server.specs.Serving.{OneForEach};
 ghost use Rattle.trace_server.specs.WorkerSeats.{AreNew};
 
-use crate::options::Options;
+use crate::config::ServerConfig;
 use intake::{Clerk, Desk, desk};
 use live_store::Live;
 use read_side::{Keeper, Opened, StoreName, open};
@@ -51,19 +51,19 @@ fn open_desk<N: StoreName>(
     alloc: Global,
     keeper: &mut Keeper<N>,
     passes: Vec<read_side::Pass<N>>,
-    options: &Options,
+    config: &ServerConfig,
 ) -> Result<DeskEnds<N>, Refusal>
-    requires workers { (1 ≤ options.now.workers) × (options.now.workers ≤ 64) }
-    requires queue { (1 ≤ options.now.queue) × (options.now.queue ≤ 4096) }
-    requires passes { length passes.items ≡ options.now.workers }
+    requires workers { (1 ≤ config.now.workers) × (config.now.workers ≤ 64) }
+    requires queue { (1 ≤ config.now.queue) × (config.now.queue ≤ 4096) }
+    requires passes { length passes.items ≡ config.now.workers }
     ensures keeper { keeper.new ≡ keeper.old }
     ensures clerk { IfOk result (λ f. IsNewClerk f.1) }
     ensures new { IfOk result (λ f. AreNew f.1.desk (map (λ p. p.1.seat) f.2.items)) }
-    ensures numbers { IfOk result (λ f. OneForEach options.now.workers
+    ensures numbers { IfOk result (λ f. OneForEach config.now.workers
         (map (λ p. p.1.seat) f.2.items)) }
 {
     let first = keeper.receipt();
-    let (desk, seats, clerk) = desk(alloc, first, options.queue as usize, options.workers)?;
+    let (desk, seats, clerk) = desk(alloc, first, config.queue as usize, config.workers)?;
     let lives = pairs(alloc, seats, passes)?;
     Ok((desk, clerk, lives))
 }
@@ -79,21 +79,21 @@ impl<N: StoreName> SharedStore<N> {
         alloc: Global,
         name: Opened,
         limits: Limits,
-        options: &Options,
+        config: &ServerConfig,
     ) -> Result<SharedStore<N>, Refusal>
         requires book { name.seen.book ≡ N.book }
         requires limits { limits ≡ N.limits }
-        requires workers { (1 ≤ options.now.workers) × (options.now.workers ≤ 64) }
-        requires queue { (1 ≤ options.now.queue) × (options.now.queue ≤ 4096) }
+        requires workers { (1 ≤ config.now.workers) × (config.now.workers ≤ 64) }
+        requires queue { (1 ≤ config.now.queue) × (config.now.queue ≤ 4096) }
         ensures keeper { IfOk result (λ h. h.keeper ≡ no_entries) }
         ensures clerk { IfOk result (λ h. IsNewClerk h.clerk) }
         ensures new { IfOk result (λ h. AreNew h.clerk.desk (map (λ p. p.1.seat) h.lives.items)) }
         ensures numbers { IfOk result (λ h.
-            OneForEach options.now.workers (map (λ p. p.1.seat) h.lives.items)) }
+            OneForEach config.now.workers (map (λ p. p.1.seat) h.lives.items)) }
     {
-        let workers = options.workers as usize;
-        let (mut keeper, passes) = open::<N, _>(rt, alloc, options.keys, name, limits, workers)?;
-        match open_desk(alloc, &mut keeper, passes, options) {
+        let workers = config.workers as usize;
+        let (mut keeper, passes) = open::<N, _>(rt, alloc, config.keys, name, limits, workers)?;
+        match open_desk(alloc, &mut keeper, passes, config) {
             Ok((desk, clerk, lives)) => Ok(SharedStore {
                 keeper,
                 desk,

@@ -2,7 +2,7 @@ use Rattle.std.proofs.Common.{◌≡◌, ◌∙◌, ap, map, List, subst, sym, �
 use Rattle.std.specs.List.Sorted.{IsPermutation}
 use Rattle.jaeger_model.specs.declared.placed.Placed.{Placed}
 use Rattle.trace_model.specs.declared.query.Find.{Find}
-use Rattle.trace_model.specs.Searching.{cut, ranked}
+use Rattle.trace_model.specs.Searching.{cut, ranked_by_start}
 use Rattle.find_traces.specs.declared.matched.Hit.{Hit}
 use Rattle.find_traces.specs.Places.{hits, hit_of, start_of, place_of}
 use Rattle.find_traces.proofs.Sorting.{sorted_hits}
@@ -14,6 +14,6 @@ returns g c =
     let q : Find = (g.T.Searched.query c.args.traces.now) in
     let ts : List (List Placed) = g.T.Searched.traces c.args.traces.now in
     let moved : IsPermutation (map hit_of (hits q ts)) c.sort_unstable.new.self.items = subst (λ (l : List Hit). IsPermutation l c.sort_unstable.new.self.items) c.in_ok-found.ensures c.sort_unstable.ensures.permutation in
-    let sorted : c.deref.result.now ≡ map hit_of (ranked start_of (hits q ts)) = c.deref.ensures.value ∙ sorted_hits q ts c.sort_unstable.new.self.items moved c.sort_unstable.ensures.sorted in
-    let whole : map hit_of (ranked start_of (hits q ts)) ≡ cut q.limit (map hit_of (ranked start_of (hits q ts))) = ap (λ n. cut n (map hit_of (ranked start_of (hits q ts)))) (sym c.requires) in
+    let sorted : c.deref.result.now ≡ map hit_of (ranked_by_start start_of (hits q ts)) = c.deref.ensures.value ∙ sorted_hits q ts c.sort_unstable.new.self.items moved c.sort_unstable.ensures.sorted in
+    let whole : map hit_of (ranked_by_start start_of (hits q ts)) ≡ cut q.limit (map hit_of (ranked_by_start start_of (hits q ts))) = ap (λ n. cut n (map hit_of (ranked_by_start start_of (hits q ts)))) (sym c.requires) in
     subst (λ (l : List ℕ). IfOk c.places_of.result (λ v. v.items ≡ l)) (ap (map place_of) (sorted ∙ whole) ∙ places_of_hits q ts) c.places_of.ensures

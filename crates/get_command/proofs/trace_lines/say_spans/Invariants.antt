@@ -1,6 +1,6 @@
 use Rattle.std.proofs.Common.{◌≡◌, false, take}
 use Rattle.std.specs.Prelude.{flat_map}
-use Rattle.text_lines.specs.Halting.{Moves}
+use Rattle.text_lines.specs.RunErrors.{Moves}
 use Rattle.get_command.specs.Runs.{shown_line}
 use Rattle.get_command.proofs.trace_lines.say_spans.Given as goal
 

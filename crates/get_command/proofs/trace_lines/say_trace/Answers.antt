@@ -2,7 +2,7 @@ use Rattle.std.proofs.Common.{rules, ◌≡◌, map, Some, None, subst}
 use Rattle.std.proofs.lemmas.Result.{err_from_is_err_and}
 use Rattle.std.specs.Io.KnownBytes.{Appends}
 use Rattle.std.specs.Prelude.{option_map}
-use Rattle.text_lines.specs.Halting.{WritesSome}
+use Rattle.text_lines.specs.RunErrors.{WritesSome}
 use Rattle.trace_model.specs.Adjusting.{unadjusted}
 use Rattle.get_command.specs.Runs.{found_in}
 use Rattle.get_command.proofs.Finding.{text_found, text_lost}

@@ -1,7 +1,7 @@
 use Rattle.std.proofs.Common.{inl, inr, refl, subst, map, List, Option, ℕ, arith}
 use Rattle.get_command.specs.Runs.{output_of as get_output, status_of as get_status}
 use Rattle.play_script.specs.Playing.{output_of as play_output, status_of as play_status}
-use Rattle.text_lines.specs.Halting.{RunsAs}
+use Rattle.text_lines.specs.RunErrors.{RunsAs}
 use Rattle.command_words.specs.Asked.{Asks}
 use Rattle.command_words.specs.declared.words.Command.{Command}
 use Rattle.command_words.specs.declared.words.Command.TheVariants.{Get, Pipe, Play, Serve}

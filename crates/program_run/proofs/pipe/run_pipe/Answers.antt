@@ -2,7 +2,7 @@ use Rattle.std.proofs.Common.{inl, inr, refl, [], arith, rules}
 use Rattle.std.proofs.KnownBytes.{Consumes-nil, Appends-nil}
 use Rattle.http_session.specs.Sessions.{none_yet}
 use Rattle.http_session.proofs.Turns.{nothing_was_due}
-use Rattle.http_session.specs.declared.exchanges.Cause.TheVariants.{Memory}
+use Rattle.http_session.specs.declared.exchanges.SessionErrorKind.TheVariants.{Memory}
 use Rattle.program_run.proofs.pipe.run_pipe.Goals as goal
 
 pub returns-in_default : goal.returns-in_default

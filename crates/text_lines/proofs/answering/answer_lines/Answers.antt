@@ -1,6 +1,6 @@
 use Rattle.std.proofs.Common.{rules, inl, inr, ◌≡◌}
 use Rattle.std.proofs.lemmas.Result.{err_from_is_err_and}
-use Rattle.text_lines.specs.declared.halt.Halt.TheVariants.{Device, Memory}
+use Rattle.text_lines.specs.declared.run_error.RunError.TheVariants.{Device, Memory}
 use Rattle.text_lines.proofs.Progress.{all_lost, some_answered, some_left}
 use Rattle.text_lines.proofs.answering.answer_lines.Goals as goal
 

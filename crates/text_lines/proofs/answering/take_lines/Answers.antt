@@ -1,7 +1,7 @@
 use Rattle.std.proofs.Common.{◌≡◌, inl, inr, refl, false, [], ap, ◌∙◌, ◌++◌}
 use Rattle.std.proofs.lemmas.Result.{err_from_is_err_and}
-use Rattle.text_lines.specs.declared.halt.Halt.TheVariants.{Device, Memory}
-use Rattle.text_lines.specs.declared.lines.TheConstants.{MOST_READS}
+use Rattle.text_lines.specs.declared.run_error.RunError.TheVariants.{Device, Memory}
+use Rattle.text_lines.specs.declared.line_buffer.TheConstants.{MOST_READS}
 use Rattle.text_lines.proofs.Pages.{moves_nothing}
 use Rattle.text_lines.proofs.Progress.{begins, ends, goes_on, line_lost, stays, stops}
 use Rattle.text_lines.proofs.answering.take_lines.Goals as goal

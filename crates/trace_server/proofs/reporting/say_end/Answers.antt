@@ -10,4 +10,4 @@ returns-in-Ok g c =
 pub returns-in-Err : goal.returns-in-Err
 returns-in-Err g c =
     let t = c.args.totals in
-    said_some _ _ (g.W.Output.has_failed c.say_served.new.output) (served_line c.args.served) (books_line t.acknowledged t.refused t.left) c.in-Err.halt c.in-Err.ensures.0 c.in-Err.ensures.1
+    said_some _ _ (g.W.Output.has_failed c.say_served.new.output) (served_line c.args.served) (books_line t.acknowledged t.refused t.left) c.in-Err.error c.in-Err.ensures.0 c.in-Err.ensures.1

@@ -5,12 +5,12 @@ use Rattle.trace_server.proofs.Endings.{reported, unheard}
 use Rattle.trace_server.proofs.serving.serve_named.Goals as goal
 
 pub returns-in-Err : goal.returns-in-Err
-returns-in-Err g c = inr (inl (unheard _ _ (g.W.Output.has_failed c.say_listening.new.output) _ c.in-Err.halt _ c.status.ensures c.in-Err.ensures))
+returns-in-Err g c = inr (inl (unheard _ _ (g.W.Output.has_failed c.say_listening.new.output) _ c.in-Err.error _ c.status.ensures c.in-Err.ensures))
 
 pub returns : goal.returns
 returns g c =
     let failed = g.W.Output.has_failed c.serve_store.new.output in
-    let workers = c.args.options.now.workers in
+    let workers = c.args.config.now.workers in
     let old = g.W.Output.contents c.args.output.now in
     let new = g.W.Output.contents c.serve_store.new.output in
     subst (λ (l : Limits). Serves l workers old new failed c.serve_store.result) (sym c.requires.limits)

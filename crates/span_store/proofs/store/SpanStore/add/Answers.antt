@@ -9,7 +9,7 @@ use Rattle.trace_model.specs.Refusals.{followed_by}
 use Rattle.trace_model.specs.Works.{spans_brought}
 use Rattle.arrival_journal.specs.Journals.{admission_by}
 use Rattle.trace_assembly.specs.Rows.{spots_of}
-use Rattle.trace_assembly.specs.Located.{located}
+use Rattle.trace_assembly.specs.Located.{located_events}
 use Rattle.arrival_names.specs.Kept.{IsKept as NamesKept}
 use Rattle.arrival_names.proofs.Numbering.{length-arrivals}
 use Rattle.service_places.specs.Reported.{IsKept as PlacesKept}
@@ -55,8 +55,8 @@ invariant_of-self c =
     let n = was.journal.held.limits.traces in
     let h = was.journal.held.entries in
     let here = c.follow.ensures.follows n h place c.self.invariant.follows in
-    let follows : Follows n (located (h ++ e ∷ [])) c.follow.new.ring (spots_of c.follow.new.assembly) =
-    subst (λ (x : Entry). Follows n (located (h ++ x ∷ [])) c.follow.new.ring (spots_of c.follow.new.assembly)) (c.deref.ensures ∙ c.entry.ensures) here in
+    let follows : Follows n (located_events (h ++ e ∷ [])) c.follow.new.ring (spots_of c.follow.new.assembly) =
+    subst (λ (x : Entry). Follows n (located_events (h ++ x ∷ [])) c.follow.new.ring (spots_of c.follow.new.assembly)) (c.deref.ensures ∙ c.entry.ensures) here in
     let seen : length c.follow.new.ring.seen ≤ length was.ring.seen + length (spans_brought e.work) = search rules in
     let used : c.follow.new.assembly.used ≡ was.assembly.used + length (spans_brought e.work) = search rules in
     let grows : Grows was.ring c.follow.new.ring was.assembly c.follow.new.assembly (length (spans_brought e.work)) = record {

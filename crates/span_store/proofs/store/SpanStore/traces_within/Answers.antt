@@ -26,7 +26,7 @@ returns-clause-links c =
     let spots = spots_of was.assembly in
     let stands = trace_stands h.limits.traces h.entries spots (kept_spots h was.ring was.assembly was.names was.reported c.self.invariant) in
     let ids : c.deref.result.now ≡ was.ring.ids = c.deref.ensures.value ∙ c.in_ok-ids.ensures in
-    let seen : given_traces c.in_ok-traces.traces.items ≡ filter (list_any (in_window end_ms lookback_ms)) (map (trace_named h.entries spots) c.deref.result.now) = rw (e, l) at c.in_ok-traces.ensures.given in
+    let seen : given_traces c.in_ok-traces.traces.items ≡ filter (list_any (in_window end_ms lookback_ms)) (map (trace_named h.entries spots) c.deref.result.now) = rw (e, l) at c.in_ok-traces.ensures.given_span in
     let all : links end_ms lookback_ms (given_traces c.in_ok-traces.traces.items) ≡ links end_ms lookback_ms (traces h.limits.traces (events h.entries)) =
     ap (links end_ms lookback_ms) seen ∙ links_within end_ms lookback_ms (map (trace_named h.entries spots) c.deref.result.now)
     ∙ ap (λ (r : List TraceId). links end_ms lookback_ms (map (trace_named h.entries spots) r)) ids

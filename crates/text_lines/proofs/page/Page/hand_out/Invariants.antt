@@ -1,5 +1,5 @@
 use Rattle.std.proofs.Common.{◌≡◌, ◌≤◌, ◌-◌, drop, false, vec_len}
-use Rattle.text_lines.specs.Halting.{Moves}
+use Rattle.text_lines.specs.RunErrors.{Moves}
 use Rattle.text_lines.proofs.page.Page.hand_out.Given as goal
 
 abbrev pub invariant-writes : goal.invariant-writes

@@ -1,7 +1,0 @@
-use Rattle.std.proofs.Common.{◌≡◌, ◌||◌, ◌&&◌, ℕ, List, take}
-use Rattle.find_traces.specs.Wanting.{is_in, wants, told_by}
-use Rattle.find_traces.proofs.Wanting.{fields_of}
-use Rattle.find_traces.proofs.judged.add_fields.Given as goal
-
-abbrev pub invariant-loop-log : goal.invariant-loop-log
-invariant-loop-log l = (a : List ℕ × List ℕ) → is_in l.pairs.keys a ≡ (is_in l.fn.pairs.keys a || (wants l.wanted l.others.keys a && told_by (fields_of (take l.log-index l.logs)) a))

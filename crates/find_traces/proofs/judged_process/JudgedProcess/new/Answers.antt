@@ -1,0 +1,21 @@
+use Rattle.std.proofs.Common.{arith}
+use Rattle.find_traces.proofs.Wanting.{met_few}
+use Rattle.find_traces.proofs.judged_process.JudgedProcess.new.Goals as goal
+
+pub overflow_sub-left : goal.overflow_sub-left
+overflow_sub-left c =
+    let few = met_few c.args.wanted.now c.args.process.now c.in_ok-met.met.keys c.len.ensures.ordered c.in_ok-met.ensures in
+    let length = c.len.ensures.len in
+    let count = c.count.ensures in
+    omega arith
+
+pub invariant_of-result : goal.invariant_of-result
+invariant_of-result c =
+    let few = met_few c.args.wanted.now c.args.process.now c.in_ok-met.met.keys c.len.ensures.ordered c.in_ok-met.ensures in
+    let length = c.len.ensures.len in
+    let count = c.count.ensures in
+    record {
+      rising = c.len.ensures.ordered;
+      asked = c.in_ok-met.ensures;
+      count = omega arith;
+    }

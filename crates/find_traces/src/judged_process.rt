@@ -1,0 +1,186 @@
+//! Spans of one process, judged by a prepared search.
+
+ghost use Rattle.std.specs.Prelude.{◌≡◌, ◌&&◌, ◌||◌, ℕ, List, IfOk, OnOk, flat_map, ◌++◌};
+ghost use Rattle.std.specs.List.{list_all};
+ghost use Rattle.jaeger_model.specs.declared.span.Log.{Log as LogValue};
+ghost use Rattle.trace_model.specs.Searching.{matches, has_tag};
+ghost use Rattle.find_traces.specs.Wanting.{pair_of, same_pair, is_in, asks, wants, has_pair};
+
+use crate::wanted::Wanted;
+use jaeger_model::{Log, Process, Seen, Span, Tag, Text};
+use span_steps::{is_named, is_timed};
+use std::alloc::{AllocError, Global};
+use std::collections::BTreeSet;
+use std::marker::Model;
+
+/// A process whose tags were looked up among those that a search asks, once for all its spans. Contracts
+/// see the search and the process.
+#[derive(Drop)]
+pub struct JudgedProcess<'a> {
+    wanted: &'a Wanted<'a>,
+    process: &'a Process,
+    /// The asked pairs that tags of the process have.
+    met: BTreeSet<(Text, Text)>,
+    /// How many asked pairs they leave.
+    left: usize,
+}
+
+impl<'a> Model for JudgedProcess<'a> {
+    ghost use Rattle.find_traces.specs.Wanting.{Beside};
+    ghost use Rattle.find_traces.specs.Prepared.{IsJudged};
+
+    ghost Value = { Beside };
+
+    ghost view = { λ j. record { query = j.wanted.now; process = j.process.now } };
+
+    ghost invariant = { λ j. IsJudged j.wanted.now j.process.now j.met.keys j.left };
+}
+
+/// Adds the pair that a tag has, if it is asked and is not among the others.
+fn add_pair(
+    alloc: Global,
+    wanted: &Wanted<'_>,
+    tag: &Tag,
+    others: &BTreeSet<(Text, Text)>,
+    pairs: &mut BTreeSet<(Text, Text)>,
+) -> Result<(), AllocError>
+    ensures { OnOk result ((a : List ℕ × List ℕ) → is_in pairs.new.keys a ≡
+        (is_in pairs.old.keys a
+        || (wants wanted.now others.now.keys a && same_pair a (pair_of tag.now)))) }
+{
+    if let Some(pair) = wanted.asked_by(alloc, tag)? {
+        if !others.contains(&pair) {
+            pairs.insert(pair)?;
+        }
+    }
+    Ok(())
+}
+
+/// The same for each of the tags.
+fn add_pairs(
+    alloc: Global,
+    wanted: &Wanted<'_>,
+    tags: &[Tag],
+    others: &BTreeSet<(Text, Text)>,
+    pairs: &mut BTreeSet<(Text, Text)>,
+) -> Result<(), AllocError>
+    ensures { OnOk result ((a : List ℕ × List ℕ) → is_in pairs.new.keys a ≡
+        (is_in pairs.old.keys a || (wants wanted.now others.now.keys a && has_pair tags.now a))) }
+{
+    for tag in tags {
+        add_pair(alloc, wanted, tag, others, pairs)?;
+    }
+    Ok(())
+}
+
+/// The same for each field of the logs.
+fn add_fields(
+    alloc: Global,
+    wanted: &Wanted<'_>,
+    logs: &[Log],
+    others: &BTreeSet<(Text, Text)>,
+    pairs: &mut BTreeSet<(Text, Text)>,
+) -> Result<(), AllocError>
+    ensures { OnOk result ((a : List ℕ × List ℕ) → is_in pairs.new.keys a ≡
+        (is_in pairs.old.keys a || (wants wanted.now others.now.keys a
+        && has_pair (flat_map (λ (l : LogValue). l.fields) logs.now) a))) }
+{
+    for log in logs {
+        add_pairs(alloc, wanted, log.fields.as_slice(), others, pairs)?;
+    }
+    Ok(())
+}
+
+/// The asked pairs that tags of the process have.
+fn process_pairs(
+    alloc: Global,
+    wanted: &Wanted<'_>,
+    process: &Process,
+) -> Result<BTreeSet<(Text, Text)>, AllocError>
+    ensures { IfOk result (λ s. (a : List ℕ × List ℕ) → is_in s.keys a ≡
+        (asks wanted.now a && has_pair process.now.tags a)) }
+{
+    let mut met = BTreeSet::new(alloc);
+    if wanted.asks_nothing() {
+        return Ok(met);
+    }
+    let others = BTreeSet::new(alloc);
+    add_pairs(alloc, wanted, process.tags.as_slice(), &others, &mut met)?;
+    Ok(met)
+}
+
+/// The asked pairs that the span's own tags and log fields have, but for the others.
+fn own_pairs(
+    alloc: Global,
+    wanted: &Wanted<'_>,
+    span: &Span,
+    others: &BTreeSet<(Text, Text)>,
+) -> Result<BTreeSet<(Text, Text)>, AllocError>
+    ensures { IfOk result (λ s. (a : List ℕ × List ℕ) → is_in s.keys a ≡
+        (wants wanted.now others.now.keys a && (has_pair span.now.tags a
+        || has_pair (flat_map (λ (l : LogValue). l.fields) span.now.logs) a))) }
+{
+    let mut own = BTreeSet::new(alloc);
+    add_pairs(alloc, wanted, span.tags.as_slice(), others, &mut own)?;
+    add_fields(alloc, wanted, span.logs.as_slice(), others, &mut own)?;
+    Ok(own)
+}
+
+impl<'a> JudgedProcess<'a> {
+    /// The process, its tags looked up.
+    ///
+    /// # Errors
+    ///
+    /// Out of memory, and nothing else.
+    pub fn new(
+        alloc: Global,
+        wanted: &'a Wanted<'a>,
+        process: &'a Process,
+    ) -> Result<Self, AllocError>
+        ensures { IfOk result (λ j. j ≡
+            record { query = wanted.now; process = process.now }) }
+    {
+        let met = process_pairs(alloc, wanted, process)?;
+        let left = wanted.count() - met.len();
+        Ok(JudgedProcess {
+            wanted,
+            process,
+            met,
+            left,
+        })
+    }
+
+    /// Whether a span of the process has each of the asked tags, itself or in its process or its logs.
+    fn has_all_tags(&self, alloc: Global, span: &Span) -> Result<bool, AllocError>
+        ensures { IfOk result (λ b. b ≡ list_all
+            (has_tag (record { process = self.now.process; span = span.now }))
+            self.now.query.tags) }
+    {
+        if self.left == 0 {
+            return Ok(true);
+        }
+        let own = own_pairs(alloc, self.wanted, span, &self.met)?;
+        Ok(own.len() == self.left)
+    }
+
+    /// Whether a span of the process meets every condition of the search. Of tags only its own and its
+    /// log fields are looked at.
+    ///
+    /// # Errors
+    ///
+    /// Out of memory, and nothing else.
+    pub fn is_match(&self, alloc: Global, span: &Span) -> Result<bool, AllocError>
+        ensures { IfOk result (λ b. b ≡ matches self.now.query
+            (record { process = self.now.process; span = span.now })) }
+    {
+        let query = self.wanted.query();
+        let at = Seen {
+            process: self.process,
+            span,
+        };
+        if !is_named(at, query) || !is_timed(at, query) {
+            return Ok(false);
+        }
+        self.has_all_tags(alloc, span)
+    }
+}

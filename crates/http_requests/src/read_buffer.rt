@@ -1,0 +1,108 @@
+ghost use Rattle.std.specs.Prelude.{◌≡◌, ◌≤◌, ◌+◌, [], false, IfErr, OnOk, OnErr, length, drop};
+ghost use Rattle.http_requests.specs.Waiting.{source_of};
+ghost use Rattle.http_requests.specs.Receiving.{ReadsOn, IsRead, ReadFails, SameUnlessReading};
+
+use crate::room::Room;
+use session_devices::Input;
+use std::alloc::{AllocError, Global};
+use std::marker::Model;
+
+/// How many reads one session makes at most; one more counts as a failed one.
+pub const MOST_READS: u64 = 1_099_511_627_776;
+
+/// Why no more bytes could be had.
+#[derive(Clone, Copy, Debug, PartialEq, Eq)]
+pub enum ReadError {
+    /// The input failed, or was to be read more often than a session may.
+    Reading,
+    Memory,
+}
+
+impl From<AllocError> for ReadError {
+    ghost use Rattle.std.specs.Prelude.{◌≡◌};
+    ghost use Rattle.http_requests.specs.declared.read_buffer.ReadError.TheVariants.{Memory};
+
+    ghost from_gives = { λ _ why. why ≡ Memory };
+
+    fn from(_: AllocError) -> Self {
+        ReadError::Memory
+    }
+}
+
+/// The bytes that were read from an input and are not taken yet, how many reads may still be made,
+/// and whether the input has ended.
+#[derive(Drop)]
+pub struct ReadBuffer {
+    room: Room,
+    left: u64,
+    ended: bool,
+}
+
+impl Model for ReadBuffer {
+    ghost use Rattle.http_requests.specs.Receiving.{ReadBuffer as ReadBufferValue};
+    ghost use Rattle.http_requests.specs.Rooms.{held};
+
+    ghost Value = { ReadBufferValue };
+
+    ghost view = { λ s. record { held = held s.room; left = s.left; ended = s.ended } };
+}
+
+impl ReadBuffer {
+    /// Nothing yet.
+    pub fn new(alloc: Global) -> Self
+        ensures { result ≡ record { held = []; left = MOST_READS; ended = false } }
+    {
+        ReadBuffer {
+            room: Room::new(alloc),
+            left: MOST_READS,
+            ended: false,
+        }
+    }
+
+    /// The bytes that are not taken yet.
+    pub fn as_slice(&self) -> &[u8]
+        ensures { result.now ≡ self.now.held }
+    {
+        self.room.as_slice()
+    }
+
+    /// Whether a read has found the end of the input.
+    pub fn has_ended(&self) -> bool
+        ensures { result ≡ self.now.ended }
+    {
+        self.ended
+    }
+
+    /// Takes bytes from the beginning.
+    pub fn take(&mut self, count: usize)
+        requires { count ≤ length self.old.held }
+        ensures { self.new ≡ record self.old { held = drop count self.old.held } }
+    {
+        self.room.take(count);
+    }
+
+    /// Makes one read, of an input that has not ended. Memory is taken before it: a read's bytes always find room.
+    pub(crate) fn read_on<R: Input>(&mut self, input: &mut R) -> Result<(), ReadError>
+        requires { self.old.ended ≡ false }
+        ensures ok { OnOk result (ReadsOn (R.remaining input.old) (R.remaining input.new)
+            self.old self.new) }
+        ensures read { OnOk result (IsRead R.gives input.old input.new self.old self.new) }
+        ensures err { IfErr result (λ why. ReadFails (source_of R.remaining R.gives)
+            input.old input.new
+            (R.has_failed input.new) self.old why) }
+        ensures unchanged { OnErr result (self.new ≡ self.old) }
+        ensures same { SameUnlessReading (R.has_failed input.old) (R.has_failed input.new) result }
+        ensures fewer { OnOk result (self.new.left + 1 ≡ self.old.left) }
+    {
+        if self.left == 0 {
+            return Err(ReadError::Reading);
+        }
+        self.room.make_room()?;
+        let Ok(count) = self.room.read_from(input) else {
+            return Err(ReadError::Reading);
+        };
+        self.left -= 1;
+        self.ended = count == 0;
+        Ok(())
+    }
+}

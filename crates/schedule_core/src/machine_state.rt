@@ -1,0 +1,272 @@
+//! The machine over two copies. Readers enter the one that is shown; the other one is turned to the
+//! readers by a publish, which no reader may hold up.
+
+ghost use Rattle.std.specs.Prelude.{◌≡◌, IfOk, length, slice_get, take};
+ghost use Rattle.std.specs.Arc.{arc_value};
+ghost use Rattle.trace_model.specs.Answers.{answer};
+ghost use Rattle.arrival_journal.specs.Journals.{admission_by};
+ghost use Rattle.schedule_core.specs.Copied.{all_of};
+ghost use Rattle.schedule_core.specs.MachineStates.{verdict};
+ghost use Rattle.schedule_core.specs.Standing.{Visits};
+ghost use Rattle.schedule_core.specs.declared.step.Step.TheVariants.{Enter, Leave, Learn, Read};
+ghost use Rattle.schedule_core.specs.Machine.{by_reader, enters, front_of, leaves, learns, new_machine, publishes, limits_by, puts, reads, stays, step as stepped, takes};
+
+use crate::copies::{Copies, without_memory};
+use crate::outcome::Outcome;
+use crate::readers::{Inside, ReaderState, Readers};
+use crate::seats::Seats;
+use crate::step::Step;
+use std::alloc::{AllocError, Global};
+use std::hash::RandomState;
+use std::marker::Model;
+use std::sync::Arc;
+use trace_model::{Admission, Answer, Entry, Limits, Query, Work};
+
+/// A limit on the traces that are shown is no greater.
+const MOST_TRACES: u32 = 1_000_000;
+
+/// The machine with the two copies that it keeps.
+#[derive(Drop)]
+pub(crate) struct MachineState {
+    copies: Copies,
+    seats: Seats,
+    /// The front of each publish.
+    fronts: Vec<u64>,
+    readers: Readers,
+}
+
+impl Model for MachineState {
+    ghost use Rattle.schedule_core.specs.Machine.{Machine};
+    ghost use Rattle.schedule_core.specs.MachineStates.{IsState, machine_of};
+
+    ghost Value = { Machine };
+
+    ghost view = { λ s. machine_of s.copies s.seats s.fronts.items s.readers };
+
+    ghost invariant = { λ s. IsState s.copies s.seats s.fronts.items s.readers };
+}
+
+impl MachineState {
+    /// A machine in which nothing has happened.
+    ///
+    /// # Errors
+    ///
+    /// Out of memory, and nothing else.
+    pub fn new(alloc: Global, keys: RandomState, limits: Limits) -> Result<MachineState, AllocError>
+        ensures { IfOk result (λ s. s ≡ new_machine limits) }
+    {
+        let seats = Seats::new(alloc)?;
+        let Ok(readers) = Readers::new(alloc) else {
+            return without_memory(seats);
+        };
+        let Ok(copies) = Copies::new(alloc, keys, limits) else {
+            return without_memory((seats, readers));
+        };
+        Ok(MachineState {
+            copies,
+            seats,
+            fronts: Vec::new(alloc),
+            readers,
+        })
+    }
+
+    fn put(&mut self, seat: u32, work: Work) -> Result<Outcome, AllocError>
+        ensures { IfOk result (λ o. record { outcome = o; machine = self.new } ≡
+            puts self.old seat work (slice_get self.old.numbers seat)) }
+    {
+        match self.seats.hand_in(seat, work)? {
+            Some(number) => Ok(Outcome::Put { number }),
+            None => Ok(Outcome::Unknown),
+        }
+    }
+
+    fn limit(&mut self, seat: u32, limit: u32) -> Result<Outcome, AllocError>
+        ensures { IfOk result (λ o. record { outcome = o; machine = self.new } ≡
+            limits_by self.old seat limit (slice_get self.old.numbers seat)) }
+    {
+        if limit > MOST_TRACES {
+            return Ok(Outcome::Unknown);
+        }
+        self.put(seat, Work::TraceLimit(limit))
+    }
+
+    fn take(&mut self) -> Outcome
+        ensures { record { outcome = result; machine = self.new } ≡
+            takes self.old self.old.waiting }
+    {
+        let Some(job) = self.seats.take() else {
+            return Outcome::Idle;
+        };
+        judge(&mut self.copies, job)
+    }
+
+    fn publish(&mut self) -> Result<Outcome, AllocError>
+        ensures { IfOk result (λ o. record { outcome = o; machine = self.new } ≡
+            publishes self.old) }
+    {
+        if let Some(reader) = self.readers.first_held(self.publishes()) {
+            return Ok(Outcome::Held { reader });
+        }
+        self.fronts.reserve(1)?;
+        self.copies.publish()?;
+        let front = self.copies.front();
+        self.fronts.push_reserved(front);
+        Ok(Outcome::Published { front })
+    }
+
+    /// How many publishes have been done.
+    fn publishes(&self) -> u64
+        ensures { result ≡ length self.now.fronts }
+    {
+        self.fronts.len() as u64
+    }
+
+    fn enter(&mut self, reader: u32) -> Outcome
+        ensures { record { outcome = result; machine = self.new } ≡
+            by_reader self.old reader (λ r. enters self.old reader r.inside) }
+    {
+        let Some(place) = self.readers.get(reader) else {
+            return Outcome::Unknown;
+        };
+        if place.inside.is_some() {
+            return Outcome::Inside;
+        }
+        let front = self.copies.front();
+        let inside = Inside {
+            front,
+            publishes: self.publishes(),
+        };
+        self.readers.set(
+            reader,
+            ReaderState {
+                seen: front,
+                inside: Some(inside),
+            },
+        );
+        Outcome::Entered { front }
+    }
+
+    fn read(&self, reader: u32, query: &Query) -> Result<Outcome, AllocError>
+        ensures { IfOk result (λ o. stays self.now o ≡
+            by_reader self.now reader (λ r. reads self.now query.now r.inside)) }
+    {
+        let Some(place) = self.readers.get(reader) else {
+            return Ok(Outcome::Unknown);
+        };
+        let Some(inside) = place.inside else {
+            return Ok(Outcome::Outside);
+        };
+        let answer = look(&self.copies, self.publishes(), inside, query)?;
+        Ok(Outcome::Answered {
+            front: inside.front,
+            answer,
+        })
+    }
+
+    /// The front of a publish, the first one being 1.
+    fn front_of(&self, publish: u32) -> Option<u64>
+        ensures { result ≡ front_of self.now publish }
+    {
+        let before = (publish as usize).checked_sub(1)?;
+        self.fronts.get(before).copied()
+    }
+
+    fn learn(&mut self, reader: u32, publish: u32) -> Outcome
+        ensures { record { outcome = result; machine = self.new } ≡
+            stepped self.old (Learn reader publish) }
+    {
+        let Some(place) = self.readers.get(reader) else {
+            return Outcome::Unknown;
+        };
+        let Some(front) = self.front_of(publish) else {
+            return Outcome::Unknown;
+        };
+        if place.inside.is_some() {
+            return Outcome::Inside;
+        }
+        let seen = place.seen.max(front);
+        self.readers.set(reader, ReaderState { seen, inside: None });
+        Outcome::Learnt { front: seen }
+    }
+
+    fn leave(&mut self, reader: u32) -> Outcome
+        ensures { record { outcome = result; machine = self.new } ≡
+            stepped self.old (Leave reader) }
+    {
+        let Some(place) = self.readers.get(reader) else {
+            return Outcome::Unknown;
+        };
+        if place.inside.is_none() {
+            return Outcome::Outside;
+        }
+        self.readers.set(
+            reader,
+            ReaderState {
+                seen: place.seen,
+                inside: None,
+            },
+        );
+        Outcome::Left
+    }
+
+    /// Makes a step, and says what it came to.
+    ///
+    /// # Errors
+    ///
+    /// Out of memory, and nothing else.
+    pub fn step(&mut self, step: Step) -> Result<Outcome, AllocError>
+        ensures { IfOk result (λ o. record { outcome = o; machine = self.new } ≡
+            stepped self.old step) }
+    {
+        match step {
+            Step::Put { seat, batch } => self.put(seat, Work::Batch(batch)),
+            Step::Limit { seat, limit } => self.limit(seat, limit),
+            Step::Take => Ok(self.take()),
+            Step::Publish => self.publish(),
+            Step::Enter { reader } => Ok(self.enter(reader)),
+            Step::Read { reader, query } => {
+                let outcome = self.read(reader, &query);
+                drop(query);
+                outcome
+            }
+            Step::Learn { reader, publish } => Ok(self.learn(reader, publish)),
+            Step::Leave { reader } => Ok(self.leave(reader)),
+        }
+    }
+}
+
+/// Accepts a job, unless its batch was sent before or what is accepted refuses it.
+fn judge(copies: &mut Copies, job: Arc<Entry>) -> Outcome
+    ensures { record { outcome = result; copies = copies.new } ≡
+        verdict copies.old (arc_value job) (admission_by (all_of copies.old) (arc_value job)) }
+{
+    let (seat, number) = (job.seat, job.number);
+    match copies.admit(job) {
+        Ok(Admission::Added) => Outcome::Taken { seat, number },
+        Ok(Admission::Resent { place }) => Outcome::Again {
+            seat,
+            number,
+            place,
+        },
+        Err(why) => Outcome::Refused(why),
+    }
+}
+
+/// The answer at the list that a reader entered, which one of the copies holds.
+fn look(
+    copies: &Copies,
+    publishes: u64,
+    inside: Inside,
+    query: &Query,
+) -> Result<Answer, AllocError>
+    requires visits { Visits copies.now.before copies.now.history publishes inside }
+    ensures { IfOk result (λ a. a ≡ answer copies.now.limits (take inside.front copies.now.history)
+        query.now) }
+{
+    let answered = if inside.publishes == publishes {
+        copies.answer(query)
+    } else {
+        copies.answer_before(query)
+    };
+    answered.map_err(|_| AllocError)
+}

@@ -1,0 +1,428 @@
+use batch_codec::decode;
+use direct_store::Direct;
+use http_session::{Ended, SessionError, SessionErrorKind};
+use pipe_session::pipe;
+use session_devices::{MemoryInput, MemoryOutput, Output};
+use span_store::SpanStore;
+use std::alloc::Global;
+use std::hash::RandomState;
+use std::mem::drop;
+use std::sync::Arc;
+use std::test::*;
+use trace_model::{Entry, Limits};
+
+/// A batch of service `a` with one span, `op`, of trace 1.
+pub(crate) const BATCH: &[u8] =
+    b"\x0c\x00\x01\x0b\x00\x01\x00\x00\x00\x01a\x00\x0f\x00\x02\x0c\x00\x00\x00\x01\x0a\x00\x01\x00\x00\x00\x00\x00\x00\x00\x01\x0a\x00\x02\x00\x00\x00\x00\x00\x00\x00\x00\x0a\x00\x03\x00\x00\x00\x00\x00\x00\x00\x02\x0a\x00\x04\x00\x00\x00\x00\x00\x00\x00\x00\x0b\x00\x05\x00\x00\x00\x02op\x08\x00\x07\x00\x00\x00\x01\x0a\x00\x08\x00\x00\x00\x00\x00\x00\x03\xe8\x0a\x00\x09\x00\x00\x00\x00\x00\x00\x002\x00\x00";
+
+pub(crate) const POST: &[u8] =
+    b"POST /api/traces HTTP/1.1\r\nContent-Type: application/x-thrift\r\nContent-Length: 104\r\n\r\n";
+
+pub(crate) const SERVICES: &[u8] = b"GET /api/services HTTP/1.1\r\n\r\n";
+
+pub(crate) const ANSWERS: &[u8] =
+    b"HTTP/1.1 202 Accepted\r\nContent-Length: 0\r\n\r\nHTTP/1.1 200 OK\r\nContent-Type: application/json\r\nContent-Length: 59\r\n\r\n{\"data\":[\"a\"],\"errors\":null,\"limit\":0,\"offset\":0,\"total\":1}";
+
+const ACCEPTED: &[u8] = b"HTTP/1.1 202 Accepted\r\nContent-Length: 0\r\n\r\n";
+
+const LISTED: &[u8] =
+    b"HTTP/1.1 200 OK\r\nContent-Type: application/json\r\nContent-Length: 59\r\n\r\n{\"data\":[\"a\"],\"errors\":null,\"limit\":0,\"offset\":0,\"total\":1}";
+
+const NONE_LISTED: &[u8] =
+    b"HTTP/1.1 200 OK\r\nContent-Type: application/json\r\nContent-Length: 56\r\n\r\n{\"data\":[],\"errors\":null,\"limit\":0,\"offset\":0,\"total\":0}";
+
+const TRACE: &[u8] = b"GET /api/traces/1 HTTP/1.1\r\n\r\n";
+
+const SHOWN: &[u8] =
+    b"HTTP/1.1 200 OK\r\nContent-Type: application/json\r\nContent-Length: 351\r\n\r\n{\"data\":[{\"processes\":{\"p1\":{\"serviceName\":\"a\",\"tags\":[]}},\"spans\":[{\"duration\":50,\"flags\":1,\"logs\":[],\"operationName\":\"op\",\"processID\":\"p1\",\"references\":[],\"spanID\":\"0000000000000002\",\"startTime\":1000,\"tags\":[],\"traceID\":\"0000000000000001\",\"warnings\":null}],\"traceID\":\"0000000000000001\",\"warnings\":null}],\"errors\":null,\"limit\":0,\"offset\":0,\"total\":1}";
+
+const NOT_SHOWN: &[u8] =
+    b"HTTP/1.1 404 Not Found\r\nContent-Type: application/json\r\nContent-Length: 92\r\n\r\n{\"data\":null,\"errors\":[{\"code\":404,\"msg\":\"trace not found\"}],\"limit\":0,\"offset\":0,\"total\":0}";
+
+const NO_MEMORY: &[u8] =
+    b"HTTP/1.1 500 Internal Server Error\r\nContent-Type: application/json\r\nContent-Length: 90\r\n\r\n{\"data\":null,\"errors\":[{\"code\":500,\"msg\":\"out of memory\"}],\"limit\":0,\"offset\":0,\"total\":0}";
+
+/// The parts of three requests: the batch, the services, its trace.
+const REQUESTS: [&[&[u8]]; 3] = [&[POST, BATCH], &[SERVICES], &[TRACE]];
+
+/// What is answered to them.
+const ROW: [&[u8]; 3] = [ACCEPTED, LISTED, SHOWN];
+
+/// What may be answered to them where memory runs out once.
+const ROWS_SHORT_OF_MEMORY: [[&[u8]; 3]; 4] = [
+    ROW,
+    [NO_MEMORY, NONE_LISTED, NOT_SHOWN],
+    [ACCEPTED, NO_MEMORY, SHOWN],
+    [ACCEPTED, LISTED, NO_MEMORY],
+];
+
+/// The head of a batch that has a number too.
+const POST_NUMBERED: &[u8] =
+    b"POST /api/traces HTTP/1.1\r\nContent-Type: application/x-thrift\r\nContent-Length: 115\r\n\r\n";
+
+/// What is answered to a batch with a number, the same batch, and one with its number and other spans.
+const TWO_ACCEPTED: &[u8] =
+    b"HTTP/1.1 202 Accepted\r\nContent-Length: 0\r\n\r\nHTTP/1.1 202 Accepted\r\nContent-Length: 0\r\n\r\nHTTP/1.1 409 Conflict\r\nContent-Type: application/json\r\nContent-Length: 85\r\n\r\n{\"data\":null,\"errors\":[{\"code\":409,\"msg\":\"conflict\"}],\"limit\":0,\"offset\":0,\"total\":0}";
+
+/// The batch with the number 1, handed in three times; the last time its span takes 51 microseconds.
+fn sent_again(alloc: Global) -> Result<Vec<u8>, Fail> {
+    let mut bytes = Vec::new(alloc);
+    for duration in [50, 50, 51] {
+        bytes.extend_from_slice(POST_NUMBERED)?;
+        bytes.extend_from_slice(&BATCH[..101])?;
+        bytes.push(duration)?;
+        bytes.extend_from_slice(b"\x00\x0a\x00\x03\x00\x00\x00\x00\x00\x00\x00\x01\x00")?;
+    }
+    Ok(bytes)
+}
+
+/// The bytes of the three requests.
+fn three_requests(alloc: Global) -> Result<Vec<u8>, Fail> {
+    let mut bytes = Vec::new(alloc);
+    for request in REQUESTS {
+        for part in request {
+            bytes.extend_from_slice(part)?;
+        }
+    }
+    Ok(bytes)
+}
+
+/// The first responses of a row.
+fn first_of(alloc: Global, row: [&[u8]; 3], count: u64) -> Result<Vec<u8>, Fail> {
+    let mut bytes = Vec::new(alloc);
+    let mut before = 0u64;
+    for response in row {
+        if before < count {
+            bytes.extend_from_slice(response)?;
+        }
+        before = before.saturating_add(1);
+    }
+    Ok(bytes)
+}
+
+/// How many of the three requests are whole in so many bytes.
+fn whole_requests(bytes: usize) -> u64 {
+    let mut end = 0usize;
+    let mut count = 0u64;
+    for request in REQUESTS {
+        for part in request {
+            end = end.saturating_add(part.len());
+        }
+        if end <= bytes {
+            count = count.saturating_add(1);
+        }
+    }
+    count
+}
+
+/// How many of the three responses are whole in so many bytes, and how many bytes of the next one are among them.
+fn whole_responses(bytes: usize) -> (u64, u64) {
+    let mut left = bytes;
+    let mut count = 0u64;
+    for response in ROW {
+        if left < response.len() {
+            break;
+        }
+        left -= response.len();
+        count = count.saturating_add(1);
+    }
+    (count, left as u64)
+}
+
+/// A store with room for ten batches.
+pub(crate) fn empty_store(alloc: Global, keys: RandomState) -> Result<Direct, Fail> {
+    let limits = Limits::new(10, 100, 0, 0).ok_or("limits")?;
+    Ok(Direct::new(SpanStore::open(alloc, keys, limits)?))
+}
+
+/// A session over a store that was empty.
+#[derive(Drop)]
+pub(crate) struct Seen {
+    /// How it ended.
+    pub(crate) ended: Result<Ended, SessionError>,
+    /// What was written.
+    pub(crate) output: MemoryOutput,
+    /// How many entries the store has then.
+    pub(crate) entries: usize,
+    /// Whether it has the batch at place 1, and nothing else.
+    pub(crate) has_the_batch: bool,
+}
+
+/// Plays a session over a store. The input gives so many bytes a call and fails at that call; the output takes so
+/// many bytes a call, and fails behind as many as its room.
+fn played_over(
+    alloc: Global,
+    store: &mut Direct,
+    bytes: &[u8],
+    (step, fails_at): (usize, u64),
+    (room, taken): (usize, usize),
+) -> (Result<Ended, SessionError>, MemoryOutput) {
+    let mut input = MemoryInput::new(bytes, step, fails_at);
+    let mut output = MemoryOutput::new(alloc, room, taken);
+    let ended = pipe(alloc, &mut input, &mut output, store);
+    (ended, output)
+}
+
+/// The same over a store that is opened for it and that was empty.
+pub(crate) fn played(
+    alloc: Global,
+    keys: RandomState,
+    bytes: &[u8],
+    reads: (usize, u64),
+    writes: (usize, usize),
+) -> Result<Seen, Fail> {
+    let mut store = empty_store(alloc, keys)?;
+    let (ended, output) = played_over(alloc, &mut store, bytes, reads, writes);
+    let store = store.into_store();
+    let entries = store.entries().len();
+    let has_the_batch = has_the_batch(alloc, store.entries());
+    drop(store);
+    match has_the_batch {
+        Ok(has_the_batch) => Ok(Seen {
+            ended,
+            output,
+            entries,
+            has_the_batch,
+        }),
+        Err(why) => {
+            drop(output);
+            Err(why)
+        }
+    }
+}
+
+/// Whether the entries are the batch that was sent, and nothing else.
+fn has_the_batch(alloc: Global, entries: &[Arc<Entry>]) -> Result<bool, Fail> {
+    let sent = decode(alloc, BATCH)?;
+    let said = match entries {
+        [entry] => entry.work.batch().is_some_and(|batch| batch.is_same(&sent)),
+        _ => false,
+    };
+    drop(sent);
+    Ok(said)
+}
+
+/// The three requests were answered, and the input ended behind them.
+const ALL_ANSWERED: Ended = Ended {
+    answered: 3,
+    clean: true,
+};
+
+/// Whether a session with the three requests answers them, where so many bytes are read and written at a time.
+fn is_answered(alloc: Global, keys: RandomState, given: usize, taken: usize) -> Result<bool, Fail> {
+    let bytes = three_requests(alloc)?;
+    let wanted = first_of(alloc, ROW, 3)?;
+    let played = played(alloc, keys, bytes.as_slice(), (given, 0), (10_000, taken))?;
+    Ok(played.ended == Ok(ALL_ANSWERED) && played.output.as_slice() == wanted.as_slice())
+}
+
+#[test]
+fn one_byte_a_call(rt: HostRuntime) -> Result<(), Fail> {
+    let keys = RandomState::new(&rt)?;
+    for (given, taken) in [(1, 10_000), (10_000, 1), (1, 1), (7, 7), (10_000, 10_000)] {
+        assert!(rt; is_answered(rt.alloc(), keys, given, taken)?);
+    }
+    Ok(())
+}
+
+/// Whether a session with a batch that is sent again answers it, and keeps one entry.
+fn is_kept_once(alloc: Global, keys: RandomState, step: usize) -> Result<bool, Fail> {
+    let bytes = sent_again(alloc)?;
+    let played = played(alloc, keys, bytes.as_slice(), (step, 0), (10_000, step))?;
+    Ok(
+        played.ended == Ok(ALL_ANSWERED)
+            && played.output.as_slice() == TWO_ACCEPTED
+            && played.entries == 1,
+    )
+}
+
+#[test]
+fn one_entry_of_a_batch_sent_again(rt: HostRuntime) -> Result<(), Fail> {
+    let keys = RandomState::new(&rt)?;
+    for step in [1, 10_000] {
+        assert!(rt; is_kept_once(rt.alloc(), keys, step)?);
+    }
+    Ok(())
+}
+
+/// Whether what was read before is answered where the input fails behind so many calls.
+fn is_read_before(
+    alloc: Global,
+    keys: RandomState,
+    bytes: &[u8],
+    step: usize,
+    before: usize,
+) -> Result<bool, Fail> {
+    let fails_at = (before as u64).saturating_add(1);
+    let answered = whole_requests(before.saturating_mul(step));
+    let stopped = SessionError {
+        answered,
+        written: 0,
+        cause: SessionErrorKind::Reading,
+    };
+    let wanted = first_of(alloc, ROW, answered)?;
+    let played = played(alloc, keys, bytes, (step, fails_at), (10_000, 10_000))?;
+    Ok(played.ended == Err(stopped) && played.output.as_slice() == wanted.as_slice())
+}
+
+/// The first of its calls at which the input fails and what was read before isn't answered.
+fn first_unanswered(alloc: Global, keys: RandomState, step: usize) -> Result<Option<usize>, Fail> {
+    let bytes = three_requests(alloc)?;
+    let calls = bytes.len().div_ceil(step.max(1)).saturating_add(1);
+    for before in 0..calls {
+        if !is_read_before(alloc, keys, bytes.as_slice(), step, before)? {
+            return Ok(Some(before));
+        }
+    }
+    Ok(None)
+}
+
+/// At each of its calls, the one that would show the end among them: what was read before is answered.
+#[test]
+fn a_reader_that_fails_at_each_call(rt: HostRuntime) -> Result<(), Fail> {
+    let keys = RandomState::new(&rt)?;
+    for step in [1, 16] {
+        assert_eq!(rt; first_unanswered(rt.alloc(), keys, step)?, None);
+    }
+    Ok(())
+}
+
+/// How a session stopped that had no room for a response.
+fn unwritten((answered, written): (u64, u64)) -> SessionError {
+    SessionError {
+        answered,
+        written,
+        cause: SessionErrorKind::Writing,
+    }
+}
+
+/// Whether a session with room for so many bytes wrote these and stopped so, and the store has the batch.
+fn is_written_up_to(
+    alloc: Global,
+    keys: RandomState,
+    (bytes, wanted): (&[u8], &[u8]),
+    room: usize,
+) -> Result<bool, Fail> {
+    let stopped = unwritten(whole_responses(room));
+    let played = played(alloc, keys, bytes, (10_000, 0), (room, 5))?;
+    let is_beginning = played.output.as_slice().len() == room
+        && wanted.starts_with(played.output.as_slice());
+    Ok(played.ended == Err(stopped) && is_beginning && played.has_the_batch)
+}
+
+/// The first room for which that isn't so.
+fn first_unwritten(alloc: Global, keys: RandomState) -> Result<Option<usize>, Fail> {
+    let bytes = three_requests(alloc)?;
+    let wanted = first_of(alloc, ROW, 3)?;
+    for room in 0..wanted.len() {
+        let both = (bytes.as_slice(), wanted.as_slice());
+        if !is_written_up_to(alloc, keys, both, room)? {
+            return Ok(Some(room));
+        }
+    }
+    Ok(None)
+}
+
+/// Behind each byte, and what stands then: the first batch is the one that was sent.
+#[test]
+fn a_writer_that_fails_after_each_byte(rt: HostRuntime) -> Result<(), Fail> {
+    let keys = RandomState::new(&rt)?;
+    assert_eq!(rt; first_unwritten(rt.alloc(), keys)?, None);
+    Ok(())
+}
+
+/// Whether a session with room for so many bytes stopped behind so many responses and bytes, and the store has the
+/// batch.
+fn is_stopped(
+    alloc: Global,
+    keys: RandomState,
+    room: usize,
+    written: (u64, u64),
+) -> Result<bool, Fail> {
+    let bytes = three_requests(alloc)?;
+    let played = played(alloc, keys, bytes.as_slice(), (10_000, 0), (room, 10_000))?;
+    Ok(played.ended == Err(unwritten(written)) && played.has_the_batch)
+}
+
+/// A response of 44 bytes that is cut, and one behind it.
+#[test]
+fn a_writer_that_takes_20_or_54_bytes(rt: HostRuntime) -> Result<(), Fail> {
+    let keys = RandomState::new(&rt)?;
+    assert!(rt; is_stopped(rt.alloc(), keys, 20, (0, 20))?);
+    assert!(rt; is_stopped(rt.alloc(), keys, 54, (1, 10))?);
+    Ok(())
+}
+
+/// How many responses a session wrote whole, and how many bytes of the next one, where it ended as one may in
+/// which memory ran out once.
+fn written_in(played: &Seen) -> Option<(u64, u64)> {
+    let cause = if played.output.failed() {
+        SessionErrorKind::Writing
+    } else {
+        SessionErrorKind::Memory
+    };
+    match played.ended {
+        Ok(ended) if ended == ALL_ANSWERED => Some((ended.answered, 0)),
+        Err(stopped) if stopped.cause == cause => Some((stopped.answered, stopped.written)),
+        _ => None,
+    }
+}
+
+/// Whether these bytes are the whole responses and so many bytes of the next one.
+fn is_between(bytes: &[u8], whole: &[u8], next: &[u8], written: u64) -> bool {
+    next.starts_with(bytes)
+        && bytes.starts_with(whole)
+        && bytes.len().saturating_sub(whole.len()) as u64 == written
+}
+
+/// Whether a session in which memory ran out once may have ended so with these responses: all three, or the first
+/// ones, whole but where the output itself found no memory.
+fn may_write(alloc: Global, row: [&[u8]; 3], played: &Seen) -> Result<bool, Fail> {
+    let Some((answered, written)) = written_in(played) else {
+        return Ok(false);
+    };
+    let whole = first_of(alloc, row, answered)?;
+    let next = first_of(alloc, row, answered.saturating_add(1))?;
+    let bytes = played.output.as_slice();
+    Ok(
+        is_between(bytes, whole.as_slice(), next.as_slice(), written)
+            && (written == 0 || played.output.failed()),
+    )
+}
+
+/// Whether the session may have ended so with one of the rows.
+fn may_write_any(alloc: Global, played: &Seen) -> Result<bool, Fail> {
+    let mut is_written = false;
+    for row in ROWS_SHORT_OF_MEMORY {
+        is_written = is_written || may_write(alloc, row, played)?;
+    }
+    Ok(is_written)
+}
+
+/// Whether a session with the three requests answered them, or may have ended as it did.
+fn is_written(alloc: Global, keys: RandomState) -> Result<(bool, bool), Fail> {
+    let bytes = three_requests(alloc)?;
+    let wanted = first_of(alloc, ROW, 3)?;
+    let played = played(alloc, keys, bytes.as_slice(), (50, 0), (10_000, 50))?;
+    let all = played.ended == Ok(ALL_ANSWERED) && played.output.as_slice() == wanted.as_slice();
+    Ok((all, all || may_write_any(alloc, &played)?))
+}
+
+/// Where memory runs out once, a 500 stands in a response's place, and nothing of a batch is kept that was answered
+/// so, or the session ends behind whole responses; another session then has all three. The check of allocations
+/// refuses each in turn.
+#[test]
+fn memory_for_a_session(rt: HostRuntime) -> Result<(), Fail> {
+    let keys = RandomState::new(&rt)?;
+    let (all, told) = is_written(rt.alloc(), keys)?;
+    assert!(rt; told);
+    if !all {
+        assert!(rt; is_answered_in_50s(rt.alloc(), keys)?);
+    }
+    Ok(())
+}
+
+/// Whether a session with the three requests answers them, 50 bytes at a time.
+fn is_answered_in_50s(alloc: Global, keys: RandomState) -> Result<bool, Fail> {
+    is_answered(alloc, keys, 50, 50)
+}

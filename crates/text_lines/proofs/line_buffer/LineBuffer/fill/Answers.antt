@@ -1,0 +1,13 @@
+use Rattle.std.proofs.Common.{◌≡◌, ◌-◌, length, arith, ap}
+use Rattle.std.proofs.lemmas.List.{with_items_is}
+use Rattle.text_lines.specs.Reading.{Feed}
+use Rattle.text_lines.proofs.Feeds.{fills}
+use Rattle.text_lines.proofs.line_buffer.LineBuffer.fill.Goals as goal
+
+pub returns-clause-read : goal.returns-clause-read
+returns-clause-read g c =
+    let room : length c.read.new.buf ≡ 65536 = omega arith in
+    let before : c.self.inside.left ≡ c.args.self.now.left = ap (λ (f : Feed). f.left) c.self.view_is in
+    fills _ _ c.args.self.now _ c.read.new.buf 0 c.in_ok-count.count (c.self.inside.left - 1)
+    (with_items_is c.self.inside.piece c.read.new.buf (omega arith))
+    c.in_ok-count.ensures.bytes.0 c.in_ok-count.ensures.bytes.1 c.in_ok-count.ensures.bound.0 room (omega arith) (omega arith)

@@ -1,0 +1,162 @@
+//! The lines of an input, one at a time.
+ghost use Rattle.std.specs.Prelude.{◌≡◌, ℕ, ◌≤◌, ◌<◌, ◌+◌, ◌*◌, ◌⊎◌, true, false, List, [], ◌∷◌, ◌++◌, IfErr, IfOk, OnOk, drop, take, vec_len, MatchBool, length};
+ghost use Rattle.std.specs.Io.KnownBytes.{Keeps};
+ghost use Rattle.text_lines.specs.Lines.{without_return};
+ghost use Rattle.text_lines.specs.Reading.{Feed, Fills, StopsReading, TakesLine, TakesNone};
+ghost use Rattle.text_lines.specs.RunErrors.{BothWork, Moves};
+
+use crate::page::Page;
+use crate::run_error::RunError;
+use memchr::memchr;
+use session_devices::{Input, Output};
+use std::alloc::{AllocError, Global};
+use std::marker::Model;
+
+/// How many bytes a read asks for.
+const PIECE: usize = 65_536;
+
+/// How many reads a run makes. One more counts as a failed read.
+pub const MOST_READS: u64 = 1_099_511_627_776;
+
+/// What was read of a text and not yet taken as lines.
+#[derive(Drop)]
+pub struct LineBuffer {
+    piece: Vec<u8>,
+    at: usize,
+    end: usize,
+    left: u64,
+    ended: bool,
+}
+
+impl Model for LineBuffer {
+    ghost Value = { Feed };
+
+    ghost view = { λ s. record { waiting = drop s.at (take s.end s.piece.items); left = s.left; ended = s.ended } };
+
+    ghost invariant = { λ s. (s.at ≤ s.end) × (s.end ≤ vec_len s.piece)
+        × (vec_len s.piece ≡ 65536) };
+}
+
+impl LineBuffer {
+    /// Nothing was read.
+    ///
+    /// # Errors
+    ///
+    /// Out of memory, and nothing else.
+    pub fn new(alloc: Global) -> Result<LineBuffer, AllocError>
+        ensures { IfOk result (λ s. s ≡ record { waiting = []; left = MOST_READS; ended = false }) }
+    {
+        let piece = vec![in alloc; 0u8; PIECE]?;
+        Ok(LineBuffer {
+            piece,
+            at: 0,
+            end: 0,
+            left: MOST_READS,
+            ended: false,
+        })
+    }
+
+    fn waiting(&self) -> &[u8]
+        ensures { result.now ≡ self.now.waiting }
+    {
+        &self.piece.as_slice()[self.at..self.end]
+    }
+
+    fn skip(&mut self, count: usize)
+        requires { count ≤ length self.old.waiting }
+        ensures { self.new ≡ record self.old { waiting = drop count self.old.waiting } }
+    {
+        self.at += count;
+    }
+
+    fn skip_all(&mut self)
+        ensures { self.new ≡ record self.old { waiting = [] } }
+    {
+        self.at = self.end;
+    }
+
+    fn has_ended(&self) -> bool
+        ensures { result ≡ self.now.ended }
+    {
+        self.ended
+    }
+
+    /// One read.
+    fn fill<R: Input>(&mut self, input: &mut R) -> Result<(), RunError>
+        requires none { self.old.waiting ≡ [] }
+        requires works { R.has_failed input.old ≡ false }
+        ensures read { OnOk result (Fills (R.remaining input.old) (R.remaining input.new)
+            self.old self.new) }
+        ensures works { OnOk result (R.has_failed input.new ≡ false) }
+        ensures err { IfErr result (λ h. (h ≡ RunError.Device)
+            × Keeps (R.remaining input.old) (R.remaining input.new)
+            × ((R.has_failed input.new ≡ true) ⊎ (self.old.left ≡ 0))) }
+    {
+        if self.left == 0 {
+            return Err(RunError::Device);
+        }
+        self.left -= 1;
+        self.at = 0;
+        self.end = 0;
+        let count = input.read(self.piece.as_mut_slice())?;
+        self.end = count;
+        self.ended = count == 0;
+        Ok(())
+    }
+
+    /// Takes the next line off the input, without its end, and returns whether there was one. A carriage
+    /// return right before the line feed belongs to the line's end. What is behind the last line feed
+    /// is a line too, unless it is empty.
+    ///
+    /// The page is written before each read, so that what was said so far shows while the input waits.
+    ///
+    /// # Errors
+    ///
+    /// A device failed, the limit of reads was met, or memory ran out.
+    pub fn next<R: Input, W: Output>(
+        &mut self,
+        input: &mut R,
+        output: &mut W,
+        page: &mut Page,
+        line: &mut Vec<u8>,
+    ) -> Result<bool, RunError>
+        requires input_works { R.has_failed input.old ≡ false }
+        requires output_works { W.has_failed output.old ≡ false }
+        ensures line { IfOk result (λ found. MatchBool found
+            (TakesLine (R.remaining input.old) (R.remaining input.new)
+            self.old self.new line.new.items)
+            (TakesNone (R.remaining input.old) (R.remaining input.new)
+            self.old self.new)) }
+        ensures page { Moves (W.contents output.old) (W.contents output.new) page.old page.new }
+        ensures works { OnOk result (BothWork (R.has_failed input.new) (W.has_failed output.new)) }
+        ensures err { IfErr result (StopsReading (R.remaining input.old) (R.remaining input.new)
+            self.old (R.has_failed input.new) (W.has_failed output.new)) }
+    {
+        line.clear();
+        'pieces: loop {
+            if let Some(count) = memchr(b'\n', self.waiting()) {
+                line.extend_from_slice(&self.waiting()[..count])?;
+                self.skip(count + 1);
+                drop_return(line);
+                return Ok(true);
+            }
+            line.extend_from_slice(self.waiting())?;
+            self.skip_all();
+            if self.has_ended() {
+                return Ok(!line.is_empty());
+            }
+            page.hand_out(output)?;
+            self.fill(input)?;
+        }
+    }
+}
+
+/// Takes a carriage return off the end of the line.
+fn drop_return(line: &mut Vec<u8>)
+    ensures { line.new.items ≡ without_return line.old.items }
+{
+    let last = line.as_slice().last().copied();
+    if last == Some(b'\r') {
+        line.truncate(line.len() - 1);
+    }
+}

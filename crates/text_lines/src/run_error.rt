@@ -1,0 +1,46 @@
+ghost use Rattle.std.specs.Prelude.{◌≡◌};
+ghost use Rattle.text_lines.specs.RunErrors.{status_by};
+
+use session_devices::Failed;
+use std::alloc::AllocError;
+
+/// Why a run stops before the end of its input.
+#[derive(Clone, Copy, Debug, PartialEq, Eq)]
+pub enum RunError {
+    /// A read or a write failed, or the limit of reads was met.
+    Device,
+    /// A growth was refused.
+    Memory,
+}
+
+impl RunError {
+    /// The exit status of a run that stops so.
+    pub fn status(self) -> u8
+        ensures { result ≡ status_by self }
+    {
+        match self {
+            RunError::Device => 4,
+            RunError::Memory => 5,
+        }
+    }
+}
+
+impl From<AllocError> for RunError {
+    ghost use Rattle.text_lines.specs.declared.run_error.RunError.TheVariants.{Memory};
+
+    ghost from_gives = { λ _ h. h ≡ Memory };
+
+    fn from(_: AllocError) -> RunError {
+        RunError::Memory
+    }
+}
+
+impl From<Failed> for RunError {
+    ghost use Rattle.text_lines.specs.declared.run_error.RunError.TheVariants.{Device};
+
+    ghost from_gives = { λ _ h. h ≡ Device };
+
+    fn from(_: Failed) -> RunError {
+        RunError::Device
+    }
+}
