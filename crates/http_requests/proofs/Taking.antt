@@ -15,7 +15,7 @@ use Rattle.http_requests.specs.Requests.{IsShorter, AwaitsChunks, AwaitsBody}
 use Rattle.http_requests.specs.Waiting.{Source}
 use Rattle.http_requests.specs.Receiving.{KnowsItsEnd, ReadBuffer, ReadsOn, ReadsOnWhile, IsRead, ReadFails, StopsWhile, put_back}
 use Rattle.http_requests.specs.declared.read_buffer.ReadError.{ReadError}
-use Rattle.http_requests.specs.Sinks.{Takings, TakesNothing, TakesJoined}
+use Rattle.session_devices.specs.Takings.{Takings, TakesNothing, TakesJoined}
 use Rattle.http_requests.specs.Bodies.{Takes, Misses, AwaitsLine, AwaitsRest, IsLineEnd, begins_line_end, may_begin_line_end, TakesOrMisses, Gathers, Gathered, TakesContent, TakesContentOr, Fails, ChunksSoFar, TakesBody, BreaksBody, ReadsBody}
 use Rattle.http_requests.specs.declared.asked.BodyLength.TheVariants.{Bytes, Chunked, Unreadable, TooLarge}
 use Rattle.http_requests.specs.declared.asked.Breach.TheVariants as breach

@@ -13,7 +13,7 @@ use Rattle.http_requests.specs.Asked.{asked_by, pairs_of, method_of, has_batch_t
 use Rattle.http_requests.specs.Requests.{HasBody, BodyBreaks, BreaksBehind, IsBroken, AwaitsBody, AwaitsRequest}
 use Rattle.http_requests.specs.Waiting.{Source}
 use Rattle.http_requests.specs.Receiving.{ReadBuffer, ReadsOnWhile, StopsWhile, put_back, FindsHead, FindsNone, TakesRequest, FindsBreach}
-use Rattle.http_requests.specs.Sinks.{Takings}
+use Rattle.session_devices.specs.Takings.{Takings}
 use Rattle.http_requests.specs.Bodies.{TakesBody, BreaksBody}
 use Rattle.http_requests.specs.declared.asked.BodyLength.{BodyLength}
 use Rattle.http_requests.specs.declared.asked.Breach.{Breach}

@@ -10,7 +10,7 @@ use Rattle.http_requests.specs.declared.asked.TheConstants.{MOST_BODY_BYTES}
 use Rattle.http_requests.specs.Requests.{HasBody, BodyBreaks, IsShorter, AwaitsBody}
 use Rattle.http_requests.specs.Waiting.{Source}
 use Rattle.http_requests.specs.Receiving.{ReadBuffer, ReadsOnWhile, put_back}
-use Rattle.http_requests.specs.Sinks.{Takings}
+use Rattle.session_devices.specs.Takings.{Takings}
 use Rattle.http_requests.specs.declared.asked.BodyLength.{BodyLength}
 use Rattle.http_requests.specs.declared.asked.BodyLength.TheVariants.{Chunked}
 use Rattle.http_requests.specs.declared.asked.Breach.{Breach}

@@ -8,5 +8,4 @@ pub mod Rooms
 pub mod Pieces
 pub mod Receiving
 pub mod Searching
-pub mod Sinks
 pub mod Bodies

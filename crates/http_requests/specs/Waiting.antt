@@ -33,4 +33,4 @@ pub record ReadsWhile {R : Type 0} (gives : Gives R) (Awaits : List ℕ → Type
 
 -- A read that failed was made: it gave nothing, and the input remembers it.
 abbrev pub FailsToRead : {R : Type 0} → Source R → R → R → Bool → Type 0
-FailsToRead source s t failed = (failed ≡ true) × Keeps (source.remaining s) (source.remaining t)
+FailsToRead source s t failed = (failed ≡ true) × Keeps (source.remaining s) (source.remaining t) × source.gives s [] t

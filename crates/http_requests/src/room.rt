@@ -87,7 +87,7 @@ impl Room {
         ensures works { OnOk result (R.has_failed input.new ≡ R.has_failed input.old) }
         ensures same { OnErr result (held self.new ≡ held self.old) }
         ensures err { OnErr result (Keeps (R.remaining input.old) (R.remaining input.new)
-            × (R.has_failed input.new ≡ true)) }
+            × (R.has_failed input.new ≡ true) × R.gives input.old [] input.new) }
     {
         let end = self.end;
         let count = input.read(&mut self.bytes.as_mut_slice()[end..end + PIECE])?;

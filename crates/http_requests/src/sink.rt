@@ -1,5 +1,5 @@
 ghost use Rattle.std.specs.Prelude.{ℕ, List};
-ghost use Rattle.http_requests.specs.Sinks.{TakesNothing, TakesJoined};
+ghost use Rattle.session_devices.specs.Takings.{TakesNothing, TakesJoined};
 
 /// What a body is handed to as it is read.
 pub trait Sink {

@@ -3,7 +3,7 @@ use Rattle.std.proofs.Common.{◌≡◌, ℕ, Bool, List, take, drop, Result, Ok
 use Rattle.http_requests.specs.Asked.{Asked, asked_by}
 use Rattle.http_requests.specs.Requests.{AwaitsRequest}
 use Rattle.http_requests.specs.Waiting.{Source}
-use Rattle.http_requests.specs.Sinks.{Takings}
+use Rattle.session_devices.specs.Takings.{Takings}
 use Rattle.http_requests.specs.Receiving.{ReadBuffer, StopsWhile, SameUnlessReading, FindsHead, FindsEnd}
 use Rattle.http_requests.specs.Bodies.{TakesBody, ReadsBody}
 use Rattle.http_requests.specs.declared.asked.BodyLength.{BodyLength}

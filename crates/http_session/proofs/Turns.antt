@@ -1,11 +1,11 @@
 -- How one turn of a session carries what is known of it on.
-use Rattle.std.proofs.Common.{◌≡◌, ◌≢◌, ℕ, ◌+◌, ◌<◌, ◌⊎◌, Bool, true, false, if◌then◌else◌, List, [], ◌∷◌, ◌++◌, length, take, Option, Some, None, Err, refl, sym, ap, ◌∙◌, subst, arith, inl, inr, append_assoc, append-nil, length-append, rules}
-use Rattle.std.specs.Io.KnownBytes.{Appends, Consumes, IsAtEnd, Keeps}
-use Rattle.std.proofs.KnownBytes.{Consumes-trans, Appends-trans, Consumes-nil, Appends-nil}
+use Rattle.std.proofs.Common.{◌≡◌, ◌≢◌, ℕ, ◌+◌, ◌<◌, ◌⊎◌, Bool, true, false, if◌then◌else◌, List, [], ◌∷◌, ◌++◌, length, take, Option, Err, refl, sym, ap, ◌∙◌, subst, arith, inl, inr, append_assoc, append-nil, length-append, rules}
+use Rattle.std.specs.Io.KnownBytes.{Appends, Consumes, IsAtEnd}
+use Rattle.std.proofs.KnownBytes.{Consumes-trans, Consumes-kept, Appends-trans, Consumes-nil, Appends-nil}
 use Rattle.std.proofs.lemmas.List.Elements.{All-append, All-cons, All-nil}
 use Rattle.http_requests.specs.declared.read_buffer.TheConstants.{MOST_READS}
 use Rattle.http_requests.specs.Requests.{IsBroken, AwaitsRequest}
-use Rattle.http_requests.specs.Waiting.{Source, counted, FailsToRead}
+use Rattle.http_requests.specs.Waiting.{Source, FailsToRead}
 use Rattle.http_requests.specs.Receiving.{ReadBuffer, ReadsOnWhile, StopsWhile, SameUnlessReading}
 use Rattle.http_requests.specs.declared.asked.Breach.{Breach}
 use Rattle.http_requests.specs.declared.read_buffer.ReadError.{ReadError}
@@ -15,13 +15,13 @@ use Rattle.http_requests.proofs.Ends.{no_bytes_await}
 use Rattle.http_session.specs.Hearing.{HearsNothing}
 use Rattle.http_session.specs.Replies.{response_of, takes_no_memory}
 use Rattle.http_session.specs.Sessions.{Exchange, IsExchange, IsOpen, texts, response_to, responses, Submits, Reads, Step, Run, clean, closing, broken, none_yet, due, due_parting, NothingWasDue, IsCause, Says, cause_by}
-use Rattle.http_session.specs.InTurn.{AwaitsNext, ReadsInTurn, EndsInTurn, FailsInTurn}
+use Rattle.http_session.specs.InOrder.{Line, IsTwoWay, pieces, EndsOver, FailsOver}
 use Rattle.http_session.specs.Underway.{SoFar}
 use Rattle.http_session.specs.declared.reply.Reply.TheVariants.{Broken}
 use Rattle.http_session.specs.declared.exchanges.SessionErrorKind.{SessionErrorKind}
 use Rattle.http_session.specs.declared.exchanges.SessionErrorKind.TheVariants.{Reading, Writing, Memory}
 use Rattle.http_session.specs.declared.exchanges.Silence.{Silence}
-use Rattle.http_session.proofs.Awaiting.{nothing_taken, taken_on, taken_with}
+use Rattle.http_session.proofs.Awaiting.{read_on, said_before, said_on, said_as, reads_left}
 
 texts_more : (xs : List Exchange) (x : Exchange) → texts (xs ++ x ∷ []) ≡ texts xs ++ x.text
 texts_more [] x = append-nil x.text
@@ -46,53 +46,61 @@ texts_all xs = ap texts (append-nil xs)
 pub nothing_was_due : NothingWasDue Memory []
 nothing_was_due = inl (inl no_bytes_await)
 
--- a read that failed gave nothing
-kept_consumed : (a b c : Option (List ℕ)) (bytes : List ℕ) → Consumes a b bytes → Keeps b c → Consumes a c bytes
-kept_consumed None b c bytes read keeps = tt
-kept_consumed (Some p) None c bytes read keeps = absurd read
-kept_consumed (Some p) (Some q) None bytes read keeps = absurd keeps
-kept_consumed (Some p) (Some q) (Some r) bytes read keeps = read ∙ ap (λ l. bytes ++ l) (sym keeps)
-
-still_consumed : {R : Type 0} (source : Source R) (s m t : R) (failed : Bool) (bytes : List ℕ) → Consumes (source.remaining s) (source.remaining m) bytes → (t ≡ m) ⊎ FailsToRead source m t failed
+still_consumed : {C : Type 0} (source : Source C) (s m t : C) (failed : Bool) (bytes : List ℕ) → Consumes (source.remaining s) (source.remaining m) bytes → (t ≡ m) ⊎ FailsToRead source m t failed
     → Consumes (source.remaining s) (source.remaining t) bytes
 still_consumed source s m t failed bytes read (inl same) = subst (λ (x : _). Consumes (source.remaining s) (source.remaining x) bytes) (sym same) read
-still_consumed source s m t failed bytes read (inr fails) = kept_consumed (source.remaining s) (source.remaining m) (source.remaining t) bytes read fails.1
+still_consumed source s m t failed bytes read (inr fails) = Consumes-kept (source.remaining s) (source.remaining m) (source.remaining t) bytes read fails.1
 
-module _ {S R : Type 0} (submits : Submits S) (reads : Reads S) (source : Source R) where
-  pub begins : (i0 : R) (out0 : Option (List ℕ)) (s : S) → SoFar submits reads source i0 i0 out0 out0 s s (record { held = []; left = MOST_READS; ended = false }) 0
-  begins i0 out0 s = record {
+module _ {S C : Type 0} (submits : Submits S) (reads : Reads S) (line : Line C) (two : IsTwoWay line) where
+  pub begins : (c : C) (s : S) → SoFar submits reads line c c s s (record { held = []; left = MOST_READS; ended = false }) 0
+  begins c s = record {
     taken = [];
     opens = [];
-    read = Consumes-nil (source.remaining i0);
-    waits = nothing_taken (counted source.gives) (i0, MOST_READS);
+    read = Consumes-nil (line.source.remaining c);
+    answers = record { acts = []; each = refl };
+    made = omega arith;
     split = refl;
     each = search rules;
     run = refl;
-    written = Appends-nil out0;
+    written = Appends-nil (line.contents c);
     count = refl;
     least = omega arith;
     most = omega arith;
     end = λ e. absurd (search rules);
   }
 
+  -- reads change nothing of the output
+  pub output_kept : (c1 c2 : C) (old new : ReadBuffer) → ReadsOnWhile line.source AwaitsRequest c1 c2 old new → (line.contents c2 ≡ line.contents c1) × (line.out_failed c2 ≡ line.out_failed c1)
+  output_kept c1 c2 old new more =
+      let alone = uncounted line.source.gives AwaitsRequest c1 c2 old.left new.left old.held new.held more.waits in
+      reads_left line.source.gives line.contents line.out_failed two.reads_leave AwaitsRequest alone.0.pieces c1 c2 old.held new.held alone.0.each
+
+  -- nor does one that failed
+  output_still : (c1 c2 : C) (failed : Bool) → (c2 ≡ c1) ⊎ FailsToRead line.source c1 c2 failed → (line.contents c2 ≡ line.contents c1) × (line.out_failed c2 ≡ line.out_failed c1)
+  output_still c1 c2 failed (inl same) = (ap line.contents same, ap line.out_failed same)
+  output_still c1 c2 failed (inr fails) = two.reads_leave c1 c2 [] fails.2
+
   -- more was read
-  pub reads_on : (i0 i1 i2 : R) (out0 out1 : Option (List ℕ)) (s t : S) (old new : ReadBuffer) (answered : ℕ)
-      → SoFar submits reads source i0 i1 out0 out1 s t old answered → ReadsOnWhile source AwaitsRequest i1 i2 old new → SoFar submits reads source i0 i2 out0 out1 s t new answered
-  reads_on i0 i1 i2 out0 out1 s t old new answered so more =
+  pub reads_on : (c0 c1 c2 : C) (s t : S) (old new : ReadBuffer) (answered : ℕ)
+      → SoFar submits reads line c0 c1 s t old answered → ReadsOnWhile line.source AwaitsRequest c1 c2 old new → SoFar submits reads line c0 c2 s t new answered
+  reads_on c0 c1 c2 s t old new answered so more =
       let on = more.on in
+      let alone = uncounted line.source.gives AwaitsRequest c1 c2 old.left new.left old.held new.held more.waits in
       let long : length (so.taken ++ on.more) ≡ length so.taken + length on.more = length-append so.taken on.more in
       let held : length new.held ≡ length old.held + length on.more = ap length on.held ∙ length-append old.held on.more in
       let split : so.taken ++ on.more ≡ texts so.opens ++ new.held =
       ap (λ l. l ++ on.more) so.split ∙ append_assoc (texts so.opens) old.held on.more ∙ ap (λ l. texts so.opens ++ l) (sym on.held) in
+      let answers = read_on line.source.gives line.takes c0 c1 c2 so.opens so.taken old.held new.held (so.taken ++ on.more) so.answers so.split alone.0 split in
       record {
         taken = so.taken ++ on.more;
         opens = so.opens;
-        read = Consumes-trans (source.remaining i0) (source.remaining i1) (source.remaining i2) so.taken on.more so.read on.read;
-        waits = taken_on (counted source.gives) (i0, MOST_READS) (i1, old.left) (i2, new.left) so.opens so.taken old.held new.held (so.taken ++ on.more) so.waits so.split more.waits split;
+        read = Consumes-trans (line.source.remaining c0) (line.source.remaining c1) (line.source.remaining c2) so.taken on.more so.read on.read;
+        answers = answers.0;
+        made = omega (arith, so.made, alone.1, answers.1);
         split = split;
         each = so.each;
         run = so.run;
-        written = so.written;
+        written = subst (λ (o : Option (List ℕ)). Appends (line.contents c0) o (responses so.opens)) (sym (output_kept c1 c2 old new more).0) so.written;
         count = so.count;
         least = omega (arith, so.least, on.least, long);
         most = omega (arith, so.most, on.most, held);
@@ -100,175 +108,180 @@ module _ {S R : Type 0} (submits : Submits S) (reads : Reads S) (source : Source
       }
 
   -- a request was answered, and the session goes on
-  pub goes_on : (i0 i1 : R) (out0 out1 out2 : Option (List ℕ)) (s t u : S) (old : ReadBuffer) (rest : List ℕ) (answered : ℕ) (x : Exchange)
-      → SoFar submits reads source i0 i1 out0 out1 s t old answered → IsExchange x → x.close ≡ false → old.held ≡ x.text ++ rest → 0 < length x.text
-      → Step submits reads t x.verdict x.reply u → Appends out1 out2 (response_to x)
-      → SoFar submits reads source i0 i1 out0 out2 s u (record old { held = rest }) (answered + 1)
-  goes_on i0 i1 out0 out1 out2 s t u old rest answered x so is open_is cut some step wrote =
+  pub goes_on : (c0 c1 c2 : C) (s t u : S) (old : ReadBuffer) (rest : List ℕ) (answered : ℕ) (x : Exchange)
+      → SoFar submits reads line c0 c1 s t old answered → IsExchange x → x.close ≡ false → old.held ≡ x.text ++ rest → 0 < length x.text
+      → Step submits reads t x.verdict x.reply u → Appends (line.contents c1) (line.contents c2) (response_to x) → line.takes c1 (response_to x) c2
+      → SoFar submits reads line c0 c2 s u (record old { held = rest }) (answered + 1)
+  goes_on c0 c1 c2 s t u old rest answered x so is open_is cut some step wrote took =
       let sizes : length old.held ≡ length x.text + length rest = ap length cut ∙ length-append x.text rest in
+      let same = (two.writes_leave c1 c2 (response_to x) took).0 in
+      let before = said_before line.source.gives line.takes c0 c1 so.opens (x ∷ []) so.taken (responses so.opens) so.answers in
+      let said = said_on line.source.gives line.takes c0 c1 c2 (so.opens ++ x ∷ []) so.taken (responses so.opens) (response_to x) (responses (so.opens ++ x ∷ [])) before.0 took (responses_more so.opens x) in
       record {
         taken = so.taken;
         opens = so.opens ++ x ∷ [];
-        read = so.read;
-        waits = taken_with (counted source.gives) (i0, MOST_READS) (i1, old.left) so.opens (x ∷ []) so.taken so.waits;
+        read = subst (λ (r : Option (List ℕ)). Consumes (line.source.remaining c0) r so.taken) (sym same) so.read;
+        answers = said.0;
+        made = omega (arith, so.made, said.1, ap (λ a. length (pieces a)) before.1);
         split = so.split ∙ ap (λ l. texts so.opens ++ l) cut ∙ sym (append_assoc (texts so.opens) x.text rest) ∙ ap (λ l. l ++ rest) (sym (texts_more so.opens x));
         each = All-append IsOpen so.opens (x ∷ []) so.each (All-cons IsOpen x [] (record { exchange = is; open_is = open_is }) (All-nil IsOpen));
         run = run_more submits reads s t u so.opens x so.run step;
-        written = subst (Appends out0 out2) (sym (responses_more so.opens x)) (Appends-trans out0 out1 out2 (responses so.opens) (response_to x) so.written wrote);
+        written = subst (Appends (line.contents c0) (line.contents c2)) (sym (responses_more so.opens x))
+            (Appends-trans (line.contents c0) (line.contents c1) (line.contents c2) (responses so.opens) (response_to x) so.written wrote);
         count = ap (λ n. n + 1) so.count ∙ sym (length-append so.opens (x ∷ []));
         least = so.least;
         most = omega (arith, so.most, sizes, some);
-        end = so.end;
+        end = λ e. subst IsAtEnd (sym same) (so.end e);
       }
 
-  -- the reads so far, and how many of all may still be made
-  in_turn_and : (i0 i1 : R) (out0 out1 : Option (List ℕ)) (s t : S) (old : ReadBuffer) (answered : ℕ) (so : SoFar submits reads source i0 i1 out0 out1 s t old answered)
-      → (in_turn : ReadsInTurn source.gives i0 i1 so.opens so.taken) × (old.left + length in_turn.pieces ≡ MOST_READS)
-  in_turn_and i0 i1 out0 out1 s t old answered so = uncounted source.gives (AwaitsNext so.opens) i0 i1 MOST_READS old.left [] so.taken so.waits
+  -- ---- a session that ends
 
-  in_turn : (i0 i1 : R) (out0 out1 : Option (List ℕ)) (s t : S) (old : ReadBuffer) (answered : ℕ) (so : SoFar submits reads source i0 i1 out0 out1 s t old answered)
-      → ReadsInTurn source.gives i0 i1 so.opens so.taken
-  in_turn i0 i1 out0 out1 s t old answered so = (in_turn_and i0 i1 out0 out1 s t old answered so).0
+  pub ends_clean : (c0 c1 : C) (s t : S) (old : ReadBuffer) (answered : ℕ)
+      → SoFar submits reads line c0 c1 s t old answered → IsAtEnd (line.source.remaining c1) × (old.held ≡ []) → EndsOver submits reads line c0 c1 s t (record { answered = answered; clean = true })
+  ends_clean c0 c1 s t old answered so found =
+      let same : responses (so.opens ++ []) ++ [] ≡ responses so.opens = append-nil (responses (so.opens ++ [])) ∙ ap responses (append-nil so.opens) in (
+        record {
+          taken = so.taken;
+          opens = so.opens;
+          ending = clean;
+          rest = old.held;
+          read = so.read;
+          split = so.split ∙ ap (λ l. l ++ old.held) (sym (texts_all so.opens));
+          each = so.each;
+          ends = found;
+          run = run_all submits reads s t so.opens so.run;
+          written = subst (Appends (line.contents c0) (line.contents c1)) (sym same) so.written;
+          count = so.count ∙ omega (arith, length-append {A = Exchange} so.opens []);
+          clean_is = refl;
+        },
+        said_as line.source.gives line.takes c0 c1 so.opens so.taken (responses so.opens) (responses (so.opens ++ []) ++ []) so.answers same,
+      )
 
-  abbrev made : (i0 i1 : R) (out0 out1 : Option (List ℕ)) (s t : S) (old : ReadBuffer) (answered : ℕ) (so : SoFar submits reads source i0 i1 out0 out1 s t old answered) → ℕ
-  made i0 i1 out0 out1 s t old answered so = length (in_turn i0 i1 out0 out1 s t old answered so).pieces
+  pub ends_broken : (c0 c1 c2 : C) (s t : S) (old : ReadBuffer) (answered : ℕ) (b : Breach)
+      → SoFar submits reads line c0 c1 s t old answered → IsBroken (IsAtEnd (line.source.remaining c1)) old.held b
+      → Appends (line.contents c1) (line.contents c2) (response_of (Broken b) true) → line.takes c1 (response_of (Broken b) true) c2
+      → EndsOver submits reads line c0 c2 s t (record { answered = answered + 1; clean = false })
+  ends_broken c0 c1 c2 s t old answered b so is wrote took =
+      let same = (two.writes_leave c1 c2 (response_of (Broken b) true) took).0 in
+      let all : responses (so.opens ++ []) ++ response_of (Broken b) true ≡ responses so.opens ++ response_of (Broken b) true = ap (λ (l : List Exchange). responses l ++ response_of (Broken b) true) (append-nil so.opens) in (
+        record {
+          taken = so.taken;
+          opens = so.opens;
+          ending = broken b;
+          rest = old.held;
+          read = subst (λ (r : Option (List ℕ)). Consumes (line.source.remaining c0) r so.taken) (sym same) so.read;
+          split = so.split ∙ ap (λ l. l ++ old.held) (sym (texts_all so.opens));
+          each = so.each;
+          ends = subst (λ (r : Option (List ℕ)). IsBroken (IsAtEnd r) old.held b) (sym same) is;
+          run = run_all submits reads s t so.opens so.run;
+          written = subst (Appends (line.contents c0) (line.contents c2)) (sym all)
+              (Appends-trans (line.contents c0) (line.contents c1) (line.contents c2) (responses so.opens) (response_of (Broken b) true) so.written wrote);
+          count = omega (arith, so.count, length-append {A = Exchange} so.opens []);
+          clean_is = refl;
+        },
+        (said_on line.source.gives line.takes c0 c1 c2 so.opens so.taken (responses so.opens) (response_of (Broken b) true) (responses (so.opens ++ []) ++ response_of (Broken b) true) so.answers took all).0,
+      )
 
-  made_in_all : (i0 i1 : R) (out0 out1 : Option (List ℕ)) (s t : S) (old : ReadBuffer) (answered : ℕ) (so : SoFar submits reads source i0 i1 out0 out1 s t old answered)
-      → old.left + made i0 i1 out0 out1 s t old answered so ≡ MOST_READS
-  unfolding in_turn
-  made_in_all i0 i1 out0 out1 s t old answered so = (in_turn_and i0 i1 out0 out1 s t old answered so).1
-
-  pub ends_clean : (i0 i1 : R) (out0 out1 : Option (List ℕ)) (s t : S) (old : ReadBuffer) (answered : ℕ)
-      → SoFar submits reads source i0 i1 out0 out1 s t old answered → IsAtEnd (source.remaining i1) × (old.held ≡ []) → EndsInTurn submits reads source i0 i1 out0 out1 s t answered true
-  ends_clean i0 i1 out0 out1 s t old answered so found = (
-    record {
-      taken = so.taken;
-      opens = so.opens;
-      ending = clean;
-      rest = old.held;
-      read = so.read;
-      split = so.split ∙ ap (λ l. l ++ old.held) (sym (texts_all so.opens));
-      each = so.each;
-      ends = found;
-      run = run_all submits reads s t so.opens so.run;
-      written = subst (Appends out0 out1) (sym (append-nil (responses (so.opens ++ [])) ∙ ap responses (append-nil so.opens))) so.written;
-      count = so.count ∙ omega (arith, length-append {A = Exchange} so.opens []);
-      clean_is = refl;
-    },
-    in_turn i0 i1 out0 out1 s t old answered so,
-  )
-
-  pub ends_broken : (i0 i1 : R) (out0 out1 out2 : Option (List ℕ)) (s t : S) (old : ReadBuffer) (answered : ℕ) (b : Breach)
-      → SoFar submits reads source i0 i1 out0 out1 s t old answered → IsBroken (IsAtEnd (source.remaining i1)) old.held b → Appends out1 out2 (response_of (Broken b) true)
-      → EndsInTurn submits reads source i0 i1 out0 out2 s t (answered + 1) false
-  ends_broken i0 i1 out0 out1 out2 s t old answered b so is wrote = (
-    record {
-      taken = so.taken;
-      opens = so.opens;
-      ending = broken b;
-      rest = old.held;
-      read = so.read;
-      split = so.split ∙ ap (λ l. l ++ old.held) (sym (texts_all so.opens));
-      each = so.each;
-      ends = is;
-      run = run_all submits reads s t so.opens so.run;
-      written = subst (λ (l : List Exchange). Appends out0 out2 (responses l ++ response_of (Broken b) true)) (sym (append-nil so.opens))
-          (Appends-trans out0 out1 out2 (responses so.opens) (response_of (Broken b) true) so.written wrote);
-      count = omega (arith, so.count, length-append {A = Exchange} so.opens []);
-      clean_is = refl;
-    },
-    in_turn i0 i1 out0 out1 s t old answered so,
-  )
-
-  pub ends_closing : (i0 i1 : R) (out0 out1 out2 : Option (List ℕ)) (s t u : S) (old : ReadBuffer) (rest : List ℕ) (answered : ℕ) (x : Exchange)
-      → SoFar submits reads source i0 i1 out0 out1 s t old answered → IsExchange x → x.close ≡ true → old.held ≡ x.text ++ rest
-      → Step submits reads t x.verdict x.reply u → Appends out1 out2 (response_to x)
-      → EndsInTurn submits reads source i0 i1 out0 out2 s u (answered + 1) false
-  ends_closing i0 i1 out0 out1 out2 s t u old rest answered x so is closes_is cut step wrote = (
-    record {
-      taken = so.taken;
-      opens = so.opens;
-      ending = closing x;
-      rest = rest;
-      read = so.read;
-      split = so.split ∙ ap (λ l. texts so.opens ++ l) cut ∙ sym (append_assoc (texts so.opens) x.text rest) ∙ ap (λ l. l ++ rest) (sym (texts_more so.opens x));
-      each = so.each;
-      ends = (is, closes_is);
-      run = run_more submits reads s t u so.opens x so.run step;
-      written = subst (Appends out0 out2) (sym (append-nil (responses (so.opens ++ x ∷ [])) ∙ responses_more so.opens x))
-          (Appends-trans out0 out1 out2 (responses so.opens) (response_to x) so.written wrote);
-      count = omega (arith, so.count, length-append so.opens (x ∷ []));
-      clean_is = refl;
-    },
-    in_turn i0 i1 out0 out1 s t old answered so,
-  )
+  pub ends_closing : (c0 c1 c2 : C) (s t u : S) (old : ReadBuffer) (rest : List ℕ) (answered : ℕ) (x : Exchange)
+      → SoFar submits reads line c0 c1 s t old answered → IsExchange x → x.close ≡ true → old.held ≡ x.text ++ rest
+      → Step submits reads t x.verdict x.reply u → Appends (line.contents c1) (line.contents c2) (response_to x) → line.takes c1 (response_to x) c2
+      → EndsOver submits reads line c0 c2 s u (record { answered = answered + 1; clean = false })
+  ends_closing c0 c1 c2 s t u old rest answered x so is closes_is cut step wrote took =
+      let same = (two.writes_leave c1 c2 (response_to x) took).0 in
+      let all : responses (so.opens ++ x ∷ []) ++ [] ≡ responses so.opens ++ response_to x = append-nil (responses (so.opens ++ x ∷ [])) ∙ responses_more so.opens x in (
+        record {
+          taken = so.taken;
+          opens = so.opens;
+          ending = closing x;
+          rest = rest;
+          read = subst (λ (r : Option (List ℕ)). Consumes (line.source.remaining c0) r so.taken) (sym same) so.read;
+          split = so.split ∙ ap (λ l. texts so.opens ++ l) cut ∙ sym (append_assoc (texts so.opens) x.text rest) ∙ ap (λ l. l ++ rest) (sym (texts_more so.opens x));
+          each = so.each;
+          ends = (is, closes_is);
+          run = run_more submits reads s t u so.opens x so.run step;
+          written = subst (Appends (line.contents c0) (line.contents c2)) (sym all)
+              (Appends-trans (line.contents c0) (line.contents c1) (line.contents c2) (responses so.opens) (response_to x) so.written wrote);
+          count = omega (arith, so.count, length-append so.opens (x ∷ []));
+          clean_is = refl;
+        },
+        (said_on line.source.gives line.takes c0 c1 c2 so.opens so.taken (responses so.opens) (response_to x) (responses (so.opens ++ x ∷ []) ++ []) so.answers took all).0,
+      )
 
   -- ---- a session that fails
 
   -- where nothing was due
-  fails_none : (i0 i1 i2 : R) (out0 out1 : Option (List ℕ)) (s t : S) (here : ReadBuffer) (answered : ℕ) (in_failed out_failed : Bool) (cause : SessionErrorKind)
-      → (so : SoFar submits reads source i0 i1 out0 out1 s t here answered) → NothingWasDue cause here.held → (i2 ≡ i1) ⊎ FailsToRead source i1 i2 in_failed
-      → ((made : ℕ) → here.left + made ≡ MOST_READS → IsCause cause in_failed out_failed so.taken made)
-      → FailsInTurn submits reads source i0 i2 out0 out1 s t in_failed out_failed (record { answered = answered; written = 0; cause = cause })
-  fails_none i0 i1 i2 out0 out1 s t here answered in_failed out_failed cause so nothing last is_cause = (
-    record {
-      taken = so.taken;
-      opens = so.opens;
-      next = none_yet;
-      rest = here.held;
-      read = still_consumed source i0 i1 i2 in_failed so.taken so.read last;
-      split = so.split ∙ ap (λ l. l ++ here.held) (sym (texts_all so.opens));
-      each = so.each;
-      next_is = nothing;
-      run = run_all submits reads s t so.opens so.run;
-      within = omega arith;
-      written = subst (Appends out0 out1) (sym (append-nil (responses so.opens))) so.written;
-      count = so.count;
-      made = made i0 i1 out0 out1 s t here answered so;
-      cause = is_cause (made i0 i1 out0 out1 s t here answered so) (made_in_all i0 i1 out0 out1 s t here answered so);
-      unwritten = λ e. refl;
-      spared = λ e. absurd (cc e);
-    },
-    record { before = i1; reads = in_turn i0 i1 out0 out1 s t here answered so; count = refl; last = last },
-  )
+  fails_none : (c0 c1 c2 : C) (s t : S) (here : ReadBuffer) (answered : ℕ) (cause : SessionErrorKind)
+      → (so : SoFar submits reads line c0 c1 s t here answered) → NothingWasDue cause here.held → (c2 ≡ c1) ⊎ FailsToRead line.source c1 c2 (line.in_failed c2)
+      → ((made : ℕ) → here.left + made ≡ MOST_READS → IsCause cause (line.in_failed c2) (line.out_failed c2) so.taken made)
+      → FailsOver submits reads line c0 c2 s t (record { answered = answered; written = 0; cause = cause })
+  fails_none c0 c1 c2 s t here answered cause so nothing last is_cause =
+      let same = (output_still c1 c2 (line.in_failed c2) last).0 in (
+        record {
+          taken = so.taken;
+          opens = so.opens;
+          next = none_yet;
+          rest = here.held;
+          read = still_consumed line.source c0 c1 c2 (line.in_failed c2) so.taken so.read last;
+          split = so.split ∙ ap (λ l. l ++ here.held) (sym (texts_all so.opens));
+          each = so.each;
+          next_is = nothing;
+          run = run_all submits reads s t so.opens so.run;
+          within = omega arith;
+          written = subst (Appends (line.contents c0) (line.contents c2)) (sym (append-nil (responses so.opens)))
+              (subst (λ (o : Option (List ℕ)). Appends (line.contents c0) o (responses so.opens)) (sym same) so.written);
+          count = so.count;
+          made = length (pieces so.answers.acts);
+          cause = is_cause (length (pieces so.answers.acts)) so.made;
+          unwritten = λ e. refl;
+          spared = λ e. absurd (cc e);
+        },
+        record {
+          before = c1;
+          answers = said_as line.source.gives line.takes c0 c1 so.opens so.taken (responses so.opens) (responses so.opens ++ []) so.answers (append-nil (responses so.opens));
+          count = refl;
+          last = last;
+        },
+      )
 
   -- no more could be read for the request that was awaited
-  fails_stopped : (A : Type 0) (i0 i1 i2 : R) (out0 out1 : Option (List ℕ)) (s t : S) (old : ReadBuffer) (answered : ℕ) (before in_failed out_failed : Bool) (stop : ReadError)
-      → SoFar submits reads source i0 i1 out0 out1 s t old answered → StopsWhile source AwaitsRequest i1 i2 in_failed old stop
-      → SameUnlessReading {A = A} before in_failed (Err stop) → before ≡ false → out_failed ≡ false
-      → FailsInTurn submits reads source i0 i2 out0 out1 s t in_failed out_failed (record { answered = answered; written = 0; cause = cause_by stop })
-  fails_stopped A i0 i1 i2 out0 out1 s t old answered before in_failed out_failed why.Reading so stops same was out =
-      let all = reads_on i0 i1 stops.before out0 out1 s t old stops.here answered so stops.reads in
-      fails_none i0 stops.before i2 out0 out1 s t stops.here answered in_failed out_failed Reading all stops.awaits (elim stops.last [ inl over ↦ inl over.0 | inr failed ↦ inr failed ])
+  fails_stopped : (A : Type 0) (c0 c1 c2 : C) (s t : S) (old : ReadBuffer) (answered : ℕ) (before : Bool) (stop : ReadError)
+      → SoFar submits reads line c0 c1 s t old answered → StopsWhile line.source AwaitsRequest c1 c2 (line.in_failed c2) old stop
+      → SameUnlessReading {A = A} before (line.in_failed c2) (Err stop) → before ≡ false → line.out_failed c1 ≡ false
+      → FailsOver submits reads line c0 c2 s t (record { answered = answered; written = 0; cause = cause_by stop })
+  fails_stopped A c0 c1 c2 s t old answered before why.Reading so stops same was out =
+      let all = reads_on c0 c1 stops.before s t old stops.here answered so stops.reads in
+      let last : (c2 ≡ stops.before) ⊎ FailsToRead line.source stops.before c2 (line.in_failed c2) = elim stops.last [ inl over ↦ inl over.0 | inr failed ↦ inr failed ] in
+      let works : line.out_failed c2 ≡ false = (output_still stops.before c2 (line.in_failed c2) last).1 ∙ (output_kept c1 stops.before old stops.here stops.reads).1 ∙ out in
+      fails_none c0 stops.before c2 s t stops.here answered Reading all stops.awaits last
       (λ made sum. (
         elim stops.last [
           | inl over ↦ inr (omega (arith, sum, over.1), omega (arith, all.least, over.1, ap (λ (b : Bool). stops.here.left + (if b then 1 else 0)) over.2))
           | inr failed ↦ inl failed.0
         ],
-        out,
+        works,
       ))
-  fails_stopped A i0 i1 i2 out0 out1 s t old answered before in_failed out_failed why.Memory so stops same was out =
-      let all = reads_on i0 i1 stops.before out0 out1 s t old stops.here answered so stops.reads in
-      fails_none i0 stops.before i2 out0 out1 s t stops.here answered in_failed out_failed Memory all (inl stops.awaits) (inl stops.last) (λ made sum. (same ∙ was, out))
+  fails_stopped A c0 c1 c2 s t old answered before why.Memory so stops same was out =
+      let all = reads_on c0 c1 stops.before s t old stops.here answered so stops.reads in
+      let works : line.out_failed c2 ≡ false = ap line.out_failed stops.last ∙ (output_kept c1 stops.before old stops.here stops.reads).1 ∙ out in
+      fails_none c0 stops.before c2 s t stops.here answered Memory all (inl stops.awaits) (inl stops.last) (λ made sum. (same ∙ was, works))
 
-  pub fails_reading : (A : Type 0) (i0 i1 i2 : R) (out0 out1 : Option (List ℕ)) (s t : S) (old : ReadBuffer) (answered : ℕ) (before in_failed out_failed : Bool) (stop : ReadError)
-      → SoFar submits reads source i0 i1 out0 out1 s t old answered → HearsNothing source i1 i2 in_failed old stop
-      → SameUnlessReading {A = A} before in_failed (Err stop) → before ≡ false → out_failed ≡ false
-      → FailsInTurn submits reads source i0 i2 out0 out1 s t in_failed out_failed (record { answered = answered; written = 0; cause = cause_by stop })
-  fails_reading A i0 i1 i2 out0 out1 s t old answered before in_failed out_failed why.Reading so stops same was out =
-      fails_stopped A i0 i1 i2 out0 out1 s t old answered before in_failed out_failed why.Reading so stops same was out
-  fails_reading A i0 i1 i2 out0 out1 s t old answered before in_failed out_failed why.Memory so (inl stops) same was out =
-      fails_stopped A i0 i1 i2 out0 out1 s t old answered before in_failed out_failed why.Memory so stops same was out
-  fails_reading A i0 i1 i2 out0 out1 s t old answered before in_failed out_failed why.Memory so (inr none) same was out =
-      let all = reads_on i0 i1 i2 out0 out1 s t old none.here answered so none.reads in
-      fails_none i0 i2 i2 out0 out1 s t none.here answered in_failed out_failed Memory all (inr none.query) (inl refl) (λ made sum. (same ∙ was, out))
+  pub fails_reading : (A : Type 0) (c0 c1 c2 : C) (s t : S) (old : ReadBuffer) (answered : ℕ) (before : Bool) (stop : ReadError)
+      → SoFar submits reads line c0 c1 s t old answered → HearsNothing line.source c1 c2 (line.in_failed c2) old stop
+      → SameUnlessReading {A = A} before (line.in_failed c2) (Err stop) → before ≡ false → line.out_failed c1 ≡ false
+      → FailsOver submits reads line c0 c2 s t (record { answered = answered; written = 0; cause = cause_by stop })
+  fails_reading A c0 c1 c2 s t old answered before why.Reading so stops same was out =
+      fails_stopped A c0 c1 c2 s t old answered before why.Reading so stops same was out
+  fails_reading A c0 c1 c2 s t old answered before why.Memory so (inl stops) same was out =
+      fails_stopped A c0 c1 c2 s t old answered before why.Memory so stops same was out
+  fails_reading A c0 c1 c2 s t old answered before why.Memory so (inr none) same was out =
+      let all = reads_on c0 c1 c2 s t old none.here answered so none.reads in
+      fails_none c0 c2 c2 s t none.here answered Memory all (inr none.query) (inl refl) (λ made sum. (same ∙ was, (output_kept c1 c2 old none.here none.reads).1 ∙ out))
 
   -- there was no memory before the first request
-  pub fails_to_begin : (i0 : R) (out0 : Option (List ℕ)) (s : S) (in_failed out_failed : Bool) → in_failed ≡ false → out_failed ≡ false
-      → FailsInTurn submits reads source i0 i0 out0 out0 s s in_failed out_failed (record { answered = 0; written = 0; cause = Memory })
-  fails_to_begin i0 out0 s in_failed out_failed in_works out_works =
-      fails_none i0 i0 i0 out0 out0 s s (record { held = []; left = MOST_READS; ended = false }) 0 in_failed out_failed Memory (begins i0 out0 s) nothing_was_due (inl refl)
-      (λ made sum. (in_works, out_works))
+  pub fails_to_begin : (c : C) (s : S) → line.in_failed c ≡ false → line.out_failed c ≡ false
+      → FailsOver submits reads line c c s s (record { answered = 0; written = 0; cause = Memory })
+  fails_to_begin c s in_works out_works =
+      fails_none c c c s s (record { held = []; left = MOST_READS; ended = false }) 0 Memory (begins c s) nothing_was_due (inl refl) (λ made sum. (in_works, out_works))
 
   cause_of_silence : (cause : SessionErrorKind) (written : ℕ) (in_failed out_failed : Bool) (taken : List ℕ) (made : ℕ) → in_failed ≡ false → cause ≢ Reading → (cause ≡ Writing → out_failed ≡ true)
       → (cause ≡ Memory → (out_failed ≡ false) × (written ≡ 0)) → IsCause cause in_failed out_failed taken made
@@ -282,55 +295,65 @@ module _ {S R : Type 0} (submits : Submits S) (reads : Reads S) (source : Source
   unwritten_of_silence Writing written out_failed r m n = absurd (n refl)
   unwritten_of_silence Memory written out_failed r m n = (m refl).1
 
-  pub fails_due : (i0 i1 : R) (out0 out1 out2 : Option (List ℕ)) (s t u : S) (old : ReadBuffer) (rest : List ℕ) (answered : ℕ) (in_failed out_failed : Bool) (x : Exchange) (silence : Silence)
-      → SoFar submits reads source i0 i1 out0 out1 s t old answered → IsExchange x → old.held ≡ x.text ++ rest
-      → Step submits reads t x.verdict x.reply u → Says out1 out2 false out_failed (response_to x) (Err silence) → in_failed ≡ false
+  pub fails_due : (c0 c1 c2 : C) (s t u : S) (old : ReadBuffer) (rest : List ℕ) (answered : ℕ) (x : Exchange) (silence : Silence)
+      → SoFar submits reads line c0 c1 s t old answered → IsExchange x → old.held ≡ x.text ++ rest
+      → Step submits reads t x.verdict x.reply u → Says (line.contents c1) (line.contents c2) false (line.out_failed c2) (response_to x) (Err silence)
+      → line.takes c1 (take silence.written (response_to x)) c2 → line.in_failed c1 ≡ false
       → (takes_no_memory x.reply ≡ true → silence.cause ≢ Memory)
-      → FailsInTurn submits reads source i0 i1 out0 out2 s u in_failed out_failed (record { answered = answered; written = silence.written; cause = silence.cause })
-  fails_due i0 i1 out0 out1 out2 s t u old rest answered in_failed out_failed x silence so is cut step said in_works spared = (
-    record {
-      taken = so.taken;
-      opens = so.opens;
-      next = due x;
-      rest = rest;
-      read = so.read;
-      split = so.split ∙ ap (λ l. texts so.opens ++ l) cut ∙ sym (append_assoc (texts so.opens) x.text rest) ∙ ap (λ l. l ++ rest) (sym (texts_more so.opens x));
-      each = so.each;
-      next_is = (is, said.2);
-      run = run_more submits reads s t u so.opens x so.run step;
-      within = said.0;
-      written = Appends-trans out0 out1 out2 (responses so.opens) (take silence.written (response_to x)) so.written said.1;
-      count = so.count;
-      made = made i0 i1 out0 out1 s t old answered so;
-      cause = cause_of_silence silence.cause silence.written in_failed out_failed so.taken (made i0 i1 out0 out1 s t old answered so) in_works said.2 said.3 said.4;
-      unwritten = unwritten_of_silence silence.cause silence.written out_failed said.2 said.4;
-      spared = spared;
-    },
-    record { before = i1; reads = in_turn i0 i1 out0 out1 s t old answered so; count = refl; last = inl refl },
-  )
+      → FailsOver submits reads line c0 c2 s u (record { answered = answered; written = silence.written; cause = silence.cause })
+  fails_due c0 c1 c2 s t u old rest answered x silence so is cut step said took in_works spared =
+      let part = take silence.written (response_to x) in
+      let same = two.writes_leave c1 c2 part took in
+      let made = length (pieces so.answers.acts) in
+      let answers = said_on line.source.gives line.takes c0 c1 c2 so.opens so.taken (responses so.opens) part (responses so.opens ++ part) so.answers took refl in (
+        record {
+          taken = so.taken;
+          opens = so.opens;
+          next = due x;
+          rest = rest;
+          read = subst (λ (r : Option (List ℕ)). Consumes (line.source.remaining c0) r so.taken) (sym same.0) so.read;
+          split = so.split ∙ ap (λ l. texts so.opens ++ l) cut ∙ sym (append_assoc (texts so.opens) x.text rest) ∙ ap (λ l. l ++ rest) (sym (texts_more so.opens x));
+          each = so.each;
+          next_is = (is, said.2);
+          run = run_more submits reads s t u so.opens x so.run step;
+          within = said.0;
+          written = Appends-trans (line.contents c0) (line.contents c1) (line.contents c2) (responses so.opens) part so.written said.1;
+          count = so.count;
+          made = made;
+          cause = cause_of_silence silence.cause silence.written (line.in_failed c2) (line.out_failed c2) so.taken made (same.1 ∙ in_works) said.2 said.3 said.4;
+          unwritten = unwritten_of_silence silence.cause silence.written (line.out_failed c2) said.2 said.4;
+          spared = spared;
+        },
+        record { before = c2; answers = answers.0; count = answers.1; last = inl refl },
+      )
 
-  pub fails_parting : (i0 i1 : R) (out0 out1 out2 : Option (List ℕ)) (s t : S) (old : ReadBuffer) (answered : ℕ) (in_failed out_failed : Bool) (b : Breach) (silence : Silence)
-      → SoFar submits reads source i0 i1 out0 out1 s t old answered → IsBroken (IsAtEnd (source.remaining i1)) old.held b
-      → Says out1 out2 false out_failed (response_of (Broken b) true) (Err silence) → in_failed ≡ false
-      → FailsInTurn submits reads source i0 i1 out0 out2 s t in_failed out_failed (record { answered = answered; written = silence.written; cause = silence.cause })
-  fails_parting i0 i1 out0 out1 out2 s t old answered in_failed out_failed b silence so is said in_works = (
-    record {
-      taken = so.taken;
-      opens = so.opens;
-      next = due_parting b;
-      rest = old.held;
-      read = so.read;
-      split = so.split ∙ ap (λ l. l ++ old.held) (sym (texts_all so.opens));
-      each = so.each;
-      next_is = (is, said.2);
-      run = run_all submits reads s t so.opens so.run;
-      within = said.0;
-      written = Appends-trans out0 out1 out2 (responses so.opens) (take silence.written (response_of (Broken b) true)) so.written said.1;
-      count = so.count;
-      made = made i0 i1 out0 out1 s t old answered so;
-      cause = cause_of_silence silence.cause silence.written in_failed out_failed so.taken (made i0 i1 out0 out1 s t old answered so) in_works said.2 said.3 said.4;
-      unwritten = unwritten_of_silence silence.cause silence.written out_failed said.2 said.4;
-      spared = λ e. absurd (cc e);
-    },
-    record { before = i1; reads = in_turn i0 i1 out0 out1 s t old answered so; count = refl; last = inl refl },
-  )
+  pub fails_parting : (c0 c1 c2 : C) (s t : S) (old : ReadBuffer) (answered : ℕ) (b : Breach) (silence : Silence)
+      → SoFar submits reads line c0 c1 s t old answered → IsBroken (IsAtEnd (line.source.remaining c1)) old.held b
+      → Says (line.contents c1) (line.contents c2) false (line.out_failed c2) (response_of (Broken b) true) (Err silence)
+      → line.takes c1 (take silence.written (response_of (Broken b) true)) c2 → line.in_failed c1 ≡ false
+      → FailsOver submits reads line c0 c2 s t (record { answered = answered; written = silence.written; cause = silence.cause })
+  fails_parting c0 c1 c2 s t old answered b silence so is said took in_works =
+      let part = take silence.written (response_of (Broken b) true) in
+      let same = two.writes_leave c1 c2 part took in
+      let made = length (pieces so.answers.acts) in
+      let answers = said_on line.source.gives line.takes c0 c1 c2 so.opens so.taken (responses so.opens) part (responses so.opens ++ part) so.answers took refl in (
+        record {
+          taken = so.taken;
+          opens = so.opens;
+          next = due_parting b;
+          rest = old.held;
+          read = subst (λ (r : Option (List ℕ)). Consumes (line.source.remaining c0) r so.taken) (sym same.0) so.read;
+          split = so.split ∙ ap (λ l. l ++ old.held) (sym (texts_all so.opens));
+          each = so.each;
+          next_is = (subst (λ (r : Option (List ℕ)). IsBroken (IsAtEnd r) old.held b) (sym same.0) is, said.2);
+          run = run_all submits reads s t so.opens so.run;
+          within = said.0;
+          written = Appends-trans (line.contents c0) (line.contents c1) (line.contents c2) (responses so.opens) part so.written said.1;
+          count = so.count;
+          made = made;
+          cause = cause_of_silence silence.cause silence.written (line.in_failed c2) (line.out_failed c2) so.taken made (same.1 ∙ in_works) said.2 said.3 said.4;
+          unwritten = unwritten_of_silence silence.cause silence.written (line.out_failed c2) said.2 said.4;
+          spared = λ e. absurd (cc e);
+        },
+        record { before = c2; answers = answers.0; count = answers.1; last = inl refl },
+      )

@@ -1,9 +1,8 @@
 -- That a session reads only while the request is awaited that it answers next.
-use Rattle.std.specs.Prelude.{◌≡◌, ℕ, ◌⊎◌, Bool, List, [], ◌++◌, length, Option}
+use Rattle.std.specs.Prelude.{◌≡◌, ℕ, ◌⊎◌, Bool, List, [], ◌++◌, length}
 use Rattle.http_requests.specs.Requests.{AwaitsRequest}
 use Rattle.http_requests.specs.Waiting.{Gives, Source, ReadsWhile, FailsToRead}
-use Rattle.http_session.specs.Sessions.{Exchange, texts, Submits, Reads, EndsAs, FailsAs}
-use Rattle.http_session.specs.declared.exchanges.SessionError.{SessionError}
+use Rattle.http_session.specs.Sessions.{Exchange, texts}
 
 -- The bytes received are these requests up to some place, and a rest of which the next one is awaited: no
 -- request stands at the beginning of the rest, nor a reason why there can be none.
@@ -28,14 +27,3 @@ pub record ReadsInTurnUpTo {R : Type 0} (source : Source R) (s t : R) (failed : 
   pub reads : ReadsInTurn source.gives s before opens taken
   pub count : length reads.pieces ≡ made
   pub last : (t ≡ before) ⊎ FailsToRead source before t failed
-
--- ---- sessions
-
-abbrev pub EndsInTurn : {S R : Type 0} → Submits S → Reads S → Source R → R → R → Option (List ℕ) → Option (List ℕ) → S → S → ℕ → Bool → Type 0
-EndsInTurn submits reads source i0 i1 out0 out1 s t answered clean =
-    (ends : EndsAs submits reads (source.remaining i0) (source.remaining i1) out0 out1 s t answered clean) × ReadsInTurn source.gives i0 i1 ends.opens ends.taken
-
-abbrev pub FailsInTurn : {S R : Type 0} → Submits S → Reads S → Source R → R → R → Option (List ℕ) → Option (List ℕ) → S → S → Bool → Bool → SessionError → Type 0
-FailsInTurn submits reads source i0 i1 out0 out1 s t in_failed out_failed error =
-    (fails : FailsAs submits reads (source.remaining i0) (source.remaining i1) out0 out1 s t in_failed out_failed error)
-    × ReadsInTurnUpTo source i0 i1 in_failed fails.opens fails.taken fails.made

@@ -5,5 +5,6 @@ pub mod Hearing
 pub mod Replies
 pub mod Sessions
 pub mod InTurn
+pub mod InOrder
 pub mod Underway
 pub mod Related

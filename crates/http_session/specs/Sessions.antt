@@ -200,6 +200,16 @@ Says out0 out1 failed0 failed1 bytes (Err e) =
     × (e.cause ≢ Reading) × (e.cause ≡ Writing → failed1 ≡ true)
     × (e.cause ≡ Memory → (failed1 ≡ failed0) × (e.written ≡ 0))
 
+-- what was written of some bytes
+abbrev pub part_sent : List ℕ → Result (Unit {0}) ℕ → List ℕ
+part_sent bytes (Ok _) = bytes
+part_sent bytes (Err n) = take n bytes
+
+-- what was written of a response
+abbrev pub part_said : List ℕ → Result (Unit {0}) Silence → List ℕ
+part_said bytes (Ok _) = bytes
+part_said bytes (Err e) = take e.written bytes
+
 abbrev pub cause_by : ReadError → SessionErrorKind
 cause_by why.Reading = Reading
 cause_by why.Memory = Memory

@@ -3,8 +3,9 @@ ghost use Rattle.http_requests.specs.Waiting.{source_of};
 ghost use Rattle.query_http.specs.Paths.{endpoint_rows};
 ghost use Rattle.http_session.specs.Replies.{response_of, closes, takes_no_memory};
 ghost use Rattle.http_session.specs.declared.exchanges.SessionErrorKind.TheVariants.{Writing, Memory};
-ghost use Rattle.http_session.specs.Sessions.{EndsAs, FailsAs, Step, Says, cause_by, last_of, exchange_due};
-ghost use Rattle.http_session.specs.InTurn.{ReadsInTurn, ReadsInTurnUpTo, EndsInTurn, FailsInTurn};
+ghost use Rattle.http_session.specs.Sessions.{EndsAs, FailsAs, Step, Says, part_said, cause_by, last_of, exchange_due};
+ghost use Rattle.http_session.specs.InTurn.{ReadsInTurn, ReadsInTurnUpTo};
+ghost use Rattle.http_session.specs.InOrder.{line_of, EndsOver, FailsOver};
 ghost use Rattle.http_session.specs.Related.{Related, nothing_seen};
 
 use crate::hearing::{Heard, hear};
@@ -14,7 +15,7 @@ use crate::verdict::Verdict;
 use http_requests::{ReadBuffer, ReadError};
 use matchit::Router;
 use query_http::{Endpoint, endpoints};
-use session_devices::{Input, Output};
+use session_devices::{Connection, Input, Join, Output};
 use std::alloc::Global;
 use std::mem::drop;
 use store_backend::Backend;
@@ -105,6 +106,7 @@ fn closes_behind(asked: bool, reply: &Reply) -> bool
 fn speak<W: Output>(output: &mut W, response: &[u8]) -> Result<(), Silence>
     ensures says { Says (W.contents output.old) (W.contents output.new) (W.has_failed output.old)
         (W.has_failed output.new) response.now result }
+    ensures took { W.takes output.old (part_said response.now result) output.new }
     ensures writing { IfErr result (λ e. e.cause ≡ Writing) }
 {
     match send(output, response) {
@@ -120,6 +122,8 @@ fn speak<W: Output>(output: &mut W, response: &[u8]) -> Result<(), Silence>
 fn speak_whole<W: Output>(output: &mut W, response: &Response) -> Result<(), Silence>
     ensures says { Says (W.contents output.old) (W.contents output.new) (W.has_failed output.old)
         (W.has_failed output.new) (response.now.first.items ++ response.now.rest.items) result }
+    ensures took { W.takes output.old
+        (part_said (response.now.first.items ++ response.now.rest.items) result) output.new }
     ensures writing { IfErr result (λ e. e.cause ≡ Writing) }
 {
     speak(output, response.first.as_slice())?;
@@ -136,6 +140,7 @@ fn speak_whole<W: Output>(output: &mut W, response: &Response) -> Result<(), Sil
 fn say<W: Output>(alloc: Global, output: &mut W, reply: &Reply, close: bool) -> Result<(), Silence>
     ensures says { Says (W.contents output.old) (W.contents output.new) (W.has_failed output.old)
         (W.has_failed output.new) (response_of reply.now close) result }
+    ensures took { W.takes output.old (part_said (response_of reply.now close) result) output.new }
     ensures spared { takes_no_memory reply.now ≡ true → IfErr result (λ e. e.cause ≢ Memory) }
 {
     if let Some(bytes) = reply.fixed(close) {
@@ -150,32 +155,30 @@ fn say<W: Output>(alloc: Global, output: &mut W, reply: &Reply, close: bool) -> 
     speak_whole(output, &response)
 }
 
-/// Answers the requests of the input one after the other.
-fn run_session<T, R: Input, W: Output, B: Backend<T>>(
+/// Answers the requests of the connection one after the other.
+fn run_session<T, C: Connection, B: Backend<T>>(
     rt: &T,
     alloc: Global,
     router: &Router<Endpoint>,
-    input: &mut R,
-    output: &mut W,
+    connection: &mut C,
     backend: &mut B,
 ) -> Result<Ended, SessionError>
     requires routes { router.now ≡ endpoint_rows }
-    requires input_works { R.has_failed input.old ≡ false }
-    requires output_works { W.has_failed output.old ≡ false }
-    ensures ended { IfOk result (λ e. EndsInTurn B.submits B.reads
-        (source_of R.remaining R.gives) input.old input.new (W.contents output.old)
-        (W.contents output.new) backend.old backend.new e.answered e.clean) }
-    ensures works { OnOk result ((R.has_failed input.new ≡ false)
-        × (W.has_failed output.new ≡ false)) }
-    ensures error { IfErr result (λ f. FailsInTurn B.submits B.reads
-        (source_of R.remaining R.gives) input.old input.new (W.contents output.old)
-        (W.contents output.new) backend.old backend.new (R.has_failed input.new)
-        (W.has_failed output.new) f) }
+    requires input_works { C.Input.has_failed connection.old ≡ false }
+    requires output_works { C.Output.has_failed connection.old ≡ false }
+    ensures ended { IfOk result (EndsOver B.submits B.reads
+        (line_of C.remaining C.gives C.Input.has_failed C.contents C.takes C.Output.has_failed)
+        connection.old connection.new backend.old backend.new) }
+    ensures works { OnOk result ((C.Input.has_failed connection.new ≡ false)
+        × (C.Output.has_failed connection.new ≡ false)) }
+    ensures error { IfErr result (FailsOver B.submits B.reads
+        (line_of C.remaining C.gives C.Input.has_failed C.contents C.takes C.Output.has_failed)
+        connection.old connection.new backend.old backend.new) }
 {
     let mut received = ReadBuffer::new(alloc);
     let mut answered = 0u64;
     'requests: loop {
-        let (verdict, asked) = match hear(alloc, router, input, &mut received) {
+        let (verdict, asked) = match hear(alloc, router, connection, &mut received) {
             Err(why) => {
                 return Err(SessionError {
                     answered,
@@ -190,7 +193,7 @@ fn run_session<T, R: Input, W: Output, B: Backend<T>>(
                 });
             }
             Ok(Heard::Broken(breach)) => {
-                if let Err(silence) = say(alloc, output, &Reply::Broken(breach), true) {
+                if let Err(silence) = say(alloc, connection, &Reply::Broken(breach), true) {
                     return Err(silence.after(answered));
                 }
                 return Ok(Ended {
@@ -202,7 +205,7 @@ fn run_session<T, R: Input, W: Output, B: Backend<T>>(
         };
         let reply = answer(rt, alloc, backend, verdict);
         let close = closes_behind(asked, &reply);
-        let said = say(alloc, output, &reply, close);
+        let said = say(alloc, connection, &reply, close);
         drop(reply);
         if let Err(silence) = said {
             return Err(silence.after(answered));
@@ -217,7 +220,7 @@ fn run_session<T, R: Input, W: Output, B: Backend<T>>(
     }
 }
 
-/// Answers the requests of the input one after the other, until the input ends between two of them or a
+/// Answers the requests of a connection one after the other, until the input ends between two of them or a
 /// response closes the session.
 ///
 /// The bytes read are the texts of requests and a rest, the bytes written one response to each, and a
@@ -227,9 +230,9 @@ fn run_session<T, R: Input, W: Output, B: Backend<T>>(
 ///
 /// Before each read the bytes received by then were requests behind which the session stays open, and a rest of
 /// which the next request was awaited: no whole request stood at its beginning, nor a reason in its lines why
-/// there can be none; nothing is read behind a request whose response closes it. That the responses to those
-/// requests were written by then is how the loop goes; no clause says it. Of a session that failed this is said
-/// too, and of the read that failed, if one did.
+/// there can be none; nothing is read behind a request whose response closes it. And exactly the responses to
+/// those requests were written by then: no response waits for what the client sends next. Of a session that failed
+/// this is said too, and of the read that failed, if one did.
 ///
 /// # Errors
 ///
@@ -237,6 +240,89 @@ fn run_session<T, R: Input, W: Output, B: Backend<T>>(
 /// memory ran out: for what is read at once, while a request was awaited, for a query, or for a response other than
 /// 202 and 500. A batch that came whole is answered, with 500 where memory ran out for it. A batch that was accepted
 /// before stays so.
+pub fn serve_connection<T, C: Connection, B: Backend<T>>(
+    rt: &T,
+    alloc: Global,
+    connection: &mut C,
+    backend: &mut B,
+) -> Result<Ended, SessionError>
+    requires input_works { C.Input.has_failed connection.old ≡ false }
+    requires output_works { C.Output.has_failed connection.old ≡ false }
+
+    ensures ended { IfOk result (λ e. (over : EndsOver B.submits B.reads
+        (line_of C.remaining C.gives C.Input.has_failed C.contents C.takes C.Output.has_failed)
+        connection.old connection.new backend.old backend.new e)
+        × Related (B.knows backend.old) (B.limits backend.old) nothing_seen
+        (over.0.opens ++ last_of over.0.ending)) }
+
+    ensures works { OnOk result ((C.Input.has_failed connection.new ≡ false)
+        × (C.Output.has_failed connection.new ≡ false)) }
+
+    ensures error { IfErr result (λ f. (over : FailsOver B.submits B.reads
+        (line_of C.remaining C.gives C.Input.has_failed C.contents C.takes C.Output.has_failed)
+        connection.old connection.new backend.old backend.new f)
+        × Related (B.knows backend.old) (B.limits backend.old) nothing_seen
+        (over.0.opens ++ exchange_due over.0.next)) }
+{
+    let Ok(router) = endpoints(alloc) else {
+        return Err(SessionError {
+            answered: 0,
+            written: 0,
+            cause: SessionErrorKind::Memory,
+        });
+    };
+    match run_session(rt, alloc, &router, connection, backend) {
+        Ok(ended) => Ok(ended),
+        Err(error) => Err(error),
+    }
+}
+
+/// [`serve_connection`] over an input and an output that were joined; they stay joined.
+fn serve_joined<T, R: Input, W: Output, B: Backend<T>>(
+    rt: &T,
+    alloc: Global,
+    connection: &mut Join<'_, R, W>,
+    backend: &mut B,
+) -> Result<Ended, SessionError>
+    requires input_works { R.has_failed connection.old.input.now ≡ false }
+    requires output_works { W.has_failed connection.old.output.now ≡ false }
+    ensures same_input { connection.new.input.ghost_name ≡ connection.old.input.ghost_name }
+    ensures same_output { connection.new.output.ghost_name ≡ connection.old.output.ghost_name }
+    ensures ended { IfOk result (λ e. (ends : EndsAs B.submits B.reads
+        (R.remaining connection.old.input.now) (R.remaining connection.new.input.now)
+        (W.contents connection.old.output.now) (W.contents connection.new.output.now)
+        backend.old backend.new e.answered e.clean)
+        × Related (B.knows backend.old) (B.limits backend.old) nothing_seen
+        (ends.opens ++ last_of ends.ending)
+        × ReadsInTurn R.gives connection.old.input.now connection.new.input.now ends.opens
+        ends.taken) }
+    ensures works { OnOk result ((R.has_failed connection.new.input.now ≡ false)
+        × (W.has_failed connection.new.output.now ≡ false)) }
+    ensures error { IfErr result (λ f. (fails : FailsAs B.submits B.reads
+        (R.remaining connection.old.input.now) (R.remaining connection.new.input.now)
+        (W.contents connection.old.output.now) (W.contents connection.new.output.now)
+        backend.old backend.new (R.has_failed connection.new.input.now)
+        (W.has_failed connection.new.output.now) f)
+        × Related (B.knows backend.old) (B.limits backend.old) nothing_seen
+        (fails.opens ++ exchange_due fails.next)
+        × ReadsInTurnUpTo (source_of R.remaining R.gives) connection.old.input.now
+        connection.new.input.now (R.has_failed connection.new.input.now) fails.opens fails.taken
+        fails.made) }
+{
+    match serve_connection(rt, alloc, connection, backend) {
+        Ok(ended) => Ok(ended),
+        Err(error) => Err(error),
+    }
+}
+
+/// [`serve_connection`] over an input and an output that are joined to one connection.
+///
+/// What was written before which read, a clause can say of a connection alone: that of `serve_connection` does. Of the
+/// input by itself it is said that it is read only while the next request is awaited.
+///
+/// # Errors
+///
+/// As `serve_connection`.
 pub fn session<T, R: Input, W: Output, B: Backend<T>>(
     rt: &T,
     alloc: Global,
@@ -265,14 +351,8 @@ pub fn session<T, R: Input, W: Output, B: Backend<T>>(
         × ReadsInTurnUpTo (source_of R.remaining R.gives) input.old input.new
         (R.has_failed input.new) fails.opens fails.taken fails.made) }
 {
-    let Ok(router) = endpoints(alloc) else {
-        return Err(SessionError {
-            answered: 0,
-            written: 0,
-            cause: SessionErrorKind::Memory,
-        });
-    };
-    match run_session(rt, alloc, &router, input, output, backend) {
+    let mut connection = Join::new(input, output);
+    match serve_joined(rt, alloc, &mut connection, backend) {
         Ok(ended) => Ok(ended),
         Err(error) => Err(error),
     }

@@ -2,7 +2,8 @@
 //!
 //! What is written is proved to be related to what is read: the bytes read are requests and a rest, the
 //! bytes written are one response each, and every answer of the store is that of the plain store at a
-//! point of one growing history ([`session`]).
+//! point of one growing history ([`session`]). Before it reads for the next request, it has written the responses to
+//! all before it ([`serve_connection`]).
 //!
 //! * `verdict`: what a request asks of the store, or what is said to it without asking.
 //! * `question`: what the head of a request asks.
@@ -21,6 +22,6 @@ mod reply;
 mod send;
 mod verdict;
 
-pub use exchanges::{Ended, SessionError, SessionErrorKind, session};
+pub use exchanges::{Ended, SessionError, SessionErrorKind, serve_connection, session};
 pub use reply::{Reply, Response};
 pub use verdict::{Remark, Verdict};

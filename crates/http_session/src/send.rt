@@ -1,5 +1,6 @@
 ghost use Rattle.std.specs.Prelude.{◌≡◌, ◌≤◌, true, OnOk, IfErr, length, take};
 ghost use Rattle.std.specs.Io.KnownBytes.{Appends};
+ghost use Rattle.http_session.specs.Sessions.{part_sent};
 
 use session_devices::Output;
 
@@ -10,6 +11,7 @@ use session_devices::Output;
 /// The output failed; how many of the bytes it took before.
 pub(crate) fn send<W: Output>(output: &mut W, bytes: &[u8]) -> Result<(), usize>
     ensures ok { OnOk result (Appends (W.contents output.old) (W.contents output.new) bytes.now) }
+    ensures took { W.takes output.old (part_sent bytes.now result) output.new }
     ensures same { OnOk result (W.has_failed output.new ≡ W.has_failed output.old) }
     ensures err { IfErr result (λ n. (n ≤ length bytes.now)
         × Appends (W.contents output.old) (W.contents output.new) (take n bytes.now)

@@ -86,9 +86,17 @@ impl MemoryOutput {
 }
 
 impl Output for MemoryOutput {
+    ghost use Rattle.std.proofs.Common.{sym, ap, ◌∙◌, append_assoc, append-nil};
+
     ghost contents = { λ s. Some s.bytes.items };
 
+    ghost takes = { λ s bytes t. t.bytes.items ≡ s.bytes.items ++ bytes };
+
     ghost has_failed = { λ s. s.failed };
+
+    ghost takes_nothing = { λ s. sym (append-nil s.bytes.items) };
+
+    ghost takes_joined = { λ s t u front back one two. two ∙ ap (λ l. l ++ back) one ∙ append_assoc s.bytes.items front back };
 
     fn write(&mut self, buf: &[u8]) -> Result<usize, Failed> {
         let count = buf.len().min(self.step.max(1)).min(self.room);

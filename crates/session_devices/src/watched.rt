@@ -54,9 +54,19 @@ impl<T: Read> Input for Watched<T> {
 }
 
 impl<T: Write> Output for Watched<T> {
+    ghost use Rattle.std.specs.Io.KnownBytes.{Appends};
+    ghost use Rattle.std.proofs.KnownBytes.{Appends-nil, Appends-trans};
+
     ghost contents = { λ s. T.contents s.inner };
 
+    ghost takes = { λ s bytes t. Appends (T.contents s.inner) (T.contents t.inner) bytes };
+
     ghost has_failed = { λ s. s.failed };
+
+    ghost takes_nothing = { λ s. Appends-nil (T.contents s.inner) };
+
+    ghost takes_joined = { λ s t u front back one two. Appends-trans (T.contents s.inner)
+        (T.contents t.inner) (T.contents u.inner) front back one two };
 
     fn write(&mut self, buf: &[u8]) -> Result<usize, Failed> {
         for _tried in 0..MOST_INTERRUPTIONS {

@@ -54,7 +54,13 @@ struct Counter<'a> {
 impl<'a> Output for Counter<'a> {
     ghost contents = { λ s. None };
 
+    ghost takes = { λ s bytes t. Unit {0} };
+
     ghost has_failed = { λ s. false };
+
+    ghost takes_nothing = { λ s. tt };
+
+    ghost takes_joined = { λ s t u front back one two. tt };
 
     fn write(&mut self, buf: &[u8]) -> Result<usize, Failed> {
         self.written

@@ -4,10 +4,10 @@ ghost use Rattle.live_store.specs.Sharing.{GoesOn};
 
 use crate::gate::Gate;
 use crate::gated::Gated;
-use http_session::session;
+use http_session::serve_connection;
 use intake::DeskName;
 use read_side::StoreName;
-use session_devices::Watched;
+use session_devices::{Join, Watched};
 use std::alloc::Global;
 use std::io;
 use std::io::Read;
@@ -69,7 +69,8 @@ pub(crate) fn attend<N: StoreName, D: DeskName, G: Gate, R: Wait + Clock + Eprin
     }
     let mut input = Watched::new(stream);
     let mut output = Watched::new(stream);
-    match session(rt, alloc, &mut input, &mut output, store) {
+    let mut connection = Join::new(&mut input, &mut output);
+    match serve_connection(rt, alloc, &mut connection, store) {
         Ok(ended) if !ended.clean => {
             let _shut_down = shut_down(rt, stream);
         }

@@ -1,39 +1,29 @@
+use Rattle.std.proofs.Common.{rules, ◌++◌, subst₂}
 use Rattle.http_requests.specs.Waiting.{source_of}
-use Rattle.http_session.specs.Related.{nothing_seen}
-use Rattle.http_session.proofs.Points.{related, begin}
-use Rattle.http_session.proofs.Turns.{fails_to_begin}
+use Rattle.http_session.specs.Sessions.{EndsAs, FailsAs, last_of, exchange_due}
+use Rattle.http_session.specs.InTurn.{ReadsInTurn, ReadsInTurnUpTo}
+use Rattle.http_session.specs.Related.{Related, nothing_seen}
 use Rattle.http_session.proofs.exchanges.session.Goals as goal
 
-pub returns-in_default-clause-error : goal.returns-in_default-clause-error
-returns-in_default-clause-error g c =
-    let failed = fails_to_begin g.B.Backend.submits g.B.Backend.reads (source_of g.R.Input.remaining g.R.Input.gives) c.args.input.now (g.W.Output.contents c.args.output.now) c.args.backend.now
-    (g.R.Input.has_failed c.args.input.now) (g.W.Output.has_failed c.args.output.now) c.requires.input_works c.requires.output_works in
-    let fails = failed.0 in (
-      fails,
-      related g.B.Backend.limits g.B.Backend.knows g.B.Backend.submits g.B.Backend.reads g.met.B.Backend.submit_knows g.met.B.Backend.read_knows
-          (g.B.Backend.limits c.args.backend.now) (g.B.Backend.knows c.args.backend.now) c.args.backend.now _ nothing_seen _
-          (begin g.B.Backend.limits g.B.Backend.knows g.B.Backend.submits g.B.Backend.reads g.met.B.Backend.submit_knows g.met.B.Backend.read_knows c.args.backend.now) fails.run,
-      failed.1,
-    )
+-- the connection began with the devices, and they are what it ended with
+pub returns-in-Ok-clause-ended : goal.returns-in-Ok-clause-ended
+returns-in-Ok-clause-ended g c =
+    let Ended : g.row.R.Denot → g.row.W.Denot → g.row.R.Denot → g.row.W.Denot → Type 0 = λ i0 o0 i o.
+    (ends : EndsAs g.B.Backend.submits g.B.Backend.reads (g.R.Input.remaining i0) (g.R.Input.remaining i) (g.W.Output.contents o0) (g.W.Output.contents o)
+    c.args.backend.now c.serve_joined.new.backend c.in-Ok.ended.answered c.in-Ok.ended.clean)
+    × Related (g.B.Backend.knows c.args.backend.now) (g.B.Backend.limits c.args.backend.now) nothing_seen (ends.opens ++ last_of ends.ending)
+    × ReadsInTurn g.R.Input.gives i0 i ends.opens ends.taken in
+    let began : Ended c.args.input.now c.args.output.now c.serve_joined.new.connection.input.now c.serve_joined.new.connection.output.now =
+    subst₂ (λ i o. Ended i o c.serve_joined.new.connection.input.now c.serve_joined.new.connection.output.now) (search rules) (search rules) c.in-Ok.ensures.ended in
+    subst₂ (λ i o. Ended c.args.input.now c.args.output.now i o) (search rules) (search rules) began
 
-pub returns-in-Ok-run_session-clause-ended : goal.returns-in-Ok-run_session-clause-ended
-returns-in-Ok-run_session-clause-ended g c =
-    let ended = c.in-Ok-run_session.ensures.ended in
-    let ends = ended.0 in (
-      ends,
-      related g.B.Backend.limits g.B.Backend.knows g.B.Backend.submits g.B.Backend.reads g.met.B.Backend.submit_knows g.met.B.Backend.read_knows
-          (g.B.Backend.limits c.args.backend.now) (g.B.Backend.knows c.args.backend.now) c.args.backend.now _ nothing_seen _
-          (begin g.B.Backend.limits g.B.Backend.knows g.B.Backend.submits g.B.Backend.reads g.met.B.Backend.submit_knows g.met.B.Backend.read_knows c.args.backend.now) ends.run,
-      ended.1,
-    )
-
-pub returns-clause-error : goal.returns-clause-error
-returns-clause-error g c =
-    let failed = c.in-Err.ensures.error in
-    let fails = failed.0 in (
-      fails,
-      related g.B.Backend.limits g.B.Backend.knows g.B.Backend.submits g.B.Backend.reads g.met.B.Backend.submit_knows g.met.B.Backend.read_knows
-          (g.B.Backend.limits c.args.backend.now) (g.B.Backend.knows c.args.backend.now) c.args.backend.now _ nothing_seen _
-          (begin g.B.Backend.limits g.B.Backend.knows g.B.Backend.submits g.B.Backend.reads g.met.B.Backend.submit_knows g.met.B.Backend.read_knows c.args.backend.now) fails.run,
-      failed.1,
-    )
+pub returns-in-Err-clause-error : goal.returns-in-Err-clause-error
+returns-in-Err-clause-error g c =
+    let Failed : g.row.R.Denot → g.row.W.Denot → g.row.R.Denot → g.row.W.Denot → Type 0 = λ i0 o0 i o.
+    (fails : FailsAs g.B.Backend.submits g.B.Backend.reads (g.R.Input.remaining i0) (g.R.Input.remaining i) (g.W.Output.contents o0) (g.W.Output.contents o)
+    c.args.backend.now c.serve_joined.new.backend (g.R.Input.has_failed i) (g.W.Output.has_failed o) c.in-Err.error)
+    × Related (g.B.Backend.knows c.args.backend.now) (g.B.Backend.limits c.args.backend.now) nothing_seen (fails.opens ++ exchange_due fails.next)
+    × ReadsInTurnUpTo (source_of g.R.Input.remaining g.R.Input.gives) i0 i (g.R.Input.has_failed i) fails.opens fails.taken fails.made in
+    let began : Failed c.args.input.now c.args.output.now c.serve_joined.new.connection.input.now c.serve_joined.new.connection.output.now =
+    subst₂ (λ i o. Failed i o c.serve_joined.new.connection.input.now c.serve_joined.new.connection.output.now) (search rules) (search rules) c.in-Err.ensures.error in
+    subst₂ (λ i o. Failed c.args.input.now c.args.output.now i o) (search rules) (search rules) began

@@ -6,6 +6,7 @@ abbrev pub invariant-loop-done : goal.invariant-loop-done
 invariant-loop-done g l = (l.done ≤ length l.bytes)
     × Appends (g.W.Output.contents l.initial.output) (g.W.Output.contents l.output) (take l.done l.bytes)
     × (g.W.Output.has_failed l.output ≡ g.W.Output.has_failed l.initial.output)
+    × g.W.Output.takes l.initial.output (take l.done l.bytes) l.output
 
 abbrev pub decreases-loop-done : goal.decreases-loop-done
 decreases-loop-done g l = length l.bytes - l.done
