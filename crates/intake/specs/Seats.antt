@@ -5,7 +5,7 @@ use Rattle.crossbeam_queue.specs.Passes.{Pass, view}
 use Rattle.trace_model.specs.declared.entry.Entry.{Entry}
 use Rattle.trace_model.specs.declared.entry.Work.{Work}
 use Rattle.trace_model.specs.declared.refusal.Refusal.{Refusal}
-use Rattle.trace_model.specs.declared.refusal.Refusal.TheVariants.{JournalFull, Stale, NoMemory, Deferred, Busy, Closed, Stranger, NoReply, Conflict}
+use Rattle.trace_model.specs.declared.refusal.Refusal.TheVariants.{JournalFull, Stale, NoMemory, Deferred, Busy, Closed, NoReply, Conflict}
 use Rattle.intake.specs.declared.queue.QueueView.{QueueView}
 use Rattle.intake.specs.Queues.{jobs_of}
 
@@ -48,14 +48,13 @@ IsNotTaken s why =
     ⊎ ((why ≡ NoMemory) × (s.hands_in ≡ true))
     ⊎ ((why ≡ Busy) × (s.hands_in ≡ true) × WasFull s)
 
--- why a job that was handed in was not acknowledged: its keeper's refusal, or there is no reply of its own
+-- why a job that was handed in was not acknowledged: its keeper's refusal, or there is no reply
 abbrev pub IsUnacknowledged : Refusal → Type 0
 IsUnacknowledged (JournalFull batches spans) = Unit {0}
 IsUnacknowledged (Stale last) = Unit {0}
 IsUnacknowledged NoMemory = Unit {0}
 IsUnacknowledged Deferred = Unit {0}
 IsUnacknowledged Closed = Unit {0}
-IsUnacknowledged Stranger = Unit {0}
 IsUnacknowledged NoReply = Unit {0}
 IsUnacknowledged (Conflict place) = Unit {0}
 IsUnacknowledged _ = ⊥

@@ -88,7 +88,7 @@ impl<N: StoreName> Books<N> {
             let Some(job) = self.inbox.pop(rt) else {
                 return Ok(());
             };
-            let (entry, _named, _cell) = job.split();
+            let (entry, _cell) = job.split();
             let is_last = is_job(&entry, number, last);
             self.left.push_reserved(entry);
             if is_last {

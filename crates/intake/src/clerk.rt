@@ -11,8 +11,8 @@ ghost use Rattle.intake.specs.Books.{Ran, Balances, acknowledged, refused};
 use crate::account::Account;
 use crate::accounts::Accounts;
 use crate::books::Books;
+use crate::cell::JobOutcome;
 use crate::inbox::Inbox;
-use crate::job::JobOutcome;
 use crate::shared::Shared;
 use crate::ticket::Ack;
 use read_side::{Keeper, Receipt, StoreName};
@@ -157,7 +157,7 @@ impl<N: StoreName> Clerk<N> {
         let Some(job) = self.inbox.pop(rt) else {
             return Ok(if closed { Turn::Ended } else { Turn::Idle });
         };
-        let (entry, named, cell) = job.split();
+        let (entry, cell) = job.split();
         let (seat, number) = (entry.seat, entry.number);
         let answer = judge_entry(rt, self.alloc, keeper, entry);
         let account = Account {
@@ -166,8 +166,8 @@ impl<N: StoreName> Clerk<N> {
             answer: place_or_refusal(&answer),
         };
         self.accounts.add(rt, &account);
-        let reply = JobOutcome::new(named, answer);
-        self.ending.shared.lay_down(rt, seat, &cell, reply);
+        let outcome = JobOutcome { answer };
+        self.ending.shared.lay_down(rt, seat, &cell, outcome);
         Ok(Turn::Served { seat, number })
     }
 

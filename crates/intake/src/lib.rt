@@ -8,7 +8,7 @@
 //! in order, with the numbers 1, 2 and so on: nothing is lost, doubled or changed on the way.
 //!
 //! * `queue`: the queue, and the rule that holds between any two steps.
-//! * `job`: what is queued, and what is laid down for its ticket. `ticket`: the [`Ticket`].
+//! * `job`: what is queued. `cell`: where its answer is laid down. `ticket`: the [`Ticket`].
 //! * `seat`: the [`Seat`]. `inbox`: the clerk's end of the queue.
 //! * `account`: what became of a job. `accounts`: the same of all. `clerk`: the [`Clerk`]. `books`: what it leaves; `books_alone`: the same but for the
 //!   keeper.
@@ -22,6 +22,7 @@ mod accounts;
 mod bell;
 mod books;
 mod books_alone;
+mod cell;
 mod clerk;
 mod closing;
 mod inbox;

@@ -6,6 +6,7 @@ ghost use Rattle.crossbeam_queue.specs.Passes.{view, IsPassOf, ruled_capacity};
 ghost use Rattle.trace_model.specs.declared.entry.Work.TheVariants as brings;
 ghost use Rattle.intake.specs.Seats.{next_job, with_job, IsNotTaken, IsEndOf, IsNewSeat};
 
+use crate::cell::Cell;
 use crate::job::Job;
 use crate::queue::{PutJob, QueueEnd, Resign};
 use crate::shared::Shared;
@@ -14,7 +15,7 @@ use jaeger_model::Batch;
 use read_side::StoreName;
 use std::alloc::Global;
 use std::marker::Model;
-use std::sync::{Arc, Mutex, Wait};
+use std::sync::{Arc, Wait};
 use trace_model::{Entry, Refusal, Work};
 
 /// A seat. Contracts see its desk and number, the jobs that it handed in, and whether it may hand in
@@ -221,10 +222,9 @@ impl<N: StoreName> Seat<N> {
         ensures ticket { IfOk result (λ r. r.0 ≡ arc_value entry.now) }
         ensures job { IfOk result (λ r. r.1 ≡ arc_value entry.now) }
     {
-        let cell = Arc::new(alloc, Mutex::new(None))?;
+        let cell = Arc::new(alloc, Cell::new(entry))?;
         let job = Job::new(entry, &cell)?;
-        let entry = Arc::try_clone(entry)?;
         let shared = Arc::try_clone(&self.shared)?;
-        Ok((Ticket::new(entry, cell, shared), job))
+        Ok((Ticket::new(self.number, cell, shared), job))
     }
 }

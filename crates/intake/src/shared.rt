@@ -1,10 +1,13 @@
 //! What the seats, their tickets, the clerk and the desk share.
 
-ghost use Rattle.std.specs.Prelude.{◌≡◌, ◌⊎◌};
+ghost use Rattle.std.specs.Prelude.{◌≡◌, ◌⊎◌, IfOk, IfErr};
+ghost use Rattle.std.specs.Arc.{arc_value};
 ghost use Rattle.trace_model.specs.declared.refusal.Refusal.TheVariants.{Closed, NoReply};
+ghost use Rattle.read_side.specs.Receipts.{AnsweredAt};
+ghost use Rattle.intake.specs.Seats.{IsUnacknowledged};
 
 use crate::bell::Bell;
-use crate::job::{Cell, JobOutcome};
+use crate::cell::{Cell, JobOutcome};
 use crate::queue::Queue;
 use read_side::{Receipt, StoreName};
 use std::sync::atomic::{AtomicBool, Ordering};
@@ -57,18 +60,22 @@ impl<N: StoreName> Shared<N> {
         self.jobs.ring();
     }
 
-    /// Lays a reply to a seat down, and its receipt, if it has one.
+    /// Lays the outcome of a seat's job down, and its receipt, if it has one.
     pub(crate) fn lay_down<R: Wait>(
         &self,
         rt: &R,
         seat: u16,
         cell: &Cell<N>,
-        reply: JobOutcome<N>,
-    ) {
-        if let Some(receipt) = reply.receipt() {
+        outcome: JobOutcome<N>,
+    )
+        requires answered { IfOk outcome.answer (λ a.
+            AnsweredAt (arc_value a.receipt).entries a.place cell.now) }
+        requires reason { IfErr outcome.answer IsUnacknowledged }
+    {
+        if let Some(receipt) = outcome.receipt() {
             *self.last.lock(rt) = receipt;
         }
-        *cell.lock(rt) = Some(reply);
+        cell.lay_down(outcome);
         if let Some(bell) = self.bell(seat) {
             bell.ring();
         }

@@ -78,7 +78,7 @@ impl<'a, N: StoreName, D: DeskName> Office<'a, N, D> {
     /// Takes jobs until the ticket has its answer, or there is none to take.
     fn turn_for<R: Wait>(&mut self, rt: &R, ticket: &Ticket<N>) {
         for _ in rt.forever() {
-            if ticket.is_answered(rt) {
+            if ticket.is_answered() {
                 return;
             }
             match self.turn(rt) {
@@ -126,7 +126,7 @@ impl<'a, N: StoreName, D: DeskName> SharedClerk<'a, N, D> {
     {
         for _ in rt.forever() {
             self.office.lock(rt).turn_for(rt, &ticket);
-            if let Some(answer) = ticket.answer(rt) {
+            if let Some(answer) = ticket.answer() {
                 return answer;
             }
             yield_now();

@@ -5,13 +5,13 @@ ghost use Rattle.std.specs.Arc.{arc_value};
 ghost use Rattle.read_side.specs.Receipts.{AnsweredAt};
 ghost use Rattle.intake.specs.Seats.{IsUnacknowledged};
 
-use crate::job::{Cell, JobOutcome};
+use crate::cell::Cell;
 use crate::shared::Shared;
 use read_side::{Receipt, StoreName};
 use std::marker::Model;
 use std::sync::{Arc, Wait};
 use std::thread::yield_now;
-use trace_model::{Entry, Refusal};
+use trace_model::Refusal;
 
 /// An acknowledgement: a receipt, and the place in its list, the first one being 1, of the entry that answers
 /// for the job's: that one itself, or the one that had its batch before.
@@ -24,7 +24,8 @@ pub struct Ack<N: StoreName> {
 /// Waits for the answer to one job. Contracts see the job's entry.
 #[derive(Drop)]
 pub struct Ticket<N: StoreName> {
-    entry: Arc<Entry>,
+    /// The seat that handed it in.
+    seat: u16,
     cell: Arc<Cell<N>>,
     shared: Arc<Shared<N>>,
 }
@@ -35,39 +36,29 @@ impl<N: StoreName> Model for Ticket<N> {
 
     ghost Value = { Entry };
 
-    ghost view = { λ t. arc_value t.entry };
-}
-
-/// What was laid down, if anything was.
-fn laid_down<N: StoreName, R: Wait>(rt: &R, cell: &Cell<N>) -> Option<JobOutcome<N>> {
-    cell.lock(rt).take()
+    ghost view = { λ t. arc_value t.cell };
 }
 
 impl<N: StoreName> Ticket<N> {
-    /// A ticket for the entry, whose reply comes into the cell.
-    pub(crate) fn new(entry: Arc<Entry>, cell: Arc<Cell<N>>, shared: Arc<Shared<N>>) -> Ticket<N>
-        ensures { result ≡ arc_value entry }
+    /// A ticket for the seat's entry of the cell.
+    pub(crate) fn new(seat: u16, cell: Arc<Cell<N>>, shared: Arc<Shared<N>>) -> Ticket<N>
+        ensures { result ≡ arc_value cell }
     {
-        Ticket {
-            entry,
-            cell,
-            shared,
-        }
+        Ticket { seat, cell, shared }
     }
 
     /// Whether the answer is there.
-    pub(crate) fn is_answered<R: Wait>(&self, rt: &R) -> bool {
-        self.cell.lock(rt).is_some()
+    pub(crate) fn is_answered(&self) -> bool {
+        self.cell.is_filled()
     }
 
     /// The answer, if it is there.
-    pub(crate) fn answer<R: Wait>(&self, rt: &R) -> Option<Result<Ack<N>, Refusal>>
+    pub(crate) fn answer(&self) -> Option<Result<Ack<N>, Refusal>>
         ensures answered { IfSome result (λ r. IfOk r (λ a.
             AnsweredAt (arc_value a.receipt).entries a.place self.now)) }
         ensures reason { IfSome result (λ r. IfErr r IsUnacknowledged) }
     {
-        let reply = laid_down(rt, &self.cell)?;
-        Some(reply.to(&self.entry))
+        self.cell.take()
     }
 
     /// Why there will be no answer, once the clerk has ended.
@@ -84,7 +75,7 @@ impl<N: StoreName> Ticket<N> {
     ///
     /// The keeper's refusals [`Refusal::Conflict`], [`Refusal::Stale`], [`Refusal::JournalFull`],
     /// [`Refusal::NoMemory`] and [`Refusal::Deferred`]. Where the clerk has ended without an answer: [`Refusal::Closed`] if the desk
-    /// was closed, else [`Refusal::NoReply`]. [`Refusal::Stranger`]: the reply is to another entry.
+    /// was closed, else [`Refusal::NoReply`].
     pub fn wait<R: Wait>(self, rt: &R) -> Result<Ack<N>, Refusal>
         ensures answered { IfOk result (λ a. AnsweredAt (arc_value a.receipt).entries a.place self) }
         ensures reason { IfErr result IsUnacknowledged }
@@ -92,7 +83,7 @@ impl<N: StoreName> Ticket<N> {
         for _ in rt.forever() {
             let rings = self.rings();
             let ended = self.shared.has_ended();
-            if let Some(answer) = self.answer(rt) {
+            if let Some(answer) = self.answer() {
                 return answer;
             }
             if ended {
@@ -105,7 +96,7 @@ impl<N: StoreName> Ticket<N> {
 
     /// How often the seat's bell has rung.
     fn rings(&self) -> u64 {
-        match self.shared.bell(self.entry.seat) {
+        match self.shared.bell(self.seat) {
             Some(bell) => bell.rings(),
             None => 0,
         }
@@ -113,7 +104,7 @@ impl<N: StoreName> Ticket<N> {
 
     /// Sleeps until the seat's bell rings once more.
     fn sleep<R: Wait>(&self, rt: &R, rings: u64) {
-        match self.shared.bell(self.entry.seat) {
+        match self.shared.bell(self.seat) {
             Some(bell) => bell.sleep(rt, rings),
             None => yield_now(),
         }

@@ -1,0 +1,102 @@
+//! Where the answer to a job is laid down.
+
+ghost use Rattle.std.specs.Prelude.{◌≡◌, IfOk, IfErr, IfSome};
+ghost use Rattle.std.specs.Arc.{arc_value};
+ghost use Rattle.read_side.specs.Receipts.{AnsweredAt};
+ghost use Rattle.intake.specs.Seats.{IsUnacknowledged};
+
+use crate::ticket::Ack;
+use counted_slot::{Counted, FREE, Fits, PRESENT, TAKEN};
+use read_side::{Receipt, StoreName};
+use std::marker::Model;
+use std::sync::Arc;
+use trace_model::{Entry, Refusal};
+
+/// What became of an entry.
+#[derive(Drop)]
+pub(crate) struct JobOutcome<N: StoreName> {
+    pub(crate) answer: Result<Ack<N>, Refusal>,
+}
+
+/// It is the outcome of this entry: an acknowledgement's list has at its place an entry that answers for it.
+impl<N: StoreName> Fits for JobOutcome<N> {
+    ghost use Rattle.std.specs.Prelude.{IfOk, IfErr};
+    ghost use Rattle.std.specs.Arc.{arc_value};
+    ghost use Rattle.read_side.specs.Receipts.{AnsweredAt};
+    ghost use Rattle.intake.specs.Seats.{IsUnacknowledged};
+
+    type Tag = Entry;
+
+    ghost fits = { λ entry o.
+        IfOk o.answer (λ a. AnsweredAt (arc_value a.receipt).entries a.place entry)
+        × IfErr o.answer IsUnacknowledged };
+}
+
+impl<N: StoreName> JobOutcome<N> {
+    /// The receipt of an acknowledgement.
+    pub(crate) fn receipt(&self) -> Option<Arc<Receipt<N>>> {
+        match &self.answer {
+            Ok(ack) => Arc::try_clone(&ack.receipt).ok(),
+            Err(_) => None,
+        }
+    }
+}
+
+/// Where the outcome of one entry is laid down, and no other. Contracts see the entry, which it doesn't hold.
+#[derive(Drop)]
+pub(crate) struct Cell<N: StoreName> {
+    slot: Counted<Option<JobOutcome<N>>>,
+}
+
+impl<N: StoreName> Model for Cell<N> {
+    ghost use Rattle.trace_model.specs.declared.entry.Entry.{Entry};
+
+    ghost Value = { Entry };
+
+    ghost view = { λ c. c.slot };
+}
+
+impl<N: StoreName> Cell<N> {
+    /// An empty cell of the entry.
+    pub(crate) fn new(entry: &Entry) -> Cell<N>
+        ensures { result ≡ entry.now }
+    {
+        Cell {
+            slot: Counted::new(None, entry),
+        }
+    }
+
+    /// Lays the entry's outcome down, unless one lies there.
+    pub(crate) fn lay_down(&self, outcome: JobOutcome<N>)
+        requires answered { IfOk outcome.answer (λ a.
+            AnsweredAt (arc_value a.receipt).entries a.place self.now) }
+        requires reason { IfErr outcome.answer IsUnacknowledged }
+    {
+        let (found, claim) = self.slot.turn(FREE, TAKEN);
+        if found != FREE {
+            claim.done();
+            return;
+        }
+        drop(claim.put(Some(outcome), PRESENT));
+    }
+
+    /// Whether an outcome lies there.
+    pub(crate) fn is_filled(&self) -> bool {
+        self.slot.load() == PRESENT
+    }
+
+    /// The answer, if it lies there.
+    pub(crate) fn take(&self) -> Option<Result<Ack<N>, Refusal>>
+        ensures answered { IfSome result (λ r. IfOk r (λ a.
+            AnsweredAt (arc_value a.receipt).entries a.place self.now)) }
+        ensures reason { IfSome result (λ r. IfErr r IsUnacknowledged) }
+    {
+        let (found, claim) = self.slot.turn(PRESENT, TAKEN);
+        if found != PRESENT {
+            claim.done();
+            return None;
+        }
+        let JobOutcome { answer } = claim.put(None, FREE)?;
+        Some(answer)
+    }
+}
