@@ -5,6 +5,7 @@ use batch_codec::{DecodeError, Part, decode};
 use batch_feeder::Feeder;
 use jaeger_model::Batch;
 use std::alloc::{AllocError, Global};
+use std::mem::drop;
 use std::test::*;
 use thrift_binary::{WireError, types};
 
@@ -18,9 +19,17 @@ fn answers(alloc: Global, first: &[u8], second: &[u8]) -> [Result<(), DecodeErro
     let one = feeder.feed(alloc, first);
     let two = feeder.feed(alloc, second);
     let three = feeder.feed(alloc, &[]);
+    [one, two, three, ended(feeder)]
+}
+
+/// What is answered at the end.
+fn ended(feeder: Feeder) -> Result<(), DecodeError> {
     match feeder.finish() {
-        Ok(_batch) => [one, two, three, Ok(())],
-        Err(error) => [one, two, three, Err(error)],
+        Ok(batch) => {
+            drop(batch);
+            Ok(())
+        }
+        Err(error) => Err(error),
     }
 }
 
@@ -29,19 +38,27 @@ fn a_refusal_stays(rt: HostRuntime) {
     let alloc = rt.alloc();
     let trailing = Err(DecodeError::Trailing);
     let missing = Err(DecodeError::Missing(Part::Batch, 1));
-    assert_eq!(rt; answers(alloc, WHOLE, &[]), [Ok(()); 4]);
-    assert_eq!(rt;
-        answers(alloc, WHOLE, &[0]),
-        [Ok(()), trailing, trailing, trailing]
-    );
-    assert_eq!(rt; answers(alloc, &[0], WHOLE), [missing; 4]);
+    assert!(rt; answers(alloc, WHOLE, &[]) == [Ok(()); 4]);
+    assert!(rt; answers(alloc, WHOLE, &[0]) == [Ok(()), trailing, trailing, trailing]);
+    assert!(rt; answers(alloc, &[0], WHOLE) == [missing; 4]);
 }
 
 /// The fault that decoding answers, asked once more where memory ran out.
 fn fault_of(alloc: Global, bytes: &[u8]) -> Option<DecodeError> {
+    match fault_once(alloc, bytes) {
+        Some(DecodeError::Memory) => fault_once(alloc, bytes),
+        fault => fault,
+    }
+}
+
+/// The fault that decoding answers.
+fn fault_once(alloc: Global, bytes: &[u8]) -> Option<DecodeError> {
     match decode(alloc, bytes) {
-        Err(DecodeError::Memory) => decode(alloc, bytes).err(),
-        said => said.err(),
+        Ok(batch) => {
+            drop(batch);
+            None
+        }
+        Err(fault) => Some(fault),
     }
 }
 
@@ -61,18 +78,26 @@ fn is_short(alloc: Global, bytes: &[u8]) -> bool {
         && fault_of(alloc, bytes) == Some(truncated)
 }
 
+/// How many beginnings of the bytes, from the empty one on, are fed and too few, before one that isn't.
+fn short_beginnings(alloc: Global, bytes: &[u8]) -> usize {
+    for size in 0..bytes.len() {
+        let Some((front, _)) = bytes.split_at_checked(size) else {
+            return size;
+        };
+        if !is_short(alloc, front) {
+            return size;
+        }
+    }
+    bytes.len()
+}
+
 #[test]
 fn each_beginning_is_truncated(rt: HostRuntime) -> Result<(), Fail> {
     let alloc = rt.alloc();
     let bytes = hex::decode(alloc, FIRST)?;
     assert_eq!(rt; bytes.len(), 104);
-    for size in 0..104 {
-        let Some((front, _)) = bytes.split_at_checked(size) else {
-            return Err("no such beginning".into());
-        };
-        assert!(rt; is_short(alloc, front), "{size} bytes");
-    }
-    assert_eq!(rt; answers_of(alloc, &bytes), [Ok(()); 4]);
+    assert_eq!(rt; short_beginnings(alloc, &bytes), 104);
+    assert!(rt; answers_of(alloc, &bytes) == [Ok(()); 4]);
     assert!(rt; fault_of(alloc, &bytes).is_none());
     Ok(())
 }
@@ -91,13 +116,23 @@ const CLAIMS: [&[u8]; 9] = [
     b"\x0d\x00\x09\x0f\x0c\x7f\xff\xff\xff\x08\x7f\xff\xff\xff",
 ];
 
+/// How many of them are fed and too few, before one that isn't.
+fn short_claims(alloc: Global) -> usize {
+    let mut count = 0usize;
+    for bytes in &CLAIMS {
+        if !is_short(alloc, *bytes) {
+            break;
+        }
+        count = count.saturating_add(1);
+    }
+    count
+}
+
 /// However little memory there is: the check of allocations sees that all of it takes four, one for each list, set
 /// or map that is skipped, and refuses each.
 #[test]
 fn sizes_beyond_the_bytes(rt: HostRuntime) {
-    for bytes in CLAIMS {
-        assert!(rt; is_short(rt.alloc(), bytes), "{bytes:?}");
-    }
+    assert_eq!(rt; short_claims(rt.alloc()), CLAIMS.len());
 }
 
 /// The bytes before the last four.
@@ -108,27 +143,51 @@ fn before_the_size(bytes: &[u8]) -> &[u8] {
     }
 }
 
+/// How many of them are too few before their size too, before one that isn't.
+fn short_before_a_size(alloc: Global) -> usize {
+    let mut count = 0usize;
+    for bytes in &CLAIMS {
+        if !is_short(alloc, before_the_size(*bytes)) {
+            break;
+        }
+        count = count.saturating_add(1);
+    }
+    count
+}
+
 #[test]
 fn bytes_before_a_size(rt: HostRuntime) {
-    for bytes in CLAIMS {
-        assert!(rt; is_short(rt.alloc(), before_the_size(bytes)), "{bytes:?}");
+    assert_eq!(rt; short_before_a_size(rt.alloc()), CLAIMS.len());
+}
+
+/// The bytes with a size below 0 in the place of theirs are too few before its last byte, and refused with it.
+fn is_refused_below_0(alloc: Global, claim: &[u8]) -> Result<bool, AllocError> {
+    let fault = DecodeError::Wire(WireError::BadLength);
+    let mut bytes = Vec::new(alloc);
+    bytes.extend_from_slice(before_the_size(claim))?;
+    bytes.extend_from_slice(b"\x80\x00\x00")?;
+    let short = is_short(alloc, &bytes);
+    bytes.push(0)?;
+    let fed = answers_of(alloc, &bytes) == [Err(fault); 4];
+    Ok(short && fed && fault_of(alloc, &bytes) == Some(fault))
+}
+
+/// How many of them are, before one that isn't.
+fn refused_below_0(alloc: Global) -> Result<usize, AllocError> {
+    let mut count = 0usize;
+    for claim in &CLAIMS {
+        if !is_refused_below_0(alloc, *claim)? {
+            break;
+        }
+        count = count.saturating_add(1);
     }
+    Ok(count)
 }
 
 /// A size that is refused is so by the piece that has its last byte, and by decoding.
 #[test]
 fn sizes_below_0(rt: HostRuntime) -> Result<(), Fail> {
-    let alloc = rt.alloc();
-    let fault = DecodeError::Wire(WireError::BadLength);
-    for claim in CLAIMS {
-        let mut bytes = Vec::new(alloc);
-        bytes.extend_from_slice(before_the_size(claim))?;
-        bytes.extend_from_slice(b"\x80\x00\x00")?;
-        assert!(rt; is_short(alloc, &bytes), "{claim:?}");
-        bytes.push(0)?;
-        assert_eq!(rt; answers_of(alloc, &bytes), [Err(fault); 4], "{claim:?}");
-        assert!(rt; fault_of(alloc, &bytes) == Some(fault), "{claim:?}");
-    }
+    assert_eq!(rt; refused_below_0(rt.alloc())?, CLAIMS.len());
     Ok(())
 }
 
@@ -185,7 +244,7 @@ fn ended_by_bytes(alloc: Global, bytes: &[u8]) -> Option<DecodeError> {
     for byte in bytes {
         let _ = feeder.feed(alloc, &[*byte]);
     }
-    feeder.finish().err()
+    ended(feeder).err()
 }
 
 /// Decoding answers this, and a Feeder at its end, however the bytes come.
@@ -195,24 +254,21 @@ fn all_answer(alloc: Global, bytes: &[u8], fault: Option<DecodeError>) -> bool {
     fault_of(alloc, bytes) == fault && whole == fault && by_bytes == fault
 }
 
+/// 1 and 64 levels from this one on are read past, and 65 are too deep.
+fn are_levels(alloc: Global, first: usize) -> Result<bool, AllocError> {
+    let too_deep = Some(DecodeError::Wire(WireError::TooDeep));
+    Ok(
+        all_answer(alloc, &nested(alloc, first, 0)?, None)
+            && all_answer(alloc, &nested(alloc, first, 63)?, None)
+            && all_answer(alloc, &nested(alloc, first, 64)?, too_deep),
+    )
+}
+
 /// 64 levels are read past, and one more is too deep, whichever container it is.
 #[test]
 fn levels_of_skipped_values(rt: HostRuntime) -> Result<(), Fail> {
-    let alloc = rt.alloc();
-    let too_deep = Some(DecodeError::Wire(WireError::TooDeep));
     for first in 0..4 {
-        assert!(rt;
-            all_answer(alloc, &nested(alloc, first, 0)?, None),
-            "{first}"
-        );
-        assert!(rt;
-            all_answer(alloc, &nested(alloc, first, 63)?, None),
-            "{first}"
-        );
-        assert!(rt;
-            all_answer(alloc, &nested(alloc, first, 64)?, too_deep),
-            "{first}"
-        );
+        assert!(rt; are_levels(rt.alloc(), first)?, "{first}");
     }
     Ok(())
 }
@@ -230,20 +286,41 @@ enum Taken {
 /// The bytes of a batch in pieces of a few bytes.
 fn came_of(alloc: Global, bytes: &[u8], whole: &Batch) -> Taken {
     let mut feeder = Feeder::new(alloc);
+    let had_memory = fed_in_pieces(alloc, &mut feeder, bytes);
+    let end = feeder.finish();
+    let taken = match (&end, had_memory) {
+        (Ok(batch), Some(true)) if batch.is_same(whole) => Taken::Same,
+        (Err(DecodeError::Memory), Some(_)) => Taken::NoMemory,
+        _ => Taken::Other,
+    };
+    drop(end);
+    taken
+}
+
+/// Whether there was memory for each of the pieces. None where something else was refused, or something was taken
+/// behind a refusal.
+fn fed_in_pieces(alloc: Global, feeder: &mut Feeder, bytes: &[u8]) -> Option<bool> {
     let mut has_memory = true;
     for piece in bytes.chunks(11) {
         let answer = feeder.feed(alloc, piece);
         if answer == Err(DecodeError::Memory) {
             has_memory = false;
         } else if answer.is_err() || !has_memory {
-            return Taken::Other;
+            return None;
         }
     }
-    match feeder.finish() {
-        Ok(batch) if has_memory && batch.is_same(whole) => Taken::Same,
-        Err(DecodeError::Memory) => Taken::NoMemory,
-        _ => Taken::Other,
+    Some(has_memory)
+}
+
+/// What came of a batch in pieces, once more where memory ran out.
+fn came_at_last(alloc: Global, bytes: &[u8]) -> Result<Taken, DecodeError> {
+    let whole = decode(alloc, bytes)?;
+    let mut said = came_of(alloc, bytes, &whole);
+    if said == Taken::NoMemory {
+        said = came_of(alloc, bytes, &whole);
     }
+    drop(whole);
+    Ok(said)
 }
 
 /// Where memory runs out once, whatever comes behind is refused for that, and a Feeder behind it takes the batch: the
@@ -255,11 +332,6 @@ fn memory_for_pieces(rt: HostRuntime) -> Result<(), Fail> {
         return Err("no sample".into());
     };
     let bytes = hex::decode(alloc, line)?;
-    let whole = decode(alloc, &bytes)?;
-    let mut said = came_of(alloc, &bytes, &whole);
-    if said == Taken::NoMemory {
-        said = came_of(alloc, &bytes, &whole);
-    }
-    assert!(rt; said == Taken::Same);
+    assert!(rt; came_at_last(alloc, &bytes)? == Taken::Same);
     Ok(())
 }

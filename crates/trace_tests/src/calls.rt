@@ -1,8 +1,8 @@
-use crate::histories::{CYCLE, Row as Reported, answer_of, store_answer_to};
+use crate::histories::{CYCLE, Row as Reported, answer_of, kept, store_answer_to};
 use jaeger_model::{Placed, Span, SpanId};
 use std::alloc::{AllocError, Global};
 use std::hash::RandomState;
-use std::process::Abort;
+use std::mem::drop;
 use std::test::*;
 use trace_model::{Answer, Link, Query};
 use trace_samples::{placed, span};
@@ -22,36 +22,50 @@ fn placed_at(alloc: Global, row: Row) -> Result<Placed, AllocError> {
     placed(alloc, service, span_at(alloc, id, parent, start)?)
 }
 
-fn trace_of(alloc: Global, rows: &[Row]) -> Result<Vec<Placed>, AllocError> {
-    let mut trace = Vec::new(alloc);
+/// Adds a span for each of the rows.
+fn add_placed(alloc: Global, trace: &mut Vec<Placed>, rows: &[Row]) -> Result<(), AllocError> {
     for row in rows {
         trace.push(placed_at(alloc, *row)?)?;
     }
-    Ok(trace)
+    Ok(())
 }
 
-/// The calls between services that the store answers of a history of these spans, within the end and
+fn trace_of(alloc: Global, rows: &[Row]) -> Result<Vec<Placed>, AllocError> {
+    let mut trace = Vec::new(alloc);
+    let added = add_placed(alloc, &mut trace, rows);
+    kept(trace, added)
+}
+
+/// How many calls between services the store answers of a history of these spans, within the end and
 /// the lookback.
-fn links_of(
+fn links_found(
     alloc: Global,
     keys: RandomState,
     rows: &[Row],
-    window: (i64, i64),
-) -> Result<Answer, Fail> {
+    (end_ms, lookback_ms): (i64, i64),
+) -> Result<usize, Fail> {
+    let trace = trace_of(alloc, rows)?;
     let query = Query::Links {
-        end_ms: window.0,
-        lookback_ms: window.1,
+        end_ms,
+        lookback_ms,
     };
-    store_answer_to(alloc, keys, trace_of(alloc, rows)?, query)
+    let answer = store_answer_to(alloc, keys, trace, query)?;
+    let found = links_in(&answer).len();
+    drop(answer);
+    Ok(found)
 }
 
-fn expect_links(rt: &impl Abort, found: &[Link], wanted: &[(&str, &str, u64)]) {
-    assert_eq!(rt; found.len(), wanted.len());
-    for (link, (parent, child, calls)) in found.iter().zip(wanted) {
-        assert!(rt; link.parent.as_str() == *parent);
-        assert!(rt; link.child.as_str() == *child);
-        assert_eq!(rt; link.calls, *calls);
-    }
+/// The link is as wanted.
+fn is_link(link: &Link, (parent, child, calls): &(&str, &str, u64)) -> bool {
+    link.parent.as_str() == *parent && link.child.as_str() == *child && link.calls == *calls
+}
+
+fn are_links(found: &[Link], wanted: &[(&str, &str, u64)]) -> bool {
+    found.len() == wanted.len()
+        && found
+            .iter()
+            .zip(wanted)
+            .all(|(link, wanted)| is_link(link, wanted))
 }
 
 fn links_in(answer: &Answer) -> &[Link] {
@@ -82,16 +96,11 @@ const WINDOWS: [(i64, i64, i64, bool); 15] = [
 
 #[test]
 fn calls_in_a_window(rt: HostRuntime) -> Result<(), Fail> {
-    let alloc = rt.alloc();
     let keys = RandomState::new(&rt)?;
     for (start, end_ms, lookback_ms, is_counted) in WINDOWS {
         let rows = [("a", 1, 0, start), ("b", 2, 1, start)];
-        let found = links_of(alloc, keys, &rows, (end_ms, lookback_ms))?;
-        assert_eq!(rt;
-            links_in(&found).len() == 1,
-            is_counted,
-            "{start} {end_ms} {lookback_ms}"
-        );
+        let found = links_found(rt.alloc(), keys, &rows, (end_ms, lookback_ms))?;
+        assert_eq!(rt; found == 1, is_counted, "{start} {end_ms} {lookback_ms}");
     }
     Ok(())
 }
@@ -109,16 +118,28 @@ const PLAIN_LINKS: [(&[Reported], i64, i64, &[(&str, &str, u64)]); 4] = [
     (&CYCLE, 10, 86_400_000, &[("a", "b", 1), ("b", "a", 1)]),
 ];
 
+/// The plain store answers these calls of the spans.
+fn are_links_plainly(
+    alloc: Global,
+    rows: &[Reported],
+    (end_ms, lookback_ms): (i64, i64),
+    wanted: &[(&str, &str, u64)],
+) -> Result<bool, Fail> {
+    let query = Query::Links {
+        end_ms,
+        lookback_ms,
+    };
+    let answer = answer_of(alloc, rows, 0, query)?;
+    let same = are_links(links_in(&answer), wanted);
+    drop(answer);
+    Ok(same)
+}
+
 #[test]
 fn calls_plainly(rt: HostRuntime) -> Result<(), Fail> {
-    let alloc = rt.alloc();
-    for (rows, end_ms, lookback_ms, wanted) in PLAIN_LINKS {
-        let query = Query::Links {
-            end_ms,
-            lookback_ms,
-        };
-        let answer = answer_of(alloc, rows, 0, query)?;
-        expect_links(&rt, links_in(&answer), wanted);
+    for (rows, end_ms, lookback_ms, wanted) in &PLAIN_LINKS {
+        let window = (*end_ms, *lookback_ms);
+        assert!(rt; are_links_plainly(rt.alloc(), *rows, window, *wanted)?);
     }
     Ok(())
 }

@@ -5,6 +5,7 @@ use plain_store::plain_answer;
 use span_store::replayed_answer;
 use std::alloc::{AllocError, Global};
 use std::hash::RandomState;
+use std::mem::drop;
 use std::sync::Arc;
 use std::test::Fail;
 use trace_model::{Answer, Entry, Limits, Query, Work};
@@ -48,30 +49,64 @@ fn entry_of(alloc: Global, number: u64, batch: Batch) -> Result<Arc<Entry>, Allo
     Ok(Arc::new(alloc, entry)?)
 }
 
+/// The value, where what was done with it succeeded.
+pub(crate) fn kept<T: Drop>(value: T, done: Result<(), AllocError>) -> Result<T, AllocError> {
+    match done {
+        Ok(()) => Ok(value),
+        Err(why) => Err(why),
+    }
+}
+
+/// Adds an entry for each of the spans.
+fn add_rows(alloc: Global, entries: &mut Vec<Arc<Entry>>, rows: &[Row]) -> Result<(), AllocError> {
+    for (place, row) in rows.iter().enumerate() {
+        entries.push(entry_of(alloc, place as u64 + 1, batch_of(alloc, *row)?)?)?;
+    }
+    Ok(())
+}
+
 /// An entry for each of the spans.
 fn history(alloc: Global, rows: &[Row]) -> Result<Vec<Arc<Entry>>, AllocError> {
     let mut entries = Vec::new(alloc);
-    for (place, row) in rows.iter().enumerate() {
-        let batch = batch_of(alloc, *row)?;
-        entries.push(entry_of(alloc, place as u64 + 1, batch)?)?;
+    let added = add_rows(alloc, &mut entries, rows);
+    kept(entries, added)
+}
+
+/// A batch of the span, with its process.
+fn batch_with(alloc: Global, placed: Placed) -> Result<Batch, AllocError> {
+    let Placed { process, span } = placed;
+    match list_of(alloc, span) {
+        Ok(spans) => Ok(Batch {
+            process,
+            spans,
+            seq_no: None,
+        }),
+        Err(why) => {
+            drop(process);
+            Err(why)
+        }
     }
-    Ok(entries)
+}
+
+/// Adds an entry for each of the spans, with its process.
+fn add_placed(
+    alloc: Global,
+    entries: &mut Vec<Arc<Entry>>,
+    spans: Vec<Placed>,
+) -> Result<(), AllocError> {
+    let mut number = 0u32;
+    for placed in spans {
+        number = number.saturating_add(1);
+        entries.push(entry_of(alloc, number as u64, batch_with(alloc, placed)?)?)?;
+    }
+    Ok(())
 }
 
 /// An entry for each of the spans, with its process.
 fn history_of(alloc: Global, spans: Vec<Placed>) -> Result<Vec<Arc<Entry>>, AllocError> {
     let mut entries = Vec::new(alloc);
-    let mut number = 0u32;
-    for placed in spans {
-        number = number.saturating_add(1);
-        let batch = Batch {
-            process: placed.process,
-            spans: list_of(alloc, placed.span)?,
-            seq_no: None,
-        };
-        entries.push(entry_of(alloc, number as u64, batch)?)?;
-    }
-    Ok(entries)
+    let added = add_placed(alloc, &mut entries, spans);
+    kept(entries, added)
 }
 
 /// What the store answers of a history of these spans, each in an entry with its process.
@@ -81,10 +116,43 @@ pub(crate) fn store_answer_to(
     spans: Vec<Placed>,
     query: Query,
 ) -> Result<Answer, Fail> {
-    let limits = Limits::new(10, 10, 0, 0).ok_or("limits")?;
-    let entries = history_of(alloc, spans)?;
-    let answer = replayed_answer(alloc, keys, limits, &entries, &query);
-    Ok(answer.ok().ok_or("refused")?)
+    let entries = history_of(alloc, spans);
+    let answer = replayed(alloc, keys, &entries, 0, &query);
+    drop(entries);
+    drop(query);
+    answer
+}
+
+/// What the store answers of these entries.
+fn replayed(
+    alloc: Global,
+    keys: RandomState,
+    entries: &Result<Vec<Arc<Entry>>, AllocError>,
+    max_skew: u64,
+    query: &Query,
+) -> Result<Answer, Fail> {
+    let limits = Limits::new(10, 10, 0, max_skew).ok_or("limits")?;
+    match entries {
+        Ok(entries) => {
+            let answer = replayed_answer(alloc, keys, limits, entries, query);
+            Ok(answer.ok().ok_or("refused")?)
+        }
+        Err(_) => Err(AllocError.into()),
+    }
+}
+
+/// What the plain store answers of these entries.
+fn plainly(
+    alloc: Global,
+    entries: &Result<Vec<Arc<Entry>>, AllocError>,
+    max_skew: u64,
+    query: &Query,
+) -> Result<Answer, Fail> {
+    let limits = Limits::new(10, 10, 0, max_skew).ok_or("limits")?;
+    match entries {
+        Ok(entries) => Ok(plain_answer(alloc, entries, limits, query)?),
+        Err(_) => Err(AllocError.into()),
+    }
 }
 
 /// What the store answers of a history of these spans, with no limit of traces.
@@ -95,10 +163,11 @@ pub(crate) fn store_answer_of(
     max_skew: u64,
     query: Query,
 ) -> Result<Answer, Fail> {
-    let limits = Limits::new(10, 10, 0, max_skew).ok_or("limits")?;
-    let entries = history(alloc, rows)?;
-    let answer = replayed_answer(alloc, keys, limits, &entries, &query);
-    Ok(answer.ok().ok_or("refused")?)
+    let entries = history(alloc, rows);
+    let answer = replayed(alloc, keys, &entries, max_skew, &query);
+    drop(entries);
+    drop(query);
+    answer
 }
 
 /// What the plain store answers of a history of these spans, with no limit of traces.
@@ -108,7 +177,9 @@ pub(crate) fn answer_of(
     max_skew: u64,
     query: Query,
 ) -> Result<Answer, Fail> {
-    let limits = Limits::new(10, 10, 0, max_skew).ok_or("limits")?;
-    let entries = history(alloc, rows)?;
-    Ok(plain_answer(alloc, &entries, limits, &query)?)
+    let entries = history(alloc, rows);
+    let answer = plainly(alloc, &entries, max_skew, &query);
+    drop(entries);
+    drop(query);
+    answer
 }

@@ -3,6 +3,8 @@
 
 use crate::batch_bytes::bytes_of;
 use batch_codec::decode;
+use std::alloc::Global;
+use std::mem::drop;
 use std::test::*;
 
 const NO_SPANS: &str = "0c00010b00010000000161000f00020c000000000a0003000000000000000100";
@@ -21,12 +23,18 @@ const STATISTICS: &str = "
     0c00010b00010000000161000f00020c000000000a000300000000000000020c00040a000100000000000000030d0002
     0b0f000000020000000466756c6c060000000200010002000000046c61746506000000000e00030300000001040000";
 
+/// The number of the batch that is spelled so.
+fn number_of(alloc: Global, hex: &str) -> Result<Option<i64>, Fail> {
+    let batch = decode(alloc, &bytes_of(alloc, hex)?)?;
+    let number = batch.seq_no;
+    drop(batch);
+    Ok(number)
+}
+
 #[test]
 fn numbers_of_batches(rt: HostRuntime) -> Result<(), Fail> {
-    let alloc = rt.alloc();
     for (hex, want) in [(NO_SPANS, 1), (EVERY_FIELD, -9), (STATISTICS, 2)] {
-        let batch = decode(alloc, &bytes_of(alloc, hex)?)?;
-        assert_eq!(rt; batch.seq_no, Some(want), "{hex}");
+        assert_eq!(rt; number_of(rt.alloc(), hex)?, Some(want), "{hex}");
     }
     Ok(())
 }

@@ -1,26 +1,34 @@
 use batch_codec::{DecodeError, decode, encode};
-use jaeger_model::{Batch, Seq, SharedProcess};
+use jaeger_model::Batch;
 use std::alloc::{AllocError, Global};
+use std::mem::drop;
 use std::test::*;
-use trace_samples::process;
+use trace_samples::batch;
+
+/// The value of a hexadecimal digit.
+fn digit_of(c: u8) -> Option<u8> {
+    match c {
+        48..=57 => Some(c - 48),
+        97..=102 => Some(c - 87),
+        _ => None,
+    }
+}
 
 /// The bytes of hexadecimal text; spaces are skipped.
 pub(crate) fn bytes_of(alloc: Global, hex: &str) -> Result<Vec<u8>, AllocError> {
     let mut bytes = Vec::new(alloc);
     let mut high = None;
     for c in hex.as_bytes() {
-        let digit = match *c {
-            48..=57 => *c - 48,
-            97..=102 => *c - 87,
-            _ => continue,
+        let Some(low) = digit_of(*c) else {
+            continue;
         };
-        high = match high {
-            None => Some(digit),
-            Some(high) => {
-                bytes.push(high << 4 | digit)?;
-                None
+        match high {
+            None => high = Some(low),
+            Some(before) => {
+                bytes.push(before << 4 | low)?;
+                high = None;
             }
-        };
+        }
     }
     Ok(bytes)
 }
@@ -59,19 +67,22 @@ fn written_again(alloc: Global, batch: &Batch) -> Result<Vec<u8>, DecodeError> {
     }
 }
 
+/// Whether the bytes are read as a batch, and written again.
+fn is_kept_at_last(alloc: Global, bytes: &[u8]) -> bool {
+    let Ok(batch) = read_again(alloc, bytes) else {
+        return false;
+    };
+    let written = written_again(alloc, &batch);
+    drop(batch);
+    written.is_ok_and(|written| written.as_slice() == bytes)
+}
+
 /// Where memory runs out once it is said, and the same call behind that gives the batch and its one spelling: the
 /// check of allocations refuses each in turn.
 #[test]
 fn memory_for_a_batch(rt: HostRuntime) -> Result<(), Fail> {
-    let alloc = rt.alloc();
-    let bytes = bytes_of(alloc, ALL)?;
-    let Ok(batch) = read_again(alloc, &bytes) else {
-        panic!(rt; "a batch was refused");
-    };
-    let Ok(written) = written_again(alloc, &batch) else {
-        panic!(rt; "a batch was not written");
-    };
-    assert_eq!(rt; written.as_slice(), bytes.as_slice());
+    let bytes = bytes_of(rt.alloc(), ALL)?;
+    assert!(rt; is_kept_at_last(rt.alloc(), bytes.as_slice()));
     Ok(())
 }
 
@@ -99,23 +110,59 @@ const TAG_END: &str = "00 00 0f0002 0c 00000000 00";
 /// A batch of no spans with a number, as it is encoded.
 const NUMBERED: &str = "0c0001 0b0001 00000001 61 00 0f0002 0c 00000000 0a0003 0000000000000001 00";
 
+/// A batch of no spans with the number 1.
+fn numbered(alloc: Global) -> Result<Batch, AllocError> {
+    let mut numbered = batch(alloc, "a", Vec::new(alloc))?;
+    numbered.seq_no = Some(1);
+    Ok(numbered)
+}
+
+/// Whether the bytes are read as the batch.
+fn is_read_as(alloc: Global, bytes: &[u8], batch: &Batch) -> Result<bool, DecodeError> {
+    let read = decode(alloc, bytes)?;
+    let same = read.is_same(batch);
+    drop(read);
+    Ok(same)
+}
+
+/// The batch's bytes, and whether they are read as the batch.
+fn written_and_read(alloc: Global, batch: &Batch) -> Result<(Vec<u8>, bool), DecodeError> {
+    let bytes = encode(alloc, batch)?;
+    let same = is_read_as(alloc, &bytes, batch)?;
+    Ok((bytes, same))
+}
+
+/// The same of the batch with a number.
+fn of_numbered(alloc: Global) -> Result<(Vec<u8>, bool), Fail> {
+    let batch = numbered(alloc)?;
+    let written = written_and_read(alloc, &batch);
+    drop(batch);
+    Ok(written?)
+}
+
+/// The same of the batch that is spelled so.
+fn of_spelled(alloc: Global, bytes: &[u8]) -> Result<(Vec<u8>, bool), Fail> {
+    let batch = decode(alloc, bytes)?;
+    let written = written_and_read(alloc, &batch);
+    drop(batch);
+    Ok(written?)
+}
+
 #[test]
 fn one_spelling(rt: HostRuntime) -> Result<(), Fail> {
-    let alloc = rt.alloc();
-    let numbered = Batch {
-        process: SharedProcess::new(alloc, process(alloc, "a")?)?,
-        spans: Seq::new(alloc),
-        seq_no: Some(1),
-    };
-    let bytes = encode(alloc, &numbered)?;
-    assert_eq!(rt; bytes.len(), 32);
-    assert_eq!(rt; bytes.as_slice(), bytes_of(alloc, NUMBERED)?.as_slice());
-    assert!(rt; decode(alloc, &bytes)?.is_same(&numbered));
-    let all = bytes_of(alloc, ALL)?;
-    let batch = decode(alloc, &all)?;
-    let encoded = encode(alloc, &batch)?;
-    assert_eq!(rt; encoded.as_slice(), all.as_slice());
-    assert!(rt; batch.is_same(&decode(alloc, &encoded)?));
+    let want = bytes_of(rt.alloc(), NUMBERED)?;
+    let (bytes, same) = of_numbered(rt.alloc())?;
+    assert!(rt; bytes.as_slice() == want.as_slice());
+    assert!(rt; same && bytes.len() == 32);
+    Ok(())
+}
+
+#[test]
+fn one_spelling_of_every_field(rt: HostRuntime) -> Result<(), Fail> {
+    let all = bytes_of(rt.alloc(), ALL)?;
+    let (bytes, same) = of_spelled(rt.alloc(), all.as_slice())?;
+    assert!(rt; bytes.as_slice() == all.as_slice());
+    assert!(rt; same);
     Ok(())
 }
 
@@ -145,16 +192,22 @@ const SPELLINGS: [(&str, &str); 9] = [
 fn respelled(alloc: Global, parts: (&str, &str, &str)) -> Result<Vec<u8>, Fail> {
     let bytes = joined(alloc, parts)?;
     let batch = decode(alloc, &bytes)?;
-    Ok(encode(alloc, &batch)?)
+    let written = encode(alloc, &batch);
+    drop(batch);
+    Ok(written?)
+}
+
+/// Whether the one spelling of a tag that is read so is the one that is written.
+fn is_respelled(alloc: Global, read: &str, written: &str) -> Result<bool, Fail> {
+    let want = joined(alloc, (TAG, written, TAG_END))?;
+    let bytes = respelled(alloc, (TAG, read, TAG_END))?;
+    Ok(bytes.as_slice() == want.as_slice())
 }
 
 #[test]
 fn one_value_of_a_tag(rt: HostRuntime) -> Result<(), Fail> {
-    let alloc = rt.alloc();
     for (read, written) in &SPELLINGS {
-        let bytes = respelled(alloc, (TAG, *read, TAG_END))?;
-        let want = joined(alloc, (TAG, *written, TAG_END))?;
-        assert_eq!(rt; bytes.as_slice(), want.as_slice(), "{read}");
+        assert!(rt; is_respelled(rt.alloc(), read, written)?, "{read}");
     }
     Ok(())
 }

@@ -1,68 +1,96 @@
 use jaeger_model::{
-    Batch, RefKind, Seq, SharedProcess, Span, SpanId, SpanRef, Tag, Text, TraceId, Value, domain,
-    first_tag, first_text, kind_of, parent_of, parse_trace, place_span, span_text, tag_text,
-    trace_text,
+    Batch, Placed, RefKind, Seq, SharedProcess, Span, SpanId, SpanRef, Tag, Text, TraceId, Value,
+    domain, first_tag, first_text, kind_of, parent_of, parse_trace, place_span, span_text,
+    tag_text, trace_text,
 };
-use std::alloc::Global;
-use std::process::Abort;
+use std::alloc::{AllocError, Global};
+use std::mem::drop;
 use std::test::*;
-use trace_samples::{list_of, process, span, text_tag};
+use trace_samples::{batch, list_of, span};
 
 fn text(alloc: Global, text: &str) -> Result<Text, Fail> {
     Ok(Text::from_str(alloc, text)?)
 }
 
 pub(crate) fn tag(alloc: Global, key: &str, value: Value) -> Result<Tag, Fail> {
-    Ok(Tag {
-        key: text(alloc, key)?,
-        value,
-    })
+    match text(alloc, key) {
+        Ok(key) => Ok(Tag { key, value }),
+        Err(why) => {
+            drop(value);
+            Err(why)
+        }
+    }
+}
+
+/// The value, where what was done with it succeeded.
+pub(crate) fn kept<T: Drop>(value: T, done: Result<(), Fail>) -> Result<T, Fail> {
+    match done {
+        Ok(()) => Ok(value),
+        Err(why) => Err(why),
+    }
+}
+
+fn add_tag(alloc: Global, tags: &mut Vec<Tag>, key: &str, value: Value) -> Result<(), Fail> {
+    tags.push(tag(alloc, key, value)?)?;
+    Ok(())
 }
 
 /// The tags with one more at their end.
-fn with_tag(alloc: Global, tags: Vec<Tag>, key: &str, value: Value) -> Result<Vec<Tag>, Fail> {
+pub(crate) fn with_tag(
+    alloc: Global,
+    tags: Vec<Tag>,
+    key: &str,
+    value: Value,
+) -> Result<Vec<Tag>, Fail> {
     let mut tags = tags;
-    tags.push(tag(alloc, key, value)?)?;
-    Ok(tags)
+    let added = add_tag(alloc, &mut tags, key, value);
+    kept(tags, added)
 }
 
 /// A batch of one span of trace 1 with parent id 7, a follows-from reference to its own span 9 and the
 /// kind `server`.
-fn batch(alloc: Global) -> Result<Batch, Fail> {
-    let trace = TraceId { high: 0, low: 1 };
-    let reference = SpanRef {
-        kind: RefKind::FollowsFrom,
-        trace,
-        id: SpanId(9),
-    };
-    let mut tags = Vec::new(alloc);
-    tags.push(tag(alloc, "k", Value::Bool(true))?)?;
-    tags.push(text_tag(alloc, "span.kind", "server")?)?;
+fn one_batch(alloc: Global) -> Result<Batch, Fail> {
+    let spans = list_of(alloc, referring_span(alloc)?)?;
+    let mut batch = batch(alloc, "a", spans.into_vec())?;
+    batch.seq_no = Some(1);
+    Ok(batch)
+}
+
+/// The span of that batch.
+fn referring_span(alloc: Global) -> Result<Span, Fail> {
     let mut span = span(alloc, 1, 2)?;
     span.parent = SpanId(7);
+    let set = set_lists(alloc, &mut span);
+    kept(span, set)
+}
+
+/// Sets its references and its tags.
+fn set_lists(alloc: Global, span: &mut Span) -> Result<(), Fail> {
+    let reference = SpanRef {
+        kind: RefKind::FollowsFrom,
+        trace: TraceId { high: 0, low: 1 },
+        id: SpanId(9),
+    };
     span.references = list_of(alloc, reference)?;
-    span.tags = Seq::from_vec(tags);
-    Ok(Batch {
-        process: SharedProcess::new(alloc, process(alloc, "a")?)?,
-        spans: list_of(alloc, span)?,
-        seq_no: Some(1),
-    })
+    let tags = with_tag(alloc, Vec::new(alloc), "k", Value::Bool(true))?;
+    span.tags = Seq::from_vec(with_text(alloc, tags, "span.kind", "server")?);
+    Ok(())
+}
+
+/// Whether the id is printed so, and read from that.
+fn is_printed(alloc: Global, id: TraceId, want: &str) -> Result<bool, AllocError> {
+    let printed = trace_text(alloc, id)?;
+    Ok(printed.as_str() == want && parse_trace(want) == Some(id))
 }
 
 #[test]
 fn ids(rt: HostRuntime) -> Result<(), Fail> {
     let alloc = rt.alloc();
-    for (high, low, want) in [
-        (0, 171, "00000000000000ab"),
-        (16, 171, "000000000000001000000000000000ab"),
-    ] {
-        let id = TraceId { high, low };
-        let printed = trace_text(alloc, id)?;
-        assert_eq!(rt; printed.as_str(), want);
-        assert_eq!(rt; parse_trace(want), Some(id));
-    }
-    let span = span_text(alloc, SpanId(171))?;
-    assert_eq!(rt; span.as_str(), "00000000000000ab");
+    let id = TraceId { high: 0, low: 171 };
+    assert!(rt; is_printed(alloc, id, "00000000000000ab")?);
+    let id = TraceId { high: 16, low: 171 };
+    assert!(rt; is_printed(alloc, id, "000000000000001000000000000000ab")?);
+    assert_eq!(rt; span_text(alloc, SpanId(171))?.as_str(), "00000000000000ab");
     for (read, want) in [
         ("1000000000000000AB", Some(TraceId { high: 16, low: 171 })),
         ("1", Some(TraceId { high: 0, low: 1 })),
@@ -76,16 +104,36 @@ fn ids(rt: HostRuntime) -> Result<(), Fail> {
     Ok(())
 }
 
-/// A tag of each type, and a second one with a key that stands there already.
-fn a_tag_of_each_type(alloc: Global) -> Result<Vec<Tag>, Fail> {
-    let bytes = Value::Bytes(Seq::from_vec(vec![in alloc; 0xab, 0]?));
-    let word = Value::Text(text(alloc, "Ä b")?);
+/// The tags with one more at their end, whose value is this text.
+fn with_text(alloc: Global, tags: Vec<Tag>, key: &str, word: &str) -> Result<Vec<Tag>, Fail> {
+    match text(alloc, word) {
+        Ok(word) => with_tag(alloc, tags, key, Value::Text(word)),
+        Err(why) => {
+            drop(tags);
+            Err(why)
+        }
+    }
+}
+
+/// The tags with one more at their end, whose value is these bytes.
+fn with_bytes(alloc: Global, tags: Vec<Tag>, key: &str, bytes: Vec<u8>) -> Result<Vec<Tag>, Fail> {
+    with_tag(alloc, tags, key, Value::Bytes(Seq::from_vec(bytes)))
+}
+
+/// Tags of the types that have no text or bytes.
+fn tags_of_plain_types(alloc: Global) -> Result<Vec<Tag>, Fail> {
     let double = Value::Double([0x7f, 0xf8, 0, 0, 0, 0, 0, 1]);
     let tags = with_tag(alloc, Vec::new(alloc), "double", double)?;
     let tags = with_tag(alloc, tags, "long", Value::Long(-7))?;
-    let tags = with_tag(alloc, tags, "flag", Value::Bool(false))?;
-    let tags = with_tag(alloc, tags, "text", word)?;
-    let tags = with_tag(alloc, tags, "bytes", bytes)?;
+    with_tag(alloc, tags, "flag", Value::Bool(false))
+}
+
+/// A tag of each type, and a second one with a key that stands there already.
+fn a_tag_of_each_type(alloc: Global) -> Result<Vec<Tag>, Fail> {
+    let bytes = vec![in alloc; 0xab, 0]?;
+    let tags = tags_of_plain_types(alloc)?;
+    let tags = with_text(alloc, tags, "text", "Ä b")?;
+    let tags = with_bytes(alloc, tags, "bytes", bytes)?;
     with_tag(alloc, tags, "long", Value::Long(8))
 }
 
@@ -99,65 +147,125 @@ const TAG_TEXTS: [(&str, &str); 6] = [
     ("ip", ""),
 ];
 
+/// Whether the first tag with the key has this text, where there is one.
+fn is_first(alloc: Global, tags: &[Tag], key: &str, want: &str) -> Result<bool, Fail> {
+    let first = first_text(alloc, tags, key)?;
+    let same = match first_tag(tags, key) {
+        Some(tag) => tag_text(alloc, &tag.value)? == first,
+        None => true,
+    };
+    Ok(same && first.as_str() == want)
+}
+
+/// How many of the keys have the text that stands beside them, each behind the ones before.
+fn first_texts(alloc: Global, tags: &[Tag]) -> Result<usize, Fail> {
+    let mut count = 0usize;
+    for (key, want) in &TAG_TEXTS {
+        if !is_first(alloc, tags, key, want)? {
+            break;
+        }
+        count = count.saturating_add(1);
+    }
+    Ok(count)
+}
+
+/// The same of a tag of each type.
+fn first_texts_of_each(alloc: Global) -> Result<usize, Fail> {
+    let tags = a_tag_of_each_type(alloc)?;
+    let count = first_texts(alloc, &tags);
+    drop(tags);
+    count
+}
+
 #[test]
 fn texts_of_tags(rt: HostRuntime) -> Result<(), Fail> {
-    let alloc = rt.alloc();
-    let tags = a_tag_of_each_type(alloc)?;
-    for (key, want) in TAG_TEXTS {
-        let first = first_text(alloc, tags.as_slice(), key)?;
-        assert_eq!(rt; first.as_str(), want, "{key}");
-        if let Some(tag) = first_tag(tags.as_slice(), key) {
-            assert!(rt; tag_text(alloc, &tag.value)? == first);
-        }
-    }
+    assert_eq!(rt; first_texts_of_each(rt.alloc())?, TAG_TEXTS.len());
     Ok(())
 }
 
-/// A copy is the same.
-fn expect_copy(rt: &impl Abort, batch: &Batch) -> Result<(), Fail> {
+/// Whether a copy of the batch, and its process, are the same.
+fn is_copied(batch: &Batch) -> Result<bool, Fail> {
     let copy = batch.clone()?;
-    assert!(rt; batch.is_same(&copy));
-    assert!(rt; batch.process.is_same(&copy.process));
-    Ok(())
+    let same = batch.is_same(&copy) && batch.process.is_same(&copy.process);
+    drop(copy);
+    Ok(same)
 }
 
-/// The references are to these spans, in this order.
-fn expect_references(rt: &impl Abort, references: &[SpanRef], ids: [u64; 2]) {
-    assert_eq!(rt; references.len(), ids.len());
-    for (reference, id) in references.iter().zip(ids) {
-        assert_eq!(rt; reference.id, SpanId(id));
-    }
-}
-
-/// The span of the batch as it stands in the store.
-fn expect_placed(rt: &impl Abort, span: &Span, placed: &Span) {
-    assert_eq!(rt; parent_of(span), SpanId(7));
-    assert_eq!(rt; parent_of(placed), SpanId(7));
-    assert_eq!(rt; kind_of(placed), "server");
-    assert!(rt; !placed.is_same(span));
-    expect_references(rt, placed.references.as_slice(), [7, 9]);
+/// The same of that one batch.
+fn one_is_copied(alloc: Global) -> Result<bool, Fail> {
+    let batch = one_batch(alloc)?;
+    let same = is_copied(&batch);
+    drop(batch);
+    same
 }
 
 #[test]
 fn batches(rt: HostRuntime) -> Result<(), Fail> {
-    let batch = batch(rt.alloc())?;
-    expect_copy(&rt, &batch)
+    assert!(rt; one_is_copied(rt.alloc())?);
+    Ok(())
 }
 
-fn expect_all_placed(rt: &impl Abort, alloc: Global, batch: &Batch) -> Result<(), Fail> {
-    let placed = domain(alloc, batch)?;
-    assert_eq!(rt; placed.len(), 1);
-    for (span, placed) in batch.spans.as_slice().iter().zip(placed.as_slice()) {
-        expect_placed(rt, span, &placed.span);
-        assert!(rt; *placed == place_span(alloc, &batch.process, span)?);
+/// The references are to these spans, in this order.
+fn are_to(references: &[SpanRef], ids: [u64; 2]) -> bool {
+    references.len() == ids.len()
+        && references
+            .iter()
+            .zip(&ids)
+            .all(|(reference, id)| reference.id == SpanId(*id))
+}
+
+/// The span of the batch as it stands in the store.
+fn is_placed(span: &Span, placed: &Span) -> bool {
+    parent_of(span) == SpanId(7)
+        && parent_of(placed) == SpanId(7)
+        && kind_of(placed) == "server"
+        && !placed.is_same(span)
+        && are_to(placed.references.as_slice(), [7, 9])
+}
+
+/// Whether the span of the process is placed so by itself too.
+fn is_placed_alone(
+    alloc: Global,
+    process: &SharedProcess,
+    span: &Span,
+    wanted: &Placed,
+) -> Result<bool, Fail> {
+    let placed = place_span(alloc, process, span)?;
+    let same = *wanted == placed;
+    drop(placed);
+    Ok(same)
+}
+
+/// Whether this is how the batch's one span is placed.
+fn are_placed(alloc: Global, batch: &Batch, placed: &[Placed]) -> Result<bool, Fail> {
+    match (batch.spans.as_slice(), placed) {
+        ([span], [placed]) => Ok(
+            is_placed(span, &placed.span) && is_placed_alone(alloc, &batch.process, span, placed)?,
+        ),
+        _ => Ok(false),
     }
-    Ok(())
+}
+
+/// Whether the one batch is placed so.
+fn one_is_placed(alloc: Global, batch: &Batch) -> Result<bool, Fail> {
+    let placed = domain(alloc, batch)?;
+    let said = are_placed(alloc, batch, placed.as_slice());
+    drop(placed);
+    said
+}
+
+/// The same of a batch that is given up behind that.
+fn made_is_placed(alloc: Global) -> Result<bool, Fail> {
+    let batch = one_batch(alloc)?;
+    let said = one_is_placed(alloc, &batch);
+    drop(batch);
+    said
 }
 
 #[test]
 fn spans_in_the_store(rt: HostRuntime) -> Result<(), Fail> {
-    let batch = batch(rt.alloc())?;
-    expect_all_placed(&rt, rt.alloc(), &batch)
+    assert!(rt; made_is_placed(rt.alloc())?);
+    Ok(())
 }
 
 #[test]
