@@ -1,21 +1,14 @@
 use jaeger_model::Batch;
 use std::alloc::Global;
-use std::process::Abort;
 use std::sync::Arc;
 use std::test::*;
-use trace_model::{Entry, Limits, Work};
-use trace_samples::{batch, span};
-
-/// Limits for so many batches, with ample spans and no limit of traces.
-pub fn limits_of(rt: &impl Abort, batches: u32) -> Limits {
-    Limits::new(batches, 1000, 0, 0).expect(rt, "limits within their ranges")
-}
+use trace_model::{Entry, Work};
+use trace_samples::{batch, list_of, span};
 
 /// A batch of service `a` with one span of this trace.
 pub fn batch_of(alloc: Global, trace: u64) -> Result<Batch, Fail> {
-    let mut spans = Vec::new(alloc);
-    spans.push(span(alloc, trace, 2)?)?;
-    Ok(batch(alloc, "a", spans)?)
+    let spans = list_of(alloc, span(alloc, trace, 2)?)?;
+    Ok(batch(alloc, "a", spans.into_vec())?)
 }
 
 /// The same with this number of the sender's own.
@@ -77,25 +70,47 @@ pub fn batch_under(alloc: Global, number: u64) -> Result<Batch, Fail> {
     }
 }
 
+/// The value, where what was done with it succeeded.
+pub fn kept<T: Drop>(value: T, done: Result<(), Fail>) -> Result<T, Fail> {
+    match done {
+        Ok(()) => Ok(value),
+        Err(why) => Err(why),
+    }
+}
+
+/// What is handed in under the number.
+fn work_under(alloc: Global, number: u64) -> Result<Work, Fail> {
+    match limit_under(number) {
+        Some(limit) => Ok(Work::TraceLimit(limit)),
+        None => Ok(Work::Batch(batch_under(alloc, number)?)),
+    }
+}
+
+fn add_works(alloc: Global, entries: &mut Vec<Arc<Entry>>, last: u64) -> Result<(), Fail> {
+    for before in 0..last {
+        let number = before + 1;
+        entries.push(entry(alloc, number, work_under(alloc, number)?)?)?;
+    }
+    Ok(())
+}
+
 /// The entries of seat 0 with the numbers from 1 to this one, limits and batches that are sent again among them.
 pub fn works_to(alloc: Global, last: u64) -> Result<Vec<Arc<Entry>>, Fail> {
     let mut entries = Vec::new(alloc);
+    let added = add_works(alloc, &mut entries, last);
+    kept(entries, added)
+}
+
+fn add_entries(alloc: Global, entries: &mut Vec<Arc<Entry>>, last: u64) -> Result<(), Fail> {
     for before in 0..last {
-        let number = before + 1;
-        let next = match limit_under(number) {
-            Some(limit) => entry(alloc, number, Work::TraceLimit(limit))?,
-            None => entry(alloc, number, Work::Batch(batch_under(alloc, number)?))?,
-        };
-        entries.push(next)?;
+        entries.push(entry_of(alloc, before + 1)?)?;
     }
-    Ok(entries)
+    Ok(())
 }
 
 /// The entries of seat 0 with the numbers from 1 to this one.
 pub fn entries_to(alloc: Global, last: u64) -> Result<Vec<Arc<Entry>>, Fail> {
     let mut entries = Vec::new(alloc);
-    for before in 0..last {
-        entries.push(entry_of(alloc, before + 1)?)?;
-    }
-    Ok(entries)
+    let added = add_entries(alloc, &mut entries, last);
+    kept(entries, added)
 }

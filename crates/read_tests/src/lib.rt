@@ -5,11 +5,14 @@
 //! * `machine`: the same steps on the stepped machine and on the two copies.
 //! * `holding`: several reads of one list, beside one that writes.
 //! * `threads`: three threads that read beside one that writes.
+//! * `fixture`: a store that is opened for a row.
 //! * `entries`: what they hand in.
 #![tactic(auto)]
 
 #[cfg(test)]
 mod entries;
+#[cfg(test)]
+mod fixture;
 #[cfg(test)]
 mod holding;
 #[cfg(test)]

@@ -1,14 +1,11 @@
-ghost use Rattle.std.specs.Prelude.{◌≡◌};
-
-use crate::entries::{batch_under, limit_under, limits_of, works_to};
+use crate::entries::{batch_under, kept, limit_under, works_to};
+use crate::fixture::{Row, plays};
 use jaeger_model::TraceId;
-use read_side::{Keeper, Opened, Pass, Reading, StoreName, open};
+use read_side::{Keeper, Pass, Reading, StoreName};
 use schedule_core::{Outcome, Step, play};
 use std::alloc::Global;
 use std::hash::RandomState;
-use std::marker::Brand;
-use std::process::Abort;
-use std::random::RandomSource;
+use std::mem::drop;
 use std::sync::{Arc, Wait};
 use std::test::*;
 use trace_model::{Answer, Entry, Limits, Query, Refusal};
@@ -45,34 +42,44 @@ fn hand_in(alloc: Global, number: u64) -> Result<Step, Fail> {
 
 /// The steps by which a reader enters, asks and leaves.
 fn visit(steps: &mut Vec<Step>, reader: u32, before: u64) -> Result<(), Fail> {
-    let query = question(before);
     steps.push(Step::Enter { reader })?;
-    steps.push(Step::Read { reader, query })?;
+    ask(steps, reader, before)?;
     steps.push(Step::Leave { reader })?;
     Ok(())
 }
 
-/// The steps by which a machine is handed one more entry. Reader 6 is inside before it is taken, while it is pending
-/// and until it is published; reader 5 comes while it is pending and behind that; reader 7 learns of the publish and
-/// comes then.
-fn steps_of(alloc: Global, before: u64) -> Result<Vec<Step>, Fail> {
+/// The step by which it asks.
+fn ask(steps: &mut Vec<Step>, reader: u32, before: u64) -> Result<(), Fail> {
+    let query = question(before);
+    steps.push(Step::Read { reader, query })?;
+    Ok(())
+}
+
+/// Adds the steps by which a machine is handed one more entry. Reader 6 is inside before it is taken, while it is
+/// pending and until it is published; reader 5 comes while it is pending and behind that; reader 7 learns of the
+/// publish and comes then.
+fn add_steps(alloc: Global, steps: &mut Vec<Step>, before: u64) -> Result<(), Fail> {
     let number = before.saturating_add(1);
-    let mut steps = Vec::new(alloc);
     steps.push(Step::Enter { reader: 6 })?;
     steps.push(hand_in(alloc, number)?)?;
     steps.push(Step::Take)?;
-    let query = question(before);
-    steps.push(Step::Read { reader: 6, query })?;
-    visit(&mut steps, 5, before)?;
+    ask(steps, 6, before)?;
+    visit(steps, 5, before)?;
     steps.push(Step::Publish)?;
-    visit(&mut steps, 5, before)?;
-    let query = question(before);
-    steps.push(Step::Read { reader: 6, query })?;
+    visit(steps, 5, before)?;
+    ask(steps, 6, before)?;
     steps.push(Step::Leave { reader: 6 })?;
     let publish = u32::try_from(number).unwrap_or(0);
     steps.push(Step::Learn { reader: 7, publish })?;
-    visit(&mut steps, 7, before)?;
-    Ok(steps)
+    visit(steps, 7, before)
+}
+
+/// Adds those of so many entries.
+fn add_all_steps(alloc: Global, steps: &mut Vec<Step>, last: u64) -> Result<(), Fail> {
+    for before in 0..last {
+        add_steps(alloc, steps, before)?;
+    }
+    Ok(())
 }
 
 /// What is seen of a machine that is handed so many entries.
@@ -83,12 +90,8 @@ fn machine_lines(
     last: u64,
 ) -> Result<Lines, Fail> {
     let mut steps = Vec::new(alloc);
-    for before in 0..last {
-        for step in steps_of(alloc, before)? {
-            steps.push(step)?;
-        }
-    }
-    lines_of(alloc, play(alloc, keys, steps, limits)?)
+    let added = add_all_steps(alloc, &mut steps, last);
+    lines_of(alloc, play(alloc, keys, kept(steps, added)?, limits)?)
 }
 
 /// What an answer shows.
@@ -106,43 +109,56 @@ fn learnt(alloc: Global, front: u64) -> Result<String, Fail> {
     Ok(format!(in alloc; "learnt {front}")?)
 }
 
-/// What is judged, answered and learnt by these outcomes. A job that is taken and not refused is published next, as
+/// Adds what is judged, answered or learnt by this outcome. A job that is taken and not refused is published next, as
 /// the last one.
-fn lines_of(alloc: Global, outcomes: Vec<Outcome>) -> Result<Lines, Fail> {
-    let mut lines = Vec::new(alloc);
-    let mut judged = None;
-    for outcome in outcomes {
-        match outcome {
-            Outcome::Again { place, .. } => judged = Some(Ok(place)),
-            Outcome::Refused(why) => judged = Some(Err(why)),
-            Outcome::Published { front } => {
-                lines.push(judged_line(alloc, judged.take().unwrap_or(Ok(front)))?)?
-            }
-            Outcome::Answered { front, answer } => lines.push(answered(alloc, front, &answer)?)?,
-            Outcome::Learnt { front } => lines.push(learnt(alloc, front)?)?,
-            Outcome::Held { .. } | Outcome::Inside | Outcome::Outside | Outcome::Unknown => {
-                return Err("a step that was not made".into());
-            }
-            _ => {}
+fn add_line(
+    alloc: Global,
+    lines: &mut Lines,
+    judged: &mut Option<Result<u64, Refusal>>,
+    outcome: &Outcome,
+) -> Result<(), Fail> {
+    match outcome {
+        Outcome::Again { place, .. } => *judged = Some(Ok(*place)),
+        Outcome::Refused(why) => *judged = Some(Err(*why)),
+        Outcome::Published { front } => {
+            let said = judged.take().unwrap_or(Ok(*front));
+            lines.push(judged_line(alloc, said)?)?
         }
+        Outcome::Answered { front, answer } => lines.push(answered(alloc, *front, answer)?)?,
+        Outcome::Learnt { front } => lines.push(learnt(alloc, *front)?)?,
+        Outcome::Held { .. } | Outcome::Inside | Outcome::Outside | Outcome::Unknown => {
+            return Err("a step that was not made".into());
+        }
+        _ => {}
     }
-    Ok(lines)
+    Ok(())
 }
 
-/// The passes of two copies which do as the machine's readers of these numbers.
-#[derive(Drop)]
-struct Readers<N: StoreName> {
-    five: Pass<N>,
-    six: Pass<N>,
-    seven: Pass<N>,
+/// Adds the same of all of these outcomes.
+fn add_lines(alloc: Global, lines: &mut Lines, outcomes: &[Outcome]) -> Result<(), Fail> {
+    let mut judged = None;
+    for outcome in outcomes {
+        add_line(alloc, lines, &mut judged, outcome)?;
+    }
+    Ok(())
+}
+
+/// What is judged, answered and learnt by these outcomes.
+fn lines_of(alloc: Global, outcomes: Vec<Outcome>) -> Result<Lines, Fail> {
+    let mut lines = Vec::new(alloc);
+    let added = add_lines(alloc, &mut lines, &outcomes);
+    drop(outcomes);
+    kept(lines, added)
 }
 
 /// What is seen around one entry more: two readings before it, how it was judged, and two behind it.
 #[derive(Drop)]
 struct Around {
-    before: (Result<Reading, Refusal>, Result<Reading, Refusal>),
+    first: Result<Reading, Refusal>,
+    second: Result<Reading, Refusal>,
     judged: Result<u64, Refusal>,
-    behind: (Result<Reading, Refusal>, Result<Reading, Refusal>),
+    third: Result<Reading, Refusal>,
+    fourth: Result<Reading, Refusal>,
 }
 
 /// Hands two copies one more entry while the second pass stays inside. What is pending on the machine is not handed
@@ -153,62 +169,105 @@ fn round<N: StoreName, R: Wait>(
     five: &mut Pass<N>,
     six: &mut Pass<N>,
     entry: Arc<Entry>,
+    before: u64,
+) -> Result<Around, Refusal> {
+    let query = question(before);
+    let around = round_asked(rt, keeper, five, six, entry, &query);
+    drop(query);
+    around
+}
+
+/// The place of an entry that is admitted, or why it is refused.
+fn place_of<N: StoreName, R: Wait>(
+    rt: &R,
+    keeper: &mut Keeper<N>,
+    entry: Arc<Entry>,
+) -> Result<u64, Refusal> {
+    let receipt = keeper.admit(rt, entry)?;
+    let place = receipt.place().unwrap_or(0);
+    drop(receipt);
+    Ok(place)
+}
+
+/// The same with this question.
+fn round_asked<N: StoreName, R: Wait>(
+    rt: &R,
+    keeper: &mut Keeper<N>,
+    five: &mut Pass<N>,
+    six: &mut Pass<N>,
+    entry: Arc<Entry>,
     query: &Query,
 ) -> Result<Around, Refusal> {
     let held = six.hold()?;
-    let before = (held.read(query), five.read(query));
-    let judged = match keeper.admit(rt, entry) {
-        Ok(receipt) => Ok(receipt.place().unwrap_or(0)),
-        Err(why) => Err(why),
-    };
-    let behind = (five.read(query), held.read(query));
+    let first = held.read(query);
+    let second = five.read(query);
+    let judged = place_of(rt, keeper, entry);
+    let third = five.read(query);
+    let fourth = held.read(query);
     held.leave();
     Ok(Around {
-        before,
+        first,
+        second,
         judged,
-        behind,
+        third,
+        fourth,
     })
 }
 
 /// Says what a reading shows.
-fn say(alloc: Global, lines: &mut Lines, reading: Result<Reading, Refusal>) -> Result<(), Fail> {
-    let Reading { front, answer } = reading?;
-    lines.push(answered(alloc, front, &answer)?)?;
-    Ok(())
+fn say(alloc: Global, lines: &mut Lines, reading: &Result<Reading, Refusal>) -> Result<(), Fail> {
+    match reading {
+        Ok(reading) => {
+            lines.push(answered(alloc, reading.front, &reading.answer)?)?;
+            Ok(())
+        }
+        Err(why) => Err((*why).into()),
+    }
 }
 
 /// Says what was seen around an entry.
-fn say_round(alloc: Global, lines: &mut Lines, around: Around) -> Result<(), Fail> {
-    let Around {
-        before: (first, second),
-        judged,
-        behind: (third, fourth),
-    } = around;
-    say(alloc, lines, first)?;
-    say(alloc, lines, second)?;
-    lines.push(judged_line(alloc, judged)?)?;
-    say(alloc, lines, third)?;
-    say(alloc, lines, fourth)
+fn say_round(alloc: Global, lines: &mut Lines, around: &Around) -> Result<(), Fail> {
+    say(alloc, lines, &around.first)?;
+    say(alloc, lines, &around.second)?;
+    lines.push(judged_line(alloc, around.judged)?)?;
+    say(alloc, lines, &around.third)?;
+    say(alloc, lines, &around.fourth)
 }
 
-/// Hands two copies one more entry. The passes ask as the machine's readers do.
+/// Hands two copies one more entry. The three passes ask as the machine's readers do.
 fn hand_on<N: StoreName, R: Wait>(
     rt: &R,
     alloc: Global,
     keeper: &mut Keeper<N>,
-    readers: &mut Readers<N>,
+    passes: &mut Vec<Pass<N>>,
     entry: Arc<Entry>,
     before: u64,
     lines: &mut Lines,
 ) -> Result<(), Fail> {
-    let query = question(before);
-    let Readers { five, six, seven } = readers;
-    let around = round(rt, keeper, five, six, entry, &query)?;
-    say_round(alloc, lines, around)?;
+    let [five, six, seven] = passes.as_mut_slice() else {
+        drop(entry);
+        return Err("three passes were asked for".into());
+    };
+    let around = round(rt, keeper, five, six, entry, before)?;
+    let said = say_round(alloc, lines, &around);
+    drop(around);
+    said?;
     let published = keeper.receipt();
     seven.learn(&published);
+    drop(published);
     lines.push(learnt(alloc, seven.front())?)?;
-    say(alloc, lines, seven.read(&query))
+    let reading = asked(seven, before);
+    let said = say(alloc, lines, &reading);
+    drop(reading);
+    said
+}
+
+/// What a pass reads when it is asked what the machine's readers are.
+fn asked<N: StoreName>(pass: &mut Pass<N>, before: u64) -> Result<Reading, Refusal> {
+    let query = question(before);
+    let reading = pass.read(&query);
+    drop(query);
+    reading
 }
 
 /// What is seen of two copies that are handed these entries.
@@ -216,18 +275,13 @@ fn copies_lines<N: StoreName, R: Wait>(
     rt: &R,
     alloc: Global,
     keeper: &mut Keeper<N>,
-    passes: Vec<Pass<N>>,
+    passes: &mut Vec<Pass<N>>,
     entries: Vec<Arc<Entry>>,
 ) -> Result<Lines, Fail> {
-    let mut passes = passes;
     let mut lines = Vec::new(alloc);
-    let (Some(five), Some(six), Some(seven)) = (passes.pop(), passes.pop(), passes.pop()) else {
-        return Err("three passes were asked for".into());
-    };
-    let mut readers = Readers { five, six, seven };
     let mut before = 0;
     for entry in entries {
-        hand_on(rt, alloc, keeper, &mut readers, entry, before, &mut lines)?;
+        hand_on(rt, alloc, keeper, passes, entry, before, &mut lines)?;
         before = before.saturating_add(1);
     }
     Ok(lines)
@@ -258,35 +312,31 @@ fn has_judged_line(
 
 #[test]
 fn copies_follow_the_machine(rt: HostRuntime) -> Result<(), Fail> {
-    let limits = limits_of(&rt, 20);
-    followed::<Brand, _>(&rt, rt.alloc(), Opened::new(), limits)
+    assert!(rt; plays(&rt, rt.alloc(), 20, 3, Row::Followed)?.as_wanted);
+    Ok(())
 }
 
-fn followed<N: StoreName, R: Wait + Abort + RandomSource>(
+/// Whether these lines say how the fifth, the sixth and the nineteenth entry were judged, which are sent again, and
+/// as much of each entry.
+fn are_judging(alloc: Global, lines: &[String]) -> Result<bool, Fail> {
+    let conflict = Refusal::Conflict { place: 3 };
+    Ok(
+        lines.len() as u64 == LAST.saturating_mul(PER_ENTRY as u64)
+            && has_judged_line(alloc, lines, 5, Ok(3))?
+            && has_judged_line(alloc, lines, 19, Ok(14))?
+            && has_judged_line(alloc, lines, 6, Err(conflict))?,
+    )
+}
+
+/// Whether two copies show the same as the machine, line by line.
+pub fn followed<N: StoreName, R: Wait>(
     rt: &R,
     alloc: Global,
-    name: Opened,
-    limits: Limits,
-) -> Result<(), Fail>
-    requires book { name.seen.book ≡ N.book }
-    requires limits { limits ≡ N.limits }
-{
-    let keys = RandomState::new(rt)?;
+    keeper: &mut Keeper<N>,
+    passes: &mut Vec<Pass<N>>,
+    (keys, limits): (RandomState, Limits),
+) -> Result<bool, Fail> {
     let wanted = machine_lines(alloc, keys, limits, LAST)?;
-    let entries = works_to(alloc, LAST)?;
-    let (mut keeper, passes) = open::<N, _>(rt, alloc, keys, name, limits, 3)?;
-    let seen = copies_lines(rt, alloc, &mut keeper, passes, entries);
-    keeper.close(rt);
-    let seen = seen?;
-    assert_eq!(rt; wanted.len() as u64, LAST.saturating_mul(PER_ENTRY as u64));
-    assert!(rt;
-        has_judged_line(alloc, &wanted, 5, Ok(3))? && has_judged_line(alloc, &wanted, 19, Ok(14))?
-    );
-    let conflict = Refusal::Conflict { place: 3 };
-    assert!(rt; has_judged_line(alloc, &wanted, 6, Err(conflict))?);
-    assert_eq!(rt; seen.len(), wanted.len());
-    for (seen, wanted) in seen.iter().zip(wanted.iter()) {
-        assert!(rt; seen == wanted, "{seen}, and not {wanted}");
-    }
-    Ok(())
+    let seen = copies_lines(rt, alloc, keeper, passes, works_to(alloc, LAST)?)?;
+    Ok(are_judging(alloc, &wanted)? && seen.as_slice() == wanted.as_slice())
 }

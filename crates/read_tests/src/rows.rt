@@ -1,20 +1,29 @@
-ghost use Rattle.std.specs.Prelude.{◌≡◌};
-
-use crate::entries::{entries_to, entry_of, limits_of};
+use crate::entries::{entries_to, entry_of};
+use crate::fixture::{Row, plays};
 use crate::sent_again::{AdmitAnswer, answer_of};
 use jaeger_model::TraceId;
-use read_side::{Keeper, Opened, Pass, Receipt, StoreName, open};
+use read_side::{Keeper, Pass, Receipt, StoreName};
 use std::alloc::Global;
-use std::hash::RandomState;
-use std::marker::Brand;
-use std::process::Abort;
-use std::random::RandomSource;
+use std::mem::drop;
 use std::sync::{Arc, Wait};
 use std::test::*;
-use trace_model::{Answer, Entry, Limits, Query, Refusal};
+use trace_model::{Answer, Entry, Query, Refusal};
 
 /// What was seen of a row, or why a call of it was refused.
 type Seen<T> = Result<T, Refusal>;
+
+/// Admits the entries in order, and adds the receipts.
+fn add_receipts<N: StoreName, R: Wait>(
+    rt: &R,
+    keeper: &mut Keeper<N>,
+    entries: Vec<Arc<Entry>>,
+    receipts: &mut Vec<Receipt<N>>,
+) -> Seen<()> {
+    for entry in entries {
+        receipts.push(keeper.admit(rt, entry)?)?;
+    }
+    Ok(())
+}
 
 /// Admits the entries in order, and gives the receipts.
 pub fn admit_all<N: StoreName, R: Wait>(
@@ -24,149 +33,183 @@ pub fn admit_all<N: StoreName, R: Wait>(
     entries: Vec<Arc<Entry>>,
 ) -> Seen<Vec<Receipt<N>>> {
     let mut receipts = Vec::new(alloc);
-    for entry in entries {
-        receipts.push(keeper.admit(rt, entry)?)?;
+    match add_receipts(rt, keeper, entries, &mut receipts) {
+        Ok(()) => Ok(receipts),
+        Err(why) => {
+            drop(receipts);
+            Err(why)
+        }
     }
-    Ok(receipts)
 }
 
 #[test]
 fn settling_behind_and_again(rt: HostRuntime) -> Result<(), Fail> {
-    let limits = limits_of(&rt, 10);
-    settled::<Brand, _>(&rt, rt.alloc(), Opened::new(), limits)
-}
-
-fn settled<N: StoreName, R: Wait + Abort + RandomSource>(
-    rt: &R,
-    alloc: Global,
-    name: Opened,
-    limits: Limits,
-) -> Result<(), Fail>
-    requires book { name.seen.book ≡ N.book }
-    requires limits { limits ≡ N.limits }
-{
-    let three = entries_to(alloc, 3)?;
-    let fourth = entry_of(alloc, 4)?;
-    let (mut keeper, mut passes) = open::<N, _>(rt, alloc, RandomState::new(rt)?, name, limits, 1)?;
-    let seen = settle_twice(rt, alloc, &mut keeper, &mut passes, three, fourth);
-    keeper.close(rt);
-    assert!(rt; seen == Ok(Some((Err(Refusal::Behind { front: 3 }), Ok(())))));
+    assert!(rt; plays(&rt, rt.alloc(), 10, 1, Row::Settled)?.as_wanted);
     Ok(())
 }
 
-fn settle_twice<N: StoreName, R: Wait>(
+pub fn settled<N: StoreName, R: Wait>(
     rt: &R,
     alloc: Global,
     keeper: &mut Keeper<N>,
     passes: &mut Vec<Pass<N>>,
-    three: Vec<Arc<Entry>>,
-    fourth: Arc<Entry>,
-) -> Seen<Option<(Seen<()>, Seen<()>)>> {
-    let receipts = admit_all(rt, alloc, keeper, three)?;
-    let Some(pass) = passes.first_mut() else {
-        return Ok(None);
+) -> Result<bool, Fail> {
+    let receipts = admit_all(rt, alloc, keeper, entries_to(alloc, 3)?)?;
+    let behind = settle_behind(passes, &receipts);
+    drop(receipts);
+    let last = settle_on(rt, keeper, passes, entry_of(alloc, 4)?);
+    Ok(behind == Err(Refusal::Behind { front: 3 }) && last == Ok(()))
+}
+
+/// Whether a pass settles on the second receipt that knows of the third.
+fn settle_behind<N: StoreName>(passes: &mut Vec<Pass<N>>, receipts: &[Receipt<N>]) -> Seen<()> {
+    match (passes.first_mut(), receipts) {
+        (Some(pass), [_, second, third]) => {
+            pass.learn(third);
+            pass.settle(second)
+        }
+        _ => Err(Refusal::Gone),
+    }
+}
+
+/// Whether it settles on the receipt of an entry that is admitted then.
+fn settle_on<N: StoreName, R: Wait>(
+    rt: &R,
+    keeper: &mut Keeper<N>,
+    passes: &mut Vec<Pass<N>>,
+    entry: Arc<Entry>,
+) -> Seen<()> {
+    let receipt = keeper.admit(rt, entry)?;
+    let settled = match passes.first_mut() {
+        Some(pass) => pass.settle(&receipt),
+        None => Err(Refusal::Gone),
     };
-    let ([_, second, third], fourth) = (receipts.as_slice(), fourth) else {
-        return Ok(None);
-    };
-    pass.learn(third);
-    let behind = pass.settle(second);
-    let last = keeper.admit(rt, fourth)?;
-    Ok(Some((behind, pass.settle(&last))))
+    drop(receipt);
+    settled
 }
 
 #[test]
 fn reading_learning_and_moving_on(rt: HostRuntime) -> Result<(), Fail> {
-    let limits = limits_of(&rt, 10);
-    moved_on::<Brand, _>(&rt, rt.alloc(), Opened::new(), limits)
-}
-
-fn moved_on<N: StoreName, R: Wait + Abort + RandomSource>(
-    rt: &R,
-    alloc: Global,
-    name: Opened,
-    limits: Limits,
-) -> Result<(), Fail>
-    requires book { name.seen.book ≡ N.book }
-    requires limits { limits ≡ N.limits }
-{
-    let three = entries_to(alloc, 3)?;
-    let fourth = entry_of(alloc, 4)?;
-    let (mut keeper, mut passes) = open::<N, _>(rt, alloc, RandomState::new(rt)?, name, limits, 3)?;
-    let seen = read_along(rt, alloc, &mut keeper, &mut passes, three, fourth);
-    keeper.close(rt);
-    let gone = match passes.pop() {
-        Some(mut pass) => pass.read(&Query::Services).err(),
-        None => None,
-    };
-    assert!(rt; seen == Ok(Some((3, Ok(()), 3, true, 4))));
-    assert!(rt; gone == Some(Refusal::Gone));
+    let played = plays(&rt, rt.alloc(), 10, 3, Row::MovedOn)?;
+    assert!(rt; played.as_wanted);
+    assert!(rt; played.gone == Some(Refusal::Gone));
     Ok(())
 }
 
 /// The front of the first pass, whether it settled, the front of the second and whether trace 1 was in
 /// its answer, and the front of the first pass once a fourth entry was admitted of which it learnt nothing.
-fn read_along<N: StoreName, R: Wait>(
+pub fn moved_on<N: StoreName, R: Wait>(
     rt: &R,
     alloc: Global,
     keeper: &mut Keeper<N>,
     passes: &mut Vec<Pass<N>>,
-    three: Vec<Arc<Entry>>,
-    fourth: Arc<Entry>,
-) -> Seen<Option<(u64, Seen<()>, u64, bool, u64)>> {
-    let receipts = admit_all(rt, alloc, keeper, three)?;
-    let Some(third) = receipts.last() else {
-        return Ok(None);
+) -> Result<bool, Fail> {
+    let receipts = admit_all(rt, alloc, keeper, entries_to(alloc, 3)?)?;
+    let early = match (passes.as_mut_slice(), receipts.last()) {
+        ([first, second, ..], Some(third)) => read_along(first, second, third),
+        _ => Err(Refusal::Gone),
     };
-    let Some(mut first) = passes.pop() else {
-        return Ok(None);
+    drop(receipts);
+    let fourth = keeper.admit(rt, entry_of(alloc, 4)?);
+    let was_admitted = fourth.is_ok();
+    drop(fourth);
+    let later = match passes.first_mut() {
+        Some(first) => front_read(first),
+        None => Err(Refusal::Gone),
     };
-    let Some(mut second) = passes.pop() else {
-        return Ok(None);
-    };
-    let front = first.read(&Query::Services)?.front;
+    Ok(early == Ok((3, Ok(()), 3, true)) && was_admitted && later == Ok(4))
+}
+
+/// The front of a reading of the services.
+fn front_read<N: StoreName>(pass: &mut Pass<N>) -> Seen<u64> {
+    let reading = pass.read(&Query::Services)?;
+    let front = reading.front;
+    drop(reading);
+    Ok(front)
+}
+
+/// The front of a reading of trace 1, and whether the trace was in its answer.
+fn trace_read<N: StoreName>(pass: &mut Pass<N>) -> Seen<(u64, bool)> {
+    let id = TraceId { high: 0, low: 1 };
+    let reading = pass.read(&Query::Trace { id, raw: true })?;
+    let seen = (
+        reading.front,
+        matches!(&reading.answer, Answer::Trace(Some(_))),
+    );
+    drop(reading);
+    Ok(seen)
+}
+
+/// What the two passes see while the third entry is the last one.
+fn read_along<N: StoreName>(
+    first: &mut Pass<N>,
+    second: &mut Pass<N>,
+    third: &Receipt<N>,
+) -> Seen<(u64, Seen<()>, u64, bool)> {
+    let front = front_read(first)?;
     let settled = first.settle(third);
     second.learn(third);
-    let id = TraceId { high: 0, low: 1 };
-    let reading = second.read(&Query::Trace { id, raw: true })?;
-    let found = matches!(reading.answer, Answer::Trace(Some(_)));
-    let _receipt = keeper.admit(rt, fourth)?;
-    let later = first.read(&Query::Services)?.front;
-    Ok(Some((front, settled, reading.front, found, later)))
+    let (other, found) = trace_read(second)?;
+    Ok((front, settled, other, found))
 }
 
 #[test]
 fn admit_all_or_nothing(rt: HostRuntime) -> Result<(), Fail> {
-    let limits = limits_of(&rt, 10);
-    all_or_nothing::<Brand, _>(&rt, rt.alloc(), Opened::new(), limits)
+    assert!(rt; plays(&rt, rt.alloc(), 10, 1, Row::AllOrNothing)?.as_wanted);
+    Ok(())
 }
 
 /// Each entry is published, or memory ran out and it is neither published nor pending: it is published when it is
 /// handed in again, at the place that it would have had. It is never pending: the check of allocations refuses each
 /// in turn.
-fn all_or_nothing<N: StoreName, R: Wait + Abort + RandomSource>(
+pub fn all_or_nothing<N: StoreName, R: Wait>(
     rt: &R,
     alloc: Global,
-    name: Opened,
-    limits: Limits,
-) -> Result<(), Fail>
-    requires book { name.seen.book ≡ N.book }
-    requires limits { limits ≡ N.limits }
-{
-    let (entries, again) = (entries_to(alloc, 4)?, entries_to(alloc, 4)?);
-    let (mut keeper, _passes) = open::<N, _>(rt, alloc, RandomState::new(rt)?, name, limits, 1)?;
-    let mut front = 0u64;
+    keeper: &mut Keeper<N>,
+) -> Result<bool, Fail> {
     let mut all = true;
-    for (entry, again) in entries.into_iter().zip(again) {
-        let answer = answer_at_last(rt, &mut keeper, front, entry, again);
-        front = front.saturating_add(1);
-        all = all && answer == Ok((front, front));
+    for front in 0..4u64 {
+        let number = front + 1;
+        let (entry, again) = twice(alloc, number)?;
+        let answer = answer_at_last(rt, keeper, front, entry, again);
+        all = all && answer == Ok((number, number));
     }
     let last = keeper.receipt();
-    keeper.close(rt);
-    assert!(rt; all && front == 4 && last.front() == 4);
-    assert!(rt; last.place().is_none() && last.entry().is_none());
-    Ok(())
+    let is_last = last.front() == 4 && last.place().is_none() && last.entry().is_none();
+    drop(last);
+    Ok(all && is_last)
+}
+
+/// An entry, and the same once more.
+fn twice(alloc: Global, number: u64) -> Result<(Arc<Entry>, Arc<Entry>), Fail> {
+    let entry = entry_of(alloc, number)?;
+    match entry_of(alloc, number) {
+        Ok(again) => Ok((entry, again)),
+        Err(why) => {
+            drop(entry);
+            Err(why)
+        }
+    }
+}
+
+/// The answer to an entry that is admitted.
+pub fn answer_to<N: StoreName, R: Wait>(
+    rt: &R,
+    keeper: &mut Keeper<N>,
+    entry: Arc<Entry>,
+) -> AdmitAnswer {
+    let admitted = keeper.admit(rt, entry);
+    let answer = answer_of(&admitted);
+    drop(admitted);
+    answer
+}
+
+/// How many entries the keeper vouches for.
+fn front_of<N: StoreName>(keeper: &mut Keeper<N>) -> u64 {
+    let receipt = keeper.receipt();
+    let front = receipt.front();
+    drop(receipt);
+    front
 }
 
 /// The answer to an entry behind so many, which is handed in again where memory ran out and as many are published
@@ -178,10 +221,10 @@ fn answer_at_last<N: StoreName, R: Wait>(
     entry: Arc<Entry>,
     again: Arc<Entry>,
 ) -> AdmitAnswer {
-    match answer_of(&keeper.admit(rt, entry)) {
-        Err(Refusal::NoMemory) if keeper.receipt().front() == front => {
-            answer_of(&keeper.admit(rt, again))
-        }
-        answer => answer,
+    let answer = answer_to(rt, keeper, entry);
+    if answer == Err(Refusal::NoMemory) && front_of(keeper) == front {
+        return answer_to(rt, keeper, again);
     }
+    drop(again);
+    answer
 }

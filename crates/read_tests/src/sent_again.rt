@@ -1,26 +1,22 @@
-ghost use Rattle.std.specs.Prelude.{◌≡◌};
-
-use crate::entries::{limits_of, sent_entry};
-use crate::rows::admit_all;
-use read_side::{Keeper, Opened, Receipt, StoreName, open};
-use std::alloc::{AllocError, Global};
-use std::hash::RandomState;
-use std::marker::Brand;
-use std::process::Abort;
-use std::random::RandomSource;
-use std::sync::{Arc, Wait};
+use crate::entries::sent_entry;
+use crate::fixture::{Row, plays};
+use crate::rows::answer_to;
+use read_side::{Keeper, Receipt, StoreName};
+use std::alloc::Global;
+use std::mem::drop;
+use std::sync::Wait;
 use std::test::*;
-use trace_model::{Entry, Limits, Refusal};
+use trace_model::Refusal;
 
 /// How many entries the receipt vouches for and its place, 0 where it has none; or why there is no receipt.
 pub type AdmitAnswer = Result<(u64, u64), Refusal>;
 
 /// The number of an entry of seat 0, its batch's number of the sender's own, the trace of the batch's span, and
 /// what is answered to it.
-type Row = (u64, u64, u64, AdmitAnswer);
+type Sent = (u64, u64, u64, AdmitAnswer);
 
 /// In a store for four batches, one after another.
-const ROWS: [Row; 12] = [
+const ROWS: [Sent; 12] = [
     (1, 1, 1, Ok((1, 1))),
     (1, 1, 1, Ok((1, 1))),
     (1, 1, 9, Err(Refusal::Conflict { place: 1 })),
@@ -51,117 +47,88 @@ pub fn answer_of<N: StoreName>(admitted: &Result<Receipt<N>, Refusal>) -> AdmitA
     }
 }
 
-/// Hands in the entries in order, and gives the answer to each.
-fn answers_of_all<N: StoreName, R: Wait>(
+/// How many of the rows are answered as they say, each behind the ones before.
+fn answered_in_order<N: StoreName, R: Wait>(
     rt: &R,
     alloc: Global,
     keeper: &mut Keeper<N>,
-    entries: Vec<Arc<Entry>>,
-) -> Result<Vec<AdmitAnswer>, AllocError> {
-    let mut answers = Vec::new(alloc);
-    for entry in entries {
-        answers.push(answer_of(&keeper.admit(rt, entry)))?;
+) -> Result<usize, Fail> {
+    let mut count = 0usize;
+    for (number, sent, trace, wanted) in ROWS {
+        if answer_to(rt, keeper, sent_entry(alloc, number, sent, trace)?) != wanted {
+            break;
+        }
+        count = count.saturating_add(1);
     }
-    Ok(answers)
+    Ok(count)
 }
 
 #[test]
 fn batches_sent_again(rt: HostRuntime) -> Result<(), Fail> {
-    let limits = limits_of(&rt, 4);
-    rows_are_answered::<Brand, _>(&rt, rt.alloc(), Opened::new(), limits)
+    assert!(rt; plays(&rt, rt.alloc(), 4, 1, Row::RowsAreAnswered)?.as_wanted);
+    Ok(())
 }
 
-fn rows_are_answered<N: StoreName, R: Wait + Abort + RandomSource>(
+pub fn rows_are_answered<N: StoreName, R: Wait>(
     rt: &R,
     alloc: Global,
-    name: Opened,
-    limits: Limits,
-) -> Result<(), Fail>
-    requires book { name.seen.book ≡ N.book }
-    requires limits { limits ≡ N.limits }
-{
-    let mut entries = Vec::new(alloc);
-    for (number, sent, trace, _) in ROWS {
-        entries.push(sent_entry(alloc, number, sent, trace)?)?;
-    }
-    let (mut keeper, _passes) = open::<N, _>(rt, alloc, RandomState::new(rt)?, name, limits, 1)?;
-    let answers = answers_of_all(rt, alloc, &mut keeper, entries);
-    keeper.close(rt);
-    let answers = answers?;
-    assert_eq!(rt; answers.len(), ROWS.len());
-    for (answer, (_, _, _, wanted)) in answers.iter().zip(ROWS) {
-        assert!(rt; *answer == wanted);
-    }
-    Ok(())
+    keeper: &mut Keeper<N>,
+) -> Result<bool, Fail> {
+    Ok(answered_in_order(rt, alloc, keeper)? == ROWS.len())
+}
+
+/// The number of the entry that a receipt is for.
+fn number_of<N: StoreName>(receipt: &Receipt<N>) -> Option<u64> {
+    receipt.entry().map(|entry| entry.number)
 }
 
 #[test]
 fn the_first_of_three_sent_again(rt: HostRuntime) -> Result<(), Fail> {
-    let limits = limits_of(&rt, 4);
-    first_is_held::<Brand, _>(&rt, rt.alloc(), Opened::new(), limits)
+    assert!(rt; plays(&rt, rt.alloc(), 4, 1, Row::FirstIsHeld)?.as_wanted);
+    Ok(())
 }
 
 /// The receipt is for the entry that stands there, which has another number.
-fn first_is_held<N: StoreName, R: Wait + Abort + RandomSource>(
+pub fn first_is_held<N: StoreName, R: Wait>(
     rt: &R,
     alloc: Global,
-    name: Opened,
-    limits: Limits,
-) -> Result<(), Fail>
-    requires book { name.seen.book ≡ N.book }
-    requires limits { limits ≡ N.limits }
-{
-    let mut entries = Vec::new(alloc);
-    for (number, sent) in [(1, 1), (2, 2), (3, 3), (4, 1)] {
-        entries.push(sent_entry(alloc, number, sent, sent)?)?;
+    keeper: &mut Keeper<N>,
+) -> Result<bool, Fail> {
+    for number in 1..4u64 {
+        let _answer = answer_to(rt, keeper, sent_entry(alloc, number, number, number)?);
     }
-    let (mut keeper, _passes) = open::<N, _>(rt, alloc, RandomState::new(rt)?, name, limits, 1)?;
-    let receipts = admit_all(rt, alloc, &mut keeper, entries);
-    keeper.close(rt);
-    let receipts = receipts?;
-    let Some(last) = receipts.last() else {
-        panic!(rt; "no receipt");
-    };
-    assert_eq!(rt; last.front(), 3);
-    assert!(rt; last.place() == Some(1));
-    assert!(rt; last.entry().map(|entry| entry.number) == Some(1));
-    Ok(())
+    let last = keeper.admit(rt, sent_entry(alloc, 4, 1, 1)?)?;
+    let seen = (last.front(), last.place(), number_of(&last));
+    drop(last);
+    Ok(seen == (3, Some(1), Some(1)))
 }
 
 #[test]
 fn the_one_batch_sent_again(rt: HostRuntime) -> Result<(), Fail> {
-    let limits = limits_of(&rt, 1);
-    sent_twice::<Brand, _>(&rt, rt.alloc(), Opened::new(), limits)
+    assert!(rt; plays(&rt, rt.alloc(), 1, 1, Row::SentTwice)?.as_wanted);
+    Ok(())
 }
 
 /// In a store for one batch, a batch that was published is found when it is sent again, at its place, and the
 /// receipt is for the first entry. Where memory ran out for that one, it is not pending, and the second one is
 /// added.
-fn sent_twice<N: StoreName, R: Wait + Abort + RandomSource>(
+pub fn sent_twice<N: StoreName, R: Wait>(
     rt: &R,
     alloc: Global,
-    name: Opened,
-    limits: Limits,
-) -> Result<(), Fail>
-    requires book { name.seen.book ≡ N.book }
-    requires limits { limits ≡ N.limits }
-{
-    let (first, again) = (sent_entry(alloc, 1, 7, 1)?, sent_entry(alloc, 2, 7, 1)?);
-    let (mut keeper, _passes) = open::<N, _>(rt, alloc, RandomState::new(rt)?, name, limits, 1)?;
-    let first = answer_of(&keeper.admit(rt, first));
-    let again = keeper.admit(rt, again);
-    keeper.close(rt);
-    let held = match first {
-        Ok(answer) => {
-            assert!(rt; answer == (1, 1));
-            1
-        }
-        Err(Refusal::NoMemory) => 2,
-        _ => panic!(rt; "a refusal that nothing calls for"),
+    keeper: &mut Keeper<N>,
+) -> Result<bool, Fail> {
+    let first = answer_to(rt, keeper, sent_entry(alloc, 1, 7, 1)?);
+    let again = keeper.admit(rt, sent_entry(alloc, 2, 7, 1)?);
+    let answers = answer_of(&again);
+    let held = match &again {
+        Ok(receipt) => number_of(receipt),
+        Err(_) => None,
     };
-    assert!(rt; answer_of(&again) == Ok((1, 1)));
-    if let Ok(receipt) = again {
-        assert!(rt; receipt.entry().map(|entry| entry.number) == Some(held));
-    }
-    Ok(())
+    drop(again);
+    let wanted = match first {
+        Ok((1, 1)) => 1,
+        Err(Refusal::NoMemory) => 2,
+        _ => return Ok(false),
+    };
+    Ok(answers == Ok((1, 1)) && held == Some(wanted))
 }

@@ -1,31 +1,13 @@
-ghost use Rattle.std.specs.Prelude.{◌≡◌};
-
-use crate::entries::{entries_to, limits_of};
-use read_side::{Keeper, Opened, Pass, Receipt, StoreName, open};
+use crate::entries::entries_to;
+use crate::fixture::{Row, plays};
+use crate::holding::count_admitted;
+use read_side::{Keeper, Pass, Receipt, StoreName};
 use std::alloc::{AllocError, Global};
-use std::hash::RandomState;
-use std::marker::Brand;
-use std::process::Abort;
-use std::random::RandomSource;
+use std::mem::{drop, replace};
 use std::sync::{Arc, Wait};
 use std::test::*;
 use std::thread::{Threads, join, map_vec};
-use trace_model::{Entry, Limits, Query};
-
-/// Admits all entries, and says how many were taken.
-fn admit_all<N: StoreName, R: Wait>(
-    rt: &R,
-    keeper: &mut Keeper<N>,
-    entries: Vec<Arc<Entry>>,
-) -> u64 {
-    let mut taken = 0u64;
-    for entry in entries {
-        if keeper.admit(rt, entry).is_ok() {
-            taken = taken.saturating_add(1);
-        }
-    }
-    taken
-}
+use trace_model::{Entry, Query};
 
 /// Reads a hundred times. It needs no handle, so it can't wait. False where a front fell or a read was refused.
 fn read_often<N: StoreName>(mut pass: Pass<N>) -> (Pass<N>, bool) {
@@ -36,6 +18,7 @@ fn read_often<N: StoreName>(mut pass: Pass<N>) -> (Pass<N>, bool) {
             Ok(reading) => {
                 rises = rises && front <= reading.front;
                 front = reading.front;
+                drop(reading);
             }
             Err(_) => rises = false,
         }
@@ -60,33 +43,38 @@ fn all_settle<N: StoreName>(
 
 #[test]
 fn three_passes(rt: HostRuntime) -> Result<(), Fail> {
-    let limits = limits_of(&rt, 100);
-    read_beside::<Brand, _>(&rt, rt.alloc(), Opened::new(), limits)
+    assert!(rt; plays(&rt, rt.alloc(), 100, 3, Row::ReadBeside)?.as_wanted);
+    Ok(())
 }
 
-fn read_beside<N: StoreName + Send + Sync, R: Threads + Wait + Abort + RandomSource + Sync>(
+/// A pass that has read, and whether its fronts rose.
+type Readers<N> = Result<Vec<(Pass<N>, bool)>, AllocError>;
+
+/// How many entries were taken, and the passes that read meanwhile.
+fn beside<N: StoreName + Send + Sync, R: Threads + Wait + Sync>(
+    rt: &R,
+    keeper: &mut Keeper<N>,
+    passes: Vec<Pass<N>>,
+    entries: Vec<Arc<Entry>>,
+) -> (u64, Readers<N>) {
+    join(
+        rt,
+        || -> u64 { count_admitted(rt, keeper, entries) },
+        move || -> Readers<N> { map_vec(rt, passes, &|pass| read_often(pass)) },
+    )
+}
+
+pub fn read_beside<N: StoreName + Send + Sync, R: Threads + Wait + Sync>(
     rt: &R,
     alloc: Global,
-    name: Opened,
-    limits: Limits,
-) -> Result<(), Fail>
-    requires book { name.seen.book ≡ N.book }
-    requires limits { limits ≡ N.limits }
-{
+    keeper: &mut Keeper<N>,
+    passes: &mut Vec<Pass<N>>,
+) -> Result<bool, Fail> {
     let entries = entries_to(alloc, 100)?;
-    let (mut keeper, passes) = open::<N, _>(rt, alloc, RandomState::new(rt)?, name, limits, 3)?;
-    let (taken, readers) = join(
-        rt,
-        || -> u64 { admit_all(rt, &mut keeper, entries) },
-        move || -> Result<Vec<(Pass<N>, bool)>, AllocError> {
-            map_vec(rt, passes, &|pass| read_often(pass))
-        },
-    );
+    let passes = replace(passes, Vec::new(alloc));
+    let (taken, readers) = beside(rt, keeper, passes, entries);
     let last = keeper.receipt();
-    let settled = all_settle(readers, &last);
-    keeper.close(rt);
-    assert_eq!(rt; taken, 100);
-    assert_eq!(rt; last.front(), 100);
-    assert!(rt; settled);
-    Ok(())
+    let settled = all_settle(readers, &last) && last.front() == 100;
+    drop(last);
+    Ok(taken == 100 && settled)
 }
