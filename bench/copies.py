@@ -59,7 +59,7 @@ use std::sync::{Arc, Wait};
 use std::thread::{Threads, join, map_vec};
 use std::time::{Clock, Duration};
 use std::{env, thread};
-use trace_model::{Answer, Entry, Limits, Query, Refusal};
+use trace_model::{Answer, Entry, Limits, Query, Refusal, Work};
 
 /// What is handed in before the timing and within it, and the traces that are held before.
 #[derive(Drop)]
@@ -116,7 +116,7 @@ fn entries(alloc: Global, input: &[u8]) -> Result<Vec<Arc<Entry>>> {
         let entry = Entry {
             seat: 0,
             number,
-            batch,
+            work: Work::Batch(batch),
         };
         entries.push(Arc::new(alloc, entry)?)?;
         rest = after;
@@ -135,7 +135,7 @@ fn split_load(alloc: Global, input: &[u8], timed: usize) -> Result<Load> {
     };
     for entry in all {
         if load.first.len() < held {
-            if let Some(span) = entry.batch.spans.as_slice().first() {
+            if let Some(span) = entry.work.spans().first() {
                 load.ids.push(span.trace)?;
             }
             load.first.push(entry)?;
@@ -336,7 +336,7 @@ fn timed_named<N: StoreName + Send + Sync, R: Threads + Wait + Clock + Sync>(
     requires book { name.seen.book ≡ N.book }
     requires limits { limits ≡ N.limits }
 {
-    let (mut keeper, mut passes) = open::<N>(alloc, keys, name, limits, 3)?;
+    let (mut keeper, mut passes) = open::<N, _>(rt, alloc, keys, name, limits, 3)?;
     if !readers {
         passes.clear();
     }

@@ -39,7 +39,7 @@ MAIN = """//! Asks a store that holds the bodies of standard input each question
 use anyhow::{Result, bail};
 use batch_codec::decode;
 use jaeger_model::{Seq, Text};
-use query_json::answer_text;
+use query_json::answer_bytes;
 use span_store::SpanStore;
 use std::alloc::Global;
 use std::env::{self, Env};
@@ -47,7 +47,7 @@ use std::hash::RandomState;
 use std::io::Read;
 use std::sync::Arc;
 use std::time::Clock;
-use trace_model::{Answer, Entry, Find, Limits, Query};
+use trace_model::{Answer, Entry, Find, Limits, Query, Work};
 
 /// Nanoseconds since some moment.
 fn now<R: Clock>(rt: &R) -> u64 {
@@ -75,7 +75,7 @@ fn entry_of(alloc: Global, body: &[u8], number: u64) -> Result<Arc<Entry>> {
     let entry = Entry {
         seat: 0,
         number,
-        batch,
+        work: Work::Batch(batch),
     };
     Ok(Arc::new(alloc, entry)?)
 }
@@ -170,7 +170,7 @@ fn asked<R: Clock>(rt: &R, alloc: Global, store: &SpanStore, query: &Query, json
     };
     let mut bytes = 0;
     if json {
-        bytes = answer_text(alloc, &answer)?.len();
+        bytes = answer_bytes(alloc, &answer)?.len();
     }
     let took = now(rt).saturating_sub(begin);
     if json && bytes == 0 {
