@@ -95,6 +95,7 @@ fn held_through_a_publish(rt: HostRuntime) -> Result<(), Fail> {
     Ok(())
 }
 
+/// The row of `held_through_a_publish`: two readings of one hold, around an entry that is admitted meanwhile, and one behind it.
 pub fn held_before<N: StoreName, R: Wait>(
     rt: &R,
     alloc: Global,

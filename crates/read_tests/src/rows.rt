@@ -48,6 +48,7 @@ fn settling_behind_and_again(rt: HostRuntime) -> Result<(), Fail> {
     Ok(())
 }
 
+/// The row of `settling_behind_and_again`: a pass settles on the receipts of three entries, and on that of a fourth.
 pub fn settled<N: StoreName, R: Wait>(
     rt: &R,
     alloc: Global,

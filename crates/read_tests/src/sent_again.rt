@@ -69,6 +69,7 @@ fn batches_sent_again(rt: HostRuntime) -> Result<(), Fail> {
     Ok(())
 }
 
+/// The row of `batches_sent_again`: whether each of [`ROWS`] is answered as it says.
 pub fn rows_are_answered<N: StoreName, R: Wait>(
     rt: &R,
     alloc: Global,

@@ -64,6 +64,7 @@ fn beside<N: StoreName + Send + Sync, R: Threads + Wait + Sync>(
     )
 }
 
+/// The row of `three_passes`: 100 entries are admitted while threads read, and each pass settles on the last one.
 pub fn read_beside<N: StoreName + Send + Sync, R: Threads + Wait + Sync>(
     rt: &R,
     alloc: Global,
