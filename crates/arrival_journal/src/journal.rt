@@ -9,6 +9,8 @@ ghost use Rattle.arrival_journal.specs.Journals.{admission_by, place_by};
 ghost use Rattle.arrival_journal.specs.Outlines.{outline_in};
 
 use crate::outline::Outline;
+use crate::outlined::OutlinedEntry;
+use crate::prepared::PreparedEntry;
 use crate::seats::{SEATS, note};
 use sent_batches::{BatchKeys, HashedEntry, SentBatches};
 use std::alloc::{AllocError, Global};
@@ -194,17 +196,34 @@ impl Journal {
         }
     }
 
+    /// The entry with the hash by which its batch is found, and with the outline that goes along.
+    pub fn prepared(&self, entry: OutlinedEntry) -> PreparedEntry
+        ensures { result ≡ entry }
+    {
+        PreparedEntry::new(self.sent.keys(), entry)
+    }
+
     /// Adds an entry that may follow.
     pub fn append(&mut self, entry: HashedEntry)
         requires { admission_by self.old.held entry ≡ Ok Added }
         ensures appended { self.new.held ≡ followed_by self.old.held entry }
         ensures legal { IsLegal self.new.held.limits self.new.held.entries }
     {
+        self.append_prepared(PreparedEntry::of(entry));
+    }
+
+    /// The same of an entry whose outline goes along.
+    pub fn append_prepared(&mut self, entry: PreparedEntry)
+        requires { admission_by self.old.held entry ≡ Ok Added }
+        ensures appended { self.new.held ≡ followed_by self.old.held entry }
+        ensures legal { IsLegal self.new.held.limits self.new.held.entries }
+    {
+        let (entry, outline) = entry.split();
         let hash = entry.hash(self.sent.keys());
         let entry = entry.into_entry();
         self.spans += entry.work.spans().len() as u64;
         note(&mut self.last_numbers, entry.seat, entry.number);
-        self.outlines.push_reserved(Outline::of(&entry.work));
+        self.outlines.push_reserved(outline);
         self.entries.push_reserved(entry);
         self.sent.add(&self.entries, hash);
     }

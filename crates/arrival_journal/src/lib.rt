@@ -7,7 +7,8 @@
 //! never fails because memory ran out.
 //!
 //! * `journal`: the [`Journal`].
-//! * `outline`: what is known of an entry without a look at its spans, its [`Outline`].
+//! * `outline`: what is known of an entry without a look at its spans, its [`Outline`]. `outlined`, `prepared`: an entry with
+//!   its outline, and with its hash too.
 //! * `times`: bounds of the starts and durations of an entry's spans.
 //! * `tagging`: bits that tell which tags an entry can't have.
 //! * `seats`: the last numbers of seats.
@@ -15,11 +16,15 @@
 
 mod journal;
 mod outline;
+mod outlined;
+mod prepared;
 mod seats;
 mod tagging;
 mod times;
 
 pub use journal::Journal;
 pub use outline::Outline;
+pub use outlined::OutlinedEntry;
+pub use prepared::PreparedEntry;
 pub use tagging::tag_place;
 pub use times::Times;

@@ -1,5 +1,5 @@
 -- The clerk's accounts.
-use Rattle.std.proofs.Common.{◌≡◌, ℕ, ◌+◌, Bool, true, false, cond, List, [], ◌∷◌, ◌++◌, length, subst, sym, refl, ap, ◌∙◌, arith, Result, Ok, Err, is_ok, is_err}
+use Rattle.std.proofs.Common.{◌≡◌, ℕ, ◌+◌, cond, List, [], ◌∷◌, ◌++◌, length, subst, sym, refl, arith, Result, Ok, Err, is_ok, is_err}
 use Rattle.std.proofs.lemmas.List.Sums.{sum_by-cons, sum_by-append}
 use Rattle.trace_model.specs.declared.refusal.Refusal.{Refusal}
 use Rattle.trace_model.specs.declared.entry.Entry.{Entry}

@@ -1,5 +1,5 @@
 -- What one judging of an entry leaves.
-use Rattle.std.proofs.Common.{◌≡◌, ℕ, zero, suc, ◌+◌, ◌-◌, Bool, true, false, if◌then◌else◌, List, [], ◌∷◌, ◌++◌, length, refl, subst, sym, ap, ◌∙◌, ⊎_elim, arith, append_assoc, length-append, Some, slice_get, inl, inr, Result, Ok, Err}
+use Rattle.std.proofs.Common.{◌≡◌, ℕ, zero, suc, ◌+◌, ◌-◌, Bool, if◌then◌else◌, List, [], ◌∷◌, ◌++◌, length, refl, subst, sym, ap, ◌∙◌, ⊎_elim, arith, append_assoc, Some, slice_get, inl, inr, Result, Ok, Err}
 use Rattle.std.specs.Prelude.{◌&&◌, not}
 use Rattle.std.specs.Option.{unwrap_or}
 use Rattle.std.specs.Result.{result_err}
@@ -12,11 +12,11 @@ use Rattle.trace_model.specs.declared.limits.Limits.{Limits}
 use Rattle.trace_model.specs.declared.refusal.Refusal.{Refusal}
 use Rattle.trace_model.specs.declared.refusal.Refusal.TheVariants.{JournalFull, Stale, NoMemory, Conflict}
 use Rattle.trace_model.specs.Places.{entry_at}
-use Rattle.trace_model.specs.Refusals.{admission, place_of}
+use Rattle.trace_model.specs.Refusals.{place_of}
 use Rattle.trace_model.specs.Resending.{is_sent}
 use Rattle.trace_model.proofs.Admissions.{IsSaid, admission_says}
 use Rattle.trace_model.proofs.Prefixes.{prefix_get}
-use Rattle.read_side.specs.Keepers.{Lists, accepted, after_admission, all_published, admission_after, refusal_after, TurnsAway}
+use Rattle.read_side.specs.Keepers.{Lists, accepted, after_admission, admission_after, refusal_after, TurnsAway}
 use Rattle.read_side.specs.Receipts.{StandsAt, AnsweredAt}
 use Rattle.intake.specs.Seats.{IsUnacknowledged}
 use Rattle.intake.specs.Turns.{JudgesEntry}

@@ -89,6 +89,7 @@ impl<N: StoreName> Books<N> {
                 return Ok(());
             };
             let (entry, _cell) = job.split();
+            let entry = entry.into_entry();
             let is_last = is_job(&entry, number, last);
             self.left.push_reserved(entry);
             if is_last {

@@ -15,11 +15,12 @@ use crate::cell::JobOutcome;
 use crate::inbox::Inbox;
 use crate::shared::Shared;
 use crate::ticket::Ack;
+use arrival_journal::OutlinedEntry;
 use read_side::{Keeper, Receipt, StoreName};
 use std::alloc::Global;
 use std::marker::Model;
 use std::sync::{Arc, Wait};
-use trace_model::{Entry, Refusal};
+use trace_model::Refusal;
 
 /// What a turn did.
 #[derive(Clone, Copy, PartialEq, Eq, Debug)]
@@ -89,18 +90,18 @@ fn judge_entry<N: StoreName, R: Wait>(
     rt: &R,
     alloc: Global,
     keeper: &mut Keeper<N>,
-    entry: Arc<Entry>,
+    entry: OutlinedEntry,
 ) -> Result<Ack<N>, Refusal>
-    ensures judged { JudgesEntry N.limits keeper.old (arc_value entry)
+    ensures judged { JudgesEntry N.limits keeper.old entry
         (place_or_refusal (λ a. a.place) result) keeper.new }
     ensures answered { IfOk result (λ a.
-        AnsweredAt (arc_value a.receipt).entries a.place (arc_value entry)) }
+        AnsweredAt (arc_value a.receipt).entries a.place entry) }
     ensures reason { IfErr result IsUnacknowledged }
 {
     let Ok(room) = Arc::new(alloc, keeper.receipt()) else {
-        return Err(keeper.turn_away(entry));
+        return Err(keeper.turn_away(entry.into_entry()));
     };
-    let receipt = keeper.admit(rt, entry)?;
+    let receipt = keeper.admit_outlined(rt, entry)?;
     let Some(place) = receipt.place() else {
         unreachable!()
     };
@@ -157,8 +158,8 @@ impl<N: StoreName> Clerk<N> {
         let Some(job) = self.inbox.pop(rt) else {
             return Ok(if closed { Turn::Ended } else { Turn::Idle });
         };
+        let (seat, number) = job.name();
         let (entry, cell) = job.split();
-        let (seat, number) = (entry.seat, entry.number);
         let answer = judge_entry(rt, self.alloc, keeper, entry);
         let account = Account {
             seat,

@@ -4,6 +4,7 @@ ghost use Rattle.std.specs.Prelude.{◌≡◌, IfOk};
 ghost use Rattle.std.specs.Arc.{arc_value};
 
 use crate::cell::Cell;
+use arrival_journal::OutlinedEntry;
 use read_side::StoreName;
 use std::marker::Model;
 use std::sync::Arc;
@@ -12,7 +13,7 @@ use trace_model::{Entry, Refusal};
 /// An entry on its way to the clerk, and where its answer goes. Contracts see the entry.
 #[derive(Drop)]
 pub(crate) struct Job<N: StoreName> {
-    entry: Arc<Entry>,
+    entry: OutlinedEntry,
     cell: Arc<Cell<N>>,
 }
 
@@ -23,19 +24,19 @@ impl<N: StoreName> Model for Job<N> {
 
     ghost Value = { Entry };
 
-    ghost view = { λ j. arc_value j.entry };
+    ghost view = { λ j. j.entry };
 
-    ghost invariant = { λ j. arc_value j.cell ≡ arc_value j.entry };
+    ghost invariant = { λ j. arc_value j.cell ≡ j.entry };
 }
 
 impl<N: StoreName> Job<N> {
-    /// The job of an entry, whose answer goes into the entry's cell.
+    /// The job of an entry, whose answer goes into the entry's cell. It makes the entry's outline.
     pub(crate) fn new(entry: &Arc<Entry>, cell: &Arc<Cell<N>>) -> Result<Job<N>, Refusal>
         requires { arc_value cell.now ≡ arc_value entry.now }
         ensures { IfOk result (λ j. j ≡ arc_value entry.now) }
     {
         let cell = Arc::try_clone(cell)?;
-        let entry = Arc::try_clone(entry)?;
+        let entry = OutlinedEntry::new(Arc::try_clone(entry)?);
         Ok(Job { entry, cell })
     }
 
@@ -43,12 +44,13 @@ impl<N: StoreName> Job<N> {
     pub(crate) fn name(&self) -> (u16, u64)
         ensures { (result.0 ≡ self.now.seat) × (result.1 ≡ self.now.number) }
     {
-        (self.entry.seat, self.entry.number)
+        let entry = self.entry.entry();
+        (entry.seat, entry.number)
     }
 
     /// The entry, and where its answer goes.
-    pub(crate) fn split(self) -> (Arc<Entry>, Arc<Cell<N>>)
-        ensures entry { arc_value result.0 ≡ self }
+    pub(crate) fn split(self) -> (OutlinedEntry, Arc<Cell<N>>)
+        ensures entry { result.0 ≡ self }
         ensures cell { arc_value result.1 ≡ self }
     {
         let Job { entry, cell } = self;

@@ -21,13 +21,12 @@ ghost use Rattle.span_store.specs.Kept.{Follows, IsNamed, IsPlaced};
 
 use crate::arrange::follow;
 use crate::finding;
-use arrival_journal::Journal;
+use arrival_journal::{Journal, OutlinedEntry, PreparedEntry};
 use arrival_names::ArrivalNames;
 use call_links::NumberedSpan;
 use find_traces::Wanted;
 use jaeger_model::{Placed, Seq, Text, TraceId};
 use journal_traces::{Candidates, gather, ring_ids, see_within, spots_along};
-use sent_batches::HashedEntry;
 use service_places::ServicePlaces;
 use span_steps::all_unadjusted;
 use std::alloc::{AllocError, Global};
@@ -165,28 +164,29 @@ impl SpanStore {
             (admission_by self.old (arc_value entry)) }
         ensures legal { IsLegal self.new.limits self.new.entries }
     {
-        let entry = self.journal.hashed(entry);
-        self.apply_hashed(entry)
+        let entry = self.journal.prepared(OutlinedEntry::new(entry));
+        self.apply_prepared(entry)
     }
 
-    /// The same of an entry with the hash of its batch, which isn't taken again where the keys are the same.
+    /// The same of an entry with its outline, and the hash of its batch, which isn't taken again where the keys are
+    /// the same.
     ///
     /// # Errors
     ///
     /// Those of [`apply`](Self::apply).
-    pub fn apply_hashed(&mut self, entry: HashedEntry) -> Result<u64, Refusal>
+    pub fn apply_prepared(&mut self, entry: PreparedEntry) -> Result<u64, Refusal>
         ensures place { result ≡ place_by self.old entry }
         ensures applied { self.new ≡ with_admitted self.old entry (admission_by self.old entry) }
         ensures legal { IsLegal self.new.limits self.new.entries }
     {
-        match self.journal.judge(&entry)? {
+        match self.journal.judge(entry.hashed())? {
             Admission::Added => Ok(self.add(entry)),
             Admission::Resent { place } => Ok(place),
         }
     }
 
     /// Adds an entry that may follow and gives its place.
-    fn add(&mut self, entry: HashedEntry) -> u64
+    fn add(&mut self, entry: PreparedEntry) -> u64
         requires { admission_by self.old entry ≡ Ok Added }
         ensures added { self.new ≡ followed_by self.old entry }
         ensures place { result ≡ length self.old.entries + 1 }
@@ -194,7 +194,7 @@ impl SpanStore {
     {
         let place = self.journal.len() + 1;
         follow(entry.entry(), place, &mut self.ring, &mut self.assembly);
-        self.journal.append(entry);
+        self.journal.append_prepared(entry);
         let entries = self.journal.entries();
         self.reported.add(entries);
         self.names.add(entries, &self.reported);

@@ -1,4 +1,4 @@
-use Rattle.std.proofs.Common.{rules, ◌≡◌, [], ◌∷◌, ◌++◌, ◌∙◌, subst, sym, refl, ap, map, false}
+use Rattle.std.proofs.Common.{rules, ◌≡◌, [], ◌∷◌, ◌++◌, ◌∙◌, subst, sym, refl, map, false}
 use Rattle.std.specs.Arc.{arc_value}
 use Rattle.intake.specs.Queues.{AreWhole}
 use Rattle.intake.specs.Turns.{InboxValue}
@@ -44,7 +44,7 @@ returns-then-is_last-clause-moved g c =
     let not : has_job seat.seat c.handed-last.result before.inbox.taken ≡ false = search rules in
     moves-one seat.seat c.handed-last.result seat.jobs c.args.self.now.inbox.taken (map arc_value c.args.self.now.left.items) before.inbox.taken (map arc_value before.left.items)
     c.look-then-is_last.new.self.taken (map arc_value c.push_reserved.new.self.items) c.in-Some-pop.job i.3 (search rules) i.5 not (search rules)
-    (left-more arc_value before.left.items c.reserve.new.self.items c.push_reserved.new.self.items c.split-entry.result.0 c.in-Some-pop.job c.push_reserved.ensures.items (search rules) c.split-entry.ensures.entry)
+    (left-more arc_value before.left.items c.reserve.new.self.items c.push_reserved.new.self.items c.into_entry-entry.result c.in-Some-pop.job c.push_reserved.ensures.items (search rules) (c.into_entry-entry.ensures ∙ c.split-entry.ensures.entry))
 
 pub returns-then-is_last-clause-others_whole : goal.returns-then-is_last-clause-others_whole
 returns-then-is_last-clause-others_whole g c =
@@ -70,7 +70,7 @@ loop-preserved g c =
     let job = c.in-Some-pop.job in
     let not : has_job seat.seat c.handed-last.result before.inbox.taken ≡ false = search rules in
     let taken : c.pop.new.self.taken ≡ before.inbox.taken ++ job ∷ [] = search rules in
-    let left = left-more arc_value before.left.items c.reserve.new.self.items c.push_reserved.new.self.items c.split-entry.result.0 job c.push_reserved.ensures.items (search rules) c.split-entry.ensures.entry in
+    let left = left-more arc_value before.left.items c.reserve.new.self.items c.push_reserved.new.self.items c.into_entry-entry.result job c.push_reserved.ensures.items (search rules) (c.into_entry-entry.ensures ∙ c.split-entry.ensures.entry) in
     let other : is_job c.number-number.result c.handed-last.result job ≡ false = search rules in (
       balances-more before.inbox.taken c.pop.new.self.taken (map arc_value before.left.items) (map arc_value c.push_reserved.new.self.items) before.accounts job i.0 taken left,
       search rules,

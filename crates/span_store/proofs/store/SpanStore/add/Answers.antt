@@ -50,7 +50,7 @@ pub invariant_of-self : goal.invariant_of-self
 invariant_of-self c =
     let was = c.self.inside in
     let e : Entry = c.args.entry in
-    let held : c.append.new.self.held ≡ followed_by was.journal.held e = c.append.ensures.appended in
+    let held : c.append_prepared.new.self.held ≡ followed_by was.journal.held e = c.append_prepared.ensures.appended in
     let place : c.len-place.result + 1 ≡ length was.journal.held.entries + 1 = ap (λ k. k + 1) c.len-place.ensures.length in
     let n = was.journal.held.limits.traces in
     let h = was.journal.held.entries in
@@ -77,13 +77,13 @@ invariant_of-self c =
       kept = subst (λ (h : List Entry). PlacesKept h c.add.new.self) list c.add.ensures.kept;
       batches = c.add.ensures.batches ∙ c.self.invariant.placed.batches;
     } in
-    kept_more was.journal.held c.append.new.self.held e was.ring c.follow.new.ring was.assembly c.follow.new.assembly was.names c.add-2.new.self was.reported c.add.new.self c.self.invariant held grows follows names placed
+    kept_more was.journal.held c.append_prepared.new.self.held e was.ring c.follow.new.ring was.assembly c.follow.new.assembly was.names c.add-2.new.self was.reported c.add.new.self c.self.invariant held grows follows names placed
 
 pub add-requires-2-clause-numbers : goal.add-requires-2-clause-numbers
 add-requires-2-clause-numbers c =
     let was = c.self.inside in
-    let held : c.append.new.self.held ≡ followed_by was.journal.held (c.args.entry) = c.append.ensures.appended in
-    let within = c.append.ensures.legal.spans in
+    let held : c.append_prepared.new.self.held ≡ followed_by was.journal.held (c.args.entry) = c.append_prepared.ensures.appended in
+    let within = c.append_prepared.ensures.legal.spans in
     let most = ap (λ (v : Held). v.limits.spans) held in
     let count = length-arrivals (map (arc_value {X = Entry} {Z = Global}) c.entries-entries.result.now) ∙ ap span_count c.entries-entries.ensures in
     let room = c.self.invariant.named.numbers in
@@ -92,8 +92,8 @@ add-requires-2-clause-numbers c =
 pub add-requires-2-clause-index : goal.add-requires-2-clause-index
 add-requires-2-clause-index c =
     let was = c.self.inside in
-    let held : c.append.new.self.held ≡ followed_by was.journal.held (c.args.entry) = c.append.ensures.appended in
-    let within = c.append.ensures.legal.spans in
+    let held : c.append_prepared.new.self.held ≡ followed_by was.journal.held (c.args.entry) = c.append_prepared.ensures.appended in
+    let within = c.append_prepared.ensures.legal.spans in
     let most = ap (λ (v : Held). v.limits.spans) held in
     let count = length-arrivals (map (arc_value {X = Entry} {Z = Global}) c.entries-entries.result.now) ∙ ap span_count c.entries-entries.ensures in
     let room = c.self.invariant.named.index in

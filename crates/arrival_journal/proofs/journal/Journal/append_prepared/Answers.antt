@@ -1,4 +1,4 @@
-use Rattle.std.proofs.Common.{◌≡◌, ℕ, get_or, [], ◌∷◌, ◌++◌, length, length-append, map, List, Ok, ap, ◌∙◌, subst, arith, rules}
+use Rattle.std.proofs.Common.{◌≡◌, ℕ, get_or, [], ◌∷◌, ◌++◌, length, length-append, map, List, Ok, ap, ◌∙◌, subst, sym, arith, rules}
 use Rattle.std.proofs.lemmas.List.{map_push, length-map}
 use Rattle.std.specs.Global.{Global}
 use Rattle.trace_model.proofs.Admissions.{MayFollow, IsSaid, admission_says}
@@ -12,19 +12,19 @@ use Rattle.trace_model.specs.Works.{spans_brought}
 use Rattle.arrival_journal.specs.Journals.{Journaled, admission_by}
 use Rattle.arrival_journal.specs.Outlines.{outline_in}
 use Rattle.arrival_journal.proofs.Following.{kept_push}
-use Rattle.arrival_journal.proofs.journal.Journal.append.Goals as goal
+use Rattle.arrival_journal.proofs.journal.Journal.append_prepared.Goals as goal
 
 pub invariant_of-self : goal.invariant_of-self
 invariant_of-self c =
     let was = c.self.inside in
     let h : List Entry = map arc_value was.entries.items in
     let pushed : map arc_value c.push_reserved-2.new.self.items ≡ h ++ arc_value c.into_entry-entry.result ∷ [] = ap (map arc_value) c.push_reserved-2.ensures.items ∙ map_push arc_value was.entries.items c.into_entry-entry.result in
-    let outline : c.of.result ≡ outline_in (arc_value c.into_entry-entry.result) = search rules in
+    let outline : c.split-entry.result.1 ≡ outline_in (arc_value c.into_entry-entry.result) = c.split-entry.ensures.outline ∙ ap outline_in (sym (c.into_entry-entry.ensures ∙ c.split-entry.ensures.entry)) in
     let outlined : c.push_reserved.new.self.items ≡ was.outlines.items ++ outline_in (arc_value c.into_entry-entry.result) ∷ [] = c.push_reserved.ensures.items ∙ ap (λ o. was.outlines.items ++ o ∷ []) outline in
     let count : length c.spans.result.now ≡ length (spans_brought (arc_value c.into_entry-entry.result).work) = search rules in
     let noted : (s : ℕ) → get_or c.note.new.numbers.items s 0 ≡ (if c.into_entry-entry.result.value.seat == s then c.into_entry-entry.result.value.number else get_or was.last_numbers.items s 0) = search rules in
-    let may : admission was.limits h (arc_value c.into_entry-entry.result) ≡ Ok Added = ap (λ (v : Journaled). admission_by v.held (arc_value c.into_entry-entry.result)) c.self.view_is ∙ (ap (λ (x : Entry). admission_by c.args.self.now.held x) c.into_entry-entry.ensures ∙ c.requires) in
-    let sent : SentKept (h ++ arc_value c.into_entry-entry.result ∷ []) c.add.new.self = subst (λ (l : List Entry). SentKept l c.add.new.self) (ap (map (arc_value {X = Entry} {Z = Global})) c.deref-5.ensures.value ∙ pushed) c.add.ensures.kept in
+    let may : admission was.limits h (arc_value c.into_entry-entry.result) ≡ Ok Added = ap (λ (v : Journaled). admission_by v.held (arc_value c.into_entry-entry.result)) c.self.view_is ∙ (ap (λ (x : Entry). admission_by c.args.self.now.held x) (c.into_entry-entry.ensures ∙ c.split-entry.ensures.entry) ∙ c.requires) in
+    let sent : SentKept (h ++ arc_value c.into_entry-entry.result ∷ []) c.add.new.self = subst (λ (l : List Entry). SentKept l c.add.new.self) (ap (map (arc_value {X = Entry} {Z = Global})) c.deref-4.ensures.value ∙ pushed) c.add.ensures.kept in
     rw (pushed, count)
     (kept_push was.limits h (vec_capacity was.entries) (vec_capacity c.push_reserved-2.new.self) was.outlines.items c.push_reserved.new.self.items (vec_capacity was.outlines) (vec_capacity c.push_reserved.new.self)
     was.spans (arc_value c.into_entry-entry.result) was.last_numbers.items c.note.new.numbers.items (vec_capacity was.last_numbers) (vec_capacity c.note.new.numbers) was.sent c.add.new.self
@@ -38,7 +38,7 @@ push_reserved-requires c =
     let was = c.self.inside in
     let h : List Entry = map (arc_value {X = Entry} {Z = Global}) was.entries.items in
     let e = arc_value c.into_entry-entry.result in
-    let may : admission was.limits h e ≡ Ok Added = ap (λ (v : Journaled). admission_by v.held e) c.self.view_is ∙ (ap (λ (x : Entry). admission_by c.args.self.now.held x) c.into_entry-entry.ensures ∙ c.requires) in
+    let may : admission was.limits h e ≡ Ok Added = ap (λ (v : Journaled). admission_by v.held e) c.self.view_is ∙ (ap (λ (x : Entry). admission_by c.args.self.now.held x) (c.into_entry-entry.ensures ∙ c.split-entry.ensures.entry) ∙ c.requires) in
     let follows : MayFollow was.limits h e = subst (IsSaid was.limits h e) may (admission_says was.limits h e) in
     omega (arith, ap length c.self.invariant.outlined, length-map h outline_in, c.self.invariant.room_for_outlines, follows.batches)
 
@@ -47,7 +47,7 @@ push_reserved-requires-2 c =
     let was = c.self.inside in
     let h : List Entry = map (arc_value {X = Entry} {Z = Global}) was.entries.items in
     let e = arc_value c.into_entry-entry.result in
-    let may : admission was.limits h e ≡ Ok Added = ap (λ (v : Journaled). admission_by v.held e) c.self.view_is ∙ (ap (λ (x : Entry). admission_by c.args.self.now.held x) c.into_entry-entry.ensures ∙ c.requires) in
+    let may : admission was.limits h e ≡ Ok Added = ap (λ (v : Journaled). admission_by v.held e) c.self.view_is ∙ (ap (λ (x : Entry). admission_by c.args.self.now.held x) (c.into_entry-entry.ensures ∙ c.split-entry.ensures.entry) ∙ c.requires) in
     let follows : MayFollow was.limits h e = subst (IsSaid was.limits h e) may (admission_says was.limits h e) in
     omega (arith, length-map was.entries.items (arc_value {X = Entry} {Z = Global}), c.self.invariant.room, follows.batches)
 
@@ -56,6 +56,6 @@ add-requires-clause-room c =
     let was = c.self.inside in
     let h : List Entry = map (arc_value {X = Entry} {Z = Global}) was.entries.items in
     let e = arc_value c.into_entry-entry.result in
-    let may : admission was.limits h e ≡ Ok Added = ap (λ (v : Journaled). admission_by v.held e) c.self.view_is ∙ (ap (λ (x : Entry). admission_by c.args.self.now.held x) c.into_entry-entry.ensures ∙ c.requires) in
+    let may : admission was.limits h e ≡ Ok Added = ap (λ (v : Journaled). admission_by v.held e) c.self.view_is ∙ (ap (λ (x : Entry). admission_by c.args.self.now.held x) (c.into_entry-entry.ensures ∙ c.split-entry.ensures.entry) ∙ c.requires) in
     let follows : MayFollow was.limits h e = subst (IsSaid was.limits h e) may (admission_says was.limits h e) in
-    omega (arith, ap length c.deref-5.ensures.value, ap length c.push_reserved-2.ensures.items, length-append was.entries.items (c.into_entry-entry.result ∷ []), length-map was.entries.items (arc_value {X = Entry} {Z = Global}), follows.batches, c.self.invariant.room_for_sent)
+    omega (arith, ap length c.deref-4.ensures.value, ap length c.push_reserved-2.ensures.items, length-append was.entries.items (c.into_entry-entry.result ∷ []), length-map was.entries.items (arc_value {X = Entry} {Z = Global}), follows.batches, c.self.invariant.room_for_sent)
