@@ -4,13 +4,13 @@ ghost use Rattle.text_lines.specs.RunErrors.{Says};
 ghost use Rattle.trace_model.specs.Adjusting.{unadjusted};
 ghost use Rattle.get_command.specs.Runs.{found_in, ids_text, names_text, shown_line, span_line, times_text, trace_lines};
 
-use jaeger_model::{Placed, Seq, TraceId};
+use jaeger_model::{Placed, TraceId};
 use session_devices::Output;
 use span_store::SpanStore;
 use std::alloc::{AllocError, Global};
 use std::io::Write;
 use text_lines::{Page, RunError, say};
-use trace_model::{Answer, Query, Shown};
+use trace_model::{Answer, Query, Shown, ShownTrace};
 
 fn say_ids(said: &mut Vec<u8>, placed: &Placed) -> Result<(), AllocError>
     ensures { OnOk result (said.new.items ≡ said.old.items ++ ids_text placed.now) }
@@ -72,7 +72,7 @@ fn say_spans<W: Output>(alloc: Global, output: &mut W, spans: &[Shown]) -> Resul
 }
 
 /// The shown spans of the trace, or None where there are none.
-fn find_trace(store: &SpanStore, trace: TraceId) -> Result<Option<Seq<Shown>>, AllocError>
+fn find_trace(store: &SpanStore, trace: TraceId) -> Result<Option<ShownTrace>, AllocError>
     ensures { IfOk result (λ found. found ≡
         option_map (map unadjusted) (found_in store.now trace)) }
 {

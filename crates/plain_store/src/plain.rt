@@ -20,7 +20,7 @@ use jaeger_model::{Placed, Seq, TraceId, domain};
 use span_steps::all_unadjusted;
 use std::alloc::{AllocError, Global};
 use std::sync::Arc;
-use trace_model::{Answer, Entry, Limits, Query, Shown, Work};
+use trace_model::{Answer, Entry, Limits, Query, ShownTrace, Work};
 
 /// The spans that an entry brings.
 fn spans_of(alloc: Global, work: &Work) -> Result<Vec<Placed>, AllocError>
@@ -139,14 +139,15 @@ pub fn trace_shown(
     spans: Vec<Placed>,
     limits: Limits,
     raw: bool,
-) -> Result<Seq<Shown>, AllocError>
+) -> Result<ShownTrace, AllocError>
     ensures { IfOk result (λ s. s ≡ shown_as limits raw spans.items) }
 {
-    if raw {
-        all_unadjusted(alloc, spans)
+    let shown = if raw {
+        all_unadjusted(alloc, spans)?
     } else {
-        adjusted_trace(alloc, Seq::from_vec(spans), limits.max_skew)
-    }
+        adjusted_trace(alloc, Seq::from_vec(spans), limits.max_skew)?
+    };
+    Ok(ShownTrace::of_unknown(alloc, shown))
 }
 
 /// The traces, each adjusted.
@@ -155,12 +156,13 @@ fn all_adjusted(
     alloc: Global,
     traces: Vec<Seq<Placed>>,
     limits: Limits,
-) -> Result<Vec<Seq<Shown>>, AllocError>
+) -> Result<Vec<ShownTrace>, AllocError>
     ensures { IfOk result (λ v. v.items ≡ map (adjusted limits.max_skew) traces.items) }
 {
     let mut shown = Vec::new(alloc);
     for trace in traces {
-        shown.push(adjusted_trace(alloc, trace, limits.max_skew)?)?;
+        let adjusted = adjusted_trace(alloc, trace, limits.max_skew)?;
+        shown.push(ShownTrace::of_unknown(alloc, adjusted))?;
     }
     Ok(shown)
 }

@@ -1,16 +1,17 @@
-ghost use Rattle.std.specs.Prelude.{◌≡◌, ◌+◌, ◌<◌, ◌^◌, IfOk, List, map, string_bytes};
+ghost use Rattle.std.specs.Prelude.{◌≡◌, IfOk, List, length, map, string_bytes};
 ghost use Rattle.serde_json.specs.View.{view};
 ghost use Rattle.jaeger_model.specs.declared.batch.Process.{Process as ProcessValue};
-ghost use Rattle.query_json.specs.Naming.{place};
+ghost use Rattle.query_json.specs.Naming.{process_name};
 ghost use Rattle.query_json.specs.Trees.{list, processes_of, processes_tree, span_tree, trace_id_text, trace_of, trace_tree, warnings_tree};
+ghost use Rattle.query_json.specs.Writing.{process_names, process_place};
 
-use crate::naming::{Numbering, process_name};
+use crate::naming::{names, places, process_name};
 use crate::tree::{Tree, list};
 use crate::values::flags_number;
-use jaeger_model::{Process, Seq, Text, span_text, trace_text};
+use jaeger_model::{Process, Text, span_text, trace_text};
 use serde_json::{Map, Value, json, put};
 use std::alloc::{AllocError, Global};
-use trace_model::Shown;
+use trace_model::{Shown, ShownTrace};
 
 /// A list of texts, or null where there are none.
 fn warnings_json(alloc: Global, warnings: &[Text]) -> Result<Value, AllocError>
@@ -22,15 +23,14 @@ fn warnings_json(alloc: Global, warnings: &[Text]) -> Result<Value, AllocError>
     list(alloc, warnings)
 }
 
-/// A span whose process has this number.
-fn span_json(alloc: Global, number: usize, shown: &Shown) -> Result<Value, AllocError>
-    requires { number + 1 < 2 ^ 64 }
-    ensures { (ps : List ProcessValue) → number ≡ place shown.now.placed.process ps →
+/// A span whose process goes by this name.
+fn span_json(alloc: Global, process: &str, shown: &Shown) -> Result<Value, AllocError>
+    ensures { (ps : List ProcessValue) →
+        process.now ≡ process_name (process_place ps shown.now) →
         IfOk result (λ v. view v ≡ span_tree ps shown.now) }
 {
     let span = &shown.placed.span;
     let logs = list(alloc, span.logs.as_slice())?;
-    let process = process_name(alloc, number)?;
     let references = list(alloc, span.references.as_slice())?;
     let id = span_text(alloc, span.id)?;
     let tags = list(alloc, span.tags.as_slice())?;
@@ -51,19 +51,25 @@ fn span_json(alloc: Global, number: usize, shown: &Shown) -> Result<Value, Alloc
     })
 }
 
-/// The spans of a trace, and their processes, each once, in the order of their numbers.
-fn spans_json(alloc: Global, spans: &[Shown]) -> Result<(Value, Vec<&Process>), AllocError>
-    ensures spans { IfOk result (λ r. view r.0 ≡
+/// The spans, each with the name of its process, which stands at its place.
+fn spans_json(
+    alloc: Global,
+    names: &[String],
+    places: &[usize],
+    spans: &[Shown],
+) -> Result<Value, AllocError>
+    requires names { map string_bytes names.now ≡ process_names (length (processes_of spans.now)) }
+    requires count { length names.now ≡ length (processes_of spans.now) }
+    requires places { places.now ≡ map (process_place (processes_of spans.now)) spans.now }
+    ensures { IfOk result (λ v. view v ≡
         list (map (span_tree (processes_of spans.now)) spans.now)) }
-    ensures processes { IfOk result (λ r. map (λ p. p.now) r.1.items ≡ processes_of spans.now) }
 {
-    let mut numbering = Numbering::new(alloc);
     let mut trees = Vec::new(alloc);
-    for span in spans {
-        let number = numbering.number_of(span.placed.process.get())?;
-        trees.push(span_json(alloc, number, span)?)?;
+    for (index, shown) in spans.iter().enumerate() {
+        let process = names[places[index]].as_str();
+        trees.push(span_json(alloc, process, shown)?)?;
     }
-    Ok((Value::Array(trees), numbering.into_processes()))
+    Ok(Value::Array(trees))
 }
 
 /// The processes under their names.
@@ -100,12 +106,14 @@ fn trace_json(
 }
 
 /// A trace: its spans in order, and their processes under the names that the spans give.
-impl Tree for Seq<Shown> {
+impl Tree for ShownTrace {
     ghost tree = { trace_tree };
 
     fn to_json(&self, alloc: Global) -> Result<Value, AllocError> {
         let shown = self.as_slice();
-        let (spans, known) = spans_json(alloc, shown)?;
+        let (places, known) = places(alloc, self)?;
+        let names = names(alloc, known.len())?;
+        let spans = spans_json(alloc, &names, &places, shown)?;
         let processes = processes_json(alloc, &known)?;
         let id = trace_id_text(alloc, shown)?;
         trace_json(alloc, processes, spans, id)

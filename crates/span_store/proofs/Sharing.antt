@@ -1,8 +1,8 @@
 -- Gathered spans of one place share a process.
-use Rattle.std.proofs.Common.{◌≡◌, ℕ, ◌+◌, ◌<◌, List, arith}
+use Rattle.std.proofs.Common.{ℕ, ◌+◌, List, arith}
 use Rattle.jaeger_model.specs.declared.placed.Placed.{Placed}
 use Rattle.trace_model.specs.declared.entry.Entry.{Entry}
-use Rattle.trace_adjust.specs.Hosts.{ShareProcesses}
+use Rattle.trace_model.specs.Sharing.{ShareProcesses}
 use Rattle.journal_traces.specs.Standing.{AreAt}
 use Rattle.journal_traces.proofs.Processes.{one_process}
 

@@ -13,7 +13,7 @@ use jaeger_model::{Seq, TraceId};
 use journal_traces::{Candidates, gather};
 use std::alloc::{AllocError, Global};
 use trace_adjust::adjusted;
-use trace_model::{Link, Shown};
+use trace_model::{Link, ShownTrace};
 
 /// The trace at a place as it is shown, without spans where there is none.
 fn adjusted_at(
@@ -21,16 +21,16 @@ fn adjusted_at(
     traces: &Candidates<'_>,
     place: usize,
     max_skew: u64,
-) -> Result<Seq<Shown>, AllocError>
+) -> Result<ShownTrace, AllocError>
     ensures { IfOk result (λ s. s ≡ adjusted max_skew
         (slice_index_or (traces_of traces.now) place [])) }
 {
     let Some(spots) = traces.spots.get(place) else {
-        return Ok(Seq::new(alloc));
+        return Ok(ShownTrace::of_unknown(alloc, Seq::new(alloc)));
     };
     let gathered = gather(alloc, traces.journal, spots.again())?;
     let shown = adjusted(alloc, gathered.spans, &gathered.places, max_skew)?;
-    Ok(Seq::from_vec(shown))
+    Ok(ShownTrace::new(Seq::from_vec(shown), gathered.places))
 }
 
 /// The traces at the places as they are shown.
@@ -40,7 +40,7 @@ fn adjusted_traces(
     traces: &Candidates<'_>,
     places: &[usize],
     max_skew: u64,
-) -> Result<Vec<Seq<Shown>>, AllocError>
+) -> Result<Vec<ShownTrace>, AllocError>
     ensures { IfOk result (λ v. v.items ≡
         map (λ i. adjusted max_skew (slice_index_or (traces_of traces.now) i [])) places.now) }
 {
@@ -56,7 +56,7 @@ pub(crate) fn find(
     alloc: Global,
     traces: &Candidates<'_>,
     max_skew: u64,
-) -> Result<Vec<Seq<Shown>>, AllocError>
+) -> Result<Vec<ShownTrace>, AllocError>
     ensures { IfOk result (λ v. v.items ≡
         map (adjusted max_skew) (found_in (query_of traces.now) (traces_of traces.now))) }
 {

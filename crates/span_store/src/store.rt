@@ -13,7 +13,7 @@ ghost use Rattle.trace_model.specs.Refusals.{followed_by, with_admitted};
 ghost use Rattle.arrival_journal.specs.Journals.{admission_by, place_by};
 ghost use Rattle.trace_assembly.specs.Located.{located_events, shown_spots};
 ghost use Rattle.trace_assembly.specs.Rows.{spots_of};
-ghost use Rattle.trace_adjust.specs.Hosts.{ShareProcesses};
+ghost use Rattle.trace_model.specs.Sharing.{ShareProcesses};
 ghost use Rattle.call_links.specs.Seen.{AreNumbered};
 ghost use Rattle.journal_traces.specs.Given.{given_traces};
 ghost use Rattle.journal_traces.specs.Standing.{traces_named};
@@ -35,7 +35,7 @@ use std::marker::Model;
 use std::sync::Arc;
 use trace_adjust::adjusted;
 use trace_assembly::{Assembly, Spots};
-use trace_model::{Admission, Answer, Entry, Find, Limits, Query, Refusal, Shown};
+use trace_model::{Admission, Answer, Entry, Find, Limits, Query, Refusal, ShownTrace};
 use trace_ring::Ring;
 
 /// The accepted entries of one store, and quick answers from them.
@@ -396,7 +396,7 @@ impl SpanStore {
         let shown = shown_as(
             self.alloc,
             gathered.spans,
-            &gathered.places,
+            gathered.places,
             self.limits(),
             raw,
         )?;
@@ -409,16 +409,17 @@ impl SpanStore {
 fn shown_as(
     alloc: Global,
     spans: Vec<Placed>,
-    places: &[u64],
+    places: Vec<u64>,
     limits: Limits,
     raw: bool,
-) -> Result<Seq<Shown>, AllocError>
-    requires { ShareProcesses spans.items places.now }
+) -> Result<ShownTrace, AllocError>
+    requires { ShareProcesses spans.items places.items }
     ensures { IfOk result (λ s. s ≡ shown_as limits raw spans.items) }
 {
     if raw {
-        return all_unadjusted(alloc, spans);
+        let shown = all_unadjusted(alloc, spans)?;
+        return Ok(ShownTrace::new(shown, places));
     }
-    let shown = adjusted(alloc, spans, places, limits.max_skew)?;
-    Ok(Seq::from_vec(shown))
+    let shown = adjusted(alloc, spans, &places, limits.max_skew)?;
+    Ok(ShownTrace::new(Seq::from_vec(shown), places))
 }

@@ -1,4 +1,5 @@
 use crate::entries::{entry, kept};
+use crate::shown::shown;
 use id_table::IdTable;
 use jaeger_model::{Text, TraceId};
 use plain_store::plain_answer;
@@ -8,7 +9,7 @@ use std::hash::{BuildHasher, Hash, Hasher, RandomState};
 use std::mem::drop;
 use std::sync::Arc;
 use std::test::*;
-use trace_model::{Answer, Entry, Limits, Query};
+use trace_model::{Entry, Limits, Query};
 use trace_samples::{list_of, span};
 
 /// What there is room for.
@@ -144,13 +145,6 @@ fn entries_of(
 /// Limits by which three traces are shown.
 fn three_traces() -> Result<Limits, Fail> {
     Ok(Limits::new(ROOM, ROOM, 3, 0).ok_or("limits")?)
-}
-
-/// What an answer shows.
-fn shown(alloc: Global, answer: Answer) -> Result<String, AllocError> {
-    let text = format!(in alloc; "{answer:?}");
-    drop(answer);
-    Ok(text?)
 }
 
 /// What the plain store of the entries answers, as text.

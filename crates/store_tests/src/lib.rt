@@ -8,7 +8,7 @@
 //! * `stores`: `span_store`, put the same questions as the plain store of its entries.
 //! * `collisions`: ids and names that a key doesn't spread.
 //! * `large`: a store of many entries.
-//! * `entries`: entries for these.
+//! * `entries`, `shown`: entries for these, and what an answer shows.
 #![tactic(auto)]
 
 #[cfg(test)]
@@ -25,6 +25,8 @@ mod limits;
 mod names;
 #[cfg(test)]
 mod rings;
+#[cfg(test)]
+mod shown;
 #[cfg(test)]
 mod stores;
 #[cfg(test)]

@@ -1,4 +1,5 @@
 use crate::entries::{entry, id, kept, limit};
+use crate::shown::shown;
 use jaeger_model::{Seq, Span, SpanId, Tag, Text};
 use plain_store::plain_answer;
 use span_store::{SpanStore, replay, replayed_answer};
@@ -7,7 +8,7 @@ use std::hash::RandomState;
 use std::mem::drop;
 use std::sync::Arc;
 use std::test::*;
-use trace_model::{Answer, Entry, Find, Limits, Query, Refusal};
+use trace_model::{Entry, Find, Limits, Query, Refusal};
 use trace_samples::{list_of, span, text_tag};
 
 /// A number that looks random and is the same in every run.
@@ -106,13 +107,6 @@ fn find(alloc: Global, seed: u64) -> Result<Find, AllocError> {
         duration_max: 60,
         limit: seed % 4,
     })
-}
-
-/// What an answer shows.
-fn shown(alloc: Global, answer: Answer) -> Result<String, AllocError> {
-    let text = format!(in alloc; "{answer:?}");
-    drop(answer);
-    Ok(text?)
 }
 
 /// What the plain store of the store's entries answers, as text.

@@ -14,7 +14,8 @@ use Rattle.trace_model.specs.declared.answer.Shown.{Shown}
 use Rattle.trace_model.specs.Adjusting.{host_of, spans_of, unadjusted, with_parent_first, new_delta, clock_at, clock_below}
 use Rattle.trace_adjust.specs.declared.clock.HostClock.{HostClock}
 use Rattle.trace_adjust.specs.Settling.{near, is_unset, written, delta_at, delta_or_none}
-use Rattle.trace_adjust.specs.Hosts.{ShareProcesses, hosts_of, number_in, hosted, all_hosted, AreNumbers, IsNumber, IsNumbered, AreNumbered, clock_by, below_by, near_by, delta_of, delta_by}
+use Rattle.trace_model.specs.Sharing.{ShareProcesses}
+use Rattle.trace_adjust.specs.Hosts.{hosts_of, number_in, hosted, all_hosted, AreNumbers, IsNumber, IsNumbered, AreNumbered, clock_by, below_by, near_by, delta_of, delta_by}
 use Rattle.trace_adjust.proofs.Places.{as_many, placed_at}
 
 -- ---- processes

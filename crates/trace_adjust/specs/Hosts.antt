@@ -1,5 +1,5 @@
 -- The hosts of the spans of a trace by numbers, and clocks that name them so.
-use Rattle.std.specs.Prelude.{◌≡◌, ℕ, suc, pos, ◌+◌, ◌<◌, List, [], ◌∷◌, length, get_or, map, not, ◌||◌, ◌==◌, Option, Some, None, option_map, unwrap_or, ℤ, if◌then◌else◌}
+use Rattle.std.specs.Prelude.{◌≡◌, ℕ, suc, pos, ◌+◌, ◌<◌, List, [], ◌∷◌, get_or, map, not, ◌||◌, ◌==◌, Option, Some, None, option_map, unwrap_or, ℤ, if◌then◌else◌}
 use Rattle.jaeger_model.specs.declared.placed.Placed.{Placed}
 use Rattle.jaeger_model.specs.declared.span.Span.{Span}
 use Rattle.jaeger_model.specs.Texts.{same_text}
@@ -7,10 +7,6 @@ use Rattle.trace_model.specs.declared.clock.Clock.{Clock}
 use Rattle.trace_model.specs.Adjusting.{host_of, start_at, delta_between}
 use Rattle.trace_adjust.specs.Settling.{AreRight}
 use Rattle.trace_adjust.specs.declared.clock.HostClock.{HostClock}
-
--- spans that stand together and have one place have one process; a span without a place stands alone
-abbrev pub ShareProcesses : List Placed → List ℕ → Type 0
-ShareProcesses trace places = (k : ℕ) (d : Placed) → k + 1 < length places → get_or places k 0 ≡ get_or places (k + 1) 0 → (get_or trace k d).process ≡ (get_or trace (k + 1) d).process
 
 -- the hosts of the spans, behind the empty one
 abbrev pub hosts_of : List Placed → List (List ℕ)

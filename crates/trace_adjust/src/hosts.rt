@@ -5,7 +5,8 @@ ghost use Rattle.std.specs.BTreeMap.{get};
 ghost use Rattle.std.specs.Option.{option_or};
 ghost use Rattle.jaeger_model.specs.Texts.{same_text, text_cmp};
 ghost use Rattle.trace_model.specs.Adjusting.{spans_of};
-ghost use Rattle.trace_adjust.specs.Hosts.{ShareProcesses, AreNumbers, hosts_of};
+ghost use Rattle.trace_model.specs.Sharing.{ShareProcesses};
+ghost use Rattle.trace_adjust.specs.Hosts.{AreNumbers, hosts_of};
 
 use crate::clock::NO_HOST;
 use jaeger_model::Text;

@@ -5,7 +5,8 @@ ghost use Rattle.std.specs.Ordering.{nat_cmp};
 ghost use Rattle.std.specs.BTreeMap.{get};
 ghost use Rattle.trace_model.specs.Adjusting.{with_parent_first, unadjusted, spans_of, shown_adjusted, adjusted};
 ghost use Rattle.trace_adjust.specs.Settling.{first_at, AreClocks};
-ghost use Rattle.trace_adjust.specs.Hosts.{ShareProcesses, hosts_of, all_hosted, delta_by};
+ghost use Rattle.trace_model.specs.Sharing.{ShareProcesses};
+ghost use Rattle.trace_adjust.specs.Hosts.{hosts_of, all_hosted, delta_by};
 ghost use Rattle.trace_adjust.specs.Partly.{IsPartlyAdjusted};
 
 use crate::clock::HostClock;

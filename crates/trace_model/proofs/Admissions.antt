@@ -1,7 +1,7 @@
 -- What follows from each answer to an entry that is handed in. Whoever stands above uses these facts, and
 -- looks into `admission` no further.
-use Rattle.std.proofs.Common.{◌≡◌, ℕ, zero, suc, ◌+◌, ◌<◌, ◌≤◌, Bool, true, false, ◌&&◌, List, [], ◌∷◌, ◌++◌, length, get_or, Some, None, Option, refl, sym, ap, ◌∙◌, arith, subst}
-use Rattle.std.specs.Prelude.{◌⊎◌, Result, Ok, Err, nat_le, nat_lt, cond, position, slice_get, if◌then◌else◌}
+use Rattle.std.proofs.Common.{◌≡◌, ℕ, suc, ◌+◌, ◌<◌, ◌≤◌, Bool, true, false, ◌&&◌, List, [], ◌∷◌, length, get_or, Some, None, refl, sym, ap, ◌∙◌, arith}
+use Rattle.std.specs.Prelude.{Result, Ok, Err, nat_le, position, if◌then◌else◌}
 use Rattle.std.specs.List.{list_any, position_or_len}
 use Rattle.std.specs.Option.{option_map_or}
 use Rattle.std.proofs.lemmas.Bool.{leb-true, leb-false, false≢true}
@@ -17,8 +17,8 @@ use Rattle.trace_model.specs.declared.limits.Limits.{Limits}
 use Rattle.trace_model.specs.declared.refusal.Refusal.{Refusal}
 use Rattle.trace_model.specs.declared.refusal.Refusal.TheVariants.{JournalFull, Stale, Conflict}
 use Rattle.trace_model.specs.Works.{spans_brought, same_work, same_work-decides}
-use Rattle.trace_model.specs.Histories.{last_number, span_count, IsLegal}
-use Rattle.trace_model.specs.Resending.{resends, is_sent, sent_before, AnswersFor}
+use Rattle.trace_model.specs.Histories.{last_number, span_count}
+use Rattle.trace_model.specs.Resending.{resends, is_sent, sent_before}
 use Rattle.trace_model.specs.Places.{entry_at}
 use Rattle.trace_model.specs.Refusals.{has_room, repeated, admitted_anew, admission}
 

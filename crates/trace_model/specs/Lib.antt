@@ -17,3 +17,4 @@ pub mod RefusalTexts
 pub mod Steadiness
 pub mod Places
 pub mod Seeing
+pub mod Sharing

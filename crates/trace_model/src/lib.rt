@@ -2,7 +2,7 @@
 //! plain list.
 //!
 //! * `limits`, `entry`, `admission`, `refusal`: what is kept, and why an entry is turned away.
-//! * `query`, `answer`: what can be asked, and what is answered.
+//! * `query`, `answer`: what can be asked, and what is answered; `shown_trace`: the spans of a trace that is shown.
 //! * `clock`: what the spans below a span are given of its host's clock.
 //!
 //! `specs/` says what is shown and answered. The program of crate `plain_store` computes it, and
@@ -16,6 +16,7 @@ mod entry;
 mod limits;
 mod query;
 mod refusal;
+mod shown_trace;
 
 pub use admission::Admission;
 pub use answer::{Answer, Link, Operation, Shown};
@@ -24,3 +25,4 @@ pub use entry::{Entry, Work};
 pub use limits::Limits;
 pub use query::{Find, Query};
 pub use refusal::Refusal;
+pub use shown_trace::ShownTrace;

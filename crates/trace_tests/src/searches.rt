@@ -5,7 +5,7 @@ use std::alloc::{AllocError, Global};
 use std::hash::RandomState;
 use std::mem::drop;
 use std::test::*;
-use trace_model::{Answer, Find, Query, Shown};
+use trace_model::{Answer, Find, Query, Shown, ShownTrace};
 use trace_samples::{list_of, placed, process, span};
 
 /// A span of service `a` of this trace.
@@ -184,7 +184,7 @@ fn low_of(trace: &[Shown]) -> u64 {
 }
 
 /// The traces are those at these places.
-fn are_traces_at(traces: &[Seq<Shown>], places: &[usize]) -> bool {
+fn are_traces_at(traces: &[ShownTrace], places: &[usize]) -> bool {
     traces.len() == places.len()
         && traces
             .iter()
@@ -201,7 +201,7 @@ fn ids_in(answer: &Answer) -> &[TraceId] {
 }
 
 /// The traces that are found.
-fn traces_in(answer: &Answer) -> &[Seq<Shown>] {
+fn traces_in(answer: &Answer) -> &[ShownTrace] {
     match answer {
         Answer::Traces(traces) => traces.as_slice(),
         _ => &[],

@@ -4,7 +4,7 @@ use serde_json::Value;
 use std::alloc::{AllocError, Global};
 use std::process::Abort;
 use std::test::*;
-use trace_model::{Answer, Shown};
+use trace_model::{Answer, Shown, ShownTrace};
 use trace_samples::{list_of, placed};
 
 /// The span of the sample batch: trace 1, span 2, operation `op`, from 1000 for 50 microseconds.
@@ -20,7 +20,8 @@ fn shown(alloc: Global, service: &str, span: Span) -> Result<Shown, AllocError> 
 }
 
 fn found(alloc: Global, span: Shown) -> Result<Answer, AllocError> {
-    Ok(Answer::Trace(Some(list_of(alloc, span)?)))
+    let spans = list_of(alloc, span)?;
+    Ok(Answer::Trace(Some(ShownTrace::of_unknown(alloc, spans))))
 }
 
 /// A call that found no memory is made once more.
@@ -122,7 +123,8 @@ fn many_spans(alloc: Global) -> Result<Answer, AllocError> {
     for _ in 0..MANY {
         spans.push(shown(alloc, "a", span(alloc)?)?)?;
     }
-    Ok(Answer::Trace(Some(Seq::from_vec(spans))))
+    let spans = Seq::from_vec(spans);
+    Ok(Answer::Trace(Some(ShownTrace::of_unknown(alloc, spans))))
 }
 
 /// How long the text of the answer is, and that of its tree.

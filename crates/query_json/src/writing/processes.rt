@@ -4,12 +4,10 @@ ghost use Rattle.query_json.specs.Trees.{named, process_tree, processes_of, proc
 ghost use Rattle.query_json.specs.Writing.{named_members, process_names, process_place, tree_tokens};
 
 use super::{WriteJson, list_field, text_field};
-use crate::naming::{Numbering, process_name};
 use jaeger_model::Process;
 use json::Writer;
 use std::alloc::{AllocError, Global};
 use std::collections::BTreeMap;
-use trace_model::Shown;
 
 impl WriteJson for Process {
     ghost tree = { process_tree };
@@ -21,36 +19,6 @@ impl WriteJson for Process {
         out.end_object()?;
         Ok(())
     }
-}
-
-/// The place of each span's process among the processes, and these, each once, by first appearance.
-pub(super) fn places(
-    alloc: Global,
-    spans: &[Shown],
-) -> Result<(Vec<usize>, Vec<&Process>), AllocError>
-    ensures places { IfOk result (λ r.
-        r.0.items ≡ map (process_place (processes_of spans.now)) spans.now) }
-    ensures processes { IfOk result (λ r. map (λ p. p.now) r.1.items ≡ processes_of spans.now) }
-{
-    let mut numbering = Numbering::new(alloc);
-    let mut places = Vec::with_capacity(alloc, spans.len())?;
-    for span in spans {
-        let place = numbering.number_of(span.placed.process.get())?;
-        places.push(place)?;
-    }
-    Ok((places, numbering.into_processes()))
-}
-
-/// The names of so many processes, in the order of their places.
-pub(super) fn names(alloc: Global, count: usize) -> Result<Vec<String>, AllocError>
-    ensures names { IfOk result (λ v. map string_bytes v.items ≡ process_names count) }
-    ensures count { IfOk result (λ v. length v.items ≡ count) }
-{
-    let mut names = Vec::with_capacity(alloc, count)?;
-    for place in 0..count {
-        names.push(process_name(alloc, place)?)?;
-    }
-    Ok(names)
 }
 
 /// The processes by their names.

@@ -5,17 +5,17 @@ ghost use Rattle.query_json.specs.Naming.{process_name};
 ghost use Rattle.query_json.specs.Trees.{flags_number, list, processes_of, span_tree, trace_tree};
 ghost use Rattle.query_json.specs.Writing.{field_tokens, process_names, process_place, tree_tokens};
 
-use super::processes::{names, places, write_processes};
+use super::processes::write_processes;
 use super::{
     WriteJson, count_field, field, integer_field, list_field, null_field, text_field,
     warnings_field,
 };
+use crate::naming::{names, places};
 use crate::trace::trace_id_text;
 use crate::values::flags_number;
-use jaeger_model::Seq;
 use json::Writer;
 use std::alloc::{AllocError, Global};
-use trace_model::Shown;
+use trace_model::{Shown, ShownTrace};
 
 fn flags_field(out: &mut Writer, key: &str, flags: &i32) -> Result<(), AllocError>
     ensures tokens { OnOk result (out.new.tokens
@@ -79,12 +79,12 @@ fn write_spans(
 }
 
 /// A trace: its spans in order, and their processes under the names that the spans give.
-impl WriteJson for Seq<Shown> {
+impl WriteJson for ShownTrace {
     ghost tree = { trace_tree };
 
     fn write(&self, alloc: Global, out: &mut Writer) -> Result<(), AllocError> {
         let spans = self.as_slice();
-        let (places, processes) = places(alloc, spans)?;
+        let (places, processes) = places(alloc, self)?;
         let names = names(alloc, processes.len())?;
         let id = trace_id_text(alloc, spans)?;
         out.begin_object()?;

@@ -2,7 +2,7 @@ use Rattle.std.proofs.Common.{◌≡◌, ◌∙◌, length, sym, ap, subst, rule
 use Rattle.std.proofs.lemmas.List.{take_at}
 use Rattle.trace_model.specs.Adjusting.{spans_of, with_parent_first, shown_adjusted}
 use Rattle.std.specs.Prelude.{map}
-use Rattle.trace_adjust.specs.Hosts.{ShareProcesses}
+use Rattle.trace_model.specs.Sharing.{ShareProcesses}
 use Rattle.trace_adjust.proofs.Hosting.{shared_first}
 use Rattle.trace_adjust.proofs.Shifting.{fresh}
 use Rattle.trace_adjust.proofs.skew.adjusted.Goals as goal

@@ -6,7 +6,6 @@ use Rattle.trace_model.specs.Answers.{shown_as}
 use Rattle.trace_model.specs.Histories.{events}
 use Rattle.trace_model.specs.Showing.{spans_of_trace, trace_found}
 use Rattle.trace_assembly.specs.Rows.{spots_of}
-use Rattle.trace_adjust.specs.Hosts.{ShareProcesses}
 use Rattle.span_store.proofs.Sharing.{share_processes}
 use Rattle.span_store.proofs.Following.{spots_name, none_found, some_found}
 use Rattle.span_store.proofs.store.SpanStore.trace.Goals as goal
@@ -33,4 +32,4 @@ returns c =
 pub shown_as-requires : goal.shown_as-requires
 shown_as-requires c =
     let gathered = c.in_ok-gathered.gathered in
-    subst (ShareProcesses gathered.spans.items) (sym c.deref.ensures.value) (share_processes c.self.inside.journal.held.entries gathered.spans.items gathered.places.items c.in_ok-gathered.ensures.places)
+    share_processes c.self.inside.journal.held.entries gathered.spans.items gathered.places.items c.in_ok-gathered.ensures.places

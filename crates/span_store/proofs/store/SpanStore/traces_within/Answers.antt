@@ -1,4 +1,4 @@
-use Rattle.std.proofs.Common.{◌≡◌, ◌∙◌, ◌<◌, ◌^◌, ap, arith, subst, map, filter, length, w64, List}
+use Rattle.std.proofs.Common.{◌≡◌, ◌∙◌, ap, arith, subst, map, filter, w64, List}
 use Rattle.std.proofs.lemmas.Int.{to_z-of_z}
 use Rattle.std.specs.List.{list_any}
 use Rattle.jaeger_model.specs.declared.ids.TraceId.{TraceId}

@@ -5,7 +5,7 @@ use Rattle.trace_model.specs.declared.answer.Shown.{Shown}
 use Rattle.query_json.specs.Trees.{list, processes_of, processes_tree, span_tree, trace_id_text, trace_tree}
 use Rattle.query_json.specs.Writing.{field_tokens, tree_tokens}
 use Rattle.query_json.proofs.Objects.{after, keyed, put_tree-tokens}
-use Rattle.query_json.proofs.writing.trace.SeqShownWriteJson.write.Goals as goal
+use Rattle.query_json.proofs.writing.trace.ShownTraceWriteJson.write.Goals as goal
 
 pub returns-clause-tokens : goal.returns-clause-tokens
 returns-clause-tokens c =
@@ -13,7 +13,7 @@ returns-clause-tokens c =
     let ps = processes_of ss in
     let slice = c.as_slice-spans.ensures in
     let processes : c.write_processes.new.out.tokens ≡ c.begin_object.new.self.tokens ++ field_tokens (codes "processes") (processes_tree ps) =
-    keyed _ _ _ c.in_ok-key.ensures.ok (rw (c.deref-2.ensures.value, c.in_ok-places.ensures.processes, slice) at c.in_ok-write_processes.ensures.tokens) in
+    keyed _ _ _ c.in_ok-key.ensures.ok (rw (c.deref-2.ensures.value, c.in_ok-places.ensures.processes) at c.in_ok-write_processes.ensures.tokens) in
     let spans : c.write_spans.new.out.tokens ≡ c.write_processes.new.out.tokens ++ field_tokens (codes "spans") (list (map (span_tree ps) ss)) =
     keyed _ _ _ c.in_ok-key-2.ensures.ok (c.in_ok-write_spans.ensures.tokens ∙ ap (λ (xs : List Shown). c.key-2.new.self.tokens ++ tree_tokens (list (map (span_tree (processes_of xs)) xs))) slice) in
     let id : c.text_field.new.out.tokens ≡ c.write_spans.new.out.tokens ++ field_tokens (codes "traceID") (string (trace_id_text ss)) =

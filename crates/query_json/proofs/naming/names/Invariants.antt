@@ -1,6 +1,6 @@
 use Rattle.std.proofs.Common.{◌≡◌, length, map, string_bytes}
 use Rattle.query_json.specs.Writing.{process_names}
-use Rattle.query_json.proofs.writing.processes.names.Given as goal
+use Rattle.query_json.proofs.naming.names.Given as goal
 
 abbrev pub invariant-loop-place : goal.invariant-loop-place
 invariant-loop-place l = record {
