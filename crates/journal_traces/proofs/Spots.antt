@@ -1,10 +1,10 @@
 -- The spans that spots name, one by one.
-use Rattle.std.proofs.Common.{◌≡◌, ℕ, ℤ, zero, suc, ◌+◌, ◌<◌, ◌≤◌, Bool, true, false, ◌||◌, cond, List, [], ◌∷◌, ◌++◌, map, length, take, drop, get_or, append_assoc, refl, sym, ap, ◌∙◌, Some, None, Option}
+use Rattle.std.proofs.Common.{◌≡◌, ℕ, ℤ, zero, suc, ◌+◌, ◌<◌, Bool, true, false, ◌||◌, cond, List, [], ◌∷◌, ◌++◌, map, length, take, get_or, append_assoc, refl, sym, ap, ◌∙◌, Some, None, Option}
 use denote.Ref.{Bor}
 use Rattle.std.specs.Prelude.{pos, slice_get, slice_index_or, filter, if◌then◌else◌, flat_map}
 use Rattle.std.specs.List.{list_any, cons_option}
-use Rattle.std.proofs.lemmas.List.{append-nil, take_more, drop_more, drop_all, map_push}
-use Rattle.std.proofs.lemmas.List.Elements.{filter-append, filter_map-append}
+use Rattle.std.proofs.lemmas.List.{append-nil, take_more, map_push}
+use Rattle.std.proofs.lemmas.List.Elements.{filter-append}
 use Rattle.std.specs.Option.{option_copied, option_and_then}
 use Rattle.std.specs.Slice.{IsItemAt}
 use Rattle.jaeger_model.specs.declared.ids.TraceId.{TraceId}

@@ -3,3 +3,4 @@ pub mod Picked
 pub mod Standing
 pub mod Looked
 pub mod Pruned
+pub mod Lasting

@@ -5,12 +5,14 @@
 //! * `gathering`: these spans, copied.
 //! * `pruning`: entries that a search passes over by their outlines.
 //! * `searching`: which traces a search by a service looks at.
+//! * `judging`: spans judged one after the other.
 //! * `candidates`: these traces, as a search looks at them.
 //! * `seeing`: the spans of the traces in a window of time.
 #![tactic(auto)]
 
 mod candidates;
 mod gathering;
+mod judging;
 mod pruning;
 mod searching;
 mod seeing;

@@ -6,16 +6,16 @@ ghost use Rattle.std.specs.List.{list_any};
 ghost use Rattle.jaeger_model.specs.Parents.{domain};
 ghost use Rattle.trace_model.specs.Searching.{matches, first_start, first_id};
 ghost use Rattle.trace_model.specs.Linking.{in_window};
-ghost use Rattle.trace_model.specs.Seeing.{seen};
 ghost use Rattle.trace_assembly.specs.Located.{span_at};
 ghost use Rattle.journal_traces.specs.Given.{given_span};
 ghost use Rattle.journal_traces.specs.Standing.{batch_at, spans_named};
 
+use crate::judging::Judging;
 use crate::pruning::may_reach;
 use arrival_journal::Journal;
-use find_traces::{JudgedProcess, Wanted};
+use find_traces::Wanted;
 use jaeger_model::{Batch, Seen, TraceId};
-use span_steps::{is_in_window, is_named, is_timed};
+use span_steps::is_in_window;
 use std::alloc::{AllocError, Global};
 use trace_assembly::{Spot, Spots};
 
@@ -90,48 +90,20 @@ pub(crate) fn first_id(journal: &Journal, spots: Spots<'_>) -> Option<TraceId>
     }
 }
 
-/// Whether the span meets every condition of the search. Its process is judged where the span has the
-/// asked names, duration and start.
-fn is_match(alloc: Global, wanted: &Wanted<'_>, at: Seen<'_>) -> Result<bool, AllocError>
-    ensures { IfOk result (λ b. b ≡ matches wanted.now (seen at.entry)) }
-{
-    let query = wanted.query();
-    if !is_named(at, query) || !is_timed(at, query) {
-        return Ok(false);
-    }
-    let judged = JudgedProcess::new(alloc, wanted, at.process)?;
-    judged.is_match(alloc, at.span)
-}
-
-/// Whether the span at a spot meets every condition of the search.
-fn is_match_at(
-    alloc: Global,
-    journal: &Journal,
-    spot: Spot,
-    wanted: &Wanted<'_>,
-) -> Result<bool, AllocError>
-    ensures { IfOk result (λ b. b ≡
-        list_any (matches wanted.now) (spans_named journal.now.held.entries (spot ∷ []))) }
-{
-    match seen_at(journal, spot) {
-        Some(seen) => is_match(alloc, wanted, seen),
-        None => Ok(false),
-    }
-}
-
 /// Whether one of the spans meets every condition of the search. None is copied, and none is looked
 /// at after that one.
-pub(crate) fn is_found(
+pub(crate) fn is_found<'a>(
     alloc: Global,
-    journal: &Journal,
+    journal: &'a Journal,
     spots: Spots<'_>,
-    wanted: &Wanted<'_>,
+    wanted: &'a Wanted<'a>,
 ) -> Result<bool, AllocError>
     ensures { IfOk result (λ b. b ≡
         list_any (matches wanted.now) (spans_named journal.now.held.entries spots.entry)) }
 {
+    let mut judging = Judging::new(journal, wanted);
     for spot in spots {
-        let is_match = is_match_at(alloc, journal, spot, wanted)?;
+        let is_match = judging.is_match_at(alloc, spot)?;
         if is_match {
             return Ok(true);
         }

@@ -1,5 +1,4 @@
-use Rattle.std.proofs.Common.{◌≡◌, ◌∙◌, ◌||◌, ap, sym, take, get_or, true, Some}
-use Rattle.trace_model.proofs.Traces.{same_is}
+use Rattle.std.proofs.Common.{◌≡◌, ◌∙◌, ◌||◌, sym, take, get_or, true, Some}
 use Rattle.journal_traces.specs.Picked.{reaches, meets, met, same_before}
 use Rattle.journal_traces.proofs.Marking.{marked_none, marked_more, marked_again, marked_all, reached_own, reached_still, news, no_news, before_is}
 use Rattle.journal_traces.proofs.searching.mark_spans.Goals as goal

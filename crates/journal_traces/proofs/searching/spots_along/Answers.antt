@@ -1,4 +1,4 @@
-use Rattle.std.proofs.Common.{◌≡◌, ◌∙◌, ap, sym, Bool, length}
+use Rattle.std.proofs.Common.{◌∙◌, ap, sym, Bool, length}
 use Rattle.std.proofs.lemmas.List.{length-map}
 use Rattle.jaeger_model.specs.declared.ids.TraceId.{TraceId}
 use Rattle.journal_traces.specs.Picked.{reaches, met_along}

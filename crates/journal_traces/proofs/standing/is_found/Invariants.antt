@@ -5,4 +5,7 @@ use Rattle.journal_traces.specs.Standing.{spans_named}
 use Rattle.journal_traces.proofs.standing.is_found.Given as goal
 
 abbrev pub invariant-loop-spot : goal.invariant-loop-spot
-invariant-loop-spot l = list_any (matches l.wanted) (spans_named l.journal.held.entries l.spot-iterator) ≡ list_any (matches l.wanted) (spans_named l.journal.held.entries l.fn.spots)
+invariant-loop-spot l = record {
+  found : list_any (matches l.wanted) (spans_named l.journal.held.entries l.spot-iterator) ≡ list_any (matches l.wanted) (spans_named l.journal.held.entries l.fn.spots);
+  judging : l.judging ≡ (l.wanted, l.journal.held.entries);
+}
