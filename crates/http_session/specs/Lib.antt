@@ -8,3 +8,4 @@ pub mod InTurn
 pub mod InOrder
 pub mod Underway
 pub mod Related
+pub mod Between

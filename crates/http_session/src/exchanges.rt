@@ -1,12 +1,10 @@
 ghost use Rattle.std.specs.Prelude.{◌≡◌, ◌≢◌, true, false, IfOk, IfErr, OnOk, ◌||◌, ◌++◌};
-ghost use Rattle.http_requests.specs.Waiting.{source_of};
 ghost use Rattle.query_http.specs.Paths.{endpoint_rows};
 ghost use Rattle.http_session.specs.Replies.{response_of, closes, takes_no_memory};
 ghost use Rattle.http_session.specs.declared.exchanges.SessionErrorKind.TheVariants.{Writing, Memory};
-ghost use Rattle.http_session.specs.Sessions.{EndsAs, FailsAs, Step, Says, part_said, cause_by, last_of, exchange_due};
-ghost use Rattle.http_session.specs.InTurn.{ReadsInTurn, ReadsInTurnUpTo};
+ghost use Rattle.http_session.specs.Sessions.{Step, Says, part_said, cause_by};
 ghost use Rattle.http_session.specs.InOrder.{line_of, EndsOver, FailsOver};
-ghost use Rattle.http_session.specs.Related.{Related, nothing_seen};
+ghost use Rattle.http_session.specs.Between.{store_of, devices_of, EndsBetween, FailsBetween, EndsServed, FailsServed};
 
 use crate::hearing::{Heard, hear};
 use crate::reply::{Reply, Response};
@@ -249,20 +247,16 @@ pub fn serve_connection<T, C: Connection, B: Backend<T>>(
     requires input_works { C.Input.has_failed connection.old ≡ false }
     requires output_works { C.Output.has_failed connection.old ≡ false }
 
-    ensures ended { IfOk result (λ e. (over : EndsOver B.submits B.reads
+    ensures ended { IfOk result (EndsServed (store_of B.submits B.reads B.knows B.limits)
         (line_of C.remaining C.gives C.Input.has_failed C.contents C.takes C.Output.has_failed)
-        connection.old connection.new backend.old backend.new e)
-        × Related (B.knows backend.old) (B.limits backend.old) nothing_seen
-        (over.0.opens ++ last_of over.0.ending)) }
+        connection.old connection.new backend.old backend.new) }
 
     ensures works { OnOk result ((C.Input.has_failed connection.new ≡ false)
         × (C.Output.has_failed connection.new ≡ false)) }
 
-    ensures error { IfErr result (λ f. (over : FailsOver B.submits B.reads
+    ensures error { IfErr result (FailsServed (store_of B.submits B.reads B.knows B.limits)
         (line_of C.remaining C.gives C.Input.has_failed C.contents C.takes C.Output.has_failed)
-        connection.old connection.new backend.old backend.new f)
-        × Related (B.knows backend.old) (B.limits backend.old) nothing_seen
-        (over.0.opens ++ exchange_due over.0.next)) }
+        connection.old connection.new backend.old backend.new) }
 {
     let Ok(router) = endpoints(alloc) else {
         return Err(SessionError {
@@ -288,26 +282,16 @@ fn serve_joined<T, R: Input, W: Output, B: Backend<T>>(
     requires output_works { W.has_failed connection.old.output.now ≡ false }
     ensures same_input { connection.new.input.ghost_name ≡ connection.old.input.ghost_name }
     ensures same_output { connection.new.output.ghost_name ≡ connection.old.output.ghost_name }
-    ensures ended { IfOk result (λ e. (ends : EndsAs B.submits B.reads
-        (R.remaining connection.old.input.now) (R.remaining connection.new.input.now)
-        (W.contents connection.old.output.now) (W.contents connection.new.output.now)
-        backend.old backend.new e.answered e.clean)
-        × Related (B.knows backend.old) (B.limits backend.old) nothing_seen
-        (ends.opens ++ last_of ends.ending)
-        × ReadsInTurn R.gives connection.old.input.now connection.new.input.now ends.opens
-        ends.taken) }
+    ensures ended { IfOk result (EndsBetween (store_of B.submits B.reads B.knows B.limits)
+        (devices_of R.remaining R.gives R.has_failed W.contents W.has_failed)
+        connection.old.input.now connection.new.input.now
+        connection.old.output.now connection.new.output.now backend.old backend.new) }
     ensures works { OnOk result ((R.has_failed connection.new.input.now ≡ false)
         × (W.has_failed connection.new.output.now ≡ false)) }
-    ensures error { IfErr result (λ f. (fails : FailsAs B.submits B.reads
-        (R.remaining connection.old.input.now) (R.remaining connection.new.input.now)
-        (W.contents connection.old.output.now) (W.contents connection.new.output.now)
-        backend.old backend.new (R.has_failed connection.new.input.now)
-        (W.has_failed connection.new.output.now) f)
-        × Related (B.knows backend.old) (B.limits backend.old) nothing_seen
-        (fails.opens ++ exchange_due fails.next)
-        × ReadsInTurnUpTo (source_of R.remaining R.gives) connection.old.input.now
-        connection.new.input.now (R.has_failed connection.new.input.now) fails.opens fails.taken
-        fails.made) }
+    ensures error { IfErr result (FailsBetween (store_of B.submits B.reads B.knows B.limits)
+        (devices_of R.remaining R.gives R.has_failed W.contents W.has_failed)
+        connection.old.input.now connection.new.input.now
+        connection.old.output.now connection.new.output.now backend.old backend.new) }
 {
     match serve_connection(rt, alloc, connection, backend) {
         Ok(ended) => Ok(ended),
@@ -333,23 +317,16 @@ pub fn session<T, R: Input, W: Output, B: Backend<T>>(
     requires input_works { R.has_failed input.old ≡ false }
     requires output_works { W.has_failed output.old ≡ false }
 
-    ensures ended { IfOk result (λ e. (ends : EndsAs B.submits B.reads (R.remaining input.old)
-        (R.remaining input.new) (W.contents output.old) (W.contents output.new) backend.old
-        backend.new e.answered e.clean)
-        × Related (B.knows backend.old) (B.limits backend.old) nothing_seen
-        (ends.opens ++ last_of ends.ending)
-        × ReadsInTurn R.gives input.old input.new ends.opens ends.taken) }
+    ensures ended { IfOk result (EndsBetween (store_of B.submits B.reads B.knows B.limits)
+        (devices_of R.remaining R.gives R.has_failed W.contents W.has_failed)
+        input.old input.new output.old output.new backend.old backend.new) }
 
     ensures works { OnOk result ((R.has_failed input.new ≡ false)
         × (W.has_failed output.new ≡ false)) }
 
-    ensures error { IfErr result (λ f. (fails : FailsAs B.submits B.reads (R.remaining input.old)
-        (R.remaining input.new) (W.contents output.old) (W.contents output.new) backend.old
-        backend.new (R.has_failed input.new) (W.has_failed output.new) f)
-        × Related (B.knows backend.old) (B.limits backend.old) nothing_seen
-        (fails.opens ++ exchange_due fails.next)
-        × ReadsInTurnUpTo (source_of R.remaining R.gives) input.old input.new
-        (R.has_failed input.new) fails.opens fails.taken fails.made) }
+    ensures error { IfErr result (FailsBetween (store_of B.submits B.reads B.knows B.limits)
+        (devices_of R.remaining R.gives R.has_failed W.contents W.has_failed)
+        input.old input.new output.old output.new backend.old backend.new) }
 {
     let mut connection = Join::new(input, output);
     match serve_joined(rt, alloc, &mut connection, backend) {

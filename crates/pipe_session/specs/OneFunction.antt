@@ -9,6 +9,14 @@ use Rattle.http_session.specs.declared.verdict.Remark.TheVariants.{NoMemory}
 use Rattle.http_session.specs.declared.verdict.Verdict.TheVariants.{Say}
 use Rattle.pipe_session.specs.Exact.{HasMemory}
 
+-- a session that ended, whose input had these bytes, behind what was written before
+abbrev pub EndsOf : List ℕ → Option (List ℕ) → List ℕ → Option (List ℕ) → Held → Held → ℕ → Bool → Type 0
+EndsOf bytes left before out s t answered clean = EndsAs DirectSubmits DirectReads (Some bytes) left (Some before) out s t answered clean
+
+-- the same of one that failed
+abbrev pub FailsOf : List ℕ → Option (List ℕ) → List ℕ → Option (List ℕ) → Held → Held → Bool → Bool → SessionError → Type 0
+FailsOf bytes left before out s t in_failed out_failed error = FailsAs DirectSubmits DirectReads (Some bytes) left (Some before) out s t in_failed out_failed error
+
 -- memory ran out neither for what was asked nor for what the store answers
 pub record NeverWants (xs : List Exchange) : Type 0 where
   pub asked : All (λ (x : Exchange). x.verdict ≢ Say NoMemory) xs

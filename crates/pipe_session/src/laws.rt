@@ -4,15 +4,14 @@
 ghost use Rattle.std.specs.Prelude.{◌≡◌, ◌≢◌, ℕ, Bool, List, ◌∷◌, ◌++◌, Option, Some};
 ghost use mathlib.Core.List.{IsPrefix};
 ghost use Rattle.trace_model.specs.Held.{Held};
-ghost use Rattle.direct_store.specs.Exactly.{DirectSubmits, DirectReads};
 ghost use Rattle.http_requests.specs.Asked.{Asked};
-ghost use Rattle.http_session.specs.Sessions.{Exchange as ExchangeValue, EndsAs, FailsAs, last_of, exchange_due, responses};
+ghost use Rattle.http_session.specs.Sessions.{Exchange as ExchangeValue, last_of, exchange_due, responses};
 ghost use Rattle.http_session.specs.declared.exchanges.SessionError.{SessionError as SessionErrorValue};
 ghost use Rattle.http_session.specs.Verdicts.{Judges};
 ghost use Rattle.http_session.specs.declared.verdict.Remark.TheVariants.{NoMemory};
 ghost use Rattle.http_session.specs.declared.verdict.Verdict.{Verdict as VerdictValue};
 ghost use Rattle.http_session.specs.declared.verdict.Verdict.TheVariants.{Say};
-ghost use Rattle.pipe_session.specs.OneFunction.{NeverWants, Finished, Failed, OneBegins, WroteFirst};
+ghost use Rattle.pipe_session.specs.OneFunction.{EndsOf, FailsOf, NeverWants, Finished, Failed, OneBegins, WroteFirst};
 
 /// What a request asks is determined by the request, unless memory ran out.
 pub fn a_request_has_one_verdict()
@@ -24,7 +23,7 @@ pub fn a_request_has_one_verdict()
 /// devices are known and memory did not run out.
 pub fn a_session_that_ended_is_finished()
     ensures { (bytes before : List ℕ) (left out : Option (List ℕ)) (s t : Held) (n : ℕ) (c : Bool)
-        (ends : EndsAs DirectSubmits DirectReads (Some bytes) left (Some before) out s t n c) →
+        (ends : EndsOf bytes left before out s t n c) →
         NeverWants (ends.opens ++ last_of ends.ending) →
         (written : List ℕ) × (out ≡ Some (before ++ written)) × Finished bytes s written t n c }
 {}
@@ -32,8 +31,7 @@ pub fn a_session_that_ended_is_finished()
 /// The same of a session that failed.
 pub fn a_session_that_failed_is_failed()
     ensures { (bytes before : List ℕ) (left out : Option (List ℕ)) (s t : Held) (i o : Bool)
-        (error : SessionErrorValue) (fails : FailsAs DirectSubmits DirectReads (Some bytes) left
-        (Some before) out s t i o error) →
+        (error : SessionErrorValue) (fails : FailsOf bytes left before out s t i o error) →
         NeverWants (fails.opens ++ exchange_due fails.next) →
         (written : List ℕ) × (out ≡ Some (before ++ written)) × Failed bytes s written }
 {}
@@ -65,7 +63,7 @@ pub fn of_two_failed_sessions_one_wrote_a_beginning()
 /// which memory never ran out.
 pub fn what_an_ended_session_wrote_before_memory_ran_out()
     ensures { (bytes before : List ℕ) (left out : Option (List ℕ)) (s t : Held) (n : ℕ) (c : Bool)
-        (ends : EndsAs DirectSubmits DirectReads (Some bytes) left (Some before) out s t n c)
+        (ends : EndsOf bytes left before out s t n c)
         (xs rest : List ExchangeValue) (x : ExchangeValue) →
         ends.opens ++ last_of ends.ending ≡ xs ++ x ∷ rest →
         NeverWants xs → WroteFirst bytes before out s (responses xs) }
@@ -74,9 +72,7 @@ pub fn what_an_ended_session_wrote_before_memory_ran_out()
 /// The same of a session that failed.
 pub fn what_a_failed_session_wrote_before_memory_ran_out()
     ensures { (bytes before : List ℕ) (left out : Option (List ℕ)) (s t : Held) (i o : Bool)
-        (error : SessionErrorValue)
-        (fails : FailsAs DirectSubmits DirectReads (Some bytes) left (Some before) out s t i o
-        error)
+        (error : SessionErrorValue) (fails : FailsOf bytes left before out s t i o error)
         (xs rest : List ExchangeValue) (x : ExchangeValue) →
         fails.opens ++ exchange_due fails.next ≡ xs ++ x ∷ rest →
         NeverWants xs → WroteFirst bytes before out s (responses xs) }

@@ -5,12 +5,9 @@
 //! bytes read, those entries and the limits: `laws`.
 #![tactic(auto)]
 
-ghost use Rattle.std.specs.Prelude.{◌≡◌, ◌++◌, false, IfOk, IfErr, OnOk};
-ghost use Rattle.direct_store.specs.Exactly.{DirectSubmits, DirectReads};
-ghost use Rattle.http_requests.specs.Waiting.{source_of};
-ghost use Rattle.http_session.specs.Sessions.{EndsAs, FailsAs, last_of, exchange_due};
-ghost use Rattle.http_session.specs.InTurn.{ReadsInTurn, ReadsInTurnUpTo};
-ghost use Rattle.pipe_session.specs.Exact.{IsExact};
+ghost use Rattle.std.specs.Prelude.{◌≡◌, false, IfOk, IfErr, OnOk};
+ghost use Rattle.http_session.specs.Between.{devices_of};
+ghost use Rattle.pipe_session.specs.Exact.{EndsExactly, FailsExactly};
 
 use direct_store::Direct;
 use http_session::{Ended, SessionError, session};
@@ -34,22 +31,16 @@ pub fn pipe<R: Input, W: Output>(
     requires input_works { R.has_failed input.old ≡ false }
     requires output_works { W.has_failed output.old ≡ false }
 
-    ensures ended { IfOk result (λ e. (ends : EndsAs DirectSubmits DirectReads
-        (R.remaining input.old) (R.remaining input.new) (W.contents output.old)
-        (W.contents output.new) store.old store.new e.answered e.clean)
-        × IsExact store.old (ends.opens ++ last_of ends.ending) store.new
-        × ReadsInTurn R.gives input.old input.new ends.opens ends.taken) }
+    ensures ended { IfOk result (EndsExactly
+        (devices_of R.remaining R.gives R.has_failed W.contents W.has_failed)
+        input.old input.new output.old output.new store.old store.new) }
 
     ensures works { OnOk result ((R.has_failed input.new ≡ false)
         × (W.has_failed output.new ≡ false)) }
 
-    ensures error { IfErr result (λ f. (fails : FailsAs DirectSubmits DirectReads
-        (R.remaining input.old) (R.remaining input.new) (W.contents output.old)
-        (W.contents output.new) store.old store.new (R.has_failed input.new)
-        (W.has_failed output.new) f)
-        × IsExact store.old (fails.opens ++ exchange_due fails.next) store.new
-        × ReadsInTurnUpTo (source_of R.remaining R.gives) input.old input.new
-        (R.has_failed input.new) fails.opens fails.taken fails.made) }
+    ensures error { IfErr result (FailsExactly
+        (devices_of R.remaining R.gives R.has_failed W.contents W.has_failed)
+        input.old input.new output.old output.new store.old store.new) }
 {
     match session(&(), alloc, input, output, store) {
         Ok(ended) => Ok(ended),
