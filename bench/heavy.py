@@ -8,7 +8,7 @@ parts multiply it takes four times. Seconds are processor time of the program, t
 session in which nothing is sent; memory is the program's greatest resident size, less that of the same (which is about
 ten megabytes, so a shape that takes less shows none).
 
-    bench/heavy.py [--bin PATH] [--runs 3] [SHAPE..]
+    bench/heavy.py [--bin PATH] [--runs 3] [--parts 1000] [SHAPE..]
 """
 import argparse
 import json
@@ -186,6 +186,7 @@ def main():
     words = argparse.ArgumentParser(description=__doc__, formatter_class=argparse.RawDescriptionHelpFormatter)
     words.add_argument("--bin", default=os.path.join(ROOT, "crates/jaeger_one/out/jaeger_one"))
     words.add_argument("--runs", type=int, default=3)
+    words.add_argument("--parts", type=int, default=1000, help="how many parts the whole has")
     words.add_argument("shapes", nargs="*", help="words of the shapes to run; all where none is given")
     options = words.parse_args()
     runner = Runner()
@@ -195,10 +196,16 @@ def main():
         if options.shapes and not any(word in name for word in options.shapes):
             continue
         seen = []
-        for n in (500, 1000):
+        for n in (options.parts // 2, options.parts):
             requests = shape(n)
-            seconds, peak, out = least(runner, options.bin, requests, options.runs)
+            try:
+                seconds, peak, out = least(runner, options.bin, requests, options.runs)
+            except AssertionError:
+                print(f"{name:45} left out: a body or a head of so many parts is too large")
+                break
             seen.append((seconds - rest[0], peak - rest[1], sum(map(len, requests)) / 1e6, out / 1e6))
+        if len(seen) < 2:
+            continue
         half, whole = seen
         print(f"{name:45} {whole[2]:6.2f} {whole[3]:7.2f} {half[0]:6.2f}, {whole[0]:6.2f} {whole[0] / max(half[0], 1e-3):6.1f}"
               f" {half[1]:6.0f}, {whole[1]:7.0f} {whole[1] / max(half[1], 1e-3):6.1f} {whole[1] / (whole[2] + whole[3]):8.0f}", flush=True)
