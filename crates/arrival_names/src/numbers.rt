@@ -138,6 +138,13 @@ impl ArrivalNumbers {
         self.entry_of.len() as u32
     }
 
+    /// For each entry the number of its first span.
+    pub fn firsts(&self) -> &[u32]
+        ensures { result.now ≡ self.now.firsts }
+    {
+        &self.firsts
+    }
+
     /// The spans of the last entry get numbers. It takes no memory.
     pub fn add(&mut self, entries: &[Arc<Entry>])
         requires some { 0 < length entries.now }

@@ -19,14 +19,30 @@ use trace_assembly::{Assembly, Spots};
 use trace_model::Find;
 use trace_ring::Ring;
 
-/// Marks a trace, if it stands in the ring. There is a mark for each trace of the ring.
-fn mark_trace(marks: &mut [bool], ring: &Ring, trace: TraceId)
+/// Guesses of the rows in the ring of an entry's spans: those in the assembly, where the same spans came.
+#[derive(Clone, Copy)]
+struct RowGuesses<'a> {
+    assembly: &'a Assembly,
+    /// How many spans stand in the entries before.
+    before: u32,
+}
+
+impl RowGuesses<'_> {
+    /// The guess for the span at an index of the entry.
+    fn at(self, index: u32) -> u32 {
+        self.assembly.row_at(self.before.wrapping_add(index))
+    }
+}
+
+/// Marks a trace, if it stands in the ring. There is a mark for each trace of the ring. The row is a guess of how
+/// many traces were seen before this one.
+fn mark_trace(marks: &mut [bool], ring: &Ring, row: u32, trace: TraceId)
     requires once { NoneTwice ring.now.ids }
     requires size { length marks.old ≡ length ring.now.ids }
     ensures { (p : TraceIdValue → Bool) → marks.old ≡ map p ring.now.ids →
         marks.new ≡ map (λ t. p t || same_trace t trace) ring.now.ids }
 {
-    if let Some(place) = ring.place(trace) {
+    if let Some(place) = ring.place_near(row, trace) {
         marks[place as usize] = true;
     }
 }
@@ -59,6 +75,7 @@ fn mark_spans(
     alloc: Global,
     marks: &mut [bool],
     ring: &Ring,
+    rows: RowGuesses<'_>,
     judged: &JudgedProcess<'_>,
     spans: &[Span],
 ) -> Result<(), AllocError>
@@ -69,12 +86,14 @@ fn mark_spans(
         reaches (met judged.now.query judged.now.process spans.now) t) ring.now.ids) }
 {
     let mut before = None;
+    let mut index: u32 = 0;
     for span in spans {
         let is_news = is_news(alloc, before, judged, span)?;
         if is_news {
-            mark_trace(marks, ring, span.trace);
+            mark_trace(marks, ring, rows.at(index), span.trace);
             before = Some(span.trace);
         }
+        index = index.wrapping_add(1);
     }
     Ok(())
 }
@@ -94,6 +113,7 @@ fn mark_entry(
     alloc: Global,
     marks: &mut [bool],
     ring: &Ring,
+    rows: RowGuesses<'_>,
     journal: &Journal,
     place: u64,
     wanted: &Wanted<'_>,
@@ -109,15 +129,23 @@ fn mark_entry(
     }
     if let Some(batch) = batch_at(journal, place) {
         let judged = JudgedProcess::new(alloc, wanted, batch.process.get())?;
-        mark_spans(alloc, marks, ring, &judged, batch.spans.as_slice())?;
+        mark_spans(alloc, marks, ring, rows, &judged, batch.spans.as_slice())?;
     }
     Ok(())
+}
+
+/// How many spans stand before the entry at a place, counted from 1, by those before each.
+fn spans_before(firsts: &[u32], place: u64) -> u32 {
+    let index = place.saturating_sub(1) as usize;
+    firsts.get(index).copied().unwrap_or(0)
 }
 
 /// For each trace of the ring whether the entries at these places have a span of it that meets the search.
 fn marks_along(
     alloc: Global,
     ring: &Ring,
+    assembly: &Assembly,
+    firsts: &[u32],
     journal: &Journal,
     places: Places<'_>,
     wanted: &Wanted<'_>,
@@ -128,7 +156,11 @@ fn marks_along(
 {
     let mut marks = vec![in alloc; false; ring.len()]?;
     for place in places {
-        mark_entry(alloc, &mut marks, ring, journal, place, wanted)?;
+        let rows = RowGuesses {
+            assembly,
+            before: spans_before(firsts, place),
+        };
+        mark_entry(alloc, &mut marks, ring, rows, journal, place, wanted)?;
     }
     Ok(marks)
 }
@@ -155,7 +187,8 @@ fn marked_spots<'a>(
 }
 
 /// The spots of each trace of the ring of which the entries at these places have a span that meets the
-/// search, those of the one opened longest ago first. It looks at these entries and at no others.
+/// search, those of the one opened longest ago first. It looks at these entries and at no others. `firsts` says how many
+/// spans stand before each entry, a guess by which most traces are found in the ring without a look-up.
 ///
 /// # Errors
 ///
@@ -164,6 +197,7 @@ pub fn spots_along<'a>(
     alloc: Global,
     ring: &Ring,
     assembly: &'a Assembly,
+    firsts: &[u32],
     journal: &Journal,
     places: Places<'_>,
     wanted: &Wanted<'_>,
@@ -173,6 +207,6 @@ pub fn spots_along<'a>(
         (filter (reaches (met_along wanted.now journal.now.held.entries places.entry))
         ring.now.ids)) }
 {
-    let marks = marks_along(alloc, ring, journal, places, wanted)?;
+    let marks = marks_along(alloc, ring, assembly, firsts, journal, places, wanted)?;
     marked_spots(alloc, ring, assembly, &marks)
 }

@@ -308,6 +308,7 @@ impl SpanStore {
             self.alloc,
             &self.ring,
             &self.assembly,
+            self.names.firsts(),
             &self.journal,
             places,
             wanted,
