@@ -23,8 +23,9 @@ use Rattle.service_index.proofs.Probing.{text_is}
 use Rattle.service_index.proofs.Sets.{listed_exact}
 use Rattle.trace_model.proofs.Rising.{any_set}
 use Rattle.trace_model.proofs.NameLaws.{any_map}
-use Rattle.service_places.specs.Reported.{service_brought, reporters, service_at, group_in, group_of, before_last}
-use Rattle.service_places.proofs.Entries.{last_of}
+use Rattle.trace_model.specs.Histories.{before_last}
+use Rattle.service_places.specs.Reported.{service_brought, reporters, service_at, group_in, group_of}
+use Rattle.trace_model.proofs.LastEntries.{last_of}
 use Rattle.service_places.proofs.Grouping.{as_many_reporters, group_known}
 use Rattle.arrival_names.specs.Numbers.{AreOf}
 use Rattle.arrival_names.specs.Kept.{reports, reported_at, names_of, reports_service}

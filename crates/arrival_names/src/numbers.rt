@@ -1,10 +1,10 @@
 ghost use Rattle.std.specs.Prelude.{◌≡◌, ◌<◌, ◌≤◌, ◌+◌, ◌++◌, [], map, length, get_or, IfOk, vec_capacity};
 ghost use Rattle.std.specs.Arc.{arc_value};
 ghost use Rattle.jaeger_model.specs.declared.placed.Placed.{Placed};
-ghost use Rattle.trace_model.specs.Histories.{arrivals};
+ghost use Rattle.trace_model.specs.Histories.{arrivals, before_last};
 ghost use Rattle.trace_model.specs.Seeing.{seen};
 ghost use Rattle.jaeger_model.specs.Tags.{kind_of};
-ghost use Rattle.service_places.specs.Reported.{before_last, IsKept as PlacesKept};
+ghost use Rattle.service_places.specs.Reported.{IsKept as PlacesKept};
 ghost use Rattle.arrival_names.specs.Numbers.{AreOf, IsAt};
 ghost use Rattle.arrival_names.specs.Kinds.{kind_text};
 ghost use Rattle.arrival_names.specs.Kept.{AreKinds};

@@ -57,7 +57,8 @@ fn tallied<'a>(
         calls_counted m.entries ≡ tally_by_numbers (calls_told calls.now)) }
     ensures services { (text : ℕ → List ℕ) (number : List ℕ → ℕ) →
         AreToldBy text number (calls_told calls.now) →
-        IfOk result (λ m. services_met m.entries ≡ services_by_numbers text (calls_told calls.now)) }
+        IfOk result (λ m.
+        services_met m.entries ≡ services_by_numbers text (calls_told calls.now)) }
 {
     let mut tallies = BTreeMap::new(alloc);
     for call in calls {

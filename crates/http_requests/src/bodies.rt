@@ -165,7 +165,8 @@ fn take_content<R: Input, S: Sink>(
     ensures takes { IfOk result (TakesContentOr S.takes (source_of R.remaining R.gives)
         input.old input.new received.old received.new sink.old sink.new size) }
     ensures err { IfErr result (λ why. StopsWhile (source_of R.remaining R.gives)
-        (AwaitsRest (IsContent size)) input.old input.new (R.has_failed input.new) received.old why) }
+        (AwaitsRest (IsContent size)) input.old input.new (R.has_failed input.new)
+        received.old why) }
     ensures same { SameUnlessReading (R.has_failed input.old) (R.has_failed input.new) result }
 {
     if gather(input, received, sink, size)? {

@@ -40,7 +40,8 @@ impl<N: StoreName> Model for Seat<N> {
     ghost Value = { SeatValue };
 
     ghost view = { λ s.
-        seat_value s.end.table_id (ruled_capacity (arc_value s.shared).queue) s.number (view_at s.end) };
+        seat_value s.end.table_id (ruled_capacity (arc_value s.shared).queue) s.number
+        (view_at s.end) };
 
     ghost invariant = { λ s. IsPassOf (arc_value s.shared).queue s.end
         × ((view_at s.end).takes ≡ false) × ((view_at s.end).submits ≡ s.stays)

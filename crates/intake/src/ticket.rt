@@ -77,7 +77,8 @@ impl<N: StoreName> Ticket<N> {
     /// [`Refusal::NoMemory`] and [`Refusal::Deferred`]. Where the clerk has ended without an answer: [`Refusal::Closed`] if the desk
     /// was closed, else [`Refusal::NoReply`].
     pub fn wait<R: Wait>(self, rt: &R) -> Result<Ack<N>, Refusal>
-        ensures answered { IfOk result (λ a. AnsweredAt (arc_value a.receipt).entries a.place self) }
+        ensures answered { IfOk result (λ a.
+            AnsweredAt (arc_value a.receipt).entries a.place self) }
         ensures reason { IfErr result IsUnacknowledged }
     {
         for _ in rt.forever() {

@@ -26,7 +26,8 @@ fn numbered_at<'a>(
 ) -> Option<NumberedSpan<'a>>
     requires few { length journal.now.held.entries < 2 ^ 32 }
     requires numbers { AreGroups journal.now.held.entries reported.now.groups }
-    ensures given_span { option_map (λ s. given_span s.seen) result ≡ span_at journal.now.held.entries spot }
+    ensures given_span { option_map (λ s. given_span s.seen) result ≡
+        span_at journal.now.held.entries spot }
     ensures numbered { IfSome result (HasNumber journal.now.held.entries) }
 {
     let seen = seen_at(journal, spot)?;

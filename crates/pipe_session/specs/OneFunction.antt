@@ -1,5 +1,5 @@
 -- Sessions over a store that one owner has in which memory never ran out, or not up to some exchange.
-use Rattle.std.specs.Prelude.{◌≡◌, ◌≢◌, ℕ, ◌⊎◌, Bool, List, ◌++◌, All, Option, Some}
+use Rattle.std.specs.Prelude.{◌≡◌, ◌≢◌, ℕ, ◌⊎◌, Bool, List, ◌∷◌, ◌++◌, All, Option, Some}
 use mathlib.Core.List.{IsPrefix}
 use Rattle.trace_model.specs.Held.{Held}
 use Rattle.direct_store.specs.Exactly.{DirectSubmits, DirectReads}
@@ -51,3 +51,15 @@ pub record WroteFirst (bytes before : List ℕ) (out : Option (List ℕ)) (s : H
   pub more : List ℕ
   pub written : out ≡ Some (before ++ (first ++ more))
   pub failed : Failed bytes s first
+
+-- what was written are the bytes of a session that ended
+abbrev pub WroteFinished : List ℕ → List ℕ → Option (List ℕ) → Held → Held → ℕ → Bool → Type 0
+WroteFinished bytes before out s t n c = (written : List ℕ) × (out ≡ Some (before ++ written)) × Finished bytes s written t n c
+
+-- what was written are the bytes of a session that failed
+abbrev pub WroteFailed : List ℕ → List ℕ → Option (List ℕ) → Held → Type 0
+WroteFailed bytes before out s = (written : List ℕ) × (out ≡ Some (before ++ written)) × Failed bytes s written
+
+-- of these exchanges the first are these, more follow, and memory ran out for none of the first
+abbrev pub HadMemoryFirst : List Exchange → List Exchange → Type 0
+HadMemoryFirst xs all = (x : Exchange) × (rest : List Exchange) × (all ≡ xs ++ x ∷ rest) × NeverWants xs

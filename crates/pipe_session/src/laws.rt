@@ -1,7 +1,7 @@
 //! Facts about sessions over a store that one owner has. Each function does nothing, and its contract is the
 //! fact.
 
-ghost use Rattle.std.specs.Prelude.{◌≡◌, ◌≢◌, ℕ, Bool, List, ◌∷◌, ◌++◌, Option, Some};
+ghost use Rattle.std.specs.Prelude.{◌≡◌, ◌≢◌, ℕ, Bool, List, ◌++◌, Option};
 ghost use mathlib.Core.List.{IsPrefix};
 ghost use Rattle.trace_model.specs.Held.{Held};
 ghost use Rattle.http_requests.specs.Asked.{Asked};
@@ -11,7 +11,7 @@ ghost use Rattle.http_session.specs.Verdicts.{Judges};
 ghost use Rattle.http_session.specs.declared.verdict.Remark.TheVariants.{NoMemory};
 ghost use Rattle.http_session.specs.declared.verdict.Verdict.{Verdict as VerdictValue};
 ghost use Rattle.http_session.specs.declared.verdict.Verdict.TheVariants.{Say};
-ghost use Rattle.pipe_session.specs.OneFunction.{EndsOf, FailsOf, NeverWants, Finished, Failed, OneBegins, WroteFirst};
+ghost use Rattle.pipe_session.specs.OneFunction.{EndsOf, FailsOf, NeverWants, Finished, Failed, HadMemoryFirst, OneBegins, WroteFailed, WroteFinished, WroteFirst};
 
 /// What a request asks is determined by the request, unless memory ran out.
 pub fn a_request_has_one_verdict()
@@ -25,7 +25,7 @@ pub fn a_session_that_ended_is_finished()
     ensures { (bytes before : List ℕ) (left out : Option (List ℕ)) (s t : Held) (n : ℕ) (c : Bool)
         (ends : EndsOf bytes left before out s t n c) →
         NeverWants (ends.opens ++ last_of ends.ending) →
-        (written : List ℕ) × (out ≡ Some (before ++ written)) × Finished bytes s written t n c }
+        WroteFinished bytes before out s t n c }
 {}
 
 /// The same of a session that failed.
@@ -33,7 +33,7 @@ pub fn a_session_that_failed_is_failed()
     ensures { (bytes before : List ℕ) (left out : Option (List ℕ)) (s t : Held) (i o : Bool)
         (error : SessionErrorValue) (fails : FailsOf bytes left before out s t i o error) →
         NeverWants (fails.opens ++ exchange_due fails.next) →
-        (written : List ℕ) × (out ≡ Some (before ++ written)) × Failed bytes s written }
+        WroteFailed bytes before out s }
 {}
 
 /// The bytes that a session writes are one function of the bytes of the input and the entries held at the
@@ -64,16 +64,14 @@ pub fn of_two_failed_sessions_one_wrote_a_beginning()
 pub fn what_an_ended_session_wrote_before_memory_ran_out()
     ensures { (bytes before : List ℕ) (left out : Option (List ℕ)) (s t : Held) (n : ℕ) (c : Bool)
         (ends : EndsOf bytes left before out s t n c)
-        (xs rest : List ExchangeValue) (x : ExchangeValue) →
-        ends.opens ++ last_of ends.ending ≡ xs ++ x ∷ rest →
-        NeverWants xs → WroteFirst bytes before out s (responses xs) }
+        (xs : List ExchangeValue) → HadMemoryFirst xs (ends.opens ++ last_of ends.ending) →
+        WroteFirst bytes before out s (responses xs) }
 {}
 
 /// The same of a session that failed.
 pub fn what_a_failed_session_wrote_before_memory_ran_out()
     ensures { (bytes before : List ℕ) (left out : Option (List ℕ)) (s t : Held) (i o : Bool)
         (error : SessionErrorValue) (fails : FailsOf bytes left before out s t i o error)
-        (xs rest : List ExchangeValue) (x : ExchangeValue) →
-        fails.opens ++ exchange_due fails.next ≡ xs ++ x ∷ rest →
-        NeverWants xs → WroteFirst bytes before out s (responses xs) }
+        (xs : List ExchangeValue) → HadMemoryFirst xs (fails.opens ++ exchange_due fails.next) →
+        WroteFirst bytes before out s (responses xs) }
 {}

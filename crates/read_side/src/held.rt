@@ -42,7 +42,8 @@ impl<'a, N: StoreName> Held<'a, N> {
     pub fn read(&self, query: &Query) -> Result<Reading, Refusal>
         requires inside { IsInside self.now }
         ensures front { IfOk result (λ r. r.front ≡ length (list_of self.now)) }
-        ensures answer { IfOk result (λ r. r.answer ≡ answer N.limits (list_of self.now) query.now) }
+        ensures answer { IfOk result (λ r.
+            r.answer ≡ answer N.limits (list_of self.now) query.now) }
         ensures reason { IfErr result (λ why. why ≡ NoMemory) }
     {
         self.pass.asked(query)

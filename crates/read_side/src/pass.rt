@@ -155,7 +155,8 @@ impl<N: StoreName> Pass<N> {
         ensures settled { OnOk result (length self.old.known ≤ length receipt.now.entries) }
         ensures begins { OnOk result (IsPrefix self.old.known receipt.now.entries) }
 
-        ensures reason { IfErr result (λ why. (why ≡ Behind (length self.old.known)) ⊎ (why ≡ Gone)) }
+        ensures reason { IfErr result (λ why.
+            (why ≡ Behind (length self.old.known)) ⊎ (why ≡ Gone)) }
         ensures behind { result ≡ Err (Behind (length self.old.known)) →
             length receipt.now.entries < length self.old.known }
 

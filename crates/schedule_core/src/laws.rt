@@ -10,7 +10,7 @@ ghost use Rattle.schedule_core.specs.declared.step.Step.{Step as StepValue};
 ghost use Rattle.schedule_core.specs.declared.step.Step.TheVariants.{Read as ReadValue};
 ghost use Rattle.schedule_core.specs.Machine.{new_machine, outcomes, at_last, accepted, step, Reader as ReaderValue, Visit};
 ghost use Rattle.schedule_core.specs.Runs.{along, AllAlong, IsOf, NeverFalls, front_for, is_of, job_of, kept, verdict_of};
-ghost use Rattle.schedule_core.specs.Facts.{IsRun};
+ghost use Rattle.schedule_core.specs.Facts.{IsRun, IsSteady};
 
 /// The history only grows at its end.
 pub fn the_history_only_grows()
@@ -34,13 +34,7 @@ pub fn fronts_of_a_reader_never_fall()
 
 /// A reader inside is answered the same, whatever others do meanwhile.
 pub fn a_look_stays_where_it_entered()
-    ensures { (limits : LimitsValue) (steps others : List StepValue) (reader : ℕ) (at : ReaderValue)
-        (visit : Visit) (query : QueryValue) →
-        slice_get (at_last (new_machine limits) steps).readers reader ≡ Some at →
-        at.inside ≡ Some visit →
-        All (λ s. is_of reader s ≡ false) others →
-        (step (at_last (new_machine limits) (steps ++ others)) (ReadValue reader query)).outcome ≡
-        (step (at_last (new_machine limits) steps) (ReadValue reader query)).outcome }
+    ensures { (limits : LimitsValue) (steps : List StepValue) → IsSteady limits steps }
 {}
 
 /// What is accepted, published or not, is the jobs taken that were neither refused nor sent before, in the order

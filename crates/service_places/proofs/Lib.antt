@@ -1,4 +1,3 @@
-pub mod Entries
 pub mod Grouping
 pub mod Walking
 pub mod Following

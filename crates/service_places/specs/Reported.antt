@@ -9,10 +9,6 @@ use Rattle.service_index.specs.Naming.{LabelValue, Labelling}
 use Rattle.service_index.specs.Probes.{Table, IsNamed}
 use Rattle.service_index.specs.Indexes.{IsLinked}
 
--- all entries but the last
-abbrev pub before_last : List Entry → List Entry
-before_last h = take (length h - 1) h
-
 -- the service of the batch that it brings; a limit has none
 abbrev pub service_brought : Work → List ℕ
 service_brought (brings.Batch b) = b.process.service

@@ -3,7 +3,7 @@
 
 ghost use Rattle.std.specs.Prelude.{◌≡◌, List, [], ◌∷◌, ◌++◌};
 ghost use Rattle.trace_model.specs.declared.entry.Entry.{Entry as EntryValue};
-ghost use Rattle.service_places.specs.Reported.{before_last};
+ghost use Rattle.trace_model.specs.Histories.{before_last};
 
 /// A list with one more entry is that list and the entry.
 pub fn one_more_entry()

@@ -1,7 +1,8 @@
 ghost use Rattle.std.specs.Prelude.{◌≡◌, ◌<◌, ◌≤◌, [], map, length, get_or, IfOk};
 ghost use Rattle.std.specs.Arc.{arc_value};
 ghost use Rattle.service_index.specs.Probes.{row_of};
-ghost use Rattle.service_places.specs.Reported.{IsKept, before_last, places_of, group_of};
+ghost use Rattle.trace_model.specs.Histories.{before_last};
+ghost use Rattle.service_places.specs.Reported.{IsKept, places_of, group_of};
 ghost use Rattle.service_places.specs.Reported.{service_label, service_labels};
 
 use crate::along::Places;

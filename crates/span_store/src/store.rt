@@ -70,7 +70,8 @@ fn room_for_traces(
     keys: RandomState,
     limits: Limits,
 ) -> Result<(Ring, Assembly), AllocError>
-    ensures follows { IfOk result (λ r. Follows limits.traces (located_events []) r.0 (spots_of r.1)) }
+    ensures follows { IfOk result (λ r.
+        Follows limits.traces (located_events []) r.0 (spots_of r.1)) }
     ensures room { IfOk result (λ r. r.0.room ≡ limits.spans) }
     ensures seen { IfOk result (λ r. r.0.seen ≡ []) }
     ensures spots_room { IfOk result (λ r. r.1.room ≡ limits.spans) }

@@ -120,8 +120,8 @@ pub fn ring_within_limit()
 /// A trace of the ring is found with its shown spans, and has some.
 #[tactic(auto, using(crate::proofs::RingFacts::found))]
 pub fn trace_of_ring_is_found()
-    ensures { (n : ℕ) (es : List (Event PlacedValue)) (t : TraceIdValue) → holds (ring n es) t ≡ true →
-        trace_found n es t ≡ Some (spans_of_trace n es t) }
+    ensures { (n : ℕ) (es : List (Event PlacedValue)) (t : TraceIdValue) →
+        holds (ring n es) t ≡ true → trace_found n es t ≡ Some (spans_of_trace n es t) }
 {}
 
 /// A trace that is not in the ring is not found.
@@ -134,20 +134,23 @@ pub fn other_trace_is_not_found()
 /// No trace is found empty.
 #[tactic(auto, using(crate::proofs::RingFacts::found_some))]
 pub fn found_trace_has_spans()
-    ensures { (n : ℕ) (es : List (Event PlacedValue)) (t : TraceIdValue) (spans : List PlacedValue) →
+    ensures { (n : ℕ) (es : List (Event PlacedValue)) (t : TraceIdValue)
+        (spans : List PlacedValue) →
         trace_found n es t ≡ Some spans → 0 < length spans }
 {}
 
 /// What is found are spans of that trace.
 #[tactic(auto, using(crate::proofs::RingFacts::found_own))]
 pub fn found_spans_are_its_own()
-    ensures { (n : ℕ) (es : List (Event PlacedValue)) (t : TraceIdValue) (spans : List PlacedValue) →
+    ensures { (n : ℕ) (es : List (Event PlacedValue)) (t : TraceIdValue)
+        (spans : List PlacedValue) →
         trace_found n es t ≡ Some spans → All (λ p. trace_of p ≡ t) spans }
 {}
 
 /// What is found stands in the order in which it arrived.
 #[tactic(auto, using(crate::proofs::RingFacts::found_subsequence))]
 pub fn found_spans_keep_their_order()
-    ensures { (n : ℕ) (es : List (Event PlacedValue)) (t : TraceIdValue) (spans : List PlacedValue) →
+    ensures { (n : ℕ) (es : List (Event PlacedValue)) (t : TraceIdValue)
+        (spans : List PlacedValue) →
         trace_found n es t ≡ Some spans → IsSubsequence spans (without_limits es) }
 {}

@@ -17,7 +17,7 @@ use Rattle.trace_model.proofs.Shows.{by_pushes, in_ring, in_ring_by, ring_came, 
 use Rattle.trace_model.proofs.Traces.{same_is, spans_gone, arrived}
 use Rattle.trace_assembly.specs.declared.spot.Spot.{Spot}
 use Rattle.trace_assembly.specs.Rows.{with_spot}
-use Rattle.trace_assembly.specs.Located.{spans_in, spots_in, located_trace, events_in, shown_in, own_of, shown_spots, with_event, without_left, located_events, span_at, after_leaving, after_arrival}
+use Rattle.trace_assembly.specs.Located.{spans_in, spots_in, located_trace, events_in, shown_in, own_of, shown_spots, with_event, without_left, located_events, span_at, after_leaving, after_arrival, with_trace, AreShown, ComesIn, Lowers}
 use Rattle.trace_assembly.proofs.Lists.{filter_within, map_filter, map_nil}
 use Rattle.trace_assembly.proofs.Places.{at_spots, shown-lies, events-located}
 
@@ -96,10 +96,6 @@ or_false : (a b : Bool) → (a || b) ≡ false → a ≡ false
 or_false true b e = absurd (false≢true (sym e))
 or_false false b e = refl
 
--- the ring with the trace of an arrival in it
-abbrev pub with_trace : List TraceId → TraceId → List TraceId
-with_trace r t = if holds r t then r else r ++ t ∷ []
-
 before_too : (r : List TraceId) (t u : TraceId) → holds (with_trace r t) u ≡ false → holds r u ≡ false
 before_too r t u e = elim (holds r t) as (λ b. holds (if b then r else r ++ t ∷ []) u ≡ false → holds r u ≡ false) [
   | true ↦ λ e. e
@@ -151,3 +147,11 @@ after_limit_law n m es old new spots was is same t =
     ]
     ∙ ap (λ r. if holds r t then shown_spots n es t else []) now
     ∙ sym (shown_spots_push_law n es (limited m) t)
+
+pub comes_in_law : (n limit : ℕ) (es : List (Event (Spot × Placed))) (l : Spot × Placed) (left : Option TraceId) (old new : List TraceId) (spots : TraceId → List Spot)
+    → ComesIn n limit es l left old new → AreShown n es spots → AreShown n (es ++ came l ∷ []) (after_arrival l left spots)
+comes_in_law n limit es l left old new spots r same = after_arrival_law n limit es l left old new spots r.limit_is r.before r.after r.split r.gone same
+
+pub lowers_law : (n m : ℕ) (es : List (Event (Spot × Placed))) (old new : List TraceId) (spots : TraceId → List Spot)
+    → Lowers n m es old new → AreShown n es spots → AreShown n (es ++ limited m ∷ []) (without_left old new spots)
+lowers_law n m es old new spots r same = after_limit_law n m es old new spots r.before r.after same

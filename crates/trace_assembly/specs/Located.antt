@@ -1,5 +1,5 @@
 -- Where the spans of a history lie, and which spots are shown.
-use Rattle.std.specs.Prelude.{ℕ, suc, Bool, List, [], ◌∷◌, ◌++◌, map, filter, Option, Some, None, slice_get, ◌+◌, length, take, ◌&&◌, not, if◌then◌else◌}
+use Rattle.std.specs.Prelude.{◌≡◌, ℕ, suc, Bool, false, List, [], ◌∷◌, ◌++◌, map, filter, Option, Some, None, IfSome, option_to_list, slice_get, ◌+◌, length, take, ◌&&◌, not, if◌then◌else◌}
 use Rattle.std.specs.Option.{option_and_then}
 use Rattle.jaeger_model.specs.declared.ids.TraceId.{TraceId}
 use Rattle.jaeger_model.specs.declared.batch.Batch.{Batch}
@@ -10,9 +10,9 @@ use Rattle.trace_model.specs.declared.entry.Work.{Work}
 use Rattle.trace_model.specs.declared.entry.Work.TheVariants as brings
 use Rattle.trace_model.specs.Works.{placed_brought}
 use Rattle.trace_model.specs.Places.{entry_at}
-use Rattle.trace_model.specs.Rings.{holds}
+use Rattle.trace_model.specs.Rings.{holds, newest, arrive}
 use Rattle.trace_model.specs.Events.{Event, came, limited, event_map}
-use Rattle.trace_model.specs.Showing.{trace_of, shown_by}
+use Rattle.trace_model.specs.Showing.{trace_of, ring, limit_after, shown_by}
 use Rattle.trace_assembly.specs.declared.spot.Spot.{Spot}
 use Rattle.trace_assembly.specs.Rows.{with_spot, without_spots}
 
@@ -88,3 +88,24 @@ after_leaving (Some gone) spots t = without_spots gone spots t
 -- the spots of each trace after an arrival, for which this trace has left
 abbrev pub after_arrival : Spot × Placed → Option TraceId → (TraceId → List Spot) → TraceId → List Spot
 after_arrival l left spots t = with_spot (trace_of l.1) l.0 (after_leaving left spots) t
+
+-- the spots of each trace are those of its shown spans
+abbrev pub AreShown : ℕ → List (Event (Spot × Placed)) → (TraceId → List Spot) → Type 0
+AreShown n es spots = (t : TraceId) → spots t ≡ shown_spots n es t
+
+-- the ring with the trace of an arrival in it
+abbrev pub with_trace : List TraceId → TraceId → List TraceId
+with_trace r t = if holds r t then r else r ++ t ∷ []
+
+-- behind these events a span comes into the ring, whose traces were the old ones and are the new ones; for it this trace has left, if one has
+pub record ComesIn (n limit : ℕ) (es : List (Event (Spot × Placed))) (l : Spot × Placed) (left : Option TraceId) (old new : List TraceId) : Type 0 where
+  pub limit_is : limit ≡ limit_after n (events_in es)
+  pub before : old ≡ ring n (events_in es)
+  pub after : new ≡ arrive limit old (trace_of l.1)
+  pub split : with_trace old (trace_of l.1) ≡ option_to_list left ++ new
+  pub gone : IfSome left (λ gone. holds new gone ≡ false)
+
+-- behind these events a limit is set, which leaves these traces of the old ones
+pub record Lowers (n m : ℕ) (es : List (Event (Spot × Placed))) (old new : List TraceId) : Type 0 where
+  pub before : old ≡ ring n (events_in es)
+  pub after : new ≡ newest m old

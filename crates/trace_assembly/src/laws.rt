@@ -1,16 +1,16 @@
 //! Facts about the definitions. Each function does nothing, and its contract is the fact.
 
-ghost use Rattle.std.specs.Prelude.{◌≡◌, ◌+◌, ℕ, List, [], ◌∷◌, ◌++◌, map, length, false, Some, Option, IfSome, option_to_list, if◌then◌else◌};
+ghost use Rattle.std.specs.Prelude.{◌≡◌, ◌+◌, ℕ, List, [], ◌∷◌, ◌++◌, map, length, Some, Option, if◌then◌else◌};
 ghost use Rattle.jaeger_model.specs.declared.placed.Placed.{Placed as PlacedValue};
 ghost use Rattle.jaeger_model.specs.declared.ids.TraceId.{TraceId as TraceIdValue};
 ghost use Rattle.trace_model.specs.declared.entry.Entry.{Entry};
 ghost use Rattle.trace_model.specs.Histories.{arrivals};
-ghost use Rattle.trace_model.specs.Rings.{holds, newest, arrive};
-ghost use Rattle.trace_model.specs.Showing.{trace_of, ring, limit_after, spans_of_trace};
+ghost use Rattle.trace_model.specs.Rings.{holds};
+ghost use Rattle.trace_model.specs.Showing.{ring, spans_of_trace};
 ghost use Rattle.trace_model.specs.Events.{Event, came, limited, without_limits};
 ghost use Rattle.trace_model.specs.Histories.{events};
 ghost use Rattle.trace_assembly.specs.declared.spot.Spot.{Spot as SpotValue};
-ghost use Rattle.trace_assembly.specs.Located.{located_by, located_events, events_in, span_at, spots_in, shown_spots, with_event, without_left, after_arrival};
+ghost use Rattle.trace_assembly.specs.Located.{located_by, located_events, events_in, span_at, spots_in, shown_spots, with_event, without_left, after_arrival, AreShown, ComesIn, Lowers};
 
 #[tactic(auto, using(crate::proofs::Places::spans_at_located_law))]
 /// The spans at the spots of a history, in order, are its arrivals.
@@ -37,30 +37,24 @@ pub fn spots_since_opened()
         (shown_spots n es) t else []) }
 {}
 
-#[tactic(auto, using(crate::proofs::Feeding::after_arrival_law))]
+#[tactic(auto, using(crate::proofs::Feeding::comes_in_law))]
 /// Where the spots of each trace are those of its shown spans, hiding the trace that leaves and then
 /// adding the spot of the newcomer keeps them so.
 pub fn fed_as_the_ring_says()
     ensures { (n limit : ℕ) (es : List (Event (SpotValue × PlacedValue)))
         (l : SpotValue × PlacedValue) (left : Option TraceIdValue) (old new : List TraceIdValue)
-        (spots : TraceIdValue → List SpotValue) →
-        limit ≡ limit_after n (events_in es) → old ≡ ring n (events_in es) →
-        new ≡ arrive limit old (trace_of l.1) →
-        (if holds old (trace_of l.1) then old else old ++ trace_of l.1 ∷ []) ≡
-        option_to_list left ++ new → IfSome left (λ gone. holds new gone ≡ false) →
-        ((t : TraceIdValue) → spots t ≡ shown_spots n es t) → (t : TraceIdValue) →
-        after_arrival l left spots t ≡ shown_spots n (es ++ came l ∷ []) t }
+        (spots : TraceIdValue → List SpotValue) → ComesIn n limit es l left old new →
+        AreShown n es spots → AreShown n (es ++ came l ∷ []) (after_arrival l left spots) }
 {}
 
-#[tactic(auto, using(crate::proofs::Feeding::after_limit_law))]
+#[tactic(auto, using(crate::proofs::Feeding::lowers_law))]
 /// Where the spots of each trace are those of its shown spans, hiding the traces that leave at a limit
 /// keeps them so.
 pub fn lowered_as_the_ring_says()
     ensures { (n m : ℕ) (es : List (Event (SpotValue × PlacedValue)))
         (old new : List TraceIdValue) (spots : TraceIdValue → List SpotValue) →
-        old ≡ ring n (events_in es) → new ≡ newest m old →
-        ((t : TraceIdValue) → spots t ≡ shown_spots n es t) → (t : TraceIdValue) →
-        without_left old new spots t ≡ shown_spots n (es ++ limited m ∷ []) t }
+        Lowers n m es old new → AreShown n es spots →
+        AreShown n (es ++ limited m ∷ []) (without_left old new spots) }
 {}
 
 #[tactic(auto, using(crate::proofs::Feeding::spans_at_shown_law))]

@@ -1,3 +1,5 @@
+//! The spans of a trace as they are shown, with what is known of which of them share a process.
+
 ghost use Rattle.std.specs.Prelude.{◌≡◌, ◌==◌, IsTrue, length};
 ghost use Rattle.trace_model.specs.Adjusting.{spans_of};
 ghost use Rattle.trace_model.specs.Sharing.{ShareProcesses, GoesOn};

@@ -45,7 +45,8 @@ fn write_members(
     named: &BTreeMap<&str, &Process>,
 ) -> Result<(), AllocError>
     ensures tokens { OnOk result
-        (out.new.tokens ≡ out.old.tokens ++ tree_tokens (object (named_members named.now.entries))) }
+        (out.new.tokens ≡ out.old.tokens
+        ++ tree_tokens (object (named_members named.now.entries))) }
     ensures before { out.new.before ≡ out.old.before }
 {
     out.begin_object()?;

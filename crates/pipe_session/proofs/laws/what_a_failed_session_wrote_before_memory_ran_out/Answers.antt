@@ -2,4 +2,5 @@ use Rattle.pipe_session.proofs.RanOut.{failed_before}
 use Rattle.pipe_session.proofs.laws.what_a_failed_session_wrote_before_memory_ran_out.Goals as goal
 
 pub returns : goal.returns
-returns c = failed_before
+returns c = λ bytes before left out s t in_failed out_failed error fails xs had.
+    failed_before bytes before left out s t in_failed out_failed error fails xs had.1 had.0 had.2 had.3

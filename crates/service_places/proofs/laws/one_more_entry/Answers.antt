@@ -1,4 +1,4 @@
-use Rattle.service_places.proofs.Entries.{before_last-push}
+use Rattle.trace_model.proofs.LastEntries.{before_last-push}
 use Rattle.service_places.proofs.laws.one_more_entry.Goals as goal
 
 pub returns : goal.returns

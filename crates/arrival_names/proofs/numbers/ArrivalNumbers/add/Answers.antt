@@ -10,8 +10,8 @@ use Rattle.trace_model.specs.Works.{spans_brought}
 use Rattle.arrival_names.specs.declared.kind.Kind.{Kind}
 use Rattle.arrival_names.specs.Kinds.{kind_text}
 use Rattle.arrival_names.specs.Kept.{AreKinds}
-use Rattle.service_places.specs.Reported.{before_last}
-use Rattle.service_places.proofs.Entries.{entry_is, last_is}
+use Rattle.trace_model.specs.Histories.{before_last}
+use Rattle.trace_model.proofs.LastEntries.{entry_is, last_is}
 use Rattle.arrival_names.specs.Numbers.{Numbered, AreOf}
 use Rattle.arrival_names.proofs.Numbering.{Filled, numbers_more}
 use Rattle.arrival_names.proofs.KindsKept.{kinds_more}

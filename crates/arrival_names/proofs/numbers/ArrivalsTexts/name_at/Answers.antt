@@ -8,7 +8,7 @@ use Rattle.trace_model.specs.declared.entry.Work.TheVariants as brings
 use Rattle.trace_model.specs.Works.{spans_brought}
 use Rattle.trace_model.specs.Histories.{arrivals}
 use Rattle.service_index.specs.Listing.{Listed}
-use Rattle.service_places.proofs.Entries.{entry_is}
+use Rattle.trace_model.proofs.LastEntries.{entry_is}
 use Rattle.arrival_names.specs.Kept.{reported_at}
 use Rattle.arrival_names.proofs.Naming.{said}
 use Rattle.arrival_names.proofs.KindsKept.{as_many_kinds, kind_is}

@@ -9,7 +9,7 @@ use Rattle.trace_model.specs.Works.{batch_brought}
 use Rattle.row_places.specs.Leading.{LeadsTo}
 use Rattle.sent_batches.specs.Hashing.{batch_hash}
 use Rattle.sent_batches.specs.Sent.{Sent, IsKept, AreBehind, has_number, hash_behind, numbered_from}
-use Rattle.sent_batches.proofs.Entries.{last_entry}
+use Rattle.trace_model.proofs.LastEntries.{last_entry}
 use Rattle.sent_batches.proofs.Sending.{hash_is, limit_has_none, batch_has, brought_is, kept_same, kept_more, numbered_within, numbered_few}
 use Rattle.sent_batches.proofs.batches.SentBatches.add.Goals as goal
 

@@ -6,8 +6,9 @@ use Rattle.std.proofs.lemmas.List.{length-map, get_or_read}
 use Rattle.trace_model.specs.declared.entry.Entry.{Entry}
 use Rattle.service_index.specs.Probes.{Table}
 use Rattle.service_index.proofs.Extending.{named_extends}
-use Rattle.service_places.specs.Reported.{Reported, IsKept, before_last, service_labels}
-use Rattle.service_places.proofs.Entries.{last_of}
+use Rattle.trace_model.specs.Histories.{before_last}
+use Rattle.service_places.specs.Reported.{Reported, IsKept, service_labels}
+use Rattle.trace_model.proofs.LastEntries.{last_of}
 use Rattle.service_places.proofs.Following.{last_number, extends_one, row_added, kept_own, kept_new, newest_rows}
 use Rattle.service_places.proofs.places.ServicePlaces.add.Goals as goal
 

@@ -3,7 +3,7 @@ use Rattle.std.proofs.Common.{◌≡◌, ℕ, ◌+◌, ◌-◌, ◌<◌, List, [
 use Rattle.std.specs.Arc.{arc_value}
 use Rattle.std.specs.declared.sync.Arc.{Arc}
 use Rattle.std.specs.Global.{Global}
-use Rattle.std.proofs.lemmas.List.{get_or-map, length-map, take_more, take_all, take_at}
+use Rattle.std.proofs.lemmas.List.{get_or-map, length-map, take_more, take_all, take_at, get_or_default}
 use Rattle.trace_model.specs.declared.entry.Entry.{Entry}
 use Rattle.trace_model.specs.Histories.{before_last}
 
@@ -28,3 +28,10 @@ last_entry entries a e some is value =
     let long : length (map arc_value entries) ≡ length entries = length-map entries arc_value in
     let here : arc_value a ≡ get_or (map arc_value entries) (length (map arc_value entries) - 1) (arc_value a) = entry_is entries (length entries - 1) a (omega arith) is ∙ ap (λ n. get_or (map arc_value entries) (n - 1) (arc_value a)) (sym long) in
     ap (λ x. before_last (map arc_value entries) ++ x ∷ []) value ∙ last_is (map arc_value entries) (arc_value a) (omega (arith, long)) here
+
+pub last_of : (h : List Entry) → 0 < length h → (e : Entry) × (before_last h ++ e ∷ [] ≡ h)
+last_of [] some = absurd (omega arith)
+last_of (x ∷ xs) some =
+    let h = x ∷ xs in
+    let e = get_or h (length h - 1) x in
+    (e, last_is h e some (get_or_default h (length h - 1) x e (omega arith)))
