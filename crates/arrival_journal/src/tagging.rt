@@ -5,7 +5,7 @@ ghost use Rattle.std.specs.List.{fold};
 ghost use Rattle.jaeger_model.specs.Tags.{tag_text, hex_text};
 ghost use Rattle.arrival_journal.specs.Tagging.{text_hash, begins_number, may_be_number, text_part, tag_place, bit_of, with_tag, fields_of, own_tags, bits_of, bits_brought};
 
-use jaeger_model::{Batch, Log, Span, Tag, Value};
+use jaeger_model::{Batch, Log, Span, Tag, TagValue, ValueRef};
 use trace_model::Work;
 
 /// The byte at an index, 0 behind the end.
@@ -69,16 +69,16 @@ fn hex_part(bytes: &[u8]) -> u32
 }
 
 /// The same for a value, whose text isn't made.
-fn value_part(value: &Value) -> u32
+fn value_part(value: &TagValue) -> u32
     ensures exact { result ≡ text_part (tag_text value.now) }
     ensures within { result < 65536 }
 {
-    match value {
-        Value::Text(text) => text_part(text.as_str()),
-        Value::Double(bytes) => hex_part(bytes),
-        Value::Bool(_) => 0,
-        Value::Long(_) => 0,
-        Value::Bytes(bytes) => hex_part(bytes.as_slice()),
+    match value.get() {
+        ValueRef::Text(text) => text_part(text),
+        ValueRef::Double(bytes) => hex_part(bytes),
+        ValueRef::Bool(_) => 0,
+        ValueRef::Long(_) => 0,
+        ValueRef::Bytes(bytes) => hex_part(bytes),
     }
 }
 

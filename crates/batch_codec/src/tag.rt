@@ -8,7 +8,7 @@ use crate::items::Element;
 use crate::values::{
     ByteSlice, TextSlice, read_binary, read_bool, read_double, read_i32, read_i64, read_text,
 };
-use jaeger_model::{Tag, Value};
+use jaeger_model::{Tag, TagValue, Value};
 use std::alloc::Global;
 use thrift_binary::Cursor;
 use thrift_binary::types::{BOOL, DOUBLE, I32, I64, STRING};
@@ -114,7 +114,7 @@ fn tag_of(alloc: Global, slots: TagSlots<'_>) -> Result<Tag, DecodeError>
     };
     Ok(Tag {
         key: key.to_text(alloc)?,
-        value,
+        value: TagValue::new(value),
     })
 }
 

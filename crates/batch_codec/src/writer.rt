@@ -9,7 +9,7 @@ ghost use Rattle.batch_codec.specs.Canon.{Encodes, fits_length, front_text, text
 ghost use Rattle.batch_codec.specs.Proper.{AreProper, IsProperValue, IsProperFront, IsProperMiddle, IsProperSpan, IsProperProcess, IsProperNumber, IsProper};
 
 use crate::fault::DecodeError;
-use jaeger_model::{Batch, Log, Process, RefKind, Span, SpanRef, Tag, Value};
+use jaeger_model::{Batch, Log, Process, RefKind, Span, SpanRef, Tag, TagValue, ValueRef};
 use std::alloc::Global;
 use thrift_binary::{Out, WireError, WriteError, types};
 
@@ -107,33 +107,33 @@ fn write_if_any<T: Spelled>(out: &mut Out, id: i16, items: &[T]) -> Result<(), W
 }
 
 /// The number of a value's type (`TagType`).
-fn type_number(value: &Value) -> i32
+fn type_number(value: &TagValue) -> i32
     ensures { result ≡ type_number (value_type value.now) }
 {
-    match value {
-        Value::Text(_) => 0,
-        Value::Double(_) => 1,
-        Value::Bool(_) => 2,
-        Value::Long(_) => 3,
-        Value::Bytes(_) => 4,
+    match value.get() {
+        ValueRef::Text(_) => 0,
+        ValueRef::Double(_) => 1,
+        ValueRef::Bool(_) => 2,
+        ValueRef::Long(_) => 3,
+        ValueRef::Bytes(_) => 4,
     }
 }
 
 /// The one value of a tag.
-fn write_value(out: &mut Out, value: &Value) -> Result<(), WriteError>
+fn write_value(out: &mut Out, value: &TagValue) -> Result<(), WriteError>
     ensures writes { Encodes (front_text (value_field value.now ∷ [])) (value_fits value.now)
         out.old result out.new }
     ensures proper { OnOk result (IsProperValue value.now) }
 {
-    match value {
-        Value::Text(text) => write_text(out, 3, text.as_str().as_bytes()),
-        Value::Double(bytes) => write_double(out, 4, *bytes),
-        Value::Bool(flag) => {
+    match value.get() {
+        ValueRef::Text(text) => write_text(out, 3, text.as_bytes()),
+        ValueRef::Double(bytes) => write_double(out, 4, *bytes),
+        ValueRef::Bool(flag) => {
             out.field(types::BOOL, 5)?;
-            out.bool(*flag)
+            out.bool(flag)
         }
-        Value::Long(number) => write_i64(out, 6, *number),
-        Value::Bytes(bytes) => write_text(out, 7, bytes.as_slice()),
+        ValueRef::Long(number) => write_i64(out, 6, number),
+        ValueRef::Bytes(bytes) => write_text(out, 7, bytes),
     }
 }
 

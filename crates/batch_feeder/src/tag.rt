@@ -8,7 +8,7 @@ use crate::skipped::SkipPart;
 use crate::texts::{BinaryPart, TextPart};
 use crate::values::{BoolPart, DoublePart, I64Part};
 use batch_codec::{DecodeError, LEAST_TAG, Part, TagType};
-use jaeger_model::{Seq, Tag, Text, Value};
+use jaeger_model::{Seq, Tag, TagValue, Text, Value};
 use std::alloc::Global;
 use std::marker::Model;
 use thrift_binary::Cursor;
@@ -153,16 +153,28 @@ impl Slots for TagParts {
     #[tactic(auto, unfolding(batch_codec::specs::TagReading::tag_from))]
     #[inline(always)]
     fn whole(self) -> Result<Tag, DecodeError> {
-        let key = required(self.key, Part::Tag, 1)?;
-        let kind = required(self.kind, Part::Tag, 2)?;
+        let TagParts {
+            key,
+            kind,
+            text,
+            double,
+            boolean,
+            long,
+            binary,
+        } = self;
+        let key = required(key, Part::Tag, 1)?;
+        let kind = required(kind, Part::Tag, 2)?;
         let value = match kind {
-            TagType::Text => Value::Text(self.text),
-            TagType::Double => Value::Double(self.double),
-            TagType::Bool => Value::Bool(self.boolean),
-            TagType::Long => Value::Long(self.long),
-            TagType::Binary => Value::Bytes(self.binary),
+            TagType::Text => Value::Text(text),
+            TagType::Double => Value::Double(double),
+            TagType::Bool => Value::Bool(boolean),
+            TagType::Long => Value::Long(long),
+            TagType::Binary => Value::Bytes(binary),
         };
-        Ok(Tag { key, value })
+        Ok(Tag {
+            key,
+            value: TagValue::new(value),
+        })
     }
 
     ghost safe = { take_tag_safe };

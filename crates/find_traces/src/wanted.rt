@@ -8,7 +8,7 @@ ghost use Rattle.jaeger_model.specs.Tags.{tag_text};
 ghost use Rattle.jaeger_model.specs.Texts.{text_cmp};
 ghost use Rattle.find_traces.specs.Wanting.{pair_of, same_pair, is_in, asked_count, if_asked};
 
-use jaeger_model::{Tag, Text, Value, tag_text};
+use jaeger_model::{Tag, TagValue, Text, ValueRef, tag_text};
 use std::alloc::{AllocError, Global};
 use std::collections::BTreeSet;
 use std::marker::Model;
@@ -67,12 +67,12 @@ fn pairs_of(alloc: Global, asked: &[(Text, Text)]) -> Result<BTreeSet<(Text, Tex
 }
 
 /// The value as text.
-fn text_of(alloc: Global, value: &Value) -> Result<Text, AllocError>
+fn text_of(alloc: Global, value: &TagValue) -> Result<Text, AllocError>
     ensures { IfOk result (λ t. t ≡ tag_text value.now) }
 {
-    match value {
-        Value::Text(text) => text.clone(),
-        other => Ok(Text::from_string(tag_text(alloc, other)?)),
+    match value.get() {
+        ValueRef::Text(text) => Text::from_str(alloc, text),
+        _ => Ok(Text::from_string(tag_text(alloc, value)?)),
     }
 }
 

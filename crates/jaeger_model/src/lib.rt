@@ -8,6 +8,7 @@
 //! * `ids`: the ids of traces and spans, and their hexadecimal text.
 //! * `tag`, `span`, `batch`: what `jaeger.thrift` declares, with ids as unsigned numbers, and a tag's
 //!   text.
+//! * `tag_value`: a tag's value as the tag holds it.
 //! * `kind`: a span's kind, by its tag `span.kind`.
 //! * `parent`: which span is the parent of a span.
 //! * `shared_process`: a process that the spans of its batch share.
@@ -27,6 +28,7 @@ mod shared_process;
 mod short_text;
 mod span;
 mod tag;
+mod tag_value;
 mod text;
 
 pub use batch::{Batch, Process};
@@ -38,4 +40,5 @@ pub use seq::Seq;
 pub use shared_process::SharedProcess;
 pub use span::{Log, RefKind, Span, SpanRef};
 pub use tag::{Tag, Value, first_tag, first_text, tag_text};
+pub use tag_value::{TagValue, ValueRef};
 pub use text::Text;

@@ -1,4 +1,4 @@
-ghost use Rattle.std.specs.Prelude.{◌≡◌, ◌≤◌, length};
+ghost use Rattle.std.specs.Prelude.{◌≡◌, ◌≤◌, [], length};
 
 use std::marker::Model;
 use std::str;
@@ -23,6 +23,16 @@ impl Model for ShortText {
 impl ShortText {
     /// The most bytes.
     pub(crate) const MOST: usize = 30;
+
+    /// The empty text.
+    pub(crate) fn empty() -> Self
+        ensures { result ≡ [] }
+    {
+        ShortText {
+            bytes: [0; 30],
+            len: 0,
+        }
+    }
 
     /// A copy of a short text.
     pub(crate) fn new(text: &str) -> Self

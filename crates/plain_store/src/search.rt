@@ -8,13 +8,13 @@ ghost use Rattle.jaeger_model.specs.Texts.{same_text};
 ghost use Rattle.trace_model.specs.Searching.{matches, tag_matches, has_tag, found_in, first_id, ids_of, cut};
 
 use crate::ranks::rank;
-use jaeger_model::{Log, Placed, Seen, Seq, Tag, Text, TraceId, Value, tag_text};
+use jaeger_model::{Log, Placed, Seen, Seq, Tag, TagValue, Text, TraceId, tag_text};
 use span_steps::{is_named, is_timed};
 use std::alloc::{AllocError, Global};
 use trace_model::Find;
 
 /// Whether the tag's value reads as the asked text.
-fn is_text_of(alloc: Global, value: &Value, asked: &Text) -> Result<bool, AllocError>
+fn is_text_of(alloc: Global, value: &TagValue, asked: &Text) -> Result<bool, AllocError>
     ensures { IfOk result (λ b. b ≡ same_text asked.now (tag_text value.now)) }
 {
     let text = tag_text(alloc, value)?;

@@ -5,7 +5,7 @@ ghost use Rattle.std.specs.Hash.DefaultHasher as sip;
 ghost use Rattle.sent_batches.specs.Hashing.{bytes_fed, value_fed, tag_fed, process_fed, hash_of, batch_hash};
 
 use crate::keys::BatchKeys;
-use jaeger_model::{Batch, Process, Tag, Value};
+use jaeger_model::{Batch, Process, Tag, TagValue, ValueRef};
 use std::hash::{DefaultHasher, Hash, Hasher};
 
 fn feed_bytes(bytes: &[u8], state: &mut DefaultHasher)
@@ -16,29 +16,29 @@ fn feed_bytes(bytes: &[u8], state: &mut DefaultHasher)
 }
 
 /// A byte for the kind of value, then the value.
-fn feed_value(value: &Value, state: &mut DefaultHasher)
+fn feed_value(value: &TagValue, state: &mut DefaultHasher)
     ensures { state.new ≡ fold sip.write state.old (value_fed value.now) }
 {
-    match value {
-        Value::Text(text) => {
+    match value.get() {
+        ValueRef::Text(text) => {
             state.write_u8(0);
-            text.as_str().hash(state);
+            text.hash(state);
         }
-        Value::Double(bytes) => {
+        ValueRef::Double(bytes) => {
             state.write_u8(1);
             feed_bytes(bytes, state);
         }
-        Value::Bool(flag) => {
+        ValueRef::Bool(flag) => {
             state.write_u8(2);
             flag.hash(state);
         }
-        Value::Long(number) => {
+        ValueRef::Long(number) => {
             state.write_u8(3);
-            state.write_i64(*number);
+            state.write_i64(number);
         }
-        Value::Bytes(bytes) => {
+        ValueRef::Bytes(bytes) => {
             state.write_u8(4);
-            feed_bytes(bytes.as_slice(), state);
+            feed_bytes(bytes, state);
         }
     }
 }

@@ -2,7 +2,7 @@ ghost use Rattle.std.specs.Prelude.{◌≡◌, ◌∷◌, [], IfOk, None};
 ghost use Rattle.trace_samples.specs.Samples.{text_tag, plain_process, host_process, root_span};
 
 use jaeger_model::{
-    Batch, Placed, Process, Seq, SharedProcess, Span, SpanId, Tag, Text, TraceId, Value,
+    Batch, Placed, Process, Seq, SharedProcess, Span, SpanId, Tag, TagValue, Text, TraceId, Value,
 };
 use std::alloc::{AllocError, Global};
 
@@ -29,7 +29,7 @@ pub fn text_tag(alloc: Global, key: &str, text: &str) -> Result<Tag, AllocError>
 {
     Ok(Tag {
         key: Text::from_str(alloc, key)?,
-        value: Value::Text(Text::from_str(alloc, text)?),
+        value: TagValue::new(Value::Text(Text::from_str(alloc, text)?)),
     })
 }
 

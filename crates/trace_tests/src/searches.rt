@@ -1,6 +1,6 @@
 use crate::histories::{Row, answer_of, kept, store_answer_of, store_answer_to};
 use find_traces::{JudgedProcess, Wanted};
-use jaeger_model::{Log, Placed, Process, Seq, SharedProcess, Tag, Text, TraceId, Value};
+use jaeger_model::{Log, Placed, Process, Seq, SharedProcess, Tag, TagValue, Text, TraceId, Value};
 use std::alloc::{AllocError, Global};
 use std::hash::RandomState;
 use std::mem::drop;
@@ -253,7 +253,7 @@ fn latest_first(rt: HostRuntime) -> Result<(), Fail> {
 /// The flag `true` under this key.
 fn flag(alloc: Global, key: &str) -> Result<Seq<Tag>, AllocError> {
     let key = Text::from_str(alloc, key)?;
-    let value = Value::Bool(true);
+    let value = TagValue::new(Value::Bool(true));
     list_of(alloc, Tag { key, value })
 }
 

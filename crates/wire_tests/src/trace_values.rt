@@ -1,7 +1,7 @@
 use jaeger_model::{
-    Batch, Placed, RefKind, Seq, SharedProcess, Span, SpanId, SpanRef, Tag, Text, TraceId, Value,
-    domain, first_tag, first_text, kind_of, parent_of, parse_trace, place_span, span_text,
-    tag_text, trace_text,
+    Batch, Placed, RefKind, Seq, SharedProcess, Span, SpanId, SpanRef, Tag, TagValue, Text,
+    TraceId, Value, domain, first_tag, first_text, kind_of, parent_of, parse_trace, place_span,
+    span_text, tag_text, trace_text,
 };
 use std::alloc::{AllocError, Global};
 use std::mem::drop;
@@ -14,7 +14,10 @@ fn text(alloc: Global, text: &str) -> Result<Text, Fail> {
 
 pub(crate) fn tag(alloc: Global, key: &str, value: Value) -> Result<Tag, Fail> {
     match text(alloc, key) {
-        Ok(key) => Ok(Tag { key, value }),
+        Ok(key) => Ok(Tag {
+            key,
+            value: TagValue::new(value),
+        }),
         Err(why) => {
             drop(value);
             Err(why)

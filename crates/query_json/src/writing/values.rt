@@ -3,20 +3,20 @@ ghost use Rattle.query_json.specs.Trees.{link_tree, log_tree, operation_tree, re
 
 use super::{WriteJson, count_field, field, integer_field, list_field, text_field, write_integer};
 use crate::values::{kind_name, type_name};
-use jaeger_model::{Log, SpanRef, Tag, Value, tag_text};
+use jaeger_model::{Log, SpanRef, Tag, TagValue, ValueRef, tag_text};
 use json::Writer;
 use std::alloc::{AllocError, Global};
 use trace_model::{Link, Operation};
 
-impl WriteJson for Value {
+impl WriteJson for TagValue {
     ghost tree = { value_tree };
 
     fn write(&self, alloc: Global, out: &mut Writer) -> Result<(), AllocError> {
-        match self {
-            Value::Text(text) => out.string(text.as_str()),
-            Value::Bool(flag) => out.boolean(*flag),
-            Value::Long(number) => write_integer(out, *number),
-            Value::Double(_) | Value::Bytes(_) => {
+        match self.get() {
+            ValueRef::Text(text) => out.string(text),
+            ValueRef::Bool(flag) => out.boolean(flag),
+            ValueRef::Long(number) => write_integer(out, number),
+            ValueRef::Double(_) | ValueRef::Bytes(_) => {
                 let digits = tag_text(alloc, self)?;
                 out.string(digits.as_str())
             }
