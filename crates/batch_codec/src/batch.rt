@@ -1,14 +1,15 @@
-ghost use Rattle.std.specs.Prelude.{◌≡◌, IfOk};
+ghost use Rattle.std.specs.Prelude.{◌≡◌, ◌≤◌, length, IfOk, OnOk};
 ghost use Rattle.batch_codec.specs.Batches.{Answers, IsBatch};
 ghost use Rattle.batch_codec.specs.BatchReading.{batch_from, batch_at, decoded};
 ghost use Rattle.batch_codec.specs.Decoding.{Decodes, Gives};
+ghost use Rattle.batch_codec.specs.ProcessReading.{process_at};
 
 use crate::fault::{DecodeError, Part};
 use crate::fields::{Slots, read_fields, required};
 use crate::items::read_list;
 use crate::process::read_process;
 use crate::values::read_i64;
-use jaeger_model::{Batch, Process, Seq, SharedProcess, Span};
+use jaeger_model::{Batch, Seq, SharedProcess, Span};
 use std::alloc::Global;
 use thrift_binary::Cursor;
 use thrift_binary::types::{I64, LIST, STRUCT};
@@ -16,9 +17,54 @@ use thrift_binary::types::{I64, LIST, STRUCT};
 /// What was gathered of a batch so far.
 #[derive(Drop)]
 pub struct BatchSlots {
-    pub process: Option<Process>,
+    pub process: Option<SharedProcess>,
     pub spans: Option<Seq<Span>>,
     pub seq_no: Option<i64>,
+}
+
+impl BatchSlots {
+    ghost use Rattle.batch_codec.specs.Gathered.{no_batch};
+
+    /// What is gathered before the first field: nothing.
+    #[inline]
+    pub fn new() -> Self
+        ensures nothing { result ≡ no_batch }
+    {
+        BatchSlots {
+            process: None,
+            spans: None,
+            seq_no: None,
+        }
+    }
+
+    /// The batch of what was gathered.
+    ///
+    /// # Errors
+    ///
+    /// [`DecodeError::Missing`] of the least required field that is missing.
+    #[tactic(auto, unfolding(crate::specs::BatchReading::batch_from))]
+    #[inline]
+    pub fn whole(self) -> Result<Batch, DecodeError>
+        ensures exact { result ≡ batch_from self }
+    {
+        let process = required(self.process, Part::Batch, 1)?;
+        let spans = required(self.spans, Part::Batch, 2)?;
+        Ok(Batch {
+            process,
+            spans,
+            seq_no: self.seq_no,
+        })
+    }
+}
+
+/// The process, to be shared by the spans of its batch.
+#[tactic(auto, unfolding(crate::specs::ProcessReading::process_at))]
+fn read_shared(alloc: Global, cursor: &mut Cursor<'_>) -> Result<SharedProcess, DecodeError>
+    ensures exact { Decodes (λ p. p) process_at cursor.old result cursor.new }
+    ensures no_longer { OnOk result (length cursor.new ≤ length cursor.old) }
+{
+    let process = read_process(alloc, cursor)?;
+    Ok(SharedProcess::new(alloc, process)?)
 }
 
 impl<'a> Slots<'a> for BatchSlots {
@@ -35,7 +81,7 @@ impl<'a> Slots<'a> for BatchSlots {
         cursor: &mut Cursor<'a>,
     ) -> Result<(), DecodeError> {
         match (code, id) {
-            (STRUCT, 1) => self.process = Some(read_process(alloc, cursor)?),
+            (STRUCT, 1) => self.process = Some(read_shared(alloc, cursor)?),
             (LIST, 2) => self.spans = Some(read_list(alloc, cursor)?),
             (I64, 3) => self.seq_no = Some(read_i64(cursor)?),
             _ => cursor.skip(code)?,
@@ -44,30 +90,12 @@ impl<'a> Slots<'a> for BatchSlots {
     }
 }
 
-#[tactic(auto, unfolding(crate::specs::BatchReading::batch_from))]
-fn batch_of(alloc: Global, slots: BatchSlots) -> Result<Batch, DecodeError>
-    ensures { Gives result (batch_from slots) }
-{
-    let process = required(slots.process, Part::Batch, 1)?;
-    let spans = required(slots.spans, Part::Batch, 2)?;
-    Ok(Batch {
-        process: SharedProcess::new(alloc, process)?,
-        spans,
-        seq_no: slots.seq_no,
-    })
-}
-
 #[tactic(auto, unfolding(crate::specs::BatchReading::batch_at))]
 fn read_batch(alloc: Global, cursor: &mut Cursor<'_>) -> Result<Batch, DecodeError>
     ensures exact { Decodes (λ b. b) batch_at cursor.old result cursor.new }
 {
-    let none = BatchSlots {
-        process: None,
-        spans: None,
-        seq_no: None,
-    };
-    let slots = read_fields(alloc, none, cursor)?;
-    batch_of(alloc, slots)
+    let slots = read_fields(alloc, BatchSlots::new(), cursor)?;
+    slots.whole()
 }
 
 #[tactic(auto, unfolding(crate::specs::BatchReading::decoded))]

@@ -40,7 +40,8 @@ pub(crate) fn read_fields<'a, S: Slots<'a>>(
 }
 
 /// The value of a required field, or that it is missing.
-pub(crate) fn required<T>(slot: Option<T>, part: Part, id: u8) -> Result<T, DecodeError>
+#[inline]
+pub fn required<T>(slot: Option<T>, part: Part, id: u8) -> Result<T, DecodeError>
     ensures { result ≡ required slot part id }
 {
     slot.ok_or(DecodeError::Missing(part, id))

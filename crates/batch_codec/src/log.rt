@@ -20,6 +20,36 @@ pub struct LogSlots {
     pub fields: Option<Seq<Tag>>,
 }
 
+impl LogSlots {
+    ghost use Rattle.batch_codec.specs.Gathered.{no_log};
+
+    /// What is gathered before the first field: nothing.
+    #[inline]
+    pub fn new() -> Self
+        ensures nothing { result ≡ no_log }
+    {
+        LogSlots {
+            at: None,
+            fields: None,
+        }
+    }
+
+    /// The log of what was gathered.
+    ///
+    /// # Errors
+    ///
+    /// [`DecodeError::Missing`] of the least required field that is missing.
+    #[tactic(auto, unfolding(crate::specs::LogReading::log_from))]
+    #[inline]
+    pub fn whole(self) -> Result<Log, DecodeError>
+        ensures exact { result ≡ log_from self }
+    {
+        let at = required(self.at, Part::Log, 1)?;
+        let fields = required(self.fields, Part::Log, 2)?;
+        Ok(Log { at, fields })
+    }
+}
+
 impl<'a> Slots<'a> for LogSlots {
     ghost use Rattle.batch_codec.specs.LogReading.{take_log};
 
@@ -42,15 +72,6 @@ impl<'a> Slots<'a> for LogSlots {
     }
 }
 
-#[tactic(auto, unfolding(crate::specs::LogReading::log_from))]
-fn log_of(slots: LogSlots) -> Result<Log, DecodeError>
-    ensures { result ≡ log_from slots }
-{
-    let at = required(slots.at, Part::Log, 1)?;
-    let fields = required(slots.fields, Part::Log, 2)?;
-    Ok(Log { at, fields })
-}
-
 impl Element for Log {
     ghost reads = { log_at };
 
@@ -60,11 +81,7 @@ impl Element for Log {
 
     #[tactic(auto, unfolding(crate::specs::LogReading::log_at))]
     fn read(alloc: Global, cursor: &mut Cursor<'_>) -> Result<Self, DecodeError> {
-        let none = LogSlots {
-            at: None,
-            fields: None,
-        };
-        let slots = read_fields(alloc, none, cursor)?;
-        log_of(slots)
+        let slots = read_fields(alloc, LogSlots::new(), cursor)?;
+        slots.whole()
     }
 }

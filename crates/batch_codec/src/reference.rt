@@ -24,6 +24,44 @@ pub struct ReferenceSlots {
     pub id: Option<u64>,
 }
 
+impl ReferenceSlots {
+    ghost use Rattle.batch_codec.specs.Gathered.{no_reference};
+
+    /// What is gathered before the first field: nothing.
+    #[inline]
+    pub fn new() -> Self
+        ensures nothing { result ≡ no_reference }
+    {
+        ReferenceSlots {
+            kind: None,
+            trace_low: None,
+            trace_high: None,
+            id: None,
+        }
+    }
+
+    /// The reference of what was gathered.
+    ///
+    /// # Errors
+    ///
+    /// [`DecodeError::Missing`] of the least required field that is missing.
+    #[tactic(auto, unfolding(crate::specs::ReferenceReading::reference_from))]
+    #[inline]
+    pub fn whole(self) -> Result<SpanRef, DecodeError>
+        ensures exact { result ≡ reference_from self }
+    {
+        let kind = required(self.kind, Part::SpanRef, 1)?;
+        let low = required(self.trace_low, Part::SpanRef, 2)?;
+        let high = required(self.trace_high, Part::SpanRef, 3)?;
+        let id = required(self.id, Part::SpanRef, 4)?;
+        Ok(SpanRef {
+            kind,
+            trace: TraceId { high, low },
+            id: SpanId(id),
+        })
+    }
+}
+
 impl<'a> Slots<'a> for ReferenceSlots {
     ghost use Rattle.batch_codec.specs.ReferenceReading.{take_reference};
 
@@ -48,8 +86,14 @@ impl<'a> Slots<'a> for ReferenceSlots {
     }
 }
 
+/// A number of `SpanRefType`.
+///
+/// # Errors
+///
+/// The bytes are too few, or the number is none of them.
 #[tactic(auto, unfolding(crate::specs::ReferenceReading::kind_at))]
-fn read_kind(cursor: &mut Cursor<'_>) -> Result<RefKind, DecodeError>
+#[inline]
+pub fn read_kind(cursor: &mut Cursor<'_>) -> Result<RefKind, DecodeError>
     ensures exact { Decodes (λ k. k) kind_at cursor.old result cursor.new }
     ensures no_longer { OnOk result (length cursor.new ≤ length cursor.old) }
 {
@@ -58,21 +102,6 @@ fn read_kind(cursor: &mut Cursor<'_>) -> Result<RefKind, DecodeError>
         1 => Ok(RefKind::FollowsFrom),
         _ => Err(DecodeError::BadEnum),
     }
-}
-
-#[tactic(auto, unfolding(crate::specs::ReferenceReading::reference_from))]
-fn reference_of(slots: ReferenceSlots) -> Result<SpanRef, DecodeError>
-    ensures { result ≡ reference_from slots }
-{
-    let kind = required(slots.kind, Part::SpanRef, 1)?;
-    let low = required(slots.trace_low, Part::SpanRef, 2)?;
-    let high = required(slots.trace_high, Part::SpanRef, 3)?;
-    let id = required(slots.id, Part::SpanRef, 4)?;
-    Ok(SpanRef {
-        kind,
-        trace: TraceId { high, low },
-        id: SpanId(id),
-    })
 }
 
 impl Element for SpanRef {
@@ -84,13 +113,7 @@ impl Element for SpanRef {
 
     #[tactic(auto, unfolding(crate::specs::ReferenceReading::reference_at))]
     fn read(alloc: Global, cursor: &mut Cursor<'_>) -> Result<Self, DecodeError> {
-        let none = ReferenceSlots {
-            kind: None,
-            trace_low: None,
-            trace_high: None,
-            id: None,
-        };
-        let slots = read_fields(alloc, none, cursor)?;
-        reference_of(slots)
+        let slots = read_fields(alloc, ReferenceSlots::new(), cursor)?;
+        slots.whole()
     }
 }

@@ -136,3 +136,16 @@ impl Element for Span {
         slots.whole()
     }
 }
+
+/// A span that is whole, from its first byte on.
+///
+/// # Errors
+///
+/// The first fault of its bytes, or out of memory.
+#[inline(never)]
+pub fn read_span(alloc: Global, cursor: &mut Cursor<'_>) -> Result<Span, DecodeError>
+    ensures exact { Decodes (λ s. s) span_at cursor.old result cursor.new }
+    ensures no_longer { OnOk result (length cursor.new ≤ length cursor.old) }
+{
+    Span::read(alloc, cursor)
+}

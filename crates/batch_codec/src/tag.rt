@@ -84,8 +84,14 @@ impl<'a> Slots<'a> for TagSlots<'a> {
     }
 }
 
+/// A number of `TagType`.
+///
+/// # Errors
+///
+/// The bytes are too few, or the number is none of them.
 #[tactic(auto, unfolding(crate::specs::TagReading::type_at))]
-fn read_type(cursor: &mut Cursor<'_>) -> Result<TagType, DecodeError>
+#[inline]
+pub fn read_type(cursor: &mut Cursor<'_>) -> Result<TagType, DecodeError>
     ensures exact { Decodes (λ t. t) type_at cursor.old result cursor.new }
     ensures no_longer { OnOk result (length cursor.new ≤ length cursor.old) }
 {

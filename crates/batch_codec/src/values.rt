@@ -60,32 +60,56 @@ impl<'a> ByteSlice<'a> {
     }
 }
 
+/// A bool.
+///
+/// # Errors
+///
+/// The bytes are too few, or no bool.
 #[tactic(auto, unfolding(crate::specs::Decoding::bool_at))]
-pub(crate) fn read_bool(cursor: &mut Cursor<'_>) -> Result<bool, DecodeError>
+#[inline]
+pub fn read_bool(cursor: &mut Cursor<'_>) -> Result<bool, DecodeError>
     ensures exact { Decodes (λ b. b) bool_at cursor.old result cursor.new }
     ensures no_longer { OnOk result (length cursor.new ≤ length cursor.old) }
 {
     Ok(cursor.read_bool()?)
 }
 
+/// The eight bytes of a double.
+///
+/// # Errors
+///
+/// The bytes are too few.
 #[tactic(auto, unfolding(crate::specs::Decoding::double_at))]
-pub(crate) fn read_double(cursor: &mut Cursor<'_>) -> Result<[u8; 8], DecodeError>
+#[inline]
+pub fn read_double(cursor: &mut Cursor<'_>) -> Result<[u8; 8], DecodeError>
     ensures exact { Decodes (λ b. b) double_at cursor.old result cursor.new }
     ensures no_longer { OnOk result (length cursor.new ≤ length cursor.old) }
 {
     Ok(cursor.read_double()?)
 }
 
+/// A signed number of 32 bits.
+///
+/// # Errors
+///
+/// The bytes are too few.
 #[tactic(auto, unfolding(crate::specs::Decoding::i32_at))]
-pub(crate) fn read_i32(cursor: &mut Cursor<'_>) -> Result<i32, DecodeError>
+#[inline]
+pub fn read_i32(cursor: &mut Cursor<'_>) -> Result<i32, DecodeError>
     ensures exact { Decodes (λ z. z) i32_at cursor.old result cursor.new }
     ensures no_longer { OnOk result (length cursor.new ≤ length cursor.old) }
 {
     Ok(cursor.read_i32()?)
 }
 
+/// A signed number of 64 bits.
+///
+/// # Errors
+///
+/// The bytes are too few.
 #[tactic(auto, unfolding(crate::specs::Decoding::i64_at))]
-pub(crate) fn read_i64(cursor: &mut Cursor<'_>) -> Result<i64, DecodeError>
+#[inline]
+pub fn read_i64(cursor: &mut Cursor<'_>) -> Result<i64, DecodeError>
     ensures exact { Decodes (λ z. z) i64_at cursor.old result cursor.new }
     ensures no_longer { OnOk result (length cursor.new ≤ length cursor.old) }
 {
@@ -93,8 +117,13 @@ pub(crate) fn read_i64(cursor: &mut Cursor<'_>) -> Result<i64, DecodeError>
 }
 
 /// 64 bits of an id, which the wire has as an `i64`, as an unsigned number.
+///
+/// # Errors
+///
+/// The bytes are too few.
 #[tactic(auto, unfolding(crate::specs::Decoding::id_at, crate::specs::Decoding::i64_at))]
-pub(crate) fn read_id(cursor: &mut Cursor<'_>) -> Result<u64, DecodeError>
+#[inline]
+pub fn read_id(cursor: &mut Cursor<'_>) -> Result<u64, DecodeError>
     ensures exact { Decodes (λ n. n) id_at cursor.old result cursor.new }
     ensures no_longer { OnOk result (length cursor.new ≤ length cursor.old) }
 {

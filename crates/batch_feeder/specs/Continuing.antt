@@ -79,3 +79,9 @@ Tries reads old new piece left (Err e) = Fails e (reads piece) × (new ≡ old)
 abbrev pub IsTruncated : DecodeError → Bool → Type 0
 IsTruncated e true = e ≡ Wire Truncated
 IsTruncated e false = e ≡ Wire Truncated → ⊥
+
+-- A call that reads what is whole in the bytes, or leaves it.
+abbrev pub Attempts : {A : Type 0} → Reading A → List ℕ → List ℕ → Result (Option A) DecodeError → Type 0
+Attempts reads piece left (Ok (Some x)) = reads piece ≡ Ok (x, left)
+Attempts reads piece left (Ok None) = Unit {0}
+Attempts reads piece left (Err e) = Fails e (reads piece)

@@ -2,42 +2,26 @@ ghost use Rattle.std.specs.Prelude.{◌≡◌, ◌≤◌, pos, length, OnOk};
 ghost use Rattle.batch_codec.specs.ProcessReading.{take_process, process_from};
 ghost use Rattle.batch_feeder.specs.Continuing.{Sets};
 ghost use Rattle.batch_feeder.specs.Fields.{Opens, struct_from};
+ghost use Rattle.batch_codec.specs.BatchReading.{take_batch};
+ghost use Rattle.batch_feeder.specs.Batches.{batch_continues};
 ghost use Rattle.batch_feeder.specs.Processes.{process_continues};
 
-use crate::fields::{Fields, Slots, Step, enter_slowly, hold_next, required};
+use crate::fields::{Fields, Slots, Step, enter_slowly, hold_next};
 use crate::items::ListPart;
 use crate::partial::{Partial, place, set};
 use crate::process::ProcessParts;
-use crate::reads::read_i64;
 use crate::skipped::SkipPart;
 use crate::structs::Struct;
 use crate::values::I64Part;
-use batch_codec::{DecodeError, Part, SpanSlots};
-use jaeger_model::{Batch, Seq, SharedProcess, Span};
+use batch_codec::{BatchSlots, DecodeError, SpanSlots, read_i64};
+use jaeger_model::{Batch, SharedProcess};
 use std::alloc::Global;
-use std::marker::Model;
 use thrift_binary::Cursor;
 use thrift_binary::types::{I64, LIST, STRUCT};
 use wire_pieces::Piece;
 
 /// The least number of bytes of a batch: 11 of the process, 8 of the spans and the stop byte.
 const LEAST_BATCH: usize = 20;
-
-/// What was gathered of a batch so far.
-#[derive(Drop)]
-pub(crate) struct BatchParts {
-    process: Option<SharedProcess>,
-    spans: Option<Seq<Span>>,
-    seq_no: Option<i64>,
-}
-
-impl Model for BatchParts {
-    ghost use Rattle.batch_codec.specs.declared.batch.BatchSlots.{BatchSlots};
-
-    ghost Value = { BatchSlots };
-
-    ghost view = { λ s. record { process = s.process; spans = s.spans; seq_no = s.seq_no } };
-}
 
 /// The value of a field of a batch, of which some bytes have come.
 #[derive(Drop)]
@@ -71,72 +55,67 @@ fn share(
     }
 }
 
-impl BatchParts {
-    ghost use Rattle.batch_codec.specs.BatchReading.{take_batch};
-    ghost use Rattle.batch_feeder.specs.Batches.{batch_continues};
-
-    /// Begins the process over a piece. It stands apart, so that other fields have no place for such a part on their stack.
-    #[tactic(auto, unfolding(batch_codec::specs::BatchReading::take_batch, batch_codec::specs::ProcessReading::process_at))]
-    #[inline(never)]
-    fn enter_process(
-        &mut self,
-        next: &mut Option<Step<BatchHeld>>,
-        alloc: Global,
-        piece: &mut Piece<'_>,
-    ) -> Result<bool, DecodeError>
-        ensures continues { Opens (take_batch self.old 12 (pos 1)) (batch_continues self.new) self.new
-            next.new piece.old piece.new result }
-        ensures no_longer { OnOk result (length piece.new ≤ length piece.old) }
-    {
-        let mut part = Struct::new(alloc);
-        match share(&mut part, &mut self.process, alloc, piece) {
-            Err(error) => {
-                drop(part);
-                Err(error)
-            }
-            Ok(true) => {
-                drop(part);
-                Ok(true)
-            }
-            Ok(false) => {
-                hold_next(next, Step::Value(BatchHeld::Process(part)));
-                Ok(false)
-            }
+/// Begins the process over a piece. It stands apart, so that other fields have no place for such a part on their stack.
+#[tactic(auto, unfolding(batch_codec::specs::BatchReading::take_batch, batch_codec::specs::ProcessReading::process_at))]
+#[inline(never)]
+fn enter_process(
+    slots: &mut BatchSlots,
+    next: &mut Option<Step<BatchHeld>>,
+    alloc: Global,
+    piece: &mut Piece<'_>,
+) -> Result<bool, DecodeError>
+    ensures continues { Opens (take_batch slots.old 12 (pos 1)) (batch_continues slots.new)
+        slots.new next.new piece.old piece.new result }
+    ensures no_longer { OnOk result (length piece.new ≤ length piece.old) }
+{
+    let mut part = Struct::new(alloc);
+    match share(&mut part, &mut slots.process, alloc, piece) {
+        Err(error) => {
+            drop(part);
+            Err(error)
         }
-    }
-
-    /// Begins the spans over a piece. It stands apart, so that other fields have no place for such a part on their stack.
-    #[tactic(auto, unfolding(batch_codec::specs::BatchReading::take_batch, batch_codec::specs::SpanReading::span_at))]
-    #[inline(never)]
-    fn enter_spans(
-        &mut self,
-        next: &mut Option<Step<BatchHeld>>,
-        alloc: Global,
-        piece: &mut Piece<'_>,
-    ) -> Result<bool, DecodeError>
-        ensures continues { Opens (take_batch self.old 15 (pos 2)) (batch_continues self.new) self.new
-            next.new piece.old piece.new result }
-        ensures no_longer { OnOk result (length piece.new ≤ length piece.old) }
-    {
-        let mut part = ListPart::new(alloc);
-        match part.set(&mut self.spans, alloc, piece) {
-            Err(error) => {
-                drop(part);
-                Err(error)
-            }
-            Ok(true) => {
-                drop(part);
-                Ok(true)
-            }
-            Ok(false) => {
-                hold_next(next, Step::Value(BatchHeld::Spans(part)));
-                Ok(false)
-            }
+        Ok(true) => {
+            drop(part);
+            Ok(true)
+        }
+        Ok(false) => {
+            hold_next(next, Step::Value(BatchHeld::Process(part)));
+            Ok(false)
         }
     }
 }
 
-impl Slots for BatchParts {
+/// Begins the spans over a piece. It stands apart, so that other fields have no place for such a part on their stack.
+#[tactic(auto, unfolding(batch_codec::specs::BatchReading::take_batch, batch_codec::specs::SpanReading::span_at))]
+#[inline(never)]
+fn enter_spans(
+    slots: &mut BatchSlots,
+    next: &mut Option<Step<BatchHeld>>,
+    alloc: Global,
+    piece: &mut Piece<'_>,
+) -> Result<bool, DecodeError>
+    ensures continues { Opens (take_batch slots.old 15 (pos 2)) (batch_continues slots.new)
+        slots.new next.new piece.old piece.new result }
+    ensures no_longer { OnOk result (length piece.new ≤ length piece.old) }
+{
+    let mut part = ListPart::new(alloc);
+    match part.set(&mut slots.spans, alloc, piece) {
+        Err(error) => {
+            drop(part);
+            Err(error)
+        }
+        Ok(true) => {
+            drop(part);
+            Ok(true)
+        }
+        Ok(false) => {
+            hold_next(next, Step::Value(BatchHeld::Spans(part)));
+            Ok(false)
+        }
+    }
+}
+
+impl Slots for BatchSlots {
     ghost use Rattle.batch_codec.specs.Gathered.{no_batch};
     ghost use Rattle.batch_codec.specs.BatchReading.{take_batch, batch_from};
     ghost use Rattle.batch_codec.proofs.CutBatches.{take_batch_safe};
@@ -161,11 +140,7 @@ impl Slots for BatchParts {
     }
 
     fn start(_alloc: Global) -> Self {
-        BatchParts {
-            process: None,
-            spans: None,
-            seq_no: None,
-        }
+        BatchSlots::new()
     }
 
     #[tactic(auto, unfolding(batch_codec::specs::BatchReading::take_batch))]
@@ -216,16 +191,9 @@ impl Slots for BatchParts {
         }
     }
 
-    #[tactic(auto, unfolding(batch_codec::specs::BatchReading::batch_from))]
     #[inline(always)]
     fn whole(self) -> Result<Batch, DecodeError> {
-        let process = required(self.process, Part::Batch, 1)?;
-        let spans = required(self.spans, Part::Batch, 2)?;
-        Ok(Batch {
-            process,
-            spans,
-            seq_no: self.seq_no,
-        })
+        BatchSlots::whole(self)
     }
 
     ghost safe = { take_batch_safe };
@@ -235,7 +203,7 @@ impl Slots for BatchParts {
     ghost short = { take_batch_short };
 }
 
-impl Fields for BatchParts {
+impl Fields for BatchSlots {
     fn enter(
         &mut self,
         next: &mut Option<Step<BatchHeld>>,
@@ -245,9 +213,14 @@ impl Fields for BatchParts {
         piece: &mut Piece<'_>,
     ) -> Result<bool, DecodeError> {
         match (code, id) {
-            (STRUCT, 1) => self.enter_process(next, alloc, piece),
-            (LIST, 2) => self.enter_spans(next, alloc, piece),
+            (STRUCT, 1) => enter_process(self, next, alloc, piece),
+            (LIST, 2) => enter_spans(self, next, alloc, piece),
             _ => enter_slowly(self, next, code, id, alloc, piece),
         }
+    }
+
+    #[inline(always)]
+    fn read_whole(_alloc: Global, _cursor: &mut Cursor<'_>) -> Result<Option<Batch>, DecodeError> {
+        Ok(None)
     }
 }

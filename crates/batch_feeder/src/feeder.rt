@@ -7,10 +7,9 @@ ghost use Rattle.batch_feeder.specs.declared.feeder.State.TheVariants.{Whole, Re
 ghost use Rattle.batch_feeder.specs.LeastBytes.{AreQuiet, least};
 ghost use Rattle.batch_feeder.specs.Feeding.{IsSettled, IsBetweenFields, Holds, Ends, Advances, Feeds, Keeps, answers_of};
 
-use crate::batch::BatchParts;
 use crate::partial::Item;
 use crate::structs::Struct;
-use batch_codec::DecodeError;
+use batch_codec::{BatchSlots, DecodeError};
 use jaeger_model::Batch;
 use std::alloc::Global;
 use thrift_binary::{WireError, types};
@@ -22,7 +21,7 @@ const SHORT: usize = 8;
 /// Where a batch has come to.
 #[derive(Drop)]
 pub(crate) enum State {
-    Reading(Struct<BatchParts>),
+    Reading(Struct<BatchSlots>),
     Whole(Batch),
     Refused(DecodeError),
 }

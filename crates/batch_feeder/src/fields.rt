@@ -6,13 +6,13 @@ ghost use Rattle.thrift_binary.specs.Cuts.{IsCutSafe};
 ghost use Rattle.wire_pieces.specs.Heads.{fields_value};
 ghost use Rattle.batch_codec.specs.declared.fault.DecodeError.{DecodeError};
 ghost use Rattle.batch_codec.specs.declared.fault.DecodeError.TheVariants.{Wire};
-ghost use Rattle.batch_codec.specs.Decoding.{required, wire};
-ghost use Rattle.batch_feeder.specs.Continuing.{Enters, ContinuesTo, IsTruncated, Tries};
-ghost use Rattle.batch_feeder.specs.Fields.{IsFresh, Opens, Reads, fields_from};
+ghost use Rattle.batch_codec.specs.Decoding.{wire};
+ghost use Rattle.batch_feeder.specs.Continuing.{Attempts, Enters, ContinuesTo, IsTruncated, Tries};
+ghost use Rattle.batch_feeder.specs.Fields.{IsFresh, Opens, Reads, fields_from, struct_at};
 ghost use Rattle.batch_feeder.specs.LeastBytes.{IsPart, least_bytes};
 
 use crate::partial::fault_of;
-use batch_codec::{DecodeError, Part};
+use batch_codec::DecodeError;
 use std::alloc::Global;
 use thrift_binary::{Cursor, WireError};
 use wire_pieces::{FieldHead, Piece};
@@ -67,8 +67,8 @@ pub(crate) trait Slots: Drop + Sized {
         alloc: Global,
         piece: &mut Piece<'_>,
     ) -> Result<bool, DecodeError>
-        ensures continues { ContinuesTo self.new (resumes self.old held.old) (resumes self.new held.new)
-            piece.old piece.new result }
+        ensures continues { ContinuesTo self.new (resumes self.old held.old)
+            (resumes self.new held.new) piece.old piece.new result }
         ensures no_longer { OnOk result (length piece.new ≤ length piece.old) };
 
     /// Whether the value stands between two fields of the innermost struct that has begun in it.
@@ -101,9 +101,18 @@ pub(crate) trait Fields: Slots {
         piece: &mut Piece<'_>,
     ) -> Result<bool, DecodeError>
         requires { is_code code ≡ true }
-        ensures continues { Opens (Self.takes self.old code id) (Self.resumes self.new) self.new next.new
-            piece.old piece.new result }
+        ensures continues { Opens (Self.takes self.old code id) (Self.resumes self.new)
+            self.new next.new piece.old piece.new result }
         ensures no_longer { OnOk result (length piece.new ≤ length piece.old) };
+
+    /// Reads the struct where it is whole, or leaves it to the way that continues over pieces.
+    fn read_whole(
+        alloc: Global,
+        cursor: &mut Cursor<'_>,
+    ) -> Result<Option<Self::Output>, DecodeError>
+        ensures attempts { Attempts (struct_at Self.takes Self.none Self.makes)
+            cursor.old cursor.new result }
+        ensures no_longer { OnOk result (length cursor.new ≤ length cursor.old) };
 }
 
 /// Where the fields of a struct have come to.
@@ -123,7 +132,7 @@ pub(crate) enum FieldsEnd {
 
 /// The fault is that the bytes are too few.
 #[inline(always)]
-fn is_truncated(error: DecodeError) -> bool
+pub(crate) fn is_truncated(error: DecodeError) -> bool
     ensures { IsTruncated error result }
 {
     match error {
@@ -309,7 +318,8 @@ fn hold_field<S: Fields>(
     piece: &mut Piece<'_>,
 ) -> Result<bool, DecodeError>
     requires { is_code code ≡ true }
-    ensures continues { ContinuesTo slots.new (fields_value wire S.takes (S.takes slots.old code id))
+    ensures continues { ContinuesTo slots.new
+        (fields_value wire S.takes (S.takes slots.old code id))
         (fields_from S.takes S.resumes slots.new step.new)
         piece.old piece.new result }
     ensures no_longer { OnOk result (length piece.new ≤ length piece.old) }
@@ -382,11 +392,4 @@ pub(crate) fn more_fields<S: Fields>(
             Ok(true) => hold_fields(slots, step, alloc, piece),
         },
     }
-}
-
-/// The value of a required field, or that it is missing.
-pub(crate) fn required<T>(slot: Option<T>, part: Part, id: u8) -> Result<T, DecodeError>
-    ensures { result ≡ required slot part id }
-{
-    slot.ok_or(DecodeError::Missing(part, id))
 }

@@ -117,7 +117,8 @@ impl<P: Item> ListPart<P> {
         alloc: Global,
         piece: &mut Piece<'_>,
     ) -> Result<bool, DecodeError>
-        ensures continues { ContinuesTo self.new.items.items (behind_head wire 12 P.reads (code, size))
+        ensures continues { ContinuesTo self.new.items.items
+            (behind_head wire 12 P.reads (code, size))
             (list_from P.reads P.Partial.resumes self.new.items.items self.new.left self.new.head
             self.new.one) piece.old piece.new result }
         ensures no_longer { OnOk result (length piece.new ≤ length piece.old) }

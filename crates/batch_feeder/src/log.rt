@@ -1,36 +1,21 @@
 ghost use Rattle.std.specs.Prelude.{◌≡◌, ◌≤◌, pos, length, OnOk};
+ghost use Rattle.batch_codec.specs.LogReading.{take_log};
 ghost use Rattle.batch_feeder.specs.Fields.{Opens};
+ghost use Rattle.batch_feeder.specs.Logs.{log_continues};
 
-use crate::fields::{Fields, Slots, Step, enter_slowly, hold_next, required};
+use crate::fields::{Fields, Slots, Step, enter_slowly, hold_next};
 use crate::items::ListPart;
 use crate::partial::{place, set};
-use crate::reads::read_i64;
 use crate::skipped::SkipPart;
 use crate::structs::Struct;
 use crate::tag::TagParts;
 use crate::values::I64Part;
-use batch_codec::{DecodeError, LEAST_LOG, Part};
-use jaeger_model::{Log, Seq, Tag};
+use batch_codec::{DecodeError, LEAST_LOG, LogSlots, read_i64};
+use jaeger_model::Log;
 use std::alloc::Global;
-use std::marker::Model;
 use thrift_binary::Cursor;
 use thrift_binary::types::{I64, LIST};
 use wire_pieces::Piece;
-
-/// What was gathered of a log so far.
-#[derive(Drop)]
-pub(crate) struct LogParts {
-    at: Option<i64>,
-    fields: Option<Seq<Tag>>,
-}
-
-impl Model for LogParts {
-    ghost use Rattle.batch_codec.specs.declared.log.LogSlots.{LogSlots};
-
-    ghost Value = { LogSlots };
-
-    ghost view = { λ s. record { at = s.at; fields = s.fields } };
-}
 
 /// The value of a field of a log, of which some bytes have come.
 #[derive(Drop)]
@@ -40,42 +25,37 @@ pub(crate) enum LogHeld {
     Skip(SkipPart),
 }
 
-impl LogParts {
-    ghost use Rattle.batch_codec.specs.LogReading.{take_log};
-    ghost use Rattle.batch_feeder.specs.Logs.{log_continues};
-
-    /// Begins the fields over a piece. It stands apart, so that other fields have no place for such a part on their stack.
-    #[tactic(auto, unfolding(batch_codec::specs::LogReading::take_log, batch_codec::specs::TagReading::tag_at))]
-    #[inline(never)]
-    fn enter_fields(
-        &mut self,
-        next: &mut Option<Step<LogHeld>>,
-        alloc: Global,
-        piece: &mut Piece<'_>,
-    ) -> Result<bool, DecodeError>
-        ensures continues { Opens (take_log self.old 15 (pos 2)) (log_continues self.new) self.new next.new
-            piece.old piece.new result }
-        ensures no_longer { OnOk result (length piece.new ≤ length piece.old) }
-    {
-        let mut part = ListPart::new(alloc);
-        match part.set(&mut self.fields, alloc, piece) {
-            Err(error) => {
-                drop(part);
-                Err(error)
-            }
-            Ok(true) => {
-                drop(part);
-                Ok(true)
-            }
-            Ok(false) => {
-                hold_next(next, Step::Value(LogHeld::Fields(part)));
-                Ok(false)
-            }
+/// Begins the fields over a piece. It stands apart, so that other fields have no place for such a part on their stack.
+#[tactic(auto, unfolding(batch_codec::specs::LogReading::take_log, batch_codec::specs::TagReading::tag_at))]
+#[inline(never)]
+fn enter_log_fields(
+    slots: &mut LogSlots,
+    next: &mut Option<Step<LogHeld>>,
+    alloc: Global,
+    piece: &mut Piece<'_>,
+) -> Result<bool, DecodeError>
+    ensures continues { Opens (take_log slots.old 15 (pos 2)) (log_continues slots.new) slots.new
+        next.new piece.old piece.new result }
+    ensures no_longer { OnOk result (length piece.new ≤ length piece.old) }
+{
+    let mut part = ListPart::new(alloc);
+    match part.set(&mut slots.fields, alloc, piece) {
+        Err(error) => {
+            drop(part);
+            Err(error)
+        }
+        Ok(true) => {
+            drop(part);
+            Ok(true)
+        }
+        Ok(false) => {
+            hold_next(next, Step::Value(LogHeld::Fields(part)));
+            Ok(false)
         }
     }
 }
 
-impl Slots for LogParts {
+impl Slots for LogSlots {
     ghost use Rattle.batch_codec.specs.Gathered.{no_log};
     ghost use Rattle.batch_codec.specs.LogReading.{take_log, log_from};
     ghost use Rattle.batch_codec.proofs.CutBatches.{take_log_safe};
@@ -100,10 +80,7 @@ impl Slots for LogParts {
     }
 
     fn start(_alloc: Global) -> Self {
-        LogParts {
-            at: None,
-            fields: None,
-        }
+        LogSlots::new()
     }
 
     #[tactic(auto, unfolding(batch_codec::specs::LogReading::take_log))]
@@ -151,12 +128,9 @@ impl Slots for LogParts {
         }
     }
 
-    #[tactic(auto, unfolding(batch_codec::specs::LogReading::log_from))]
     #[inline(always)]
     fn whole(self) -> Result<Log, DecodeError> {
-        let at = required(self.at, Part::Log, 1)?;
-        let fields = required(self.fields, Part::Log, 2)?;
-        Ok(Log { at, fields })
+        LogSlots::whole(self)
     }
 
     ghost safe = { take_log_safe };
@@ -166,7 +140,7 @@ impl Slots for LogParts {
     ghost short = { take_log_short };
 }
 
-impl Fields for LogParts {
+impl Fields for LogSlots {
     fn enter(
         &mut self,
         next: &mut Option<Step<LogHeld>>,
@@ -176,8 +150,13 @@ impl Fields for LogParts {
         piece: &mut Piece<'_>,
     ) -> Result<bool, DecodeError> {
         match (code, id) {
-            (LIST, 2) => self.enter_fields(next, alloc, piece),
+            (LIST, 2) => enter_log_fields(self, next, alloc, piece),
             _ => enter_slowly(self, next, code, id, alloc, piece),
         }
+    }
+
+    #[inline(always)]
+    fn read_whole(_alloc: Global, _cursor: &mut Cursor<'_>) -> Result<Option<Log>, DecodeError> {
+        Ok(None)
     }
 }

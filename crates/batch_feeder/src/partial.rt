@@ -23,7 +23,8 @@ pub(crate) trait Partial: Drop + Sized {
         alloc: Global,
         piece: &mut Piece<'_>,
     ) -> Result<Option<Self::Value>, DecodeError>
-        ensures continues { Continues (resumes self.old) (resumes self.new) piece.old piece.new result }
+        ensures continues { Continues (resumes self.old) (resumes self.new)
+            piece.old piece.new result }
         ensures no_longer { OnOk result (length piece.new ≤ length piece.old) };
 }
 

@@ -1,7 +1,7 @@
 ghost use Rattle.std.specs.Prelude.{◌≡◌, ◌≤◌, pos, length, OnOk};
 ghost use Rattle.batch_feeder.specs.Fields.{Opens};
 
-use crate::fields::{Fields, Slots, Step, enter_slowly, hold_next, required};
+use crate::fields::{Fields, Slots, Step, enter_slowly, hold_next};
 use crate::items::ListPart;
 use crate::partial::{place, set};
 use crate::reads::read_text;
@@ -9,7 +9,7 @@ use crate::skipped::SkipPart;
 use crate::structs::Struct;
 use crate::tag::TagParts;
 use crate::texts::TextPart;
-use batch_codec::{DecodeError, Part};
+use batch_codec::{DecodeError, Part, required};
 use jaeger_model::{Process, Seq, Tag, Text};
 use std::alloc::Global;
 use std::marker::Model;
@@ -56,8 +56,8 @@ impl ProcessParts {
         alloc: Global,
         piece: &mut Piece<'_>,
     ) -> Result<bool, DecodeError>
-        ensures continues { Opens (take_process self.old 15 (pos 2)) (process_continues self.new) self.new
-            next.new piece.old piece.new result }
+        ensures continues { Opens (take_process self.old 15 (pos 2)) (process_continues self.new)
+            self.new next.new piece.old piece.new result }
         ensures no_longer { OnOk result (length piece.new ≤ length piece.old) }
     {
         match ListPart::begin(&mut self.tags, alloc, piece) {
@@ -177,5 +177,13 @@ impl Fields for ProcessParts {
             (LIST, 2) => self.enter_tags(next, alloc, piece),
             _ => enter_slowly(self, next, code, id, alloc, piece),
         }
+    }
+
+    #[inline(always)]
+    fn read_whole(
+        _alloc: Global,
+        _cursor: &mut Cursor<'_>,
+    ) -> Result<Option<Process>, DecodeError> {
+        Ok(None)
     }
 }

@@ -1,38 +1,14 @@
 use crate::enums::KindPart;
-use crate::fields::{Fields, Slots, Step, enter_slowly, required};
+use crate::fields::{Fields, Slots, Step, enter_slowly};
 use crate::partial::{place, set};
-use crate::reads::{read_id, read_kind};
 use crate::skipped::SkipPart;
 use crate::values::IdPart;
-use batch_codec::{DecodeError, LEAST_REFERENCE, Part};
-use jaeger_model::{RefKind, SpanId, SpanRef, TraceId};
+use batch_codec::{DecodeError, LEAST_REFERENCE, ReferenceSlots, read_id, read_kind};
+use jaeger_model::SpanRef;
 use std::alloc::Global;
-use std::marker::Model;
 use thrift_binary::Cursor;
 use thrift_binary::types::{I32, I64};
 use wire_pieces::Piece;
-
-/// What was gathered of a reference so far.
-#[derive(Drop)]
-pub(crate) struct ReferenceParts {
-    kind: Option<RefKind>,
-    trace_low: Option<u64>,
-    trace_high: Option<u64>,
-    id: Option<u64>,
-}
-
-impl Model for ReferenceParts {
-    ghost use Rattle.batch_codec.specs.declared.reference.ReferenceSlots.{ReferenceSlots};
-
-    ghost Value = { ReferenceSlots };
-
-    ghost view = { λ s. record {
-      kind = s.kind;
-      trace_low = s.trace_low;
-      trace_high = s.trace_high;
-      id = s.id;
-    } };
-}
 
 /// The value of a field of a reference, of which some bytes have come.
 #[derive(Drop)]
@@ -44,7 +20,7 @@ pub(crate) enum ReferenceHeld {
     Skip(SkipPart),
 }
 
-impl Slots for ReferenceParts {
+impl Slots for ReferenceSlots {
     ghost use Rattle.batch_codec.specs.Gathered.{no_reference};
     ghost use Rattle.batch_codec.specs.ReferenceReading.{take_reference, reference_from};
     ghost use Rattle.batch_codec.proofs.CutBatches.{take_reference_safe};
@@ -69,12 +45,7 @@ impl Slots for ReferenceParts {
     }
 
     fn start(_alloc: Global) -> Self {
-        ReferenceParts {
-            kind: None,
-            trace_low: None,
-            trace_high: None,
-            id: None,
-        }
+        ReferenceSlots::new()
     }
 
     #[tactic(auto, unfolding(batch_codec::specs::ReferenceReading::take_reference))]
@@ -126,18 +97,9 @@ impl Slots for ReferenceParts {
         false
     }
 
-    #[tactic(auto, unfolding(batch_codec::specs::ReferenceReading::reference_from))]
     #[inline(always)]
     fn whole(self) -> Result<SpanRef, DecodeError> {
-        let kind = required(self.kind, Part::SpanRef, 1)?;
-        let low = required(self.trace_low, Part::SpanRef, 2)?;
-        let high = required(self.trace_high, Part::SpanRef, 3)?;
-        let id = required(self.id, Part::SpanRef, 4)?;
-        Ok(SpanRef {
-            kind,
-            trace: TraceId { high, low },
-            id: SpanId(id),
-        })
+        ReferenceSlots::whole(self)
     }
 
     ghost safe = { take_reference_safe };
@@ -147,7 +109,7 @@ impl Slots for ReferenceParts {
     ghost short = { take_reference_short };
 }
 
-impl Fields for ReferenceParts {
+impl Fields for ReferenceSlots {
     fn enter(
         &mut self,
         next: &mut Option<Step<ReferenceHeld>>,
@@ -157,5 +119,13 @@ impl Fields for ReferenceParts {
         piece: &mut Piece<'_>,
     ) -> Result<bool, DecodeError> {
         enter_slowly(self, next, code, id, alloc, piece)
+    }
+
+    #[inline(always)]
+    fn read_whole(
+        _alloc: Global,
+        _cursor: &mut Cursor<'_>,
+    ) -> Result<Option<SpanRef>, DecodeError> {
+        Ok(None)
     }
 }

@@ -5,16 +5,17 @@ ghost use Rattle.batch_feeder.specs.Spans.{span_continues};
 
 use crate::fields::{Fields, Slots, Step, enter_slowly, hold_next};
 use crate::items::ListPart;
-use crate::log::LogParts;
 use crate::partial::{place, set};
-use crate::reads::{read_i32, read_i64, read_id, read_text};
-use crate::reference::ReferenceParts;
+use crate::reads::read_text;
 use crate::skipped::SkipPart;
 use crate::structs::Struct;
 use crate::tag::TagParts;
 use crate::texts::TextPart;
 use crate::values::{I32Part, I64Part, IdPart};
-use batch_codec::{DecodeError, LEAST_SPAN, SpanSlots};
+use batch_codec::{
+    DecodeError, LEAST_SPAN, LogSlots, ReferenceSlots, SpanSlots, read_i32, read_i64, read_id,
+    read_span,
+};
 use jaeger_model::Span;
 use std::alloc::Global;
 use thrift_binary::Cursor;
@@ -29,12 +30,12 @@ pub(crate) enum SpanHeld {
     Id(IdPart),
     Parent(IdPart),
     Operation(TextPart),
-    References(ListPart<Struct<ReferenceParts>>),
+    References(ListPart<Struct<ReferenceSlots>>),
     Flags(I32Part),
     Start(I64Part),
     Duration(I64Part),
     Tags(ListPart<Struct<TagParts>>),
-    Logs(ListPart<Struct<LogParts>>),
+    Logs(ListPart<Struct<LogSlots>>),
     Skip(SkipPart),
 }
 
@@ -233,5 +234,12 @@ impl Fields for SpanSlots {
             (LIST, 11) => enter_logs(self, next, alloc, piece),
             _ => enter_slowly(self, next, code, id, alloc, piece),
         }
+    }
+
+    #[tactic(auto, unfolding(batch_codec::specs::SpanReading::span_at))]
+    #[inline(always)]
+    fn read_whole(alloc: Global, cursor: &mut Cursor<'_>) -> Result<Option<Span>, DecodeError> {
+        let span = read_span(alloc, cursor)?;
+        Ok(Some(span))
     }
 }

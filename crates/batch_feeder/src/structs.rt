@@ -1,15 +1,17 @@
-ghost use Rattle.std.specs.Prelude.{◌≡◌, ℕ, List, Some, Err, true};
+ghost use Rattle.std.specs.Prelude.{◌≡◌, ◌≤◌, ℕ, List, Some, Err, true, length, OnOk};
 ghost use Rattle.thrift_binary.specs.declared.fault.WireError.TheVariants.{Truncated};
 ghost use Rattle.batch_codec.specs.declared.fault.DecodeError.TheVariants.{Wire};
 ghost use Rattle.batch_feeder.specs.declared.fields.Step.{Step};
+ghost use Rattle.batch_feeder.specs.Continuing.{BeginsValue};
 ghost use Rattle.batch_feeder.specs.Fields.{made_of, struct_at, struct_from};
 ghost use Rattle.batch_feeder.specs.LeastBytes.{IsPart};
 
-use crate::fields::{Fields, Slots, Step, enter_fields, more_fields};
+use crate::fields::{Fields, Slots, Step, enter_fields, is_truncated, more_fields};
 use crate::partial::{Item, Partial};
 use batch_codec::DecodeError;
 use std::alloc::Global;
 use std::mem;
+use thrift_binary::Cursor;
 use wire_pieces::{FieldHead, Piece};
 
 /// A struct of which some bytes have come.
@@ -58,14 +60,19 @@ impl<S: Fields> Item for Struct<S> {
         alloc: Global,
         piece: &mut Piece<'_>,
     ) -> Result<Option<S::Output>, DecodeError> {
-        let mut slots = S::start(alloc);
-        let mut next = None;
-        match enter_fields(&mut slots, &mut next, alloc, piece) {
-            Err(error) => Err(error),
-            Ok(true) => made(slots),
-            Ok(false) => {
-                hold(part, slots, next);
-                Ok(None)
+        let mut cursor = Cursor::new(piece.rest());
+        match S::read_whole(alloc, &mut cursor) {
+            Ok(Some(value)) => {
+                *piece = Piece::new(cursor.rest());
+                Ok(Some(value))
+            }
+            Ok(None) => begin_fields(part, alloc, piece),
+            Err(error) => {
+                if is_truncated(error) {
+                    begin_fields(part, alloc, piece)
+                } else {
+                    Err(error)
+                }
             }
         }
     }
@@ -77,6 +84,29 @@ impl<S: Fields> Item for Struct<S> {
 
     fn take(&mut self, alloc: Global) -> Result<S::Output, DecodeError> {
         self.take_made(alloc)
+    }
+}
+
+/// Begins a struct over a piece, field by field.
+fn begin_fields<S: Fields>(
+    part: &mut Option<Struct<S>>,
+    alloc: Global,
+    piece: &mut Piece<'_>,
+) -> Result<Option<S::Output>, DecodeError>
+    ensures continues { BeginsValue (struct_at S.takes S.none S.makes)
+        (λ p. struct_from S.takes S.resumes S.makes p.slots p.step)
+        part.new piece.old piece.new result }
+    ensures no_longer { OnOk result (length piece.new ≤ length piece.old) }
+{
+    let mut slots = S::start(alloc);
+    let mut next = None;
+    match enter_fields(&mut slots, &mut next, alloc, piece) {
+        Err(error) => Err(error),
+        Ok(true) => made(slots),
+        Ok(false) => {
+            hold(part, slots, next);
+            Ok(None)
+        }
     }
 }
 

@@ -1,13 +1,15 @@
 ghost use Rattle.std.specs.Prelude.{◌≡◌};
 
 use crate::enums::TypePart;
-use crate::fields::{Fields, Slots, Step, enter_slowly, required};
+use crate::fields::{Fields, Slots, Step, enter_slowly};
 use crate::partial::{place, set};
-use crate::reads::{read_binary, read_bool, read_double, read_i64, read_text, read_type};
+use crate::reads::{read_binary, read_text};
 use crate::skipped::SkipPart;
 use crate::texts::{BinaryPart, TextPart};
 use crate::values::{BoolPart, DoublePart, I64Part};
-use batch_codec::{DecodeError, LEAST_TAG, Part, TagType};
+use batch_codec::{
+    DecodeError, LEAST_TAG, Part, TagType, read_bool, read_double, read_i64, read_type, required,
+};
 use jaeger_model::{Seq, Tag, TagValue, Text, Value};
 use std::alloc::Global;
 use std::marker::Model;
@@ -194,5 +196,10 @@ impl Fields for TagParts {
         piece: &mut Piece<'_>,
     ) -> Result<bool, DecodeError> {
         enter_slowly(self, next, code, id, alloc, piece)
+    }
+
+    #[inline(always)]
+    fn read_whole(_alloc: Global, _cursor: &mut Cursor<'_>) -> Result<Option<Tag>, DecodeError> {
+        Ok(None)
     }
 }

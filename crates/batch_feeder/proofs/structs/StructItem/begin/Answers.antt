@@ -1,9 +1,23 @@
-use Rattle.std.proofs.Common.{Ok}
-use Rattle.thrift_binary.specs.Reading.{◌>>=◌}
-use Rattle.wire_pieces.proofs.Steps.{waits-inside}
+use Rattle.std.proofs.Common.{◌∙◌, sym, ap, Ok}
+use Rattle.thrift_binary.specs.declared.fault.WireError.TheVariants.{Truncated}
+use Rattle.batch_codec.specs.declared.fault.DecodeError.TheVariants.{Wire}
+use Rattle.batch_codec.proofs.CutStructs.{struct_safe}
+use Rattle.batch_feeder.specs.Fields.{struct_at}
+use Rattle.batch_feeder.proofs.ReadsAgain.{whole-comes, fault-refuses, fails-is}
 use Rattle.batch_feeder.proofs.structs.StructItem.begin.Goals as goal
 
-pub returns-in-Ok-false-clause-continues : goal.returns-in-Ok-false-clause-continues
-returns-in-Ok-false-clause-continues g c =
-    let h = rw c.start-slots.ensures at (rw c.in-Ok-false.field-0-test at c.in-Ok-false.ensures.continues) in
-    (record { slots = c.enter_fields.new.slots; step = h.0 }, c.hold.ensures h.0 h.1, waits-inside (λ x. g.S.Slots.makes x.0 >>= λ m. Ok (m, x.1)) h.2)
+pub returns-in-Ok-Some-clause-continues : goal.returns-in-Ok-Some-clause-continues
+returns-in-Ok-Some-clause-continues g c =
+    let reads = struct_at g.S.Slots.takes g.S.Slots.none g.S.Slots.makes in
+    let safe = struct_safe g.S.Slots.takes g.S.Slots.none g.S.Slots.makes g.met.S.Slots.safe in
+    let got = rw c.in-Ok-Some.field-0-is at c.in-Ok-Some.ensures.attempts in
+    let begun = c.new-cursor.ensures.bytes ∙ c.rest.ensures.bytes in
+    whole-comes (Wire Truncated) reads safe c.args.piece.now c.new.result c.in-Ok-Some.value
+    (ap reads (sym begun) ∙ got ∙ ap (λ w. Ok (c.in-Ok-Some.value, w)) (sym (c.new.ensures.bytes ∙ c.rest-in-Ok-Some.ensures.bytes)))
+
+pub returns-else-is_truncated-clause-continues : goal.returns-else-is_truncated-clause-continues
+returns-else-is_truncated-clause-continues g c =
+    let reads = struct_at g.S.Slots.takes g.S.Slots.none g.S.Slots.makes in
+    let safe = struct_safe g.S.Slots.takes g.S.Slots.none g.S.Slots.makes g.met.S.Slots.safe in
+    let begun = c.new-cursor.ensures.bytes ∙ c.rest.ensures.bytes in
+    λ n. fault-refuses (Wire Truncated) reads safe c.args.piece.now c.in-Err.error (ap reads (sym begun) ∙ fails-is c.in-Err.error _ n c.in-Err.ensures.attempts) (rw c.if-is_truncated.false at c.is_truncated.ensures)

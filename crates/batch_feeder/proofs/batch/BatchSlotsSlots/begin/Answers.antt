@@ -4,7 +4,7 @@ use Rattle.thrift_binary.specs.Reading.{◌>>=◌}
 use Rattle.batch_codec.specs.BatchReading.{take_batch}
 use Rattle.batch_codec.specs.ProcessReading.{process_at}
 use Rattle.batch_codec.specs.SpanReading.{span_at}
-use Rattle.batch_feeder.proofs.batch.BatchPartsSlots.begin.Goals as goal
+use Rattle.batch_feeder.proofs.batch.BatchSlotsSlots.begin.Goals as goal
 
 pub returns-in-12-eq1 : goal.returns-in-12-eq1
 unfolding take_batch process_at span_at

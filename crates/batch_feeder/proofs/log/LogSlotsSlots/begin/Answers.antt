@@ -3,7 +3,7 @@ use Rattle.std.proofs.lemmas.Int.{to_z-of_z}
 use Rattle.thrift_binary.specs.Reading.{◌>>=◌}
 use Rattle.batch_codec.specs.LogReading.{take_log}
 use Rattle.batch_codec.specs.TagReading.{tag_at}
-use Rattle.batch_feeder.proofs.log.LogPartsSlots.begin.Goals as goal
+use Rattle.batch_feeder.proofs.log.LogSlotsSlots.begin.Goals as goal
 
 pub returns-in-15-eq2 : goal.returns-in-15-eq2
 unfolding take_log tag_at
