@@ -1,4 +1,5 @@
 -- What is known of an entry without a look at its spans.
+use Rattle.std.specs.Prelude.{Bool, true, false, List, [], ◌∷◌, ◌++◌, map}
 use Rattle.trace_model.specs.declared.entry.Entry.{Entry}
 use Rattle.trace_model.specs.declared.entry.Work.{Work}
 use Rattle.trace_model.specs.Works.{spans_brought}
@@ -12,3 +13,13 @@ outline_of w = record { times = times_of (spans_brought w); tags = bits_brought 
 
 abbrev pub outline_in : Entry → Outline
 outline_in e = outline_of e.work
+
+-- the outlines of all entries where they are kept, else none
+abbrev pub outlines_kept : Bool → List Entry → List Outline
+outlines_kept true entries = map outline_in entries
+outlines_kept false entries = []
+
+-- the outlines and one more, where they are kept
+abbrev pub with_outline : Bool → List Outline → Outline → List Outline
+with_outline true outlines o = outlines ++ o ∷ []
+with_outline false outlines o = outlines

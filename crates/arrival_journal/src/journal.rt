@@ -1,4 +1,4 @@
-ghost use Rattle.std.specs.Prelude.{◌≡◌, ◌==◌, ◌<◌, [], length, map, Ok, IfOk, option_map};
+ghost use Rattle.std.specs.Prelude.{◌≡◌, ◌==◌, ◌<◌, [], length, map, true, vec_capacity, Ok, IfOk, option_map};
 ghost use Rattle.std.specs.Arc.{arc_value};
 ghost use Rattle.std.specs.Option.{option_copied};
 ghost use Rattle.trace_model.specs.Histories.{span_count, last_number, IsLegal};
@@ -6,7 +6,7 @@ ghost use Rattle.trace_model.specs.declared.admission.Admission.TheVariants.{Add
 ghost use Rattle.trace_model.specs.Refusals.{admitted_anew, followed_by, repeated, with_admitted};
 ghost use Rattle.trace_model.specs.Places.{entry_at};
 ghost use Rattle.arrival_journal.specs.Journals.{admission_by, place_by};
-ghost use Rattle.arrival_journal.specs.Outlines.{outline_in};
+ghost use Rattle.arrival_journal.specs.Outlines.{outline_in, with_outline};
 
 use crate::outline::Outline;
 use crate::outlined::OutlinedEntry;
@@ -24,7 +24,9 @@ use trace_model::{Admission, Entry, Limits, Refusal};
 pub struct Journal {
     limits: Limits,
     entries: Vec<Arc<Entry>>,
-    /// By entry.
+    /// The outline of each entry is kept. Else it is made when it is asked for.
+    keeps_outlines: bool,
+    /// By entry, where they are kept.
     outlines: Vec<Outline>,
     spans: u64,
     /// By seat the number of its last entry, 0 where it has none, up to the last seat that has one.
@@ -46,8 +48,19 @@ impl Model for Journal {
     ghost view = { λ j. record { held = record { limits = j.limits; entries = map arc_value j.entries.items } } };
 
     ghost invariant = { λ j. IsKept j.limits (map arc_value j.entries.items)
-        (vec_capacity j.entries) j.outlines.items (vec_capacity j.outlines) j.spans j.last_numbers.items
-        (vec_capacity j.last_numbers) j.sent };
+        (vec_capacity j.entries) j.keeps_outlines j.outlines.items (vec_capacity j.outlines) j.spans
+        j.last_numbers.items (vec_capacity j.last_numbers) j.sent };
+}
+
+/// Puts an outline behind the others where they are kept.
+fn note_outline(outlines: &mut Vec<Outline>, keeps: bool, outline: Outline)
+    requires { keeps ≡ true → length outlines.old.items < vec_capacity outlines.old }
+    ensures items { outlines.new.items ≡ with_outline keeps outlines.old.items outline }
+    ensures capacity { vec_capacity outlines.new ≡ vec_capacity outlines.old }
+{
+    if keeps {
+        outlines.push_reserved(outline);
+    }
 }
 
 impl Journal {
@@ -60,6 +73,33 @@ impl Journal {
     pub fn new(alloc: Global, keys: RandomState, limits: Limits) -> Result<Self, AllocError>
         ensures { IfOk result (λ journal. journal.held ≡ record { limits = limits; entries = [] }) }
     {
+        Journal::with_outlines(alloc, keys, limits, true)
+    }
+
+    /// The same for whom asks for no outlines: none is kept, so an entry takes less memory, and [`outline`](Self::outline)
+    /// looks at an entry's spans.
+    ///
+    /// # Errors
+    ///
+    /// Out of memory, and nothing else.
+    pub fn without_outlines(
+        alloc: Global,
+        keys: RandomState,
+        limits: Limits,
+    ) -> Result<Self, AllocError>
+        ensures { IfOk result (λ journal. journal.held ≡ record { limits = limits; entries = [] }) }
+    {
+        Journal::with_outlines(alloc, keys, limits, false)
+    }
+
+    fn with_outlines(
+        alloc: Global,
+        keys: RandomState,
+        limits: Limits,
+        keeps_outlines: bool,
+    ) -> Result<Self, AllocError>
+        ensures { IfOk result (λ journal. journal.held ≡ record { limits = limits; entries = [] }) }
+    {
         let entries = Vec::with_capacity(alloc, limits.batches as usize)?;
         let outlines = Vec::with_capacity(alloc, limits.batches as usize)?;
         let last_numbers = Vec::with_capacity(alloc, SEATS)?;
@@ -67,6 +107,7 @@ impl Journal {
         Ok(Journal {
             limits,
             entries,
+            keeps_outlines,
             outlines,
             spans: 0,
             last_numbers,
@@ -119,12 +160,15 @@ impl Journal {
         self.entries.get(before)
     }
 
-    /// What is known of the entry at a place without a look at its spans.
+    /// What is known of the entry at a place. Where outlines are kept, no span is looked at.
     pub fn outline(&self, place: u64) -> Option<Outline>
         ensures { result ≡ option_map outline_in (entry_at self.now.held.entries place) }
     {
         let before = usize::try_from(place.checked_sub(1)?).ok()?;
-        self.outlines.get(before).copied()
+        match self.outlines.get(before) {
+            Some(outline) => Some(*outline),
+            None => Some(Outline::of(&self.entries.get(before)?.work)),
+        }
     }
 
     /// The number of the seat's last entry, 0 if it has none.
@@ -223,7 +267,7 @@ impl Journal {
         let entry = entry.into_entry();
         self.spans += entry.work.spans().len() as u64;
         note(&mut self.last_numbers, entry.seat, entry.number);
-        self.outlines.push_reserved(outline);
+        note_outline(&mut self.outlines, self.keeps_outlines, outline);
         self.entries.push_reserved(entry);
         self.sent.add(&self.entries, hash);
     }

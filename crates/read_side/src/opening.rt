@@ -49,7 +49,7 @@ pub fn open<N: StoreName, R: Wait>(
 {
     let history: Log<N> = Log::new(name);
     let mut passes = Vec::with_capacity(alloc, readers)?;
-    let Ok(journal) = Journal::new(alloc, keys, limits) else {
+    let Ok(journal) = Journal::without_outlines(alloc, keys, limits) else {
         return without_memory((history, passes));
     };
     let Ok(first) = SpanStore::open(alloc, keys, limits) else {

@@ -4,8 +4,8 @@ use Rattle.read_side.specs.Passes.{PassValue, new_pass}
 use Rattle.read_side.proofs.Steps.{admits, all_snoc, starts}
 use Rattle.read_side.proofs.opening.open.Goals as goal
 
-pub new-requires-2-clause-rule : goal.new-requires-2-clause-rule
-new-requires-2-clause-rule g c =
+pub new-requires-clause-rule : goal.new-requires-clause-rule
+new-requires-clause-rule g c =
     starts g.N.StoreName.book g.N.StoreName.limits c.new-first.result (search rules) (search rules) (search rules) (search rules)
 
 pub reader-requires : goal.reader-requires

@@ -1,5 +1,8 @@
-use Rattle.std.proofs.Common.{◌≡◌, ℕ, get_or, [], ◌∷◌, ◌++◌, length, length-append, map, List, Ok, ap, ◌∙◌, subst, sym, arith, rules}
-use Rattle.std.proofs.lemmas.List.{map_push, length-map}
+use Rattle.std.proofs.Common.{◌≡◌, ℕ, true, get_or, [], ◌∷◌, ◌++◌, length, length-append, map, List, Ok, ap, ◌∙◌, subst, sym, arith, rules}
+use Rattle.std.proofs.lemmas.List.{map_push, length-map, append_cancel_left}
+use Rattle.trace_model.specs.Histories.{before_last}
+use Rattle.sent_batches.specs.Sent.{has_number, work_hash}
+use Rattle.trace_model.proofs.LastEntries.{before_last-push}
 use Rattle.std.specs.Global.{Global}
 use Rattle.trace_model.proofs.Admissions.{MayFollow, IsSaid, admission_says}
 use Rattle.std.specs.Prelude.{vec_capacity, ◌==◌, if◌then◌else◌}
@@ -10,7 +13,7 @@ use Rattle.trace_model.specs.Refusals.{admission}
 use Rattle.sent_batches.specs.Sent.{IsKept as SentKept}
 use Rattle.trace_model.specs.Works.{spans_brought}
 use Rattle.arrival_journal.specs.Journals.{Journaled, admission_by}
-use Rattle.arrival_journal.specs.Outlines.{outline_in}
+use Rattle.arrival_journal.specs.Outlines.{outline_in, outlines_kept, with_outline}
 use Rattle.arrival_journal.proofs.Following.{kept_push}
 use Rattle.arrival_journal.proofs.journal.Journal.append_prepared.Goals as goal
 
@@ -18,32 +21,33 @@ pub invariant_of-self : goal.invariant_of-self
 invariant_of-self c =
     let was = c.self.inside in
     let h : List Entry = map arc_value was.entries.items in
-    let pushed : map arc_value c.push_reserved-2.new.self.items ≡ h ++ arc_value c.into_entry-entry.result ∷ [] = ap (map arc_value) c.push_reserved-2.ensures.items ∙ map_push arc_value was.entries.items c.into_entry-entry.result in
+    let pushed : map arc_value c.push_reserved.new.self.items ≡ h ++ arc_value c.into_entry-entry.result ∷ [] = ap (map arc_value) c.push_reserved.ensures.items ∙ map_push arc_value was.entries.items c.into_entry-entry.result in
     let outline : c.split-entry.result.1 ≡ outline_in (arc_value c.into_entry-entry.result) = c.split-entry.ensures.outline ∙ ap outline_in (sym (c.into_entry-entry.ensures ∙ c.split-entry.ensures.entry)) in
-    let outlined : c.push_reserved.new.self.items ≡ was.outlines.items ++ outline_in (arc_value c.into_entry-entry.result) ∷ [] = c.push_reserved.ensures.items ∙ ap (λ o. was.outlines.items ++ o ∷ []) outline in
+    let outlined : c.note_outline.new.outlines.items ≡ with_outline was.keeps_outlines was.outlines.items (outline_in (arc_value c.into_entry-entry.result)) = c.note_outline.ensures.items ∙ ap (with_outline was.keeps_outlines was.outlines.items) outline in
     let count : length c.spans.result.now ≡ length (spans_brought (arc_value c.into_entry-entry.result).work) = search rules in
     let noted : (s : ℕ) → get_or c.note.new.numbers.items s 0 ≡ (if c.into_entry-entry.result.value.seat == s then c.into_entry-entry.result.value.number else get_or was.last_numbers.items s 0) = search rules in
     let may : admission was.limits h (arc_value c.into_entry-entry.result) ≡ Ok Added = ap (λ (v : Journaled). admission_by v.held (arc_value c.into_entry-entry.result)) c.self.view_is ∙ (ap (λ (x : Entry). admission_by c.args.self.now.held x) (c.into_entry-entry.ensures ∙ c.split-entry.ensures.entry) ∙ c.requires) in
     let sent : SentKept (h ++ arc_value c.into_entry-entry.result ∷ []) c.add.new.self = subst (λ (l : List Entry). SentKept l c.add.new.self) (ap (map (arc_value {X = Entry} {Z = Global})) c.deref-4.ensures.value ∙ pushed) c.add.ensures.kept in
     rw (pushed, count)
-    (kept_push was.limits h (vec_capacity was.entries) (vec_capacity c.push_reserved-2.new.self) was.outlines.items c.push_reserved.new.self.items (vec_capacity was.outlines) (vec_capacity c.push_reserved.new.self)
+    (kept_push was.limits h (vec_capacity was.entries) (vec_capacity c.push_reserved.new.self) was.keeps_outlines was.outlines.items c.note_outline.new.outlines.items (vec_capacity was.outlines) (vec_capacity c.note_outline.new.outlines)
     was.spans (arc_value c.into_entry-entry.result) was.last_numbers.items c.note.new.numbers.items (vec_capacity was.last_numbers) (vec_capacity c.note.new.numbers) was.sent c.add.new.self
-    c.self.invariant may outlined noted c.push_reserved-2.ensures.capacity c.push_reserved.ensures.capacity c.note.ensures.capacity sent c.add.ensures.room)
+    c.self.invariant may outlined noted c.push_reserved.ensures.capacity c.note_outline.ensures.capacity c.note.ensures.capacity sent c.add.ensures.room)
 
 pub returns-clause-legal : goal.returns-clause-legal
 returns-clause-legal c = (invariant_of-self c).legal
 
-pub push_reserved-requires : goal.push_reserved-requires
-push_reserved-requires c =
+pub note_outline-requires : goal.note_outline-requires
+note_outline-requires c = λ keeps.
     let was = c.self.inside in
     let h : List Entry = map (arc_value {X = Entry} {Z = Global}) was.entries.items in
     let e = arc_value c.into_entry-entry.result in
     let may : admission was.limits h e ≡ Ok Added = ap (λ (v : Journaled). admission_by v.held e) c.self.view_is ∙ (ap (λ (x : Entry). admission_by c.args.self.now.held x) (c.into_entry-entry.ensures ∙ c.split-entry.ensures.entry) ∙ c.requires) in
     let follows : MayFollow was.limits h e = subst (IsSaid was.limits h e) may (admission_says was.limits h e) in
-    omega (arith, ap length c.self.invariant.outlined, length-map h outline_in, c.self.invariant.room_for_outlines, follows.batches)
+    let all : was.outlines.items ≡ map outline_in h = c.self.invariant.outlined ∙ ap (λ b. outlines_kept b h) keeps in
+    omega (arith, ap length all, length-map h outline_in, c.self.invariant.room_for_outlines, follows.batches)
 
-pub push_reserved-requires-2 : goal.push_reserved-requires-2
-push_reserved-requires-2 c =
+pub push_reserved-requires : goal.push_reserved-requires
+push_reserved-requires c =
     let was = c.self.inside in
     let h : List Entry = map (arc_value {X = Entry} {Z = Global}) was.entries.items in
     let e = arc_value c.into_entry-entry.result in
@@ -58,4 +62,15 @@ add-requires-clause-room c =
     let e = arc_value c.into_entry-entry.result in
     let may : admission was.limits h e ≡ Ok Added = ap (λ (v : Journaled). admission_by v.held e) c.self.view_is ∙ (ap (λ (x : Entry). admission_by c.args.self.now.held x) (c.into_entry-entry.ensures ∙ c.split-entry.ensures.entry) ∙ c.requires) in
     let follows : MayFollow was.limits h e = subst (IsSaid was.limits h e) may (admission_says was.limits h e) in
-    omega (arith, ap length c.deref-4.ensures.value, ap length c.push_reserved-2.ensures.items, length-append was.entries.items (c.into_entry-entry.result ∷ []), length-map was.entries.items (arc_value {X = Entry} {Z = Global}), follows.batches, c.self.invariant.room_for_sent)
+    omega (arith, ap length c.deref-4.ensures.value, ap length c.push_reserved.ensures.items, length-append was.entries.items (c.into_entry-entry.result ∷ []), length-map was.entries.items (arc_value {X = Entry} {Z = Global}), follows.batches, c.self.invariant.room_for_sent)
+
+pub add-requires-clause-hash : goal.add-requires-clause-hash
+add-requires-clause-hash c = λ e is numbered.
+    let was = c.self.inside in
+    let h : List Entry = map (arc_value {X = Entry} {Z = Global}) was.entries.items in
+    let x : Entry = arc_value c.into_entry-entry.result in
+    let pushed : map (arc_value {X = Entry} {Z = Global}) c.deref-4.result.now ≡ h ++ x ∷ [] = ap (map (arc_value {X = Entry} {Z = Global})) (c.deref-4.ensures.value ∙ c.push_reserved.ensures.items) ∙ map_push arc_value was.entries.items c.into_entry-entry.result in
+    let behind : h ++ x ∷ [] ≡ h ++ e ∷ [] = sym pushed ∙ is ∙ ap (λ (l : List Entry). before_last l ++ e ∷ []) pushed ∙ ap (λ (l : List Entry). l ++ e ∷ []) (before_last-push h x) in
+    let same : x ≡ e = let last : x ∷ [] ≡ e ∷ [] = append_cancel_left h (x ∷ []) (e ∷ []) behind in cc in
+    let sent : c.split-entry.result.0 ≡ e = sym c.into_entry-entry.ensures ∙ same in
+    subst (λ (y : Entry). has_number y.work ≡ true → c.hash-hash.result ≡ work_hash c.keys.result y.work) sent c.hash-hash.ensures numbered ∙ ap (λ k. work_hash k e.work) c.keys.ensures
