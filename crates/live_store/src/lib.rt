@@ -9,8 +9,11 @@ ghost use Rattle.std.specs.Prelude.{◌≡◌, ◌⊎◌};
 ghost use mathlib.Core.List.{IsPrefix};
 ghost use Rattle.live_store.specs.Sharing.{LiveSubmits};
 
+mod processes;
+
 use intake::{DeskName, Seat, SharedClerk};
-use jaeger_model::Batch;
+use jaeger_model::{Batch, SharedProcess};
+use processes::share_process;
 use read_side::{Pass, Receipt, StoreName};
 use std::alloc::Global;
 use std::marker::Model;
@@ -23,6 +26,8 @@ use trace_model::{Answer, Query, Refusal};
 pub struct Live<N: StoreName> {
     seat: Seat<N>,
     pass: Pass<N>,
+    /// That of the batch that was handed in last.
+    process: Option<SharedProcess>,
 }
 
 impl<N: StoreName> Model for Live<N> {
@@ -39,7 +44,11 @@ impl<N: StoreName> Live<N> {
         ensures seat { result.seat ≡ seat }
         ensures known { result.known ≡ pass.known }
     {
-        Live { seat, pass }
+        Live {
+            seat,
+            pass,
+            process: None,
+        }
     }
 
     /// Takes in the list of a receipt, which it knows from then on.
@@ -68,6 +77,7 @@ impl<N: StoreName> Live<N> {
     ) -> Result<u64, Refusal>
         ensures { LiveSubmits N.limits self.old batch result self.new }
     {
+        let batch = share_process(&mut self.process, batch);
         let ticket = match self.seat.submit(rt, alloc, batch) {
             Ok(ticket) => ticket,
             Err((refusal, _)) => return Err(refusal),
@@ -83,7 +93,7 @@ impl<N: StoreName> Live<N> {
         ensures seat { result.0 ≡ self.seat }
         ensures known { result.1.known ≡ self.known }
     {
-        let Live { seat, pass } = self;
+        let Live { seat, pass, .. } = self;
         (seat, pass)
     }
 }
@@ -105,6 +115,7 @@ impl<N: StoreName, R: Wait> Backend<R> for Live<N> {
     ghost read_knows = { read_knows N.limits };
 
     fn submit(&mut self, rt: &R, alloc: Global, batch: Batch) -> Result<u64, Refusal> {
+        let batch = share_process(&mut self.process, batch);
         let ticket = match self.seat.submit(rt, alloc, batch) {
             Ok(ticket) => ticket,
             Err((why, _batch)) => return Err(why),
