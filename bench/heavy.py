@@ -5,17 +5,20 @@ it, tags and asked pairs, and more.
 Each shape is a session of the built program, `jaeger_one pipe`, once with half of each part and once with the whole.
 Where a shape costs what its bytes cost, the whole takes twice the seconds and twice the memory of the half; where two
 parts multiply it takes four times. Seconds are processor time of the program, the least of some runs, less those of a
-session in which nothing is sent; memory is the program's greatest resident size, less that of the same (which is about
-ten megabytes, so a shape that takes less shows none).
+session in which nothing is sent; with `--count` its instructions stand in their place, in millions, which callgrind
+counts and which are the same on a busy machine (Debian: `valgrind`). Memory is the program's greatest resident size,
+less that of the same.
 
-    bench/heavy.py [--bin PATH] [--runs 3] [--parts 1000] [SHAPE..]
+    bench/heavy.py [--bin PATH] [--runs 3] [--parts 1000] [--count] [SHAPE..]
 """
 import argparse
 import json
 import os
+import re
 import struct
 import subprocess
 import tempfile
+import time
 
 from decode import ROOT, field, text
 from session import get, post
@@ -156,11 +159,29 @@ def serve(to_read, to_write):
     for line in os.fdopen(to_read):
         words, stdin, stdout = json.loads(line)
         with open(stdin, "rb") as given, open(stdout, "wb") as got:
-            program = subprocess.Popen(words, stdin=given, stdout=got)
+            program = subprocess.Popen(words, stdin=subprocess.PIPE, stdout=got)
+            program.stdin.write(given.read())
+            program.stdin.flush()
+            peak = peak_at_rest(program.pid, got.fileno())
+            program.stdin.close()
         _, status, used = os.wait4(program.pid, 0)
         program.returncode = os.waitstatus_to_exitcode(status)
-        os.write(to_write, json.dumps([program.returncode, used.ru_utime + used.ru_stime, used.ru_maxrss]).encode())
+        os.write(to_write, json.dumps([program.returncode, used.ru_utime + used.ru_stime, peak]).encode())
     os._exit(0)
+
+
+def peak_at_rest(pid, output):
+    """The greatest resident size once the program waits for more input. (What the system keeps of an ended one counts this script's own memory too.)"""
+    seen, still = None, 0
+    while still < 4:
+        time.sleep(0.01)
+        with open(f"/proc/{pid}/stat") as file:
+            state = file.read().rpartition(")")[2].split()
+        now = state[0], state[11], state[12], os.fstat(output).st_size
+        still = still + 1 if now == seen and state[0] == "S" else 0
+        seen = now
+    with open(f"/proc/{pid}/status") as file:
+        return next(int(line.split()[1]) for line in file if line.startswith("VmHWM"))
 
 
 def run(runner, binary, requests):
@@ -177,9 +198,20 @@ def run(runner, binary, requests):
     return seconds, kilobytes / 1024, len(answers)
 
 
-def least(runner, binary, requests, runs):
-    taken = [run(runner, binary, requests) for _ in range(runs)]
-    return min(t[0] for t in taken), min(t[1] for t in taken), taken[0][2]
+def least(runner, binary, requests, options):
+    taken = [run(runner, binary, requests) for _ in range(options.runs)]
+    took = counted(binary, requests) / 1e6 if options.count else min(t[0] for t in taken)
+    return took, min(t[1] for t in taken), taken[0][2]
+
+
+def counted(binary, requests):
+    """The instructions of a session, by callgrind."""
+    with tempfile.TemporaryFile() as stdin, tempfile.NamedTemporaryFile() as out:
+        stdin.writelines(requests)
+        stdin.seek(0)
+        words = ["valgrind", "--tool=callgrind", f"--callgrind-out-file={out.name}", binary] + WORDS
+        run = subprocess.run(words, stdin=stdin, capture_output=True, check=True)
+    return int(re.search(rb"Collected : (\d+)", run.stderr).group(1))
 
 
 def main():
@@ -187,11 +219,12 @@ def main():
     words.add_argument("--bin", default=os.path.join(ROOT, "crates/jaeger_one/out/jaeger_one"))
     words.add_argument("--runs", type=int, default=3)
     words.add_argument("--parts", type=int, default=1000, help="how many parts the whole has")
+    words.add_argument("--count", action="store_true", help="count instructions in place of seconds, in millions")
     words.add_argument("shapes", nargs="*", help="words of the shapes to run; all where none is given")
     options = words.parse_args()
     runner = Runner()
-    rest = least(runner, options.bin, [], options.runs)
-    print(f"{'':45} {'MB in':>6} {'MB out':>7} {'seconds':>14} {'ratio':>6} {'MB of memory':>15} {'ratio':>6} {'of bytes':>8}")
+    rest = least(runner, options.bin, [], options)
+    print(f"{'':45} {'MB in':>6} {'MB out':>7} {'instructions' if options.count else 'seconds':>16} {'ratio':>6} {'MB of memory':>15} {'ratio':>6} {'of bytes':>8}")
     for name, shape in SHAPES.items():
         if options.shapes and not any(word in name for word in options.shapes):
             continue
@@ -199,7 +232,7 @@ def main():
         for n in (options.parts // 2, options.parts):
             requests = shape(n)
             try:
-                seconds, peak, out = least(runner, options.bin, requests, options.runs)
+                seconds, peak, out = least(runner, options.bin, requests, options)
             except AssertionError:
                 print(f"{name:45} left out: a body or a head of so many parts is too large")
                 break
@@ -207,7 +240,7 @@ def main():
         if len(seen) < 2:
             continue
         half, whole = seen
-        print(f"{name:45} {whole[2]:6.2f} {whole[3]:7.2f} {half[0]:6.2f}, {whole[0]:6.2f} {whole[0] / max(half[0], 1e-3):6.1f}"
+        print(f"{name:45} {whole[2]:6.2f} {whole[3]:7.2f} {half[0]:7.2f}, {whole[0]:7.2f} {whole[0] / max(half[0], 1e-3):6.1f}"
               f" {half[1]:6.0f}, {whole[1]:7.0f} {whole[1] / max(half[1], 1e-3):6.1f} {whole[1] / (whole[2] + whole[3]):8.0f}", flush=True)
 
 
