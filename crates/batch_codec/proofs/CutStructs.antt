@@ -1,10 +1,7 @@
 -- The readings of single values have places for their faults, as those of structs have whose fields' have.
-use Rattle.std.proofs.Common.{ℕ, ℤ, pos, Bool, cond, List, Result, Ok, Err, refl, w32, w64}
+use Rattle.std.proofs.Common.{ℕ, ℤ, Bool, cond, List, Result, Ok, Err, refl, w32, w64}
 use Rattle.std.specs.Int.{cast_unsigned}
-use Rattle.std.specs.Ordering.{int_eq}
 use Rattle.std.specs.Str.{is_utf8}
-use Rattle.jaeger_model.specs.declared.span.RefKind.{RefKind}
-use Rattle.jaeger_model.specs.declared.span.RefKind.TheVariants.{ChildOf, FollowsFrom}
 use Rattle.thrift_binary.specs.declared.fault.WireError.TheVariants.{Truncated, BadText}
 use Rattle.thrift_binary.specs.Reading.{◌>>=◌, lift, bytes_at, string_at, signed_at}
 use Rattle.thrift_binary.specs.Reading as wires
@@ -18,12 +15,10 @@ use Rattle.thrift_binary.proofs.CutSkip.{skip_cut}
 use Rattle.thrift_binary.proofs.CutFields.{fields_cut}
 use Rattle.thrift_binary.proofs.CutLists.{list_cut}
 use Rattle.batch_codec.specs.declared.fault.DecodeError.{DecodeError}
-use Rattle.batch_codec.specs.declared.fault.DecodeError.TheVariants.{Wire, BadEnum}
-use Rattle.batch_codec.specs.declared.tag.TagType.{TagType}
-use Rattle.batch_codec.specs.declared.tag.TagType.TheVariants as types
+use Rattle.batch_codec.specs.declared.fault.DecodeError.TheVariants.{Wire}
 use Rattle.batch_codec.specs.Decoding.{Reading, wire, skipped, bool_at, double_at, i32_at, i64_at, id_at, text_at, binary_at}
-use Rattle.batch_codec.specs.TagReading.{type_at}
-use Rattle.batch_codec.specs.ReferenceReading.{kind_at}
+use Rattle.batch_codec.specs.TagReading.{type_at, type_of_number}
+use Rattle.batch_codec.specs.ReferenceReading.{kind_at, kind_of_number}
 
 -- the faults of the reading have places
 abbrev pub Safe : {A : Type 0} → Reading A → Type 0
@@ -76,39 +71,18 @@ pub text_safe : Safe text_at
 unfolding text_at binary_at
 text_safe = cut_then (Wire Truncated) binary_at checked binary_safe (λ t w. choice_safe (is_utf8 t) t (bad (Wire BadText)) w (bad_safe (Wire BadText) w))
 
-abbrev kinds : ℤ → Reading RefKind
-kinds z v = cond (int_eq z (pos 0)) (Ok (ChildOf, v)) (cond (int_eq z (pos 1)) (Ok (FollowsFrom, v)) (Err BadEnum))
+-- a value that is there, or a fault, whatever the bytes
+given_safe : {A : Type 0} (r : Result A DecodeError) (w : List ℕ) → SafeAt (λ v. r >>= λ x. Ok (x, v)) w
+given_safe {A = A} (Ok x) w = let one : Reading A = λ v. Ok (x, v) in cut_ok (Wire Truncated) one x (λ v. refl) w
+given_safe (Err e) w = bad_safe e w
 
 pub kind_safe : Safe kind_at
 unfolding kind_at
-kind_safe = cut_then (Wire Truncated) i32_at kinds i32_safe (λ z w.
-    choice_safe (int_eq z (pos 0)) ChildOf (λ v. cond (int_eq z (pos 1)) (Ok (FollowsFrom, v)) (Err BadEnum)) w (
-    choice_safe (int_eq z (pos 1)) FollowsFrom (bad BadEnum) w (bad_safe BadEnum w)))
-
-abbrev from_binary : ℤ → Reading TagType
-from_binary z v = cond (int_eq z (pos 4)) (Ok (types.Binary, v)) (Err BadEnum)
-
-abbrev from_long : ℤ → Reading TagType
-from_long z v = cond (int_eq z (pos 3)) (Ok (types.Long, v)) (from_binary z v)
-
-abbrev from_bool : ℤ → Reading TagType
-from_bool z v = cond (int_eq z (pos 2)) (Ok (types.Bool, v)) (from_long z v)
-
-abbrev from_double : ℤ → Reading TagType
-from_double z v = cond (int_eq z (pos 1)) (Ok (types.Double, v)) (from_bool z v)
-
-abbrev from_text : ℤ → Reading TagType
-from_text z v = cond (int_eq z (pos 0)) (Ok (types.Text, v)) (from_double z v)
+kind_safe = cut_then (Wire Truncated) i32_at (λ n v. kind_of_number n >>= λ k. Ok (k, v)) i32_safe (λ n w. given_safe (kind_of_number n) w)
 
 pub type_safe : Safe type_at
 unfolding type_at
-type_safe = cut_then (Wire Truncated) i32_at from_text i32_safe (λ z w.
-    choice_safe (int_eq z (pos 0)) types.Text (from_double z) w (
-    choice_safe (int_eq z (pos 1)) types.Double (from_bool z) w (
-    choice_safe (int_eq z (pos 2)) types.Bool (from_long z) w (
-    choice_safe (int_eq z (pos 3)) types.Long (from_binary z) w (
-    choice_safe (int_eq z (pos 4)) types.Binary (bad BadEnum) w (
-    bad_safe BadEnum w))))))
+type_safe = cut_then (Wire Truncated) i32_at (λ n v. type_of_number n >>= λ k. Ok (k, v)) i32_safe (λ n w. given_safe (type_of_number n) w)
 
 -- ---- fields
 

@@ -21,9 +21,9 @@ use Rattle.batch_codec.specs.declared.span.SpanSlots.{SpanSlots}
 use Rattle.batch_codec.specs.declared.batch.BatchSlots.{BatchSlots}
 use Rattle.batch_codec.specs.Decoding.{Reading, wire, skipped, required, bool_at, double_at, i32_at, i64_at, id_at, text_at, binary_at}
 use Rattle.batch_codec.specs.Gathered.{no_tag, no_log, no_reference, no_process, no_span, no_batch}
-use Rattle.batch_codec.specs.TagReading.{take_tag, tag_from, tag_at, type_at}
+use Rattle.batch_codec.specs.TagReading.{take_tag, tag_from, tag_at, type_at, type_of_number}
 use Rattle.batch_codec.specs.LogReading.{take_log, log_from, log_at}
-use Rattle.batch_codec.specs.ReferenceReading.{take_reference, reference_from, reference_at, kind_at}
+use Rattle.batch_codec.specs.ReferenceReading.{take_reference, reference_from, reference_at, kind_at, kind_of_number}
 use Rattle.batch_codec.specs.ProcessReading.{take_process, process_from, process_at}
 use Rattle.batch_codec.specs.SpanReading.{take_span, span_from, span_at}
 use Rattle.batch_codec.specs.BatchReading.{take_batch, batch_from, batch_at}
@@ -99,18 +99,26 @@ binary_never : Never binary_at
 unfolding binary_at
 binary_never w = not_lift (string_at w)
 
+kind_numbered : (n : ℤ) → Not (kind_of_number n)
+unfolding kind_of_number
+kind_numbered n = not_if (int_eq n (pos 0)) _ _ (not_ok _) (not_if (int_eq n (pos 1)) _ _ (not_ok _) not_enum)
+
 kind_never : Never kind_at
 unfolding kind_at
-kind_never w = not_then (i32_at w) _ (i32_never w) (λ x. not_if (int_eq x.0 (pos 0)) _ _ (not_ok _) (not_if (int_eq x.0 (pos 1)) _ _ (not_ok _) not_enum))
+kind_never w = not_then (i32_at w) _ (i32_never w) (λ n. not_then (kind_of_number n.0) _ (kind_numbered n.0) (λ k. not_ok _))
+
+type_numbered : (n : ℤ) → Not (type_of_number n)
+unfolding type_of_number
+type_numbered n =
+    not_if (int_eq n (pos 0)) _ _ (not_ok _) (
+    not_if (int_eq n (pos 1)) _ _ (not_ok _) (
+    not_if (int_eq n (pos 2)) _ _ (not_ok _) (
+    not_if (int_eq n (pos 3)) _ _ (not_ok _) (
+    not_if (int_eq n (pos 4)) _ _ (not_ok _) not_enum))))
 
 type_never : Never type_at
 unfolding type_at
-type_never w = not_then (i32_at w) _ (i32_never w) (λ x.
-    not_if (int_eq x.0 (pos 0)) _ _ (not_ok _) (
-    not_if (int_eq x.0 (pos 1)) _ _ (not_ok _) (
-    not_if (int_eq x.0 (pos 2)) _ _ (not_ok _) (
-    not_if (int_eq x.0 (pos 3)) _ _ (not_ok _) (
-    not_if (int_eq x.0 (pos 4)) _ _ (not_ok _) not_enum)))))
+type_never w = not_then (i32_at w) _ (i32_never w) (λ n. not_then (type_of_number n.0) _ (type_numbered n.0) (λ k. not_ok _))
 
 -- ---- fields, structs and lists of them
 

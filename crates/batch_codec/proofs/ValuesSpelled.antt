@@ -5,6 +5,7 @@ use Rattle.std.specs.Ordering.{int_eq}
 use Rattle.std.specs.Str.{is_utf8}
 use Rattle.std.proofs.lemmas.Str.{is_utf8-from_IsUtf8, IsUtf8-from_is_utf8}
 use Rattle.std.proofs.lemmas.Bool.Decides.{Decides-int_eq}
+use Rattle.jaeger_model.specs.declared.span.RefKind.{RefKind}
 use Rattle.jaeger_model.specs.declared.span.RefKind.TheVariants.{ChildOf, FollowsFrom}
 use Rattle.thrift_binary.specs.declared.fault.WireError.TheVariants.{BadText}
 use Rattle.thrift_binary.specs.Reading.{◌>>=◌, lift, bytes_at, string_at, signed_at}
@@ -14,10 +15,11 @@ use Rattle.thrift_binary.proofs.Found.{bind_ok, pass_ok, lift_ok, ok_is, bool_fo
 use Rattle.thrift_binary.proofs.Again.{bool_again, i32_again, i64_again, double_again, string_again}
 use Rattle.batch_codec.specs.declared.fault.DecodeError.{DecodeError}
 use Rattle.batch_codec.specs.declared.fault.DecodeError.TheVariants.{Wire, BadEnum}
+use Rattle.batch_codec.specs.declared.tag.TagType.{TagType}
 use Rattle.batch_codec.specs.declared.tag.TagType.TheVariants as types
 use Rattle.batch_codec.specs.Decoding.{Reading, wire, bool_at, double_at, i32_at, i64_at, id_at, text_at, binary_at}
-use Rattle.batch_codec.specs.TagReading.{type_at}
-use Rattle.batch_codec.specs.ReferenceReading.{kind_at}
+use Rattle.batch_codec.specs.TagReading.{type_at, type_of_number}
+use Rattle.batch_codec.specs.ReferenceReading.{kind_at, kind_of_number}
 use Rattle.batch_codec.specs.Batches.{IsText, IsId, IsTagType, type_number, IsRefKind, kind_number}
 
 -- what is read is spelled so
@@ -111,57 +113,68 @@ is_binary_again t r x is = rw (string_again t x r is) refl
 
 -- ---- enums
 
-abbrev said : {K : Type 0} → K → List ℕ → Result (K × List ℕ) DecodeError
-said k v = Ok (k, v)
+abbrev given : {K : Type 0} → K → Result K DecodeError
+given k = Ok k
 
--- a number of the table, and what it stands for
-one_of_table : {K : Type 0} (number : K → ℤ) (w v : List ℕ) (z : ℤ) (k x : K) (r : List ℕ) → Beginning (λ t. IsI32 t z) w v → z ≡ number k → said k v ≡ said x r → Beginning (λ t. IsI32 t (number x)) w r
-one_of_table {K = K} number w v z k x r f z-is e =
-    let made : K × List ℕ = (k, v) in
-    let same : made ≡ (x, r) = ok_is made (x, r) e in
-    let k-is : k ≡ x = ap (λ (p : K × List ℕ). p.0) same in
+-- what the number read stands for
+enum_found : {K : Type 0} (number : K → ℤ) (named : ℤ → Result K DecodeError) → ((n : ℤ) (k : K) → named n ≡ Ok k → n ≡ number k)
+    → Found (λ w. i32_at w >>= λ n. named n.0 >>= λ k. Ok (k, n.1)) (λ t k. IsI32 t (number k))
+enum_found {K = K} number named numbered w x r e =
+    let n = bind_ok (i32_at w) (λ n. named n.0 >>= λ k. Ok (k, n.1)) (x, r) e in
+    let k = bind_ok (named n.0.0) (λ k. Ok (k, n.0.1)) (x, r) n.2 in
+    let f = is_i32_found w n.0.0 n.0.1 n.1 in
+    let made : K × List ℕ = (k.0, n.0.1) in
+    let same : made ≡ (x, r) = ok_is made (x, r) k.2 in
     record {
       text = f.text;
       parts = f.parts ∙ ap (λ (p : K × List ℕ). f.text ++ p.1) same;
-      spells = subst (λ (y : ℤ). IsI32 f.text y) (z-is ∙ ap number k-is) f.spells;
+      spells = subst (λ (y : ℤ). IsI32 f.text y) (numbered n.0.0 k.0 k.1 ∙ ap (λ (p : K × List ℕ). number p.0) same) f.spells;
     }
+
+-- a number of the table, and what it stands for
+one_of_table : {K : Type 0} (number : K → ℤ) (z : ℤ) (k x : K) → z ≡ number k → given k ≡ given x → z ≡ number x
+one_of_table number z k x z-is e = z-is ∙ ap number (ok_is k x e)
+
+kind_numbered : (n : ℤ) (k : RefKind) → kind_of_number n ≡ Ok k → n ≡ kind_number k
+unfolding kind_of_number
+kind_numbered n x = by (int_eq n (pos 0)) refl (int_eq n (pos 1)) refl
+  where
+    by : (p : Bool) → int_eq n (pos 0) ≡ p → (q : Bool) → int_eq n (pos 1) ≡ q → cond p (given ChildOf) (cond q (given FollowsFrom) (Err BadEnum)) ≡ given x → n ≡ kind_number x
+    by true p q q-is h = one_of_table kind_number n ChildOf x ((Decides-int_eq n (pos 0)).0 p) h
+    by false p true q h = one_of_table kind_number n FollowsFrom x ((Decides-int_eq n (pos 1)).0 q) h
+    by false p false q h = absurd cc
 
 is_kind_found : Found kind_at IsRefKind
 unfolding kind_at
-is_kind_found w x r e =
-    let b = bind_ok (i32_at w) (λ y. cond (int_eq y.0 (pos 0)) (said ChildOf y.1) (cond (int_eq y.0 (pos 1)) (said FollowsFrom y.1) (Err BadEnum))) (x, r) e in
-    by b.0.0 b.0.1 (is_i32_found w b.0.0 b.0.1 b.1) (int_eq b.0.0 (pos 0)) refl (int_eq b.0.0 (pos 1)) refl b.2
-  where
-    by : (z : ℤ) (v : List ℕ) → Beginning (λ t. IsI32 t z) w v → (p : Bool) → int_eq z (pos 0) ≡ p → (q : Bool) → int_eq z (pos 1) ≡ q → cond p (said ChildOf v) (cond q (said FollowsFrom v) (Err BadEnum)) ≡ said x r → Beginning (λ t. IsRefKind t x) w r
-    by z v f true p q q-is h = one_of_table kind_number w v z ChildOf x r f ((Decides-int_eq z (pos 0)).0 p) h
-    by z v f false p true q h = one_of_table kind_number w v z FollowsFrom x r f ((Decides-int_eq z (pos 1)).0 q) h
-    by z v f false p false q h = absurd cc
+is_kind_found = enum_found kind_number kind_of_number kind_numbered
 
 is_kind_again : Again kind_at IsRefKind
-unfolding kind_at
+unfolding kind_at kind_of_number
 is_kind_again t r ChildOf is = let h = is_i32_again t r (pos 0) is in rw h refl
 is_kind_again t r FollowsFrom is = let h = is_i32_again t r (pos 1) is in rw h refl
 
+type_numbered : (n : ℤ) (k : TagType) → type_of_number n ≡ Ok k → n ≡ type_number k
+unfolding type_of_number
+type_numbered n x = by (int_eq n (pos 0)) refl (int_eq n (pos 1)) refl (int_eq n (pos 2)) refl (int_eq n (pos 3)) refl (int_eq n (pos 4)) refl
+  where
+    is : (m : ℕ) → int_eq n (pos m) ≡ true → n ≡ pos m
+    is m e = (Decides-int_eq n (pos m)).0 e
+
+    by : (a : Bool) → int_eq n (pos 0) ≡ a → (b : Bool) → int_eq n (pos 1) ≡ b → (c : Bool) → int_eq n (pos 2) ≡ c → (d : Bool) → int_eq n (pos 3) ≡ d → (f : Bool) → int_eq n (pos 4) ≡ f
+        → cond a (given types.Text) (cond b (given types.Double) (cond c (given types.Bool) (cond d (given types.Long) (cond f (given types.Binary) (Err BadEnum))))) ≡ given x → n ≡ type_number x
+    by true a _ _ _ _ _ _ _ _ h = one_of_table type_number n types.Text x (is 0 a) h
+    by false _ true b _ _ _ _ _ _ h = one_of_table type_number n types.Double x (is 1 b) h
+    by false _ false _ true c _ _ _ _ h = one_of_table type_number n types.Bool x (is 2 c) h
+    by false _ false _ false _ true d _ _ h = one_of_table type_number n types.Long x (is 3 d) h
+    by false _ false _ false _ false _ true k h = one_of_table type_number n types.Binary x (is 4 k) h
+    by false _ false _ false _ false _ false k h = absurd cc
+
 is_type_found : Found type_at IsTagType
 unfolding type_at
-is_type_found w x r e =
-    let b = bind_ok (i32_at w) (λ y. cond (int_eq y.0 (pos 0)) (said types.Text y.1) (cond (int_eq y.0 (pos 1)) (said types.Double y.1) (cond (int_eq y.0 (pos 2)) (said types.Bool y.1) (cond (int_eq y.0 (pos 3)) (said types.Long y.1) (cond (int_eq y.0 (pos 4)) (said types.Binary y.1) (Err BadEnum)))))) (x, r) e in
-    by b.0.0 b.0.1 (is_i32_found w b.0.0 b.0.1 b.1) (int_eq b.0.0 (pos 0)) refl (int_eq b.0.0 (pos 1)) refl (int_eq b.0.0 (pos 2)) refl (int_eq b.0.0 (pos 3)) refl (int_eq b.0.0 (pos 4)) refl b.2
-  where
-    is : (z : ℤ) (n : ℕ) → int_eq z (pos n) ≡ true → z ≡ pos n
-    is z n e = (Decides-int_eq z (pos n)).0 e
-
-    by : (z : ℤ) (v : List ℕ) → Beginning (λ t. IsI32 t z) w v → (a : Bool) → int_eq z (pos 0) ≡ a → (b : Bool) → int_eq z (pos 1) ≡ b → (c : Bool) → int_eq z (pos 2) ≡ c → (d : Bool) → int_eq z (pos 3) ≡ d → (f : Bool) → int_eq z (pos 4) ≡ f
-        → cond a (said types.Text v) (cond b (said types.Double v) (cond c (said types.Bool v) (cond d (said types.Long v) (cond f (said types.Binary v) (Err BadEnum))))) ≡ said x r → Beginning (λ t. IsTagType t x) w r
-    by z v f true a _ _ _ _ _ _ _ _ h = one_of_table type_number w v z types.Text x r f (is z 0 a) h
-    by z v f false _ true b _ _ _ _ _ _ h = one_of_table type_number w v z types.Double x r f (is z 1 b) h
-    by z v f false _ false _ true c _ _ _ _ h = one_of_table type_number w v z types.Bool x r f (is z 2 c) h
-    by z v f false _ false _ false _ true d _ _ h = one_of_table type_number w v z types.Long x r f (is z 3 d) h
-    by z v f false _ false _ false _ false _ true k h = one_of_table type_number w v z types.Binary x r f (is z 4 k) h
-    by z v f false _ false _ false _ false _ false k h = absurd cc
+is_type_found = enum_found type_number type_of_number type_numbered
 
 is_type_again : Again type_at IsTagType
-unfolding type_at
+unfolding type_at type_of_number
 is_type_again t r types.Text is = let h = is_i32_again t r (pos 0) is in rw h refl
 is_type_again t r types.Double is = let h = is_i32_again t r (pos 1) is in rw h refl
 is_type_again t r types.Bool is = let h = is_i32_again t r (pos 2) is in rw h refl

@@ -1,5 +1,5 @@
 -- A reference to a span, read from left to right.
-use Rattle.std.specs.Prelude.{pos, Some, Result, Ok, Err, ◌&&◌, ◌==◌, if◌then◌else◌}
+use Rattle.std.specs.Prelude.{ℤ, pos, Some, Result, Ok, Err, ◌&&◌, ◌==◌, if◌then◌else◌}
 use Rattle.std.specs.Ordering.{int_eq}
 use Rattle.thrift_binary.specs.Reading.{◌>>=◌}
 use Rattle.thrift_binary.specs.Fields.{Take, fields_at}
@@ -13,11 +13,18 @@ use Rattle.batch_codec.specs.declared.reference.ReferenceSlots.{ReferenceSlots}
 use Rattle.batch_codec.specs.Decoding.{Reading, wire, skipped, required, i32_at, id_at}
 use Rattle.batch_codec.specs.Gathered.{no_reference}
 
-unfoldable pub kind_at : Reading RefKind
-kind_at w = i32_at w >>= λ x.
-    if int_eq x.0 (pos 0) then Ok (ChildOf, x.1)
-    else if int_eq x.0 (pos 1) then Ok (FollowsFrom, x.1)
+-- the kind that has this number in `jaeger.thrift`
+unfoldable pub kind_of_number : ℤ → Result RefKind DecodeError
+kind_of_number n =
+    if int_eq n (pos 0) then Ok ChildOf
+    else if int_eq n (pos 1) then Ok FollowsFrom
     else Err BadEnum
+
+unfoldable pub kind_at : Reading RefKind
+kind_at w = do
+  n ← i32_at w
+  kind ← kind_of_number n.0
+  Ok (kind, n.1)
 
 unfoldable pub take_reference : Take ReferenceSlots DecodeError
 take_reference s c i w =

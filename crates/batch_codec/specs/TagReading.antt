@@ -1,5 +1,5 @@
 -- A tag, read from left to right.
-use Rattle.std.specs.Prelude.{pos, Some, Result, Ok, Err, ◌&&◌, ◌==◌, if◌then◌else◌}
+use Rattle.std.specs.Prelude.{ℤ, pos, Some, Result, Ok, Err, ◌&&◌, ◌==◌, if◌then◌else◌}
 use Rattle.std.specs.Ordering.{int_eq}
 use Rattle.thrift_binary.specs.Reading.{◌>>=◌}
 use Rattle.thrift_binary.specs.Fields.{Take, fields_at}
@@ -13,14 +13,21 @@ use Rattle.batch_codec.specs.declared.tag.TagSlots.{TagSlots}
 use Rattle.batch_codec.specs.Decoding.{Reading, wire, skipped, required, bool_at, double_at, i32_at, i64_at, text_at, binary_at}
 use Rattle.batch_codec.specs.Gathered.{no_tag, value_named}
 
-unfoldable pub type_at : Reading TagType
-type_at w = i32_at w >>= λ x.
-    if int_eq x.0 (pos 0) then Ok (types.Text, x.1)
-    else if int_eq x.0 (pos 1) then Ok (types.Double, x.1)
-    else if int_eq x.0 (pos 2) then Ok (types.Bool, x.1)
-    else if int_eq x.0 (pos 3) then Ok (types.Long, x.1)
-    else if int_eq x.0 (pos 4) then Ok (types.Binary, x.1)
+-- the type that has this number in `jaeger.thrift`
+unfoldable pub type_of_number : ℤ → Result TagType DecodeError
+type_of_number n =
+    if int_eq n (pos 0) then Ok types.Text
+    else if int_eq n (pos 1) then Ok types.Double
+    else if int_eq n (pos 2) then Ok types.Bool
+    else if int_eq n (pos 3) then Ok types.Long
+    else if int_eq n (pos 4) then Ok types.Binary
     else Err BadEnum
+
+unfoldable pub type_at : Reading TagType
+type_at w = do
+  n ← i32_at w
+  kind ← type_of_number n.0
+  Ok (kind, n.1)
 
 unfoldable pub take_tag : Take TagSlots DecodeError
 take_tag s c i w =

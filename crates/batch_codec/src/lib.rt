@@ -10,8 +10,9 @@
 //! * `values`, `fields`, `items`: single values, a struct's fields up to its stop byte, a list of structs, for
 //!   which [`room`] is taken by its claimed size only where the bytes that are there can hold so many.
 //! * `tag`, `log`, `reference`, `process`, `span`, `batch`: one struct of `jaeger.thrift` each. What is gathered of
-//!   it (`TagSlots` and so on) is public, and so are the reading of single values and [`required`], for crates that
-//!   decode in another way: tags and processes as what they specify, the others for their code too.
+//!   it (`TagSlots` and so on) is public, and so are the reading of single values, the tables of tag types and reference
+//!   kinds and [`required`], for crates that decode in another way: tags and processes as what they specify, the others
+//!   for their code too.
 //! * `writer`: [`encode`], the one spelling of a batch.
 //! * `laws`: facts about the definitions.
 #![tactic(auto)]
@@ -35,8 +36,8 @@ pub use fields::required;
 pub use items::room;
 pub use log::{LEAST_LOG, LogSlots};
 pub use process::ProcessSlots;
-pub use reference::{LEAST_REFERENCE, ReferenceSlots, read_kind};
+pub use reference::{LEAST_REFERENCE, ReferenceSlots, kind_of_number, read_kind};
 pub use span::{LEAST_SPAN, SpanSlots, read_span};
-pub use tag::{LEAST_TAG, TagSlots, TagType, read_type};
+pub use tag::{LEAST_TAG, TagSlots, TagType, read_type, type_of_number};
 pub use values::{ByteSlice, TextSlice, read_bool, read_double, read_i32, read_i64, read_id};
 pub use writer::encode;

@@ -1,6 +1,7 @@
-ghost use Rattle.std.specs.Prelude.{◌≡◌, ◌≤◌, length, OnOk};
+ghost use Rattle.std.specs.Prelude.{◌≡◌, ◌≤◌, length, OnOk, IfErr};
+ghost use Rattle.batch_codec.specs.declared.fault.DecodeError.TheVariants.{BadEnum};
 ghost use Rattle.batch_codec.specs.Decoding.{Decodes};
-ghost use Rattle.batch_codec.specs.ReferenceReading.{reference_at, reference_from, kind_at};
+ghost use Rattle.batch_codec.specs.ReferenceReading.{reference_at, reference_from, kind_at, kind_of_number};
 
 use crate::fault::{DecodeError, Part};
 use crate::fields::{Slots, read_fields, required};
@@ -86,22 +87,36 @@ impl<'a> Slots<'a> for ReferenceSlots {
     }
 }
 
-/// A number of `SpanRefType`.
+/// The kind that has this number in `jaeger.thrift`.
 ///
 /// # Errors
 ///
-/// The bytes are too few, or the number is none of them.
+/// [`DecodeError::BadEnum`] where none has it.
+#[tactic(auto, unfolding(crate::specs::ReferenceReading::kind_of_number))]
+#[inline]
+pub fn kind_of_number(number: i32) -> Result<RefKind, DecodeError>
+    ensures exact { result ≡ kind_of_number number }
+    ensures fault { IfErr result (λ error. error ≡ BadEnum) }
+{
+    match number {
+        0 => Ok(RefKind::ChildOf),
+        1 => Ok(RefKind::FollowsFrom),
+        _ => Err(DecodeError::BadEnum),
+    }
+}
+
+/// A reference's kind, which stands as its number.
+///
+/// # Errors
+///
+/// The bytes are too few, or no kind has the number.
 #[tactic(auto, unfolding(crate::specs::ReferenceReading::kind_at))]
 #[inline]
 pub fn read_kind(cursor: &mut Cursor<'_>) -> Result<RefKind, DecodeError>
     ensures exact { Decodes (λ k. k) kind_at cursor.old result cursor.new }
     ensures no_longer { OnOk result (length cursor.new ≤ length cursor.old) }
 {
-    match read_i32(cursor)? {
-        0 => Ok(RefKind::ChildOf),
-        1 => Ok(RefKind::FollowsFrom),
-        _ => Err(DecodeError::BadEnum),
-    }
+    kind_of_number(read_i32(cursor)?)
 }
 
 impl Element for SpanRef {

@@ -1,6 +1,7 @@
-ghost use Rattle.std.specs.Prelude.{◌≡◌, ◌≤◌, ◌<◌, length, OnOk};
+ghost use Rattle.std.specs.Prelude.{◌≡◌, ◌≤◌, ◌<◌, length, OnOk, IfErr};
+ghost use Rattle.batch_codec.specs.declared.fault.DecodeError.TheVariants.{BadEnum};
 ghost use Rattle.batch_codec.specs.Decoding.{Decodes, Gives};
-ghost use Rattle.batch_codec.specs.TagReading.{tag_at, tag_from, type_at};
+ghost use Rattle.batch_codec.specs.TagReading.{tag_at, tag_from, type_at, type_of_number};
 
 use crate::fault::{DecodeError, Part};
 use crate::fields::{Slots, read_fields, required};
@@ -84,18 +85,18 @@ impl<'a> Slots<'a> for TagSlots<'a> {
     }
 }
 
-/// A number of `TagType`.
+/// The type that has this number in `jaeger.thrift`.
 ///
 /// # Errors
 ///
-/// The bytes are too few, or the number is none of them.
-#[tactic(auto, unfolding(crate::specs::TagReading::type_at))]
+/// [`DecodeError::BadEnum`] where none has it.
+#[tactic(auto, unfolding(crate::specs::TagReading::type_of_number))]
 #[inline]
-pub fn read_type(cursor: &mut Cursor<'_>) -> Result<TagType, DecodeError>
-    ensures exact { Decodes (λ t. t) type_at cursor.old result cursor.new }
-    ensures no_longer { OnOk result (length cursor.new ≤ length cursor.old) }
+pub fn type_of_number(number: i32) -> Result<TagType, DecodeError>
+    ensures exact { result ≡ type_of_number number }
+    ensures fault { IfErr result (λ error. error ≡ BadEnum) }
 {
-    match read_i32(cursor)? {
+    match number {
         0 => Ok(TagType::Text),
         1 => Ok(TagType::Double),
         2 => Ok(TagType::Bool),
@@ -103,6 +104,20 @@ pub fn read_type(cursor: &mut Cursor<'_>) -> Result<TagType, DecodeError>
         4 => Ok(TagType::Binary),
         _ => Err(DecodeError::BadEnum),
     }
+}
+
+/// A tag's type, which stands as its number.
+///
+/// # Errors
+///
+/// The bytes are too few, or no type has the number.
+#[tactic(auto, unfolding(crate::specs::TagReading::type_at))]
+#[inline]
+pub fn read_type(cursor: &mut Cursor<'_>) -> Result<TagType, DecodeError>
+    ensures exact { Decodes (λ t. t) type_at cursor.old result cursor.new }
+    ensures no_longer { OnOk result (length cursor.new ≤ length cursor.old) }
+{
+    type_of_number(read_i32(cursor)?)
 }
 
 #[tactic(auto, unfolding(crate::specs::TagReading::tag_from))]

@@ -1,3 +1,4 @@
+-- Laws that the impls of this crate name, and their lemmas. A clause can name nothing of its own crate's proofs/, so they stand in specs/.
 -- What is missing of a struct is no want of bytes.
 use Rattle.std.specs.Prelude.{◌≡◌, ℕ, Option, Some, None, Result, Ok, Err}
 use Rattle.thrift_binary.specs.declared.fault.WireError.TheVariants.{Truncated}

@@ -1,3 +1,4 @@
+-- Laws that the impls of this crate name, and their lemmas. A clause can name nothing of its own crate's proofs/, so they stand in specs/.
 -- A field of each struct of `jaeger.thrift` is want of bytes where its value has fewer than each of its type.
 use Rattle.std.proofs.Common.{◌≡◌, ℕ, ℤ, pos, List, Some, Err}
 use Rattle.std.specs.Ordering.{int_eq}

@@ -1,3 +1,4 @@
+-- Laws that the impls of this crate name, and their lemmas. A clause can name nothing of its own crate's proofs/, so they stand in specs/.
 -- A value that has fewer bytes than each of its type is want of bytes.
 use Rattle.std.proofs.Common.{◌≡◌, ℕ, ◌<◌, eqb, ltb, cond, ◌&&◌, ◌||◌, List, [], ◌∷◌, length, drop, Result, Ok, Err, Bool, true, false, refl, ap, sym, ◌∙◌, arith}
 use Rattle.std.proofs.lemmas.Bool.{ltb-true, lt-ltb, eqb-true, eqb-false, ne_eqb}

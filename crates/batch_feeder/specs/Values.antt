@@ -1,7 +1,6 @@
 -- Values of which some bytes have come.
-use Rattle.std.specs.Prelude.{ℕ, ℤ, pos, List, Result, Ok, Err, Bool, if◌then◌else◌}
+use Rattle.std.specs.Prelude.{ℕ, ℤ, List, Result, Ok, Err, Bool, if◌then◌else◌}
 use Rattle.std.specs.Int.{w64, cast_unsigned}
-use Rattle.std.specs.Ordering.{int_eq}
 use Rattle.std.specs.Str.{is_utf8}
 use Rattle.thrift_binary.specs.declared.fault.WireError.TheVariants.{BadText}
 use Rattle.thrift_binary.specs.Reading.{◌>>=◌, lift}
@@ -10,12 +9,12 @@ use Rattle.wire_pieces.specs.Numbers.{i32_from, i64_from, double_from}
 use Rattle.wire_pieces.specs.Strings.{string_from}
 use Rattle.wire_pieces.specs.Frames.{skipping}
 use Rattle.jaeger_model.specs.declared.span.RefKind.{RefKind}
-use Rattle.jaeger_model.specs.declared.span.RefKind.TheVariants.{ChildOf, FollowsFrom}
 use Rattle.batch_codec.specs.declared.fault.DecodeError.{DecodeError}
-use Rattle.batch_codec.specs.declared.fault.DecodeError.TheVariants.{Wire, BadEnum}
+use Rattle.batch_codec.specs.declared.fault.DecodeError.TheVariants.{Wire}
 use Rattle.batch_codec.specs.declared.tag.TagType.{TagType}
-use Rattle.batch_codec.specs.declared.tag.TagType.TheVariants as types
 use Rattle.batch_codec.specs.Decoding.{Reading, wire}
+use Rattle.batch_codec.specs.TagReading.{type_of_number}
+use Rattle.batch_codec.specs.ReferenceReading.{kind_of_number}
 use Rattle.batch_feeder.specs.declared.values.BoolPart.{BoolPart}
 use Rattle.batch_feeder.specs.declared.values.DoublePart.{DoublePart}
 use Rattle.batch_feeder.specs.declared.values.I32Part.{I32Part}
@@ -52,28 +51,19 @@ text_part p w = lift wire (string_from p.part w) >>= checked_text
 abbrev pub binary_part : BinaryPart → Reading (List ℕ)
 binary_part p w = lift wire (string_from p.part w)
 
--- the number of a tag's type
-abbrev pub typed : ℤ × List ℕ → Result (TagType × List ℕ) DecodeError
-typed x =
-    if int_eq x.0 (pos 0) then Ok (types.Text, x.1)
-    else if int_eq x.0 (pos 1) then Ok (types.Double, x.1)
-    else if int_eq x.0 (pos 2) then Ok (types.Bool, x.1)
-    else if int_eq x.0 (pos 3) then Ok (types.Long, x.1)
-    else if int_eq x.0 (pos 4) then Ok (types.Binary, x.1)
-    else Err BadEnum
+-- the type that the number before these bytes stands for
+abbrev pub type_before : ℤ × List ℕ → Result (TagType × List ℕ) DecodeError
+type_before x = type_of_number x.0 >>= λ kind. Ok (kind, x.1)
 
 abbrev pub type_part : TypePart → Reading TagType
-type_part p w = lift wire (i32_from p.part w) >>= typed
+type_part p w = lift wire (i32_from p.part w) >>= type_before
 
--- the number of a reference's kind
-abbrev pub kinded : ℤ × List ℕ → Result (RefKind × List ℕ) DecodeError
-kinded x =
-    if int_eq x.0 (pos 0) then Ok (ChildOf, x.1)
-    else if int_eq x.0 (pos 1) then Ok (FollowsFrom, x.1)
-    else Err BadEnum
+-- the kind that the number before these bytes stands for
+abbrev pub kind_before : ℤ × List ℕ → Result (RefKind × List ℕ) DecodeError
+kind_before x = kind_of_number x.0 >>= λ kind. Ok (kind, x.1)
 
 abbrev pub kind_part : KindPart → Reading RefKind
-kind_part p w = lift wire (i32_from p.part w) >>= kinded
+kind_part p w = lift wire (i32_from p.part w) >>= kind_before
 
 -- a value that is read past
 abbrev pub skip_from : SkipPart → Reading (Unit {0})

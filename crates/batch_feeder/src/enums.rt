@@ -4,12 +4,12 @@ ghost use Rattle.batch_codec.specs.ReferenceReading.{kind_at};
 ghost use Rattle.batch_feeder.specs.Values.{type_part, kind_part};
 
 use crate::partial::Partial;
-use batch_codec::{DecodeError, TagType};
+use batch_codec::{DecodeError, TagType, kind_of_number, type_of_number};
 use jaeger_model::RefKind;
 use std::alloc::Global;
 use wire_pieces::{I32, Piece};
 
-/// A number of `TagType`.
+/// A tag's type, which stands as its number.
 #[derive(Drop)]
 pub(crate) struct TypePart {
     part: I32,
@@ -28,14 +28,8 @@ impl Partial for TypePart {
         let Some(number) = self.part.more(piece) else {
             return Ok(None);
         };
-        match number {
-            0 => Ok(Some(TagType::Text)),
-            1 => Ok(Some(TagType::Double)),
-            2 => Ok(Some(TagType::Bool)),
-            3 => Ok(Some(TagType::Long)),
-            4 => Ok(Some(TagType::Binary)),
-            _ => Err(DecodeError::BadEnum),
-        }
+        let kind = type_of_number(number)?;
+        Ok(Some(kind))
     }
 }
 
@@ -49,7 +43,7 @@ impl TypePart {
     }
 }
 
-/// A number of `SpanRefType`.
+/// A reference's kind, which stands as its number.
 #[derive(Drop)]
 pub(crate) struct KindPart {
     part: I32,
@@ -68,11 +62,8 @@ impl Partial for KindPart {
         let Some(number) = self.part.more(piece) else {
             return Ok(None);
         };
-        match number {
-            0 => Ok(Some(RefKind::ChildOf)),
-            1 => Ok(Some(RefKind::FollowsFrom)),
-            _ => Err(DecodeError::BadEnum),
-        }
+        let kind = kind_of_number(number)?;
+        Ok(Some(kind))
     }
 }
 

@@ -2,9 +2,9 @@ use Rattle.std.proofs.Common.{ap}
 use Rattle.thrift_binary.specs.Reading.{lift, ◌>>=◌}
 use Rattle.batch_codec.specs.Decoding.{i32_at, wire}
 use Rattle.batch_codec.specs.TagReading.{type_at}
-use Rattle.batch_feeder.specs.Values.{typed}
+use Rattle.batch_feeder.specs.Values.{type_before}
 use Rattle.batch_feeder.proofs.enums.TypePart.new.Goals as goal
 
 pub returns : goal.returns
 unfolding type_at i32_at
-returns c = record { fresh = λ w. ap (λ r. lift wire r >>= typed) (c.new.ensures.fresh w) }
+returns c = record { fresh = λ w. ap (λ r. lift wire r >>= type_before) (c.new.ensures.fresh w) }
