@@ -22,9 +22,9 @@ use Rattle.trace_model.proofs.NameLaws.{any_map}
 use Rattle.trace_model.proofs.Rising.{Below, has, sorted_set-rises, sorted_set-has, rises_insert, rises_same, any_set}
 use Rattle.std.specs.List.Sorted.{IsStrictlySortedBy}
 use Rattle.call_links.specs.declared.counts.Tally.{Tally}
-use Rattle.call_links.specs.Seen.{SeenCall, ToldCall, call_told, calls_told, StandsFor, AreToldBy, texts_called, numbers_called}
+use Rattle.call_links.specs.Seen.{SeenCall, NumberedCall, numbered_call, numbered_calls, StandsFor, AreCallsNumberedBy, texts_called, numbers_called}
 use Rattle.call_links.specs.Tallies.{Numbers, Texts, number_cmp, same_numbers, times, tally_of, tally_by_numbers, numbers_met, texts_for, services_by_numbers, texts_seen, calls_counted, services_met, tallies_seen, with_entry, inserted, entry_seen, link_of}
-use Rattle.call_links.proofs.Numbering.{same_told}
+use Rattle.call_links.proofs.Numbering.{same_by_number}
 
 -- ---- entries whose values are mapped
 pub insert_mapped : {K V W : Type 0} (cmp : K → K → Ordering) (p : V → W) (es : List (K × V)) (k : K) (v : V) → map {B = K × W} (λ e. (e.0, p e.1)) (insert_entry cmp es k v) ≡ insert_entry cmp (map {B = K × W} (λ e. (e.0, p e.1)) es) k (p v)
@@ -164,7 +164,7 @@ pub times_few : (cs : List Numbers) (c : Numbers) → times cs c ≤ length cs
 times_few cs c = count_by-le-length (same_numbers c) cs
 
 -- the texts with one more call
-pub services_push : (text : ℕ → List ℕ) (cs : List ToldCall) (c : ToldCall) → texts_for text (numbers_called c) ≡ texts_called c
+pub services_push : (text : ℕ → List ℕ) (cs : List NumberedCall) (c : NumberedCall) → texts_for text (numbers_called c) ≡ texts_called c
     → services_by_numbers text (cs ++ c ∷ []) ≡ insert_entry number_cmp (services_by_numbers text cs) (numbers_called c) (texts_called c)
 services_push text cs c e =
     ap (λ ns. map {B = Numbers × Texts} (λ k. (k, texts_for text k)) (sorted_set number_cmp ns)) (map_one cs)
@@ -172,7 +172,7 @@ services_push text cs c e =
     ∙ insert_mapped_pairs number_total number_exact (texts_for text) (numbers_called c) (numbers_met cs) (sorted_set-rises number_total (map numbers_called cs))
     ∙ ap (λ t. insert_entry number_cmp (services_by_numbers text cs) (numbers_called c) t) e
   where
-    map_one : (cs : List ToldCall) → map numbers_called (cs ++ c ∷ []) ≡ map numbers_called cs ++ numbers_called c ∷ []
+    map_one : (cs : List NumberedCall) → map numbers_called (cs ++ c ∷ []) ≡ map numbers_called cs ++ numbers_called c ∷ []
     map_one [] = refl
     map_one (x ∷ xs) = ap (λ l. numbers_called x ∷ l) (map_one xs)
 
@@ -225,28 +225,28 @@ module _ (text : ℕ → List ℕ) (number : List ℕ → ℕ) where
   abbrev Own : Numbers → Type 0
   Own k = (k.0 ≡ number (text k.0)) × (k.1 ≡ number (text k.1))
 
-  pub texts_are : (c : ToldCall) → StandsFor text number c.0 × StandsFor text number c.1 → texts_for text (numbers_called c) ≡ texts_called c
+  pub texts_are : (c : NumberedCall) → StandsFor text number c.0 × StandsFor text number c.1 → texts_for text (numbers_called c) ≡ texts_called c
   texts_are c p = λ i. (p.0.1 i, p.1.1 i)
 
   -- the call at an index
   abbrev Stand : SeenCall → Type 0
-  Stand c = StandsFor text number (call_told c).0 × StandsFor text number (call_told c).1
+  Stand c = StandsFor text number (numbered_call c).0 × StandsFor text number (numbered_call c).1
 
-  one_by_one : (cs : List SeenCall) → AreToldBy text number (calls_told cs) → AllByRecursion Stand cs
+  one_by_one : (cs : List SeenCall) → AreCallsNumberedBy text number (numbered_calls cs) → AllByRecursion Stand cs
   one_by_one [] a = tt
   one_by_one (x ∷ xs) a = (a.0, one_by_one xs a.1)
 
-  pub told_at : (cs : List SeenCall) (i : ℕ) (c : SeenCall) → i < length cs → c ≡ get_or cs i c → AreToldBy text number (calls_told cs) → StandsFor text number (call_told c).0 × StandsFor text number (call_told c).1
-  told_at cs i c l e a = subst Stand (sym e) (All-get_or Stand cs i c l (All-from_recursion Stand cs (one_by_one cs a)))
+  pub numbered_at : (cs : List SeenCall) (i : ℕ) (c : SeenCall) → i < length cs → c ≡ get_or cs i c → AreCallsNumberedBy text number (numbered_calls cs) → StandsFor text number (numbered_call c).0 × StandsFor text number (numbered_call c).1
+  numbered_at cs i c l e a = subst Stand (sym e) (All-get_or Stand cs i c l (All-from_recursion Stand cs (one_by_one cs a)))
 
-  all_texts_are : (cs : List ToldCall) → AreToldBy text number cs → map (texts_for text) (map numbers_called cs) ≡ map texts_called cs
+  all_texts_are : (cs : List NumberedCall) → AreCallsNumberedBy text number cs → map (texts_for text) (map numbers_called cs) ≡ map texts_called cs
   all_texts_are [] a = refl
   all_texts_are (c ∷ cs) a = λ i. texts_are c a.0 i ∷ all_texts_are cs a.1 i
 
-  own_call : (c : ToldCall) → StandsFor text number c.0 × StandsFor text number c.1 → Own (numbers_called c)
+  own_call : (c : NumberedCall) → StandsFor text number c.0 × StandsFor text number c.1 → Own (numbers_called c)
   own_call c p = (p.0.0 ∙ ap number (sym p.0.1), p.1.0 ∙ ap number (sym p.1.1))
 
-  all_own : (cs : List ToldCall) → AreToldBy text number cs → AllByRecursion Own (map numbers_called cs)
+  all_own : (cs : List NumberedCall) → AreCallsNumberedBy text number cs → AllByRecursion Own (map numbers_called cs)
   all_own [] a = tt
   all_own (c ∷ cs) a = (own_call c a.0, all_own cs a.1)
 
@@ -262,25 +262,25 @@ module _ (text : ℕ → List ℕ) (number : List ℕ → ℕ) where
   own_set [] base a b = b
   own_set (n ∷ ns) base a b = own_set ns (insert_once number_cmp base n) a.1 (own_insert base n b a.0)
 
-  same_there : (k : Numbers) (c : ToldCall) → Own k → StandsFor text number c.0 × StandsFor text number c.1 → same_numbers k (numbers_called c) ≡ same_call (texts_for text k) (texts_called c)
-  same_there k c o p = λ i. same_told text number (k.0, text k.0) c.0 (o.0, refl) p.0 i && same_told text number (k.1, text k.1) c.1 (o.1, refl) p.1 i
+  same_there : (k : Numbers) (c : NumberedCall) → Own k → StandsFor text number c.0 × StandsFor text number c.1 → same_numbers k (numbers_called c) ≡ same_call (texts_for text k) (texts_called c)
+  same_there k c o p = λ i. same_by_number text number (k.0, text k.0) c.0 (o.0, refl) p.0 i && same_by_number text number (k.1, text k.1) c.1 (o.1, refl) p.1 i
 
-  times_there : (k : Numbers) (cs : List ToldCall) → Own k → AreToldBy text number cs → times (map numbers_called cs) k ≡ count_by (same_call (texts_for text k)) (map texts_called cs)
+  times_there : (k : Numbers) (cs : List NumberedCall) → Own k → AreCallsNumberedBy text number cs → times (map numbers_called cs) k ≡ count_by (same_call (texts_for text k)) (map texts_called cs)
   times_there k [] o a = refl
   times_there k (c ∷ cs) o a =
       sum_by-cons (λ x. cond (same_numbers k x) 1 0) (numbers_called c) (map numbers_called cs)
       ∙ (λ i. cond (same_there k c o a.0 i) 1 0 + times_there k cs o a.1 i)
       ∙ sym (sum_by-cons (λ x. cond (same_call (texts_for text k) x) 1 0) (texts_called c) (map texts_called cs))
 
-  abbrev number_of : List ToldCall → Texts → ℕ
+  abbrev number_of : List NumberedCall → Texts → ℕ
   number_of cs k = count_by (same_call k) (map texts_called cs)
 
-  by_texts : (cs : List ToldCall) → AreToldBy text number cs → (ks : List Numbers) → AllByRecursion Own ks → map {B = Texts × ℕ} (λ k. (texts_for text k, times (map numbers_called cs) k)) ks ≡ with_number (number_of cs) (map (texts_for text) ks)
+  by_texts : (cs : List NumberedCall) → AreCallsNumberedBy text number cs → (ks : List Numbers) → AllByRecursion Own ks → map {B = Texts × ℕ} (λ k. (texts_for text k, times (map numbers_called cs) k)) ks ≡ with_number (number_of cs) (map (texts_for text) ks)
   by_texts cs a [] o = refl
   by_texts cs a (k ∷ ks) o = λ i. (texts_for text k, times_there k cs o.0 a i) ∷ by_texts cs a ks o.1 i
 
   -- the tally in order of texts
-  pub in_order : (cs : List ToldCall) (es : List (Numbers × Tally)) → AreToldBy text number cs → calls_counted es ≡ tally_by_numbers cs → services_met es ≡ services_by_numbers text cs
+  pub in_order : (cs : List NumberedCall) (es : List (Numbers × Tally)) → AreCallsNumberedBy text number cs → calls_counted es ≡ tally_by_numbers cs → services_met es ≡ services_by_numbers text cs
       → inserted (tallies_seen es) ≡ with_number (number_of cs) (sorted_set call_cmp (map texts_called cs))
   in_order cs es a counts services =
       ap inserted (joined (times (map numbers_called cs)) (texts_for text) es (numbers_met cs) counts services ∙ by_texts cs a (numbers_met cs) (own_set (map numbers_called cs) [] (all_own cs a) tt))
@@ -288,7 +288,7 @@ module _ (text : ℕ → List ℕ) (number : List ℕ → ℕ) where
       ∙ ap (with_number (number_of cs)) (texts_once (texts_for text) (map numbers_called cs) ∙ ap (sorted_set call_cmp) (all_texts_are cs a))
 
   -- a tally as links
-  pub linked : (es : List ((Bor Text × Bor Text) × ℕ)) (cs : List ToldCall) (ts : List (Numbers × Tally)) → AreToldBy text number cs → map entry_seen es ≡ inserted (tallies_seen ts) → calls_counted ts ≡ tally_by_numbers cs → services_met ts ≡ services_by_numbers text cs
+  pub linked : (es : List ((Bor Text × Bor Text) × ℕ)) (cs : List NumberedCall) (ts : List (Numbers × Tally)) → AreCallsNumberedBy text number cs → map entry_seen es ≡ inserted (tallies_seen ts) → calls_counted ts ≡ tally_by_numbers cs → services_met ts ≡ services_by_numbers text cs
       → map (λ e. link_of (entry_seen e)) es ≡ counted (map texts_called cs)
   linked es cs ts a order counts services = apart es ∙ ap (map link_of) (order ∙ in_order cs ts a counts services) ∙ done (sorted_set call_cmp (map texts_called cs))
     where

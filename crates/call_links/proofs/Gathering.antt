@@ -12,12 +12,12 @@ use Rattle.std.proofs.lemmas.List.Folds.{find-append}
 use Rattle.trace_model.specs.Linking.{has_id, in_window}
 use Rattle.call_links.specs.declared.calls.Service.{Service}
 use Rattle.call_links.specs.declared.numbered.NumberedSpan.{NumberedSpan}
-use Rattle.call_links.specs.Seen.{Told, told, service_in, span_of, service_of, SeenCall, ToldCall, call_told, calls_told, call_by, told_calls, told_within}
+use Rattle.call_links.specs.Seen.{NumberedService, numbered_service, service_in, span_of, service_of, SeenCall, NumberedCall, numbered_call, numbered_calls, call_by, calls_in_trace, calls_in_window}
 
 abbrev has_number : ℕ → NumberedSpan → Bool
 has_number q s = has_id (record { 0 = q }) (span_of s)
 
-abbrev own : ℕ → NumberedSpan → Option Told
+abbrev own : ℕ → NumberedSpan → Option NumberedService
 own q s = cond ((span_of s).span.id.0 == q) (Some (service_in s)) None
 
 map_or : (o : Option NumberedSpan) (b : Bool) (s : NumberedSpan) → option_map service_in (option_or o (cond b (Some s) None)) ≡ option_or (option_map service_in o) (cond b (Some (service_in s)) None)
@@ -35,35 +35,35 @@ or_none : {X : Type 0} (o : Option X) → option_or o None ≡ o
 or_none None = refl
 or_none (Some x) = refl
 
-absent : (o : Option Service) → is_some o ≡ false → option_map told o ≡ None
+absent : (o : Option Service) → is_some o ≡ false → option_map numbered_service o ≡ None
 absent None e = refl
 absent (Some t) e = absurd (false≢true (sym e))
 
-present : (o : Option Service) (p : Option Told) (r : Option Told) → is_some o ≡ true → option_map told o ≡ p → p ≡ option_or p r
+present : (o : Option Service) (p : Option NumberedService) (r : Option NumberedService) → is_some o ≡ true → option_map numbered_service o ≡ p → p ≡ option_or p r
 present None p r e h = absurd (false≢true e)
 present (Some t) p r e h = sym h ∙ ap (λ x. option_or x r) h
 
 -- the table with one more span, whose id it did not have
 pub entered : (q : ℕ) (g : ℕ → Option Service) (o : Option Service) (v : Service) (xs : List NumberedSpan) (i : ℕ) (x : NumberedSpan) → i < length xs → x ≡ get_or xs i x
-    → ((id : ℕ) → option_map told (g id) ≡ service_of id (take i xs)) → is_some (g (span_of x).span.id.0) ≡ false
-    → o ≡ cond (is_eq (nat_cmp (span_of x).span.id.0 q)) (Some v) (g q) → told v ≡ service_in x
-    → option_map told o ≡ service_of q (take (i + 1) xs)
+    → ((id : ℕ) → option_map numbered_service (g id) ≡ service_of id (take i xs)) → is_some (g (span_of x).span.id.0) ≡ false
+    → o ≡ cond (is_eq (nat_cmp (span_of x).span.id.0 q)) (Some v) (g q) → numbered_service v ≡ service_in x
+    → option_map numbered_service o ≡ service_of q (take (i + 1) xs)
 entered q g o v xs i x l e inv none put same =
     let id = (span_of x).span.id.0 in
-    ap (option_map told) put
-    ∙ elim (id == q) as (λ b. (id == q) ≡ b → option_map told (cond (is_eq (nat_cmp id q)) (Some v) (g q)) ≡ option_or (service_of q (take i xs)) (cond b (Some (service_in x)) None)) [
+    ap (option_map numbered_service) put
+    ∙ elim (id == q) as (λ b. (id == q) ≡ b → option_map numbered_service (cond (is_eq (nat_cmp id q)) (Some v) (g q)) ≡ option_or (service_of q (take i xs)) (cond b (Some (service_in x)) None)) [
       | true ↦ λ t.
-          ap (λ b. option_map told (cond b (Some v) (g q))) (sym (unsigned_ties id q) ∙ t) ∙ ap (λ s. Some s) same
+          ap (λ b. option_map numbered_service (cond b (Some v) (g q))) (sym (unsigned_ties id q) ∙ t) ∙ ap (λ s. Some s) same
           ∙ ap (λ s. option_or s (Some (service_in x))) (sym (sym (inv q) ∙ absent (g q) (ap (λ k. is_some (g k)) (sym (eqb-true id q t)) ∙ none)))
       | false ↦ λ t.
-          ap (λ b. option_map told (cond b (Some v) (g q))) (sym (unsigned_ties id q) ∙ t) ∙ inv q ∙ sym (or_none (service_of q (take i xs)))
+          ap (λ b. option_map numbered_service (cond b (Some v) (g q))) (sym (unsigned_ties id q) ∙ t) ∙ inv q ∙ sym (or_none (service_of q (take i xs)))
     ] refl
     ∙ sym (ap (service_of q) (one_more xs i x l e) ∙ service_push q (take i xs) x)
 
 -- and one whose id it has
 pub kept : (q : ℕ) (g : ℕ → Option Service) (xs : List NumberedSpan) (i : ℕ) (x : NumberedSpan) → i < length xs → x ≡ get_or xs i x
-    → ((id : ℕ) → option_map told (g id) ≡ service_of id (take i xs)) → is_some (g (span_of x).span.id.0) ≡ true
-    → option_map told (g q) ≡ service_of q (take (i + 1) xs)
+    → ((id : ℕ) → option_map numbered_service (g id) ≡ service_of id (take i xs)) → is_some (g (span_of x).span.id.0) ≡ true
+    → option_map numbered_service (g q) ≡ service_of q (take (i + 1) xs)
 kept q g xs i x l e inv some =
     let id = (span_of x).span.id.0 in
     inv q ∙ elim (id == q) as (λ b. (id == q) ≡ b → service_of q (take i xs) ≡ option_or (service_of q (take i xs)) (cond b (Some (service_in x)) None)) [
@@ -73,35 +73,35 @@ kept q g xs i x l e inv some =
     ∙ sym (ap (service_of q) (one_more xs i x l e) ∙ service_push q (take i xs) x)
 
 -- ---- calls by a table
-abbrev pub gathered : (ℕ → Option Told) → List NumberedSpan → List ToldCall
+abbrev pub gathered : (ℕ → Option NumberedService) → List NumberedSpan → List NumberedCall
 gathered t xs = filter_map (call_by t) xs
 
-gathered_step : (t : ℕ → Option Told) (xs : List NumberedSpan) (i : ℕ) (x : NumberedSpan) (r : Option ToldCall) → i < length xs → x ≡ get_or xs i x → r ≡ call_by t x → gathered t (take (i + 1) xs) ≡ gathered t (take i xs) ++ cons_option r []
+gathered_step : (t : ℕ → Option NumberedService) (xs : List NumberedSpan) (i : ℕ) (x : NumberedSpan) (r : Option NumberedCall) → i < length xs → x ≡ get_or xs i x → r ≡ call_by t x → gathered t (take (i + 1) xs) ≡ gathered t (take i xs) ++ cons_option r []
 gathered_step t xs i x r l e h =
     ap (filter_map (call_by t)) (one_more xs i x l e) ∙ filter_map-append (call_by t) (take i xs) (x ∷ [])
     ∙ ap (λ o. gathered t (take i xs) ++ cons_option o []) (sym h)
 
-pub called : (t : ℕ → Option Told) (all had has : List SeenCall) (call : SeenCall) (xs : List NumberedSpan) (i : ℕ) (x : NumberedSpan) → i < length xs → x ≡ get_or xs i x → Some (call_told call) ≡ call_by t x
-    → calls_told had ≡ calls_told all ++ gathered t (take i xs) → has ≡ had ++ call ∷ [] → calls_told has ≡ calls_told all ++ gathered t (take (i + 1) xs)
+pub called : (t : ℕ → Option NumberedService) (all had has : List SeenCall) (call : SeenCall) (xs : List NumberedSpan) (i : ℕ) (x : NumberedSpan) → i < length xs → x ≡ get_or xs i x → Some (numbered_call call) ≡ call_by t x
+    → numbered_calls had ≡ numbered_calls all ++ gathered t (take i xs) → has ≡ had ++ call ∷ [] → numbered_calls has ≡ numbered_calls all ++ gathered t (take (i + 1) xs)
 called t all had has call xs i x l e h inv put =
-    ap calls_told put ∙ map-append call_told had (call ∷ []) ∙ ap (λ l. l ++ call_told call ∷ []) inv
-    ∙ append_assoc (calls_told all) (gathered t (take i xs)) (call_told call ∷ []) ∙ ap (λ l. calls_told all ++ l) (sym (gathered_step t xs i x (Some (call_told call)) l e h))
+    ap numbered_calls put ∙ map-append numbered_call had (call ∷ []) ∙ ap (λ l. l ++ numbered_call call ∷ []) inv
+    ∙ append_assoc (numbered_calls all) (gathered t (take i xs)) (numbered_call call ∷ []) ∙ ap (λ l. numbered_calls all ++ l) (sym (gathered_step t xs i x (Some (numbered_call call)) l e h))
 
-pub uncalled : (t : ℕ → Option Told) (all had : List SeenCall) (xs : List NumberedSpan) (i : ℕ) (x : NumberedSpan) → i < length xs → x ≡ get_or xs i x → None ≡ call_by t x
-    → calls_told had ≡ calls_told all ++ gathered t (take i xs) → calls_told had ≡ calls_told all ++ gathered t (take (i + 1) xs)
-uncalled t all had xs i x l e h inv = inv ∙ ap (λ l. calls_told all ++ l) (sym (gathered_step t xs i x None l e h ∙ append-nil (gathered t (take i xs))))
+pub uncalled : (t : ℕ → Option NumberedService) (all had : List SeenCall) (xs : List NumberedSpan) (i : ℕ) (x : NumberedSpan) → i < length xs → x ≡ get_or xs i x → None ≡ call_by t x
+    → numbered_calls had ≡ numbered_calls all ++ gathered t (take i xs) → numbered_calls had ≡ numbered_calls all ++ gathered t (take (i + 1) xs)
+uncalled t all had xs i x l e h inv = inv ∙ ap (λ l. numbered_calls all ++ l) (sym (gathered_step t xs i x None l e h ∙ append-nil (gathered t (take i xs))))
 
 -- a table of the services of the first spans gives the calls of the trace
 same_filter_map : {X Y : Type 0} (f g : X → Option Y) → ((x : X) → f x ≡ g x) → (xs : List X) → filter_map f xs ≡ filter_map g xs
 same_filter_map f g h [] = refl
 same_filter_map f g h (x ∷ xs) = λ i. cons_option (h x i) (same_filter_map f g h xs i)
 
-same_call_by : (t u : ℕ → Option Told) → ((id : ℕ) → t id ≡ u id) → (x : NumberedSpan) → call_by t x ≡ call_by u x
+same_call_by : (t u : ℕ → Option NumberedService) → ((id : ℕ) → t id ≡ u id) → (x : NumberedSpan) → call_by t x ≡ call_by u x
 same_call_by t u h x = λ i. call_by (λ id. h id i) x
 
-pub gathered_calls : (t : ℕ → Option Told) (xs : List NumberedSpan) → ((id : ℕ) → t id ≡ service_of id xs) → gathered t xs ≡ told_calls xs
+pub gathered_calls : (t : ℕ → Option NumberedService) (xs : List NumberedSpan) → ((id : ℕ) → t id ≡ service_of id xs) → gathered t xs ≡ calls_in_trace xs
 gathered_calls t xs h = same_filter_map (call_by t) (call_by (λ id. service_of id xs)) (same_call_by t (λ id. service_of id xs) h) xs
 
 -- ---- the window
-pub within : (e l : ℤ) (xs : List NumberedSpan) (b : Bool) → b ≡ list_any (λ s. in_window e l (span_of s)) xs → told_within e l xs ≡ (if b then told_calls xs else [])
-within e l xs b h = ap (λ t. if t then told_calls xs else []) (sym h)
+pub within : (e l : ℤ) (xs : List NumberedSpan) (b : Bool) → b ≡ list_any (λ s. in_window e l (span_of s)) xs → calls_in_window e l xs ≡ (if b then calls_in_trace xs else [])
+within e l xs b h = ap (λ t. if t then calls_in_trace xs else []) (sym h)

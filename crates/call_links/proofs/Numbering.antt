@@ -12,7 +12,7 @@ use Rattle.jaeger_model.specs.Parents.{parent}
 use Rattle.jaeger_model.specs.Texts.{same_text}
 use Rattle.trace_model.specs.Linking.{has_id, parent_in, call_from, calls_of, calls_within, calls, in_window}
 use Rattle.call_links.specs.declared.numbered.NumberedSpan.{NumberedSpan}
-use Rattle.call_links.specs.Seen.{Told, ToldCall, service_in, span_of, service_of, call_between, call_by, told_calls, told_within, all_told, seen_all, seen_traces, texts_called, StandsFor, AreToldBy, AreNumberedBy}
+use Rattle.call_links.specs.Seen.{NumberedService, NumberedCall, service_in, span_of, service_of, call_between, call_by, calls_in_trace, calls_in_window, calls_in_traces, seen_all, seen_traces, texts_called, StandsFor, AreCallsNumberedBy, AreNumberedBy}
 
 pub same_is : (t u : List ℕ) → same_text t u ≡ true → t ≡ u
 same_is t u e = (bytes_decides t u).0 e
@@ -25,12 +25,12 @@ by_recursion P [] a = tt
 by_recursion P (x ∷ xs) a = (All-head P x xs a, by_recursion P xs (All-tail P x xs a))
 
 module _ (text : ℕ → List ℕ) (number : List ℕ → ℕ) where
-  abbrev Stands : Told → Type 0
+  abbrev Stands : NumberedService → Type 0
   Stands t = StandsFor text number t
 
   -- two services have one number where they have one text
-  pub same_told : (a b : Told) → Stands a → Stands b → (a.0 == b.0) ≡ same_text a.1 b.1
-  same_told a b p q = elim (a.0 == b.0) as (λ v. (a.0 == b.0) ≡ v → v ≡ same_text a.1 b.1) [
+  pub same_by_number : (a b : NumberedService) → Stands a → Stands b → (a.0 == b.0) ≡ same_text a.1 b.1
+  same_by_number a b p q = elim (a.0 == b.0) as (λ v. (a.0 == b.0) ≡ v → v ≡ same_text a.1 b.1) [
     | true ↦ λ e.
         let one : a.1 ≡ b.1 = sym p.1 ∙ ap text (eqb-true a.0 b.0 e) ∙ q.1 in
         sym (ap (same_text a.1) (sym one) ∙ itself a.1)
@@ -45,14 +45,14 @@ module _ (text : ℕ → List ℕ) (number : List ℕ → ℕ) where
   abbrev Named : NumberedSpan → Type 0
   Named s = Stands (service_in s)
 
-  abbrev StandsIfSome : Option Told → Type 0
+  abbrev StandsIfSome : Option NumberedService → Type 0
   StandsIfSome None = Unit {0}
   StandsIfSome (Some t) = Stands t
 
-  abbrev CallStands : ToldCall → Type 0
+  abbrev CallStands : NumberedCall → Type 0
   CallStands c = Stands c.0 × Stands c.1
 
-  abbrev CallStandsIfSome : Option ToldCall → Type 0
+  abbrev CallStandsIfSome : Option NumberedCall → Type 0
   CallStandsIfSome None = Unit {0}
   CallStandsIfSome (Some c) = CallStands c
 
@@ -60,7 +60,7 @@ module _ (text : ℕ → List ℕ) (number : List ℕ → ℕ) where
   found_stands p [] a = tt
   found_stands p (s ∷ ss) a = elim (p s) as (λ b. StandsIfSome (option_map service_in (cond b (Some s) (find p ss)))) [ true ↦ a.0 | false ↦ found_stands p ss a.1 ]
 
-  between_stands : (o : Option Told) (callee : Told) → StandsIfSome o → Stands callee → CallStandsIfSome (call_between o callee)
+  between_stands : (o : Option NumberedService) (callee : NumberedService) → StandsIfSome o → Stands callee → CallStandsIfSome (call_between o callee)
   between_stands None callee p q = tt
   between_stands (Some caller) callee p q = elim (caller.0 == callee.0) as (λ b. CallStandsIfSome (if b then None else Some (caller, callee))) [ true ↦ tt | false ↦ (p, q) ]
 
@@ -72,7 +72,7 @@ module _ (text : ℕ → List ℕ) (number : List ℕ → ℕ) where
         | false ↦ between_stands (service_of id t) (service_in s) (found_stands (λ x. has_id (record { 0 = id }) (span_of x)) t a) p
       ]
 
-  cons_stands : (o : Option ToldCall) (cs : List ToldCall) → CallStandsIfSome o → AllByRecursion CallStands cs → AllByRecursion CallStands (cons_option o cs)
+  cons_stands : (o : Option NumberedCall) (cs : List NumberedCall) → CallStandsIfSome o → AllByRecursion CallStands cs → AllByRecursion CallStands (cons_option o cs)
   cons_stands None cs p a = a
   cons_stands (Some c) cs p a = (p, a)
 
@@ -90,7 +90,7 @@ module _ (text : ℕ → List ℕ) (number : List ℕ → ℕ) where
   texts_between (Some x) s p q =
       let a = service_in x in
       let b = service_in s in
-      ap (λ v. option_map texts_called (if v then None else Some (a, b))) (same_told a b p q)
+      ap (λ v. option_map texts_called (if v then None else Some (a, b))) (same_by_number a b p q)
       ∙ elim (same_text a.1 b.1) as (λ v. option_map texts_called (if v then None else Some (a, b)) ≡ (if v then None else Some (a.1, b.1))) [ true ↦ refl | false ↦ refl ]
 
   texts_by : (t : List NumberedSpan) (s : NumberedSpan) → AllByRecursion Named t → Named s → option_map texts_called (call_by (λ id. service_of id t) s) ≡ call_from (span_of s) (parent_in (seen_all t) (span_of s))
@@ -103,7 +103,7 @@ module _ (text : ℕ → List ℕ) (number : List ℕ → ℕ) where
             ∙ ap (call_from (span_of s)) (sym (find_seen id t))
       ]
 
-  cons_texts : (o : Option ToldCall) (cs : List ToldCall) → map texts_called (cons_option o cs) ≡ cons_option (option_map texts_called o) (map texts_called cs)
+  cons_texts : (o : Option NumberedCall) (cs : List NumberedCall) → map texts_called (cons_option o cs) ≡ cons_option (option_map texts_called o) (map texts_called cs)
   cons_texts None cs = refl
   cons_texts (Some c) cs = refl
 
@@ -117,15 +117,15 @@ module _ (text : ℕ → List ℕ) (number : List ℕ → ℕ) where
   any_seen p [] = refl
   any_seen p (s ∷ ss) = ap (λ b. p (span_of s) || b) (any_seen p ss)
 
-  within_texts : (e l : ℤ) (t : List NumberedSpan) → AllByRecursion Named t → map texts_called (told_within e l t) ≡ calls_within e l (seen_all t)
+  within_texts : (e l : ℤ) (t : List NumberedSpan) → AllByRecursion Named t → map texts_called (calls_in_window e l t) ≡ calls_within e l (seen_all t)
   within_texts e l t a =
-      ap (λ b. map texts_called (if b then told_calls t else [])) (any_seen (in_window e l) t)
-      ∙ elim (list_any (in_window e l) (seen_all t)) as (λ b. map texts_called (if b then told_calls t else []) ≡ (if b then calls_of (seen_all t) else [])) [ true ↦ gathered_texts t t a a | false ↦ refl ]
+      ap (λ b. map texts_called (if b then calls_in_trace t else [])) (any_seen (in_window e l) t)
+      ∙ elim (list_any (in_window e l) (seen_all t)) as (λ b. map texts_called (if b then calls_in_trace t else []) ≡ (if b then calls_of (seen_all t) else [])) [ true ↦ gathered_texts t t a a | false ↦ refl ]
 
-  within_stand : (e l : ℤ) (t : List NumberedSpan) → AllByRecursion Named t → AllByRecursion CallStands (told_within e l t)
-  within_stand e l t a = elim (list_any (λ s. in_window e l (span_of s)) t) as (λ b. AllByRecursion CallStands (if b then told_calls t else [])) [ true ↦ gathered_stand t t a a | false ↦ tt ]
+  within_stand : (e l : ℤ) (t : List NumberedSpan) → AllByRecursion Named t → AllByRecursion CallStands (calls_in_window e l t)
+  within_stand e l t a = elim (list_any (λ s. in_window e l (span_of s)) t) as (λ b. AllByRecursion CallStands (if b then calls_in_trace t else [])) [ true ↦ gathered_stand t t a a | false ↦ tt ]
 
-  both_stand : (cs ds : List ToldCall) → AllByRecursion CallStands cs → AllByRecursion CallStands ds → AllByRecursion CallStands (cs ++ ds)
+  both_stand : (cs ds : List NumberedCall) → AllByRecursion CallStands cs → AllByRecursion CallStands ds → AllByRecursion CallStands (cs ++ ds)
   both_stand [] ds p q = q
   both_stand (c ∷ cs) ds p q = (p.0, both_stand cs ds p.1 q)
 
@@ -135,19 +135,19 @@ module _ (text : ℕ → List ℕ) (number : List ℕ → ℕ) where
   abbrev NamedAll : Vec NumberedSpan Global → Type 0
   NamedAll t = All Named t.items
 
-  all_texts : (e l : ℤ) (ts : List (Vec NumberedSpan Global)) → AllByRecursion NamedAll ts → map texts_called (all_told e l (map items_of ts)) ≡ calls e l (seen_traces ts)
+  all_texts : (e l : ℤ) (ts : List (Vec NumberedSpan Global)) → AllByRecursion NamedAll ts → map texts_called (calls_in_traces e l (map items_of ts)) ≡ calls e l (seen_traces ts)
   all_texts e l [] a = refl
   all_texts e l (t ∷ ts) a =
-      map-append texts_called (told_within e l t.items) (all_told e l (map items_of ts))
+      map-append texts_called (calls_in_window e l t.items) (calls_in_traces e l (map items_of ts))
       ∙ (λ i. within_texts e l t.items (by_recursion Named t.items a.0) i ++ all_texts e l ts a.1 i)
 
-  all_stand : (e l : ℤ) (ts : List (Vec NumberedSpan Global)) → AllByRecursion NamedAll ts → AllByRecursion CallStands (all_told e l (map items_of ts))
+  all_stand : (e l : ℤ) (ts : List (Vec NumberedSpan Global)) → AllByRecursion NamedAll ts → AllByRecursion CallStands (calls_in_traces e l (map items_of ts))
   all_stand e l [] a = tt
-  all_stand e l (t ∷ ts) a = both_stand (told_within e l t.items) (all_told e l (map items_of ts)) (within_stand e l t.items (by_recursion Named t.items a.0)) (all_stand e l ts a.1)
+  all_stand e l (t ∷ ts) a = both_stand (calls_in_window e l t.items) (calls_in_traces e l (map items_of ts)) (within_stand e l t.items (by_recursion Named t.items a.0)) (all_stand e l ts a.1)
 
   -- the calls of all traces
-  pub calls_stand : (e l : ℤ) (ts : List (Vec NumberedSpan Global)) → AreNumberedBy text number ts → AreToldBy text number (all_told e l (map (λ (t : Vec NumberedSpan Global). t.items) ts))
+  pub calls_stand : (e l : ℤ) (ts : List (Vec NumberedSpan Global)) → AreNumberedBy text number ts → AreCallsNumberedBy text number (calls_in_traces e l (map (λ (t : Vec NumberedSpan Global). t.items) ts))
   calls_stand e l ts a = all_stand e l ts (by_recursion NamedAll ts a)
 
-  pub calls_by_texts : (e l : ℤ) (ts : List (Vec NumberedSpan Global)) → AreNumberedBy text number ts → map texts_called (all_told e l (map (λ (t : Vec NumberedSpan Global). t.items) ts)) ≡ calls e l (seen_traces ts)
+  pub calls_by_texts : (e l : ℤ) (ts : List (Vec NumberedSpan Global)) → AreNumberedBy text number ts → map texts_called (calls_in_traces e l (map (λ (t : Vec NumberedSpan Global). t.items) ts)) ≡ calls e l (seen_traces ts)
   calls_by_texts e l ts a = all_texts e l ts (by_recursion NamedAll ts a)

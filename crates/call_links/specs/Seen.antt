@@ -10,13 +10,13 @@ use Rattle.call_links.specs.declared.calls.Service.{Service}
 use Rattle.call_links.specs.declared.numbered.NumberedSpan.{NumberedSpan}
 
 -- a service: its number and its text
-abbrev pub Told : Type 0
-Told = ℕ × List ℕ
+abbrev pub NumberedService : Type 0
+NumberedService = ℕ × List ℕ
 
-abbrev pub told : Service → Told
-told s = (s.number, s.text.now)
+abbrev pub numbered_service : Service → NumberedService
+numbered_service s = (s.number, s.text.now)
 
-abbrev pub service_in : NumberedSpan → Told
+abbrev pub service_in : NumberedSpan → NumberedService
 service_in s = (s.service, s.seen.process.now.service)
 
 -- the span is the one that is looked at
@@ -24,39 +24,39 @@ abbrev pub span_of : NumberedSpan → Placed
 span_of s = seen s.seen
 
 -- the service of the first span with the id
-abbrev pub service_of : ℕ → List NumberedSpan → Option Told
+abbrev pub service_of : ℕ → List NumberedSpan → Option NumberedService
 service_of id ss = option_map service_in (find (λ s. has_id (record { 0 = id }) (span_of s)) ss)
 
 abbrev pub SeenCall : Type 0
 SeenCall = Service × Service
 
-abbrev pub ToldCall : Type 0
-ToldCall = Told × Told
+abbrev pub NumberedCall : Type 0
+NumberedCall = NumberedService × NumberedService
 
-abbrev pub call_told : SeenCall → ToldCall
-call_told c = (told c.0, told c.1)
+abbrev pub numbered_call : SeenCall → NumberedCall
+numbered_call c = (numbered_service c.0, numbered_service c.1)
 
-abbrev pub calls_told : List SeenCall → List ToldCall
-calls_told cs = map call_told cs
+abbrev pub numbered_calls : List SeenCall → List NumberedCall
+numbered_calls cs = map numbered_call cs
 
 -- services with one number do not call one another
-abbrev pub call_between : Option Told → Told → Option ToldCall
+abbrev pub call_between : Option NumberedService → NumberedService → Option NumberedCall
 call_between None callee = None
 call_between (Some caller) callee = if caller.0 == callee.0 then None else Some (caller, callee)
 
 -- the call that a span stands for, where a table has the services of the spans by their ids
-abbrev pub call_by : (ℕ → Option Told) → NumberedSpan → Option ToldCall
+abbrev pub call_by : (ℕ → Option NumberedService) → NumberedSpan → Option NumberedCall
 call_by service s = if (parent (span_of s).span).0 == 0 then None else call_between (service (parent (span_of s).span).0) (service_in s)
 
 -- ---- the calls of a trace, of one with a span in the window, and of all such traces
-abbrev pub told_calls : List NumberedSpan → List ToldCall
-told_calls ss = filter_map (call_by (λ id. service_of id ss)) ss
+abbrev pub calls_in_trace : List NumberedSpan → List NumberedCall
+calls_in_trace ss = filter_map (call_by (λ id. service_of id ss)) ss
 
-abbrev pub told_within : ℤ → ℤ → List NumberedSpan → List ToldCall
-told_within end_ms lookback_ms ss = if list_any (λ s. in_window end_ms lookback_ms (span_of s)) ss then told_calls ss else []
+abbrev pub calls_in_window : ℤ → ℤ → List NumberedSpan → List NumberedCall
+calls_in_window end_ms lookback_ms ss = if list_any (λ s. in_window end_ms lookback_ms (span_of s)) ss then calls_in_trace ss else []
 
-abbrev pub all_told : ℤ → ℤ → List (List NumberedSpan) → List ToldCall
-all_told end_ms lookback_ms ts = flat_map (told_within end_ms lookback_ms) ts
+abbrev pub calls_in_traces : ℤ → ℤ → List (List NumberedSpan) → List NumberedCall
+calls_in_traces end_ms lookback_ms ts = flat_map (calls_in_window end_ms lookback_ms) ts
 
 -- ---- what is looked at
 abbrev pub seen_all : List NumberedSpan → List Placed
@@ -66,19 +66,19 @@ abbrev pub seen_traces : List (Vec NumberedSpan Global) → List (List Placed)
 seen_traces ts = map (λ (t : Vec NumberedSpan Global). seen_all t.items) ts
 
 -- ---- the texts and the numbers of a call
-abbrev pub texts_called : ToldCall → List ℕ × List ℕ
+abbrev pub texts_called : NumberedCall → List ℕ × List ℕ
 texts_called c = (c.0.1, c.1.1)
 
-abbrev pub numbers_called : ToldCall → ℕ × ℕ
+abbrev pub numbers_called : NumberedCall → ℕ × ℕ
 numbers_called c = (c.0.0, c.1.0)
 
 -- ---- numbers that stand for services
 -- the number is its text's, and the text its number's
-abbrev pub StandsFor : (ℕ → List ℕ) → (List ℕ → ℕ) → Told → Type 0
+abbrev pub StandsFor : (ℕ → List ℕ) → (List ℕ → ℕ) → NumberedService → Type 0
 StandsFor text number t = (t.0 ≡ number t.1) × (text t.0 ≡ t.1)
 
-abbrev pub AreToldBy : (ℕ → List ℕ) → (List ℕ → ℕ) → List ToldCall → Type 0
-AreToldBy text number cs = AllByRecursion (λ (c : ToldCall). StandsFor text number c.0 × StandsFor text number c.1) cs
+abbrev pub AreCallsNumberedBy : (ℕ → List ℕ) → (List ℕ → ℕ) → List NumberedCall → Type 0
+AreCallsNumberedBy text number cs = AllByRecursion (λ (c : NumberedCall). StandsFor text number c.0 × StandsFor text number c.1) cs
 
 abbrev pub AreNumberedBy : (ℕ → List ℕ) → (List ℕ → ℕ) → List (Vec NumberedSpan Global) → Type 0
 AreNumberedBy text number ts = All (λ (t : Vec NumberedSpan Global). All (λ s. StandsFor text number (service_in s)) t.items) ts

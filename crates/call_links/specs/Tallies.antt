@@ -9,7 +9,7 @@ use Rattle.jaeger_model.specs.Texts.{sorted_set}
 use Rattle.trace_model.specs.declared.answer.Link.{Link}
 use Rattle.trace_model.specs.Linking.{call_cmp}
 use Rattle.call_links.specs.declared.counts.Tally.{Tally}
-use Rattle.call_links.specs.Seen.{ToldCall, numbers_called}
+use Rattle.call_links.specs.Seen.{NumberedCall, numbers_called}
 
 -- ---- by the numbers of services
 abbrev pub Numbers : Type 0
@@ -22,7 +22,7 @@ abbrev pub same_numbers : Numbers → Numbers → Bool
 same_numbers a b = (a.0 == b.0) && (a.1 == b.1)
 
 -- each pair of numbers with a call, in order
-abbrev pub numbers_met : List ToldCall → List Numbers
+abbrev pub numbers_met : List NumberedCall → List Numbers
 numbers_met cs = sorted_set number_cmp (map numbers_called cs)
 
 -- how many of the pairs are this one
@@ -32,7 +32,7 @@ times ns k = count_by (same_numbers k) ns
 abbrev pub tally_of : List Numbers → List (Numbers × ℕ)
 tally_of ns = map (λ k. (k, times ns k)) (sorted_set number_cmp ns)
 
-abbrev pub tally_by_numbers : List ToldCall → List (Numbers × ℕ)
+abbrev pub tally_by_numbers : List NumberedCall → List (Numbers × ℕ)
 tally_by_numbers cs = tally_of (map numbers_called cs)
 
 -- the texts that the numbers stand for
@@ -42,7 +42,7 @@ Texts = List ℕ × List ℕ
 abbrev pub texts_for : (ℕ → List ℕ) → Numbers → Texts
 texts_for text k = (text k.0, text k.1)
 
-abbrev pub services_by_numbers : (ℕ → List ℕ) → List ToldCall → List (Numbers × Texts)
+abbrev pub services_by_numbers : (ℕ → List ℕ) → List NumberedCall → List (Numbers × Texts)
 services_by_numbers text cs = map (λ k. (k, texts_for text k)) (numbers_met cs)
 
 -- ---- what is kept

@@ -6,8 +6,8 @@ ghost use Rattle.std.specs.Ordering.{nat_cmp};
 ghost use Rattle.std.specs.BTreeMap.{get};
 ghost use Rattle.trace_model.specs.Linking.{in_window};
 ghost use Rattle.trace_model.specs.Seeing.{seen};
-ghost use Rattle.call_links.specs.Seen.{told, call_told, calls_told, service_of, service_in, call_by};
-ghost use Rattle.call_links.specs.Seen.{told_calls, told_within, all_told};
+ghost use Rattle.call_links.specs.Seen.{numbered_service, numbered_call, numbered_calls, service_of, service_in, call_by};
+ghost use Rattle.call_links.specs.Seen.{calls_in_trace, calls_in_window, calls_in_traces};
 
 use crate::numbered::NumberedSpan;
 use jaeger_model::{Text, parent_of};
@@ -27,7 +27,7 @@ pub(crate) type Call<'a> = (Service<'a>, Service<'a>);
 
 /// The service of a span.
 fn service_in(span: NumberedSpan<'_>) -> Service<'_>
-    ensures { told result ≡ service_in span.entry }
+    ensures { numbered_service result ≡ service_in span.entry }
 {
     Service {
         number: span.service,
@@ -41,7 +41,7 @@ fn first_services<'a>(
     trace: &[NumberedSpan<'a>],
 ) -> Result<BTreeMap<u64, Service<'a>>, AllocError>
     ensures { IfOk result (λ m. (id : ℕ) →
-        option_map told (get nat_cmp m id) ≡ service_of id trace.now) }
+        option_map numbered_service (get nat_cmp m id) ≡ service_of id trace.now) }
 {
     let mut services = BTreeMap::new(alloc);
     for span in trace {
@@ -56,8 +56,8 @@ fn first_services<'a>(
 /// The call that a span stands for, where its parent is in the table and of another service. No text
 /// is looked at.
 fn call_to<'a>(services: &BTreeMap<u64, Service<'a>>, span: NumberedSpan<'a>) -> Option<Call<'a>>
-    ensures { option_map call_told result ≡
-        call_by (λ id. option_map told (get nat_cmp services.now id)) span.entry }
+    ensures { option_map numbered_call result ≡
+        call_by (λ id. option_map numbered_service (get nat_cmp services.now id)) span.entry }
 {
     let parent = parent_of(span.seen.span);
     if parent.0 == 0 {
@@ -76,8 +76,8 @@ fn add_calls<'a>(
     calls: &mut Vec<Call<'a>>,
     trace: &[NumberedSpan<'a>],
 ) -> Result<(), AllocError>
-    ensures { OnOk result (calls_told calls.new.items ≡
-        calls_told calls.old.items ++ told_calls trace.now) }
+    ensures { OnOk result (numbered_calls calls.new.items ≡
+        numbered_calls calls.old.items ++ calls_in_trace trace.now) }
 {
     let services = first_services(alloc, trace)?;
     for span in trace {
@@ -109,8 +109,8 @@ fn add_calls_within<'a>(
     end_ms: i64,
     lookback_ms: i64,
 ) -> Result<(), AllocError>
-    ensures { OnOk result (calls_told calls.new.items ≡
-        calls_told calls.old.items ++ told_within end_ms lookback_ms trace.now) }
+    ensures { OnOk result (numbered_calls calls.new.items ≡
+        numbered_calls calls.old.items ++ calls_in_window end_ms lookback_ms trace.now) }
 {
     if reaches_window(trace, end_ms, lookback_ms) {
         add_calls(alloc, calls, trace)?;
@@ -125,8 +125,8 @@ pub(crate) fn all_calls<'a>(
     end_ms: i64,
     lookback_ms: i64,
 ) -> Result<Vec<Call<'a>>, AllocError>
-    ensures { IfOk result (λ v. calls_told v.items ≡
-        all_told end_ms lookback_ms (map (λ t. t.items) traces.now)) }
+    ensures { IfOk result (λ v. numbered_calls v.items ≡
+        calls_in_traces end_ms lookback_ms (map (λ t. t.items) traces.now)) }
 {
     let mut calls = Vec::new(alloc);
     for trace in traces {

@@ -3,7 +3,7 @@
 ghost use Rattle.std.specs.Prelude.{◌≡◌, ℕ, List, IfOk, map, option_map, unwrap_or};
 ghost use Rattle.std.specs.BTreeMap.{get};
 ghost use Rattle.trace_model.specs.Linking.{counted};
-ghost use Rattle.call_links.specs.Seen.{call_told, calls_told, texts_called, numbers_called, AreToldBy};
+ghost use Rattle.call_links.specs.Seen.{numbered_call, numbered_calls, texts_called, numbers_called, AreCallsNumberedBy};
 ghost use Rattle.call_links.specs.Tallies.{number_cmp, calls_counted, services_met, tally_by_numbers, services_by_numbers};
 ghost use Rattle.call_links.specs.Tallies.{texts_seen, tallies_seen, entry_seen, inserted};
 
@@ -24,14 +24,14 @@ pub(crate) struct Tally<'a> {
 }
 
 fn numbers_of(call: Call<'_>) -> (u32, u32)
-    ensures { result ≡ numbers_called (call_told call.entry) }
+    ensures { result ≡ numbers_called (numbered_call call.entry) }
 {
     let (caller, callee) = call;
     (caller.number, callee.number)
 }
 
 fn texts_of(call: Call<'_>) -> CallTexts<'_>
-    ensures { texts_seen result ≡ texts_called (call_told call.entry) }
+    ensures { texts_seen result ≡ texts_called (numbered_call call.entry) }
 {
     let (caller, callee) = call;
     (caller.text, callee.text)
@@ -54,11 +54,11 @@ fn tallied<'a>(
     calls: &[Call<'a>],
 ) -> Result<BTreeMap<(u32, u32), Tally<'a>>, AllocError>
     ensures calls { IfOk result (λ m.
-        calls_counted m.entries ≡ tally_by_numbers (calls_told calls.now)) }
+        calls_counted m.entries ≡ tally_by_numbers (numbered_calls calls.now)) }
     ensures services { (text : ℕ → List ℕ) (number : List ℕ → ℕ) →
-        AreToldBy text number (calls_told calls.now) →
+        AreCallsNumberedBy text number (numbered_calls calls.now) →
         IfOk result (λ m.
-        services_met m.entries ≡ services_by_numbers text (calls_told calls.now)) }
+        services_met m.entries ≡ services_by_numbers text (numbered_calls calls.now)) }
 {
     let mut tallies = BTreeMap::new(alloc);
     for call in calls {
@@ -89,8 +89,8 @@ fn in_order<'a>(
 /// Each pair of services with its number of calls, in order.
 pub(crate) fn counted(alloc: Global, calls: &[Call<'_>]) -> Result<Vec<Link>, AllocError>
     ensures { (text : ℕ → List ℕ) (number : List ℕ → ℕ) →
-        AreToldBy text number (calls_told calls.now) →
-        IfOk result (λ v. v.items ≡ counted (map texts_called (calls_told calls.now))) }
+        AreCallsNumberedBy text number (numbered_calls calls.now) →
+        IfOk result (λ v. v.items ≡ counted (map texts_called (numbered_calls calls.now))) }
 {
     let tallies = tallied(alloc, calls)?;
     let numbers = in_order(alloc, tallies)?;
