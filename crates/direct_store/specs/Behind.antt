@@ -1,3 +1,4 @@
+-- Lemmas of the laws in ExactlyLaws, which stand in specs/ for the same reason.
 -- What is held behind a batch that was handed in.
 use Rattle.std.proofs.Common.{◌≡◌, ℕ, zero, suc, [], ◌∷◌, ◌++◌, take, drop, Some, Ok, refl, sym, ap, ◌∙◌, subst, append-nil, arith}
 use Rattle.std.proofs.Math.Seq.{split_at}

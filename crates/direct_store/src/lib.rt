@@ -59,7 +59,8 @@ impl Direct {
 }
 
 impl<T> Backend<T> for Direct {
-    ghost use Rattle.direct_store.specs.Exactly.{DirectKnows, DirectSubmits, DirectReads, submit_knows, read_knows};
+    ghost use Rattle.direct_store.specs.Exactly.{DirectKnows, DirectSubmits, DirectReads};
+    ghost use Rattle.direct_store.specs.ExactlyLaws.{submit_knows, read_knows};
 
     ghost limits = { λ s. s.limits };
 

@@ -1,6 +1,7 @@
 pub mod Verdicts
 pub mod Questions
 pub mod Fed
+pub mod FedLaws
 pub mod Hearing
 pub mod Replies
 pub mod Sessions

@@ -36,7 +36,8 @@ pub(crate) enum Heard {
 struct PassedOver;
 
 impl Sink for PassedOver {
-    ghost use Rattle.http_session.specs.Fed.{Passes, passes_nothing, passes_joined};
+    ghost use Rattle.http_session.specs.Fed.{Passes};
+    ghost use Rattle.http_session.specs.FedLaws.{passes_nothing, passes_joined};
 
     ghost takes = { Passes };
 
@@ -79,7 +80,8 @@ impl BatchBody {
 
 impl Sink for BatchBody {
     ghost use Rattle.batch_feeder.specs.Answers.{answers};
-    ghost use Rattle.http_session.specs.Fed.{Follows, follows_nothing, follows_joined};
+    ghost use Rattle.http_session.specs.Fed.{Follows};
+    ghost use Rattle.http_session.specs.FedLaws.{follows_nothing, follows_joined};
 
     ghost takes = { λ s w t. Follows (answers s.feeder) w (answers t.feeder) };
 

@@ -1,6 +1,7 @@
 ghost use Rattle.std.specs.Prelude.{◌≡◌};
 ghost use Rattle.std.specs.Cmp.{decided, partial_equiv_from_equiv};
-ghost use Rattle.jaeger_model.specs.Same.{same_value, same_value-decides};
+ghost use Rattle.jaeger_model.specs.Same.{same_value};
+ghost use Rattle.jaeger_model.specs.SameLaws.{same_value-decides};
 ghost use Rattle.jaeger_model.specs.Held.{value_held, value_shown};
 
 use crate::seq::Seq;

@@ -100,7 +100,7 @@ impl<N: StoreName> Live<N> {
 
 impl<N: StoreName, R: Wait> Backend<R> for Live<N> {
     ghost use Rattle.live_store.specs.Sharing.{LiveKnows, LiveSubmits, LiveReads};
-    ghost use Rattle.live_store.specs.Sharing.{submit_knows, read_knows};
+    ghost use Rattle.live_store.specs.SharingLaws.{submit_knows, read_knows};
 
     ghost limits = { λ s. N.limits };
 

@@ -11,7 +11,8 @@ use Rattle.std.proofs.lemmas.Option.{slice_get-get_or}
 use Rattle.sent_batches.specs.declared.keys.BatchKeys.{BatchKeys}
 use Rattle.jaeger_model.specs.declared.batch.Batch.{Batch}
 use Rattle.jaeger_model.specs.declared.batch.Process.{Process}
-use Rattle.jaeger_model.specs.Same.{same_number, same_number-decides, same_process, same_process-decides}
+use Rattle.jaeger_model.specs.Same.{same_number, same_process}
+use Rattle.jaeger_model.specs.SameLaws.{same_number-decides, same_process-decides}
 use Rattle.trace_model.specs.declared.entry.Entry.{Entry}
 use Rattle.trace_model.specs.declared.entry.Work.{Work}
 use Rattle.trace_model.specs.declared.entry.Work.TheVariants as brings

@@ -9,7 +9,8 @@ use Rattle.std.proofs.lemmas.List.Folds.{list_any-append, list_any_at}
 use Rattle.std.proofs.lemmas.List.Quantifiers.{position-Some}
 use Rattle.std.proofs.lemmas.List.Sums.{fold-append}
 use Rattle.jaeger_model.specs.declared.batch.Batch.{Batch}
-use Rattle.jaeger_model.specs.Same.{same_number, same_number-decides, same_process, same_process-decides}
+use Rattle.jaeger_model.specs.Same.{same_number, same_process}
+use Rattle.jaeger_model.specs.SameLaws.{same_number-decides, same_process-decides}
 use Rattle.trace_model.specs.declared.admission.Admission.{Admission}
 use Rattle.trace_model.specs.declared.admission.Admission.TheVariants.{Added, Resent}
 use Rattle.trace_model.specs.declared.entry.Entry.{Entry}
@@ -21,7 +22,8 @@ use Rattle.trace_model.specs.declared.refusal.Refusal.TheVariants.{Conflict}
 use Rattle.trace_model.specs.Histories.{IsLegal}
 use Rattle.trace_model.specs.Resending.{is_sent_as, resends, is_sent, SentOnceAfter, AnswersFor}
 use Rattle.trace_model.specs.Refusals.{admission, admitted_anew}
-use Rattle.trace_model.specs.Works.{same_work, same_work-decides}
+use Rattle.trace_model.specs.WorkLaws.{same_work-decides}
+use Rattle.trace_model.specs.Works.{same_work}
 use Rattle.trace_model.specs.Refusals.{with_admitted}
 use Rattle.trace_model.specs.Places.{entry_at}
 use Rattle.trace_model.proofs.Admissions.{none_passes, IsAnswered, IsSaid, admission_says, admission_repeated, admission_anew, sent_nowhere}

@@ -1,6 +1,7 @@
 pub mod Limits
 pub mod Events
 pub mod Works
+pub mod WorkLaws
 pub mod Resending
 pub mod Rings
 pub mod Histories

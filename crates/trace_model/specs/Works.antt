@@ -1,13 +1,10 @@
 -- What an entry brings to a store.
-use Rattle.std.specs.Prelude.{◌≡◌, ◌==◌, Bool, false, List, [], ◌∷◌, map, Option, Some, None}
-use Rattle.std.specs.Bool.{Decides}
-use Rattle.std.proofs.Common.{ap}
-use Rattle.std.proofs.lemmas.Bool.Decides.{Decides-eqb, Decides-like}
+use Rattle.std.specs.Prelude.{◌==◌, Bool, false, List, [], ◌∷◌, map, Option, Some, None}
 use Rattle.jaeger_model.specs.declared.batch.Batch.{Batch}
 use Rattle.jaeger_model.specs.declared.span.Span.{Span}
 use Rattle.jaeger_model.specs.declared.placed.Placed.{Placed}
 use Rattle.jaeger_model.specs.Parents.{domain}
-use Rattle.jaeger_model.specs.Same.{same_batch, same_batch-decides}
+use Rattle.jaeger_model.specs.Same.{same_batch}
 use Rattle.trace_model.specs.declared.entry.Work.{Work}
 use Rattle.trace_model.specs.declared.entry.Work.TheVariants as brings
 use Rattle.trace_model.specs.Events.{Event, came, limited}
@@ -35,9 +32,3 @@ abbrev pub same_work : Work → Work → Bool
 same_work (brings.Batch a) (brings.Batch b) = same_batch a b
 same_work (brings.TraceLimit m) (brings.TraceLimit n) = m == n
 same_work a b = false
-
-pub same_work-decides : (a b : Work) → Decides (same_work a b) (a ≡ b)
-same_work-decides (brings.Batch a) (brings.Batch b) = Decides-like (same_batch a b) (λ e. ap (λ x. brings.Batch x) e) (λ e. cc) (same_batch-decides a b)
-same_work-decides (brings.TraceLimit m) (brings.TraceLimit n) = Decides-like (m == n) (λ e. ap (λ x. brings.TraceLimit x) e) (λ e. cc) (Decides-eqb m n)
-same_work-decides (brings.Batch a) (brings.TraceLimit n) = (λ e. absurd cc, λ e. absurd cc)
-same_work-decides (brings.TraceLimit m) (brings.Batch b) = (λ e. absurd cc, λ e. absurd cc)

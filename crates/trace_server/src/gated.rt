@@ -87,7 +87,7 @@ impl<'a, 'k, N: StoreName, D: DeskName, G, R> Gated<'a, 'k, N, D, G, R> {
 impl<'a, 'k, N: StoreName, D: DeskName, G: Gate, R: Wait + Eprint> Backend<R>
     for Gated<'a, 'k, N, D, G, R> {
     ghost use Rattle.live_store.specs.Sharing.{LiveKnows, LiveSubmits, LiveReads};
-    ghost use Rattle.live_store.specs.Sharing.{submit_knows, read_knows};
+    ghost use Rattle.live_store.specs.SharingLaws.{submit_knows, read_knows};
 
     ghost limits = { λ s. N.limits };
 

@@ -1,0 +1,23 @@
+-- Laws that the impls of this crate name, and their lemmas. A clause can name nothing of its own crate's proofs/, so they stand in specs/.
+-- What a body is put into is as it was after no bytes, and takes two pieces as it takes the bytes of both.
+use Rattle.std.specs.Prelude.{ℕ, List, [], ◌++◌, Result, refl}
+use Rattle.std.proofs.Common.{append_assoc, sym, ◌∙◌, ap, inl, inr}
+use Rattle.jaeger_model.specs.declared.batch.Batch.{Batch}
+use Rattle.batch_codec.specs.declared.fault.DecodeError.{DecodeError}
+use Rattle.http_session.specs.declared.hearing.PassedOver.{PassedOver}
+use Rattle.http_session.specs.Fed.{Passes, Follows}
+
+pub passes_nothing : (s : PassedOver) → Passes s [] s
+passes_nothing s = tt
+
+pub passes_joined : (s t u : PassedOver) (front back : List ℕ) → Passes s front t → Passes t back u → Passes s (front ++ back) u
+passes_joined s t u front back one two = tt
+
+pub follows_nothing : (f : List ℕ → Result Batch DecodeError) → Follows f [] f
+follows_nothing f = inl (λ rest. refl)
+
+pub follows_joined : (f g h : List ℕ → Result Batch DecodeError) (front back : List ℕ) → Follows f front g → Follows g back h → Follows f (front ++ back) h
+follows_joined f g h front back (inr none) (inr again) = inr (again.0, none.1)
+follows_joined f g h front back (inl one) (inr none) = inr (none.0, λ before refused. none.1 before (record { all = λ rest. sym (one rest) ∙ refused.all (front ++ rest); no_want = refused.no_want }))
+follows_joined f g h front back (inl one) (inl two) = inl (λ rest. ap f (append_assoc front back rest) ∙ one (back ++ rest) ∙ two rest)
+follows_joined f g h front back (inr none) (inl two) = inr (record { all = λ rest. sym (two rest) ∙ none.0.all (back ++ rest); no_want = none.0.no_want }, none.1)
