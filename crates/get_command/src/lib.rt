@@ -8,9 +8,9 @@
 //! * `trace_lines`: the lines of a trace's spans.
 #![tactic(auto)]
 
-ghost use Rattle.std.specs.Prelude.{◌≡◌, false, IfErr, IfOk};
-ghost use Rattle.text_lines.specs.RunErrors.{Finishes, RunsAs, StopsShort, status_by};
-ghost use Rattle.get_command.specs.Runs.{nothing_held, output_of, status_by as status_at, status_of as status_for};
+ghost use Rattle.std.specs.Prelude.{◌≡◌, false};
+ghost use Rattle.text_lines.specs.RunErrors.{RunsAs};
+ghost use Rattle.get_command.specs.Runs.{RunsGet, nothing_held, output_of, status_by as status_at, status_of as status_for};
 
 mod batches;
 mod line_fault;
@@ -48,14 +48,9 @@ fn take_all<R: Input, W: Output>(
     requires nothing { batches.old ≡ nothing_held limits }
     requires input_works { R.has_failed input.old ≡ false }
     requires output_works { W.has_failed output.old ≡ false }
-    ensures ends { IfOk result (Finishes (R.remaining input.old) (R.remaining input.new)
+    ensures { RunsGet limits trace (R.remaining input.old) (R.remaining input.new)
         (W.contents output.old) (W.contents output.new) (R.has_failed input.new)
-        (W.has_failed output.new)
-        (output_of limits trace) (status_for limits trace)) }
-    ensures stops { IfErr result (λ h. StopsShort (R.remaining input.old) (R.remaining input.new)
-        (W.contents output.old) (W.contents output.new) (R.has_failed input.new)
-        (W.has_failed output.new)
-        (output_of limits trace) (status_by h)) }
+        (W.has_failed output.new) result }
 {
     let faulty = answer_lines(alloc, input, output, batches)?;
     let found = say_trace(alloc, output, batches.store(), trace)?;
@@ -73,14 +68,9 @@ fn finish<R: Input, W: Output>(
 ) -> Result<u8, RunError>
     requires input_works { R.has_failed input.old ≡ false }
     requires output_works { W.has_failed output.old ≡ false }
-    ensures ends { IfOk result (Finishes (R.remaining input.old) (R.remaining input.new)
+    ensures { RunsGet limits trace (R.remaining input.old) (R.remaining input.new)
         (W.contents output.old) (W.contents output.new) (R.has_failed input.new)
-        (W.has_failed output.new)
-        (output_of limits trace) (status_for limits trace)) }
-    ensures stops { IfErr result (λ h. StopsShort (R.remaining input.old) (R.remaining input.new)
-        (W.contents output.old) (W.contents output.new) (R.has_failed input.new)
-        (W.has_failed output.new)
-        (output_of limits trace) (status_by h)) }
+        (W.has_failed output.new) result }
 {
     let mut batches = Batches::new(alloc, keys, limits)?;
     let status = take_all(alloc, &mut batches, input, output, limits, trace);

@@ -25,6 +25,24 @@ pub struct Fixture<N: StoreName> {
     pub clerk: Clerk<N>,
 }
 
+impl<N: StoreName> Fixture<N> {
+    /// Closes the store, and gives up all that is over it.
+    pub(crate) fn close<R: Wait>(self, rt: &R) {
+        let Fixture {
+            keeper,
+            passes,
+            desk,
+            seats,
+            clerk,
+        } = self;
+        keeper.close(rt);
+        drop(passes);
+        drop(desk);
+        drop(seats);
+        drop(clerk);
+    }
+}
+
 /// A batch of one span, which has the id, and whose trace has it too.
 pub fn batch(alloc: Global, id: u64) -> Result<Batch, AllocError> {
     let spans = list_of(alloc, span(alloc, id, id)?)?;

@@ -63,31 +63,29 @@ fn is_learnt<N: StoreName, R: Wait>(
 pub(crate) fn a_limit_is_in_force<N: StoreName + Send + Sync, R: Wait>(
     rt: &R,
     alloc: Global,
-    fixture: Fixture<N>,
+    mut fixture: Fixture<N>,
 ) -> bool {
-    let Fixture {
-        mut keeper,
-        mut passes,
-        desk,
-        mut seats,
-        mut clerk,
-    } = fixture;
-    let said = match (seats.last_mut(), passes.last_mut()) {
+    let said = is_served_and_in_force(rt, alloc, &mut fixture);
+    fixture.close(rt);
+    said
+}
+
+/// The limit is served behind two batches and is in force, and one that comes once the desk is closed is refused.
+fn is_served_and_in_force<N: StoreName + Send + Sync, R: Wait>(
+    rt: &R,
+    alloc: Global,
+    fixture: &mut Fixture<N>,
+) -> bool {
+    match (fixture.seats.last_mut(), fixture.passes.last_mut()) {
         (Some(seat), Some(pass)) => {
             let limit = limit_behind_two(rt, alloc, seat);
-            let served = serves_three(rt, &mut clerk, &mut keeper);
+            let served = serves_three(rt, &mut fixture.clerk, &mut fixture.keeper);
             let in_force = is_in_force(rt, pass, limit);
-            desk.close(rt);
+            fixture.desk.close(rt);
             served && in_force && is_turned_away(rt, alloc, seat)
         }
         _ => false,
-    };
-    keeper.close(rt);
-    drop(passes);
-    drop(desk);
-    drop(seats);
-    drop(clerk);
-    said
+    }
 }
 
 /// Hands in a span each of traces 1 and 2, and a limit of one trace.

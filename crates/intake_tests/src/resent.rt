@@ -1,7 +1,7 @@
 //! A batch that a seat hands in once more.
 
 use crate::fixture::{Fixture, batch};
-use crate::rows::{closed_books, told};
+use crate::rows::{closed_books, place_and_front};
 use intake::{Books, Clerk, Seat, Turn};
 use read_side::{Keeper, StoreName};
 use std::alloc::Global;
@@ -74,8 +74,8 @@ fn answered<N: StoreName, R: Wait>(
     batch.seq_no = job.number;
     let answer = seat.submit(rt, alloc, batch);
     let served = matches!(clerk.turn(rt, keeper), Ok(Turn::Served { .. }));
-    let told = told(rt, answer);
-    if served { told } else { Err(Refusal::Stranger) }
+    let said = place_and_front(rt, answer);
+    if served { said } else { Err(Refusal::Stranger) }
 }
 
 /// There is an account of each job, and as many of them as are wanted to be were acknowledged.

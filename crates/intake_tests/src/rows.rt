@@ -148,7 +148,7 @@ fn came_back<N: StoreName>(alloc: Global, answer: Answer<N>, why: Refusal, id: u
 }
 
 /// The place that a ticket returns and the front of its receipt, or the refusal.
-pub(crate) fn told<N: StoreName, R: Wait>(
+pub(crate) fn place_and_front<N: StoreName, R: Wait>(
     rt: &R,
     answer: Result<Ticket<N>, (Refusal, Batch)>,
 ) -> Result<(u64, u64), Refusal> {
@@ -171,7 +171,7 @@ fn returned<N: StoreName, R: Wait>(rt: &R, answer: Answer<N>) -> Result<u64, Ref
     let Some(answer) = answer else {
         return Err(Refusal::NoMemory);
     };
-    let (place, front) = told(rt, answer)?;
+    let (place, front) = place_and_front(rt, answer)?;
     if front >= place {
         Ok(place)
     } else {
@@ -369,29 +369,18 @@ fn full_then_closed_at<N: StoreName, R: Wait>(
 }
 
 /// The queue is full, and then the desk is closed.
-fn full_then_closed<N: StoreName, R: Wait>(rt: &R, alloc: Global, fixture: Fixture<N>) -> bool {
-    let Fixture {
-        mut keeper,
-        passes,
-        desk,
-        mut seats,
-        mut clerk,
-    } = fixture;
-    let said = match seats.as_mut_slice() {
+fn full_then_closed<N: StoreName, R: Wait>(rt: &R, alloc: Global, mut fixture: Fixture<N>) -> bool {
+    let said = match fixture.seats.as_mut_slice() {
         [_, _, other, seat] => full_then_closed_at(
             rt,
             alloc,
-            &desk,
+            &fixture.desk,
             (seat, other),
-            (&mut clerk, &mut keeper),
+            (&mut fixture.clerk, &mut fixture.keeper),
         ),
         _ => false,
     };
-    keeper.close(rt);
-    drop(passes);
-    drop(desk);
-    drop(seats);
-    drop(clerk);
+    fixture.close(rt);
     said
 }
 
