@@ -5,9 +5,9 @@ use Rattle.std.specs.List.{IsDistinct, list_any, list_all}
 use Rattle.std.specs.List.Sorted.{IsStrictlySortedBy}
 use Rattle.std.specs.declared.cmp.Ordering.{Ordering}
 use Rattle.std.specs.declared.cmp.Ordering.TheVariants.{Less, Equal, Greater}
-use Rattle.std.specs.Ordering.{ordering_then, eq_by_cmp, is_eq}
-use Rattle.std.specs.Cmp.{IsEquivalence, IsTotalOrder, on_total, then_total, eq_by_cmp_equiv}
-use Rattle.std.specs.Cmp.Lexicographic.{nat_list_cmp_total, texts_ties}
+use Rattle.std.specs.Ordering.{ordering_then, eq_by_cmp, is_eq, nat_cmp}
+use Rattle.std.specs.Cmp.{IsEquivalence, IsTotalOrder, on_total, then_total, eq_by_cmp_equiv, nat_cmp_total}
+use Rattle.std.specs.Cmp.Lexicographic.{nat_list_cmp_total, texts_ties, bytes_decides}
 use Rattle.std.proofs.lemmas.List.{take_more, flat_map_more}
 use Rattle.std.proofs.lemmas.List.Folds.{list_any-append, list_any_more}
 use Rattle.std.proofs.lemmas.Map.Keys.{IsDistinct-from_sorted}
@@ -27,6 +27,9 @@ use Rattle.find_traces.proofs.Counting.{and_first, few, counted, none_left}
 
 pub text_laws : IsEquivalence (eq_by_cmp text_cmp)
 text_laws = eq_by_cmp_equiv nat_list_cmp_total
+
+length_laws : IsEquivalence (eq_by_cmp nat_cmp)
+length_laws = eq_by_cmp_equiv nat_cmp_total
 
 pub pair_total : IsTotalOrder pair_cmp
 pair_total = then_total (on_total (λ (a : List ℕ × List ℕ). a.0) nat_list_cmp_total) (on_total (λ (a : List ℕ × List ℕ). a.1) nat_list_cmp_total)
@@ -57,7 +60,7 @@ one_more true w m e = refl
 one_more false true m e = refl
 one_more false false m e = refl
 
--- ---- one more key or pair is put in
+-- ---- one more key, length or pair is put in
 pub key_put : (n o : List (List ℕ)) (xs : List (List ℕ × List ℕ)) (i : ℕ) (x : List ℕ × List ℕ) (key : List ℕ) → i < length xs → x ≡ get_or xs i x → key ≡ x.0
     → (k : List ℕ) → list_any (eq_by_cmp text_cmp k) n ≡ cond (eq_by_cmp text_cmp key k) true (list_any (eq_by_cmp text_cmp k) o)
     → list_any (eq_by_cmp text_cmp k) o ≡ list_any (λ (a : List ℕ × List ℕ). eq_by_cmp text_cmp k a.0) (take i xs)
@@ -66,6 +69,15 @@ key_put n o xs i x key le is same k put before =
     put ∙ put_last (eq_by_cmp text_cmp key k) (list_any (eq_by_cmp text_cmp k) o)
     ∙ (λ j. before j || (text_laws.symm key k ∙ ap (eq_by_cmp text_cmp k) same ∙ ap (λ (y : List ℕ × List ℕ). eq_by_cmp text_cmp k y.0) is) j)
     ∙ sym (list_any_more (λ (a : List ℕ × List ℕ). eq_by_cmp text_cmp k a.0) xs i x le)
+
+pub length_put : (n o : List ℕ) (xs : List (List ℕ × List ℕ)) (i : ℕ) (x : List ℕ × List ℕ) (m : ℕ) → i < length xs → x ≡ get_or xs i x → m ≡ length x.1
+    → (k : ℕ) → list_any (eq_by_cmp nat_cmp k) n ≡ cond (eq_by_cmp nat_cmp m k) true (list_any (eq_by_cmp nat_cmp k) o)
+    → list_any (eq_by_cmp nat_cmp k) o ≡ list_any (λ (a : List ℕ × List ℕ). eq_by_cmp nat_cmp k (length a.1)) (take i xs)
+    → list_any (eq_by_cmp nat_cmp k) n ≡ list_any (λ (a : List ℕ × List ℕ). eq_by_cmp nat_cmp k (length a.1)) (take (i + 1) xs)
+length_put n o xs i x m le is same k put before =
+    put ∙ put_last (eq_by_cmp nat_cmp m k) (list_any (eq_by_cmp nat_cmp k) o)
+    ∙ (λ j. before j || (length_laws.symm m k ∙ ap (eq_by_cmp nat_cmp k) same ∙ ap (λ (y : List ℕ × List ℕ). eq_by_cmp nat_cmp k (length y.1)) is) j)
+    ∙ sym (list_any_more (λ (a : List ℕ × List ℕ). eq_by_cmp nat_cmp k (length a.1)) xs i x le)
 
 pub pair_put : (n o xs : List (List ℕ × List ℕ)) (i : ℕ) (x pair : List ℕ × List ℕ) → i < length xs → x ≡ get_or xs i x → pair ≡ x
     → (a : List ℕ × List ℕ) → is_in n a ≡ cond (same_pair pair a) true (is_in o a) → is_in o a ≡ list_any (same_pair a) (take i xs)
@@ -89,6 +101,30 @@ no_key (x ∷ xs) k t h = by (eq_by_cmp text_cmp k x.0) refl h (no_key xs k t)
         → (list_any (λ (a : List ℕ × List ℕ). eq_by_cmp text_cmp k a.0) xs ≡ false → list_any (same_pair (k, t)) xs ≡ false) → (same_pair (k, t) x || list_any (same_pair (k, t)) xs) ≡ false
     by true e g more = absurd (true≢false g)
     by false e g more = ap (λ b. b || list_any (same_pair (k, t)) xs) (then_not (text_cmp k x.0) (text_cmp t x.1) e) ∙ more g
+
+-- texts of other lengths are other texts
+other_length : (s t : List ℕ) → eq_by_cmp nat_cmp (length s) (length t) ≡ false → is_eq (text_cmp s t) ≡ false
+other_length s t h = by (is_eq (text_cmp s t)) refl
+  where
+    by : (b : Bool) → is_eq (text_cmp s t) ≡ b → b ≡ false
+    by true e =
+        let same : s ≡ t = (bytes_decides s t).0 (texts_ties s t ∙ e) in
+        absurd (true≢false (sym (length_laws.refl (length s)) ∙ ap (λ y. eq_by_cmp nat_cmp (length s) (length y)) same ∙ h))
+    by false e = refl
+
+then_other : (r s : Ordering) → is_eq s ≡ false → is_eq (ordering_then r s) ≡ false
+then_other Less s h = refl
+then_other Equal s h = h
+then_other Greater s h = refl
+
+pub no_length : (xs : List (List ℕ × List ℕ)) (k t : List ℕ) → list_any (λ (a : List ℕ × List ℕ). eq_by_cmp nat_cmp (length t) (length a.1)) xs ≡ false → list_any (same_pair (k, t)) xs ≡ false
+no_length [] k t h = refl
+no_length (x ∷ xs) k t h = by (eq_by_cmp nat_cmp (length t) (length x.1)) refl h (no_length xs k t)
+  where
+    by : (b : Bool) → eq_by_cmp nat_cmp (length t) (length x.1) ≡ b → (b || list_any (λ (a : List ℕ × List ℕ). eq_by_cmp nat_cmp (length t) (length a.1)) xs) ≡ false
+        → (list_any (λ (a : List ℕ × List ℕ). eq_by_cmp nat_cmp (length t) (length a.1)) xs ≡ false → list_any (same_pair (k, t)) xs ≡ false) → (same_pair (k, t) x || list_any (same_pair (k, t)) xs) ≡ false
+    by true e g more = absurd (true≢false g)
+    by false e g more = ap (λ b. b || list_any (same_pair (k, t)) xs) (then_other (text_cmp k x.0) (text_cmp t x.1) (other_length t x.1 e)) ∙ more g
 
 pub asked_some : (q : Find) (x p : List ℕ × List ℕ) → if_asked q x ≡ Some p → (asks q x ≡ true) × (p ≡ x)
 asked_some q x p h = by (asks q x) refl h

@@ -1,9 +1,9 @@
 -- The pairs of a key and a text that a search asks, and which of them tags have.
-use Rattle.std.specs.Prelude.{ℕ, Bool, not, ◌&&◌, List, Option, Some, None, if◌then◌else◌}
+use Rattle.std.specs.Prelude.{ℕ, Bool, not, ◌&&◌, List, length, Option, Some, None, if◌then◌else◌}
 use Rattle.std.specs.List.{list_any}
 use Rattle.std.specs.Set.{distinct_count}
 use Rattle.std.specs.declared.cmp.Ordering.{Ordering}
-use Rattle.std.specs.Ordering.{ordering_then, eq_by_cmp}
+use Rattle.std.specs.Ordering.{ordering_then, eq_by_cmp, nat_cmp}
 use Rattle.jaeger_model.specs.declared.batch.Process.{Process}
 use Rattle.jaeger_model.specs.declared.tag.Tag.{Tag}
 use Rattle.jaeger_model.specs.Tags.{tag_text}
@@ -24,6 +24,10 @@ same_pair a b = eq_by_cmp pair_cmp a b
 -- the search asks a pair with the key
 abbrev pub asks_key : Find → List ℕ → Bool
 asks_key q k = list_any (λ (a : List ℕ × List ℕ). eq_by_cmp text_cmp k a.0) q.tags
+
+-- the search asks a pair with a text of so many bytes
+abbrev pub asks_length : Find → ℕ → Bool
+asks_length q n = list_any (λ (a : List ℕ × List ℕ). eq_by_cmp nat_cmp n (length a.1)) q.tags
 
 abbrev pub asks : Find → List ℕ × List ℕ → Bool
 asks q a = list_any (same_pair a) q.tags

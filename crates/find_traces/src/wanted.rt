@@ -1,12 +1,12 @@
 //! Searches whose asked tags are put in order once.
 
-ghost use Rattle.std.specs.Prelude.{◌≡◌, ℕ, List, [], IfOk};
-ghost use Rattle.std.specs.Bool.{OnTrue};
+ghost use Rattle.std.specs.Prelude.{◌≡◌, ℕ, List, [], IfOk, length, false};
+ghost use Rattle.std.specs.Bool.{OnTrue, OnFalse};
 ghost use Rattle.std.specs.List.{list_any};
-ghost use Rattle.std.specs.Ordering.{eq_by_cmp};
+ghost use Rattle.std.specs.Ordering.{eq_by_cmp, nat_cmp};
 ghost use Rattle.jaeger_model.specs.Tags.{tag_text};
 ghost use Rattle.jaeger_model.specs.Texts.{text_cmp};
-ghost use Rattle.find_traces.specs.Wanting.{pair_of, same_pair, is_in, asked_count, if_asked};
+ghost use Rattle.find_traces.specs.Wanting.{pair_of, same_pair, is_in, asks, asked_count, if_asked};
 
 use jaeger_model::{Tag, TagValue, Text, ValueRef, tag_text};
 use std::alloc::{AllocError, Global};
@@ -20,6 +20,8 @@ use trace_model::Find;
 pub struct Wanted<'q> {
     query: &'q Find,
     keys: BTreeSet<Text>,
+    /// How long the asked texts are.
+    lengths: BTreeSet<usize>,
     pairs: BTreeSet<(Text, Text)>,
 }
 
@@ -31,7 +33,7 @@ impl<'q> Model for Wanted<'q> {
 
     ghost view = { λ w. w.query.now };
 
-    ghost invariant = { λ w. IsPrepared w.query.now w.keys.keys w.pairs.keys };
+    ghost invariant = { λ w. IsPrepared w.query.now w.keys.keys w.lengths.keys w.pairs.keys };
 }
 
 /// The keys of the pairs.
@@ -45,6 +47,19 @@ fn keys_of(alloc: Global, asked: &[(Text, Text)]) -> Result<BTreeSet<Text>, Allo
         keys.insert(key)?;
     }
     Ok(keys)
+}
+
+/// The lengths of the pairs' texts.
+fn lengths_of(alloc: Global, asked: &[(Text, Text)]) -> Result<BTreeSet<usize>, AllocError>
+    ensures { IfOk result (λ s. (n : ℕ) → list_any (eq_by_cmp nat_cmp n) s.keys ≡
+        list_any (λ (a : List ℕ × List ℕ). eq_by_cmp nat_cmp n (length a.1)) asked.now) }
+{
+    let mut lengths = BTreeSet::new(alloc);
+    for pair in asked {
+        let length = pair.1.len();
+        lengths.insert(length)?;
+    }
+    Ok(lengths)
 }
 
 fn copy_of(pair: &(Text, Text)) -> Result<(Text, Text), AllocError>
@@ -87,8 +102,14 @@ impl<'q> Wanted<'q> {
     {
         let asked = query.tags.as_slice();
         let keys = keys_of(alloc, asked)?;
+        let lengths = lengths_of(alloc, asked)?;
         let pairs = pairs_of(alloc, asked)?;
-        Ok(Wanted { query, keys, pairs })
+        Ok(Wanted {
+            query,
+            keys,
+            lengths,
+            pairs,
+        })
     }
 
     /// The search.
@@ -112,8 +133,18 @@ impl<'q> Wanted<'q> {
         self.pairs.len()
     }
 
-    /// The key and the text of the tag, where both are asked together. Where the key is not asked, the
-    /// text is not made.
+    /// Whether a value may have an asked text: one that is a text has the length of one of these.
+    fn may_ask(&self, value: &TagValue) -> bool
+        ensures { OnFalse result ((k : List ℕ) → asks self.now (k, tag_text value.now) ≡ false) }
+    {
+        match value.get() {
+            ValueRef::Text(text) => self.lengths.contains(&text.len()),
+            _ => true,
+        }
+    }
+
+    /// The key and the text of the tag, where both are asked together. Where the key is not asked, or no text as
+    /// long as the tag's, the text is not made.
     pub(crate) fn asked_by(
         &self,
         alloc: Global,
@@ -122,6 +153,9 @@ impl<'q> Wanted<'q> {
         ensures { IfOk result (λ p. p ≡ if_asked self.now (pair_of tag.now)) }
     {
         if !self.keys.contains(&tag.key) {
+            return Ok(None);
+        }
+        if !self.may_ask(&tag.value) {
             return Ok(None);
         }
         let pair = (tag.key.clone()?, text_of(alloc, &tag.value)?);

@@ -11,3 +11,6 @@ returns-then-not-contains c =
     let t = c.args.tag.now in
     let absent = no_key q.tags t.key (tag_text t.value) (sym (c.self.invariant.keys_asked t.key) ∙ sym c.contains.ensures ∙ c.if-not-contains.true) in
     ap (λ b. if b then Some (pair_of t) else None) (sym absent) ∙ ap (λ f. if_asked f (pair_of t)) c.self.view_is
+
+pub returns-then-not-may_ask : goal.returns-then-not-may_ask
+returns-then-not-may_ask c = ap (λ b. if b then Some (pair_of c.args.tag.now) else None) (sym (c.if-not-may_ask.ensures c.args.tag.now.key))
