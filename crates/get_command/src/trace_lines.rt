@@ -10,6 +10,7 @@ use span_store::SpanStore;
 use std::alloc::{AllocError, Global};
 use std::io::Write;
 use text_lines::{Page, RunError, say};
+use trace_adjust::shown;
 use trace_model::{Answer, Query, Shown, ShownTrace};
 
 fn say_ids(said: &mut Vec<u8>, placed: &Placed) -> Result<(), AllocError>
@@ -72,7 +73,11 @@ fn say_spans<W: Output>(alloc: Global, output: &mut W, spans: &[Shown]) -> Resul
 }
 
 /// The shown spans of the trace, or None where there are none.
-fn find_trace(store: &SpanStore, trace: TraceId) -> Result<Option<ShownTrace>, AllocError>
+fn find_trace(
+    alloc: Global,
+    store: &SpanStore,
+    trace: TraceId,
+) -> Result<Option<ShownTrace>, AllocError>
     ensures { IfOk result (λ found. found ≡
         option_map (map unadjusted) (found_in store.now trace)) }
 {
@@ -81,7 +86,8 @@ fn find_trace(store: &SpanStore, trace: TraceId) -> Result<Option<ShownTrace>, A
         raw: true,
     };
     match store.answer(&query) {
-        Ok(Answer::Trace(found)) => Ok(found),
+        Ok(Answer::Trace(Some(found))) => Ok(Some(shown(alloc, found)?)),
+        Ok(Answer::Trace(None)) => Ok(None),
         Ok(_) => unreachable!(),
         Err(_) => Err(AllocError),
     }
@@ -108,7 +114,7 @@ pub(crate) fn say_trace<W: Output>(
     ensures lines { Says (W.contents output.old) (W.contents output.new) (W.has_failed output.new)
         (trace_lines (found_in store.now trace)) result }
 {
-    match find_trace(store, trace)? {
+    match find_trace(alloc, store, trace)? {
         Some(spans) => {
             say_spans(alloc, output, spans.as_slice())?;
             Ok(true)

@@ -6,3 +6,4 @@ pub mod Processes
 pub mod Spots
 pub mod Bounds
 pub mod Windows
+pub mod Keeping

@@ -2,7 +2,7 @@
 //! asked for.
 //!
 //! * `standing`: the spans that spots name.
-//! * `gathering`: these spans, copied.
+//! * `gathering`: these spans where their entries keep them, which are shared.
 //! * `pruning`: entries that a search passes over by their outlines.
 //! * `searching`: which traces a search by a service looks at.
 //! * `judging`: spans judged one after the other.

@@ -2,8 +2,8 @@
 
 ghost use Rattle.std.specs.Prelude.{◌≡◌, List, [], ◌∷◌, map, IfOk, option_map};
 ghost use Rattle.std.specs.Arc.{arc_value};
-ghost use Rattle.trace_model.specs.Adjusting.{adjusted};
-ghost use Rattle.trace_model.specs.Answers.{answer, shown_as};
+ghost use Rattle.trace_model.specs.Adjusting.{adjusted, shown_as};
+ghost use Rattle.trace_model.specs.Answers.{answer};
 ghost use Rattle.trace_model.specs.Histories.{arrivals, events};
 ghost use Rattle.trace_model.specs.Events.{came, without_limits};
 ghost use Rattle.trace_model.specs.Works.{placed_brought, events_brought};
@@ -20,7 +20,7 @@ use jaeger_model::{Placed, Seq, TraceId, domain};
 use span_steps::all_unadjusted;
 use std::alloc::{AllocError, Global};
 use std::sync::Arc;
-use trace_model::{Answer, Entry, Limits, Query, ShownTrace, Work};
+use trace_model::{Answer, AnsweredTrace, Entry, Limits, Query, Shown, ShownTrace, Work};
 
 /// The spans that an entry brings.
 fn spans_of(alloc: Global, work: &Work) -> Result<Vec<Placed>, AllocError>
@@ -129,6 +129,13 @@ pub fn get_trace(
     Ok(Some(spans))
 }
 
+/// A trace of an answer, of these spans.
+fn made(alloc: Global, spans: Seq<Shown>) -> AnsweredTrace
+    ensures { result ≡ spans }
+{
+    AnsweredTrace::made(ShownTrace::of_unknown(alloc, spans))
+}
+
 /// The spans of a trace as they are shown: as they arrived where `raw` is asked, else adjusted.
 ///
 /// # Errors
@@ -139,7 +146,7 @@ pub fn trace_shown(
     spans: Vec<Placed>,
     limits: Limits,
     raw: bool,
-) -> Result<ShownTrace, AllocError>
+) -> Result<AnsweredTrace, AllocError>
     ensures { IfOk result (λ s. s ≡ shown_as limits raw spans.items) }
 {
     let shown = if raw {
@@ -147,7 +154,7 @@ pub fn trace_shown(
     } else {
         adjusted_trace(alloc, Seq::from_vec(spans), limits.max_skew)?
     };
-    Ok(ShownTrace::of_unknown(alloc, shown))
+    Ok(made(alloc, shown))
 }
 
 /// The traces, each adjusted.
@@ -156,13 +163,13 @@ fn all_adjusted(
     alloc: Global,
     traces: Vec<Seq<Placed>>,
     limits: Limits,
-) -> Result<Vec<ShownTrace>, AllocError>
+) -> Result<Vec<AnsweredTrace>, AllocError>
     ensures { IfOk result (λ v. v.items ≡ map (adjusted limits.max_skew) traces.items) }
 {
     let mut shown = Vec::new(alloc);
     for trace in traces {
         let adjusted = adjusted_trace(alloc, trace, limits.max_skew)?;
-        shown.push(ShownTrace::of_unknown(alloc, adjusted))?;
+        shown.push(made(alloc, adjusted))?;
     }
     Ok(shown)
 }

@@ -11,7 +11,8 @@ use crate::values::flags_number;
 use jaeger_model::{Process, Text, span_text, trace_text};
 use serde_json::{Map, Value, json, put};
 use std::alloc::{AllocError, Global};
-use trace_model::{Shown, ShownTrace};
+use trace_adjust::show;
+use trace_model::{AnsweredTrace, Shown, ShownTrace, TraceForm};
 
 /// A list of texts, or null where there are none.
 fn warnings_json(alloc: Global, warnings: &[Text]) -> Result<Value, AllocError>
@@ -117,5 +118,17 @@ impl Tree for ShownTrace {
         let processes = processes_json(alloc, &known)?;
         let id = trace_id_text(alloc, shown)?;
         trace_json(alloc, processes, spans, id)
+    }
+}
+
+/// A trace of an answer. Spans that their entries keep are copied for it.
+impl Tree for AnsweredTrace {
+    ghost tree = { trace_tree };
+
+    fn to_json(&self, alloc: Global) -> Result<Value, AllocError> {
+        match self.form() {
+            TraceForm::Ready(made) => made.to_json(alloc),
+            TraceForm::Kept(kept) => show(alloc, kept)?.to_json(alloc),
+        }
     }
 }

@@ -414,8 +414,8 @@ fn is_written(alloc: Global, keys: RandomState) -> Result<(bool, bool), Fail> {
 #[test]
 fn memory_for_a_session(rt: HostRuntime) -> Result<(), Fail> {
     let keys = RandomState::new(&rt)?;
-    let (all, told) = is_written(rt.alloc(), keys)?;
-    assert!(rt; told);
+    let (all, allowed) = is_written(rt.alloc(), keys)?;
+    assert!(rt; allowed);
     if !all {
         assert!(rt; is_answered_in_50s(rt.alloc(), keys)?);
     }

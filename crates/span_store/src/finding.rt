@@ -12,57 +12,62 @@ use call_links::NumberedSpan;
 use jaeger_model::{Seq, TraceId};
 use journal_traces::{Candidates, gather};
 use std::alloc::{AllocError, Global};
-use trace_adjust::adjusted;
-use trace_model::{Link, ShownTrace};
+use trace_model::{AnsweredTrace, KeptTrace, Limits, Link, ShownTrace};
 
-/// The trace at a place as it is shown, without spans where there is none.
-fn adjusted_at(
+/// The trace at a place as it is to be shown, without spans where there is none.
+fn kept_at(
     alloc: Global,
     traces: &Candidates<'_>,
     place: usize,
-    max_skew: u64,
-) -> Result<ShownTrace, AllocError>
-    ensures { IfOk result (λ s. s ≡ adjusted max_skew
+    limits: Limits,
+) -> Result<AnsweredTrace, AllocError>
+    ensures { IfOk result (λ s. s ≡ adjusted limits.max_skew
         (slice_index_or (traces_of traces.now) place [])) }
 {
     let Some(spots) = traces.spots.get(place) else {
-        return Ok(ShownTrace::of_unknown(alloc, Seq::new(alloc)));
+        let none = ShownTrace::of_unknown(alloc, Seq::new(alloc));
+        return Ok(AnsweredTrace::made(none));
     };
     let gathered = gather(alloc, traces.journal, spots.again())?;
-    let shown = adjusted(alloc, gathered.spans, &gathered.places, max_skew)?;
-    Ok(ShownTrace::new(Seq::from_vec(shown), gathered.places))
+    let kept = KeptTrace {
+        spans: gathered.spans,
+        places: gathered.places,
+        limits,
+        raw: false,
+    };
+    Ok(AnsweredTrace::kept(kept))
 }
 
-/// The traces at the places as they are shown.
+/// The traces at the places as they are to be shown.
 #[tactic(auto, using(std::proofs::lemmas::List::map_more))]
-fn adjusted_traces(
+fn all_kept(
     alloc: Global,
     traces: &Candidates<'_>,
     places: &[usize],
-    max_skew: u64,
-) -> Result<Vec<ShownTrace>, AllocError>
-    ensures { IfOk result (λ v. v.items ≡
-        map (λ i. adjusted max_skew (slice_index_or (traces_of traces.now) i [])) places.now) }
+    limits: Limits,
+) -> Result<Vec<AnsweredTrace>, AllocError>
+    ensures { IfOk result (λ v. v.items ≡ map
+        (λ i. adjusted limits.max_skew (slice_index_or (traces_of traces.now) i [])) places.now) }
 {
-    let mut shown = Vec::new(alloc);
+    let mut kept = Vec::new(alloc);
     for place in places {
-        shown.push(adjusted_at(alloc, traces, *place, max_skew)?)?;
+        kept.push(kept_at(alloc, traces, *place, limits)?)?;
     }
-    Ok(shown)
+    Ok(kept)
 }
 
-/// The traces that a search finds, as they are shown. Only these are copied.
+/// The traces that a search finds, as they are to be shown.
 pub(crate) fn find(
     alloc: Global,
     traces: &Candidates<'_>,
-    max_skew: u64,
-) -> Result<Vec<ShownTrace>, AllocError>
+    limits: Limits,
+) -> Result<Vec<AnsweredTrace>, AllocError>
     ensures { IfOk result (λ v. v.items ≡
-        map (adjusted max_skew) (found_in (query_of traces.now) (traces_of traces.now))) }
+        map (adjusted limits.max_skew) (found_in (query_of traces.now) (traces_of traces.now))) }
 {
     let places = find_traces::find(alloc, traces)?;
-    let shown = adjusted_traces(alloc, traces, &places, max_skew)?;
-    Ok(shown)
+    let kept = all_kept(alloc, traces, &places, limits)?;
+    Ok(kept)
 }
 
 /// The ids of the traces that a search finds.

@@ -3,7 +3,7 @@ ghost use Rattle.std.specs.Arc.{arc_value};
 ghost use Rattle.std.specs.Bool.{OnFalse};
 ghost use Rattle.trace_model.specs.declared.query.Query.TheVariants as ask;
 ghost use Rattle.trace_model.specs.declared.refusal.Refusal.TheVariants.{NoMemory};
-ghost use Rattle.trace_model.specs.Answers.{answer, shown_as};
+ghost use Rattle.trace_model.specs.Answers.{answer};
 ghost use Rattle.trace_model.specs.Histories.{IsLegal, events};
 ghost use Rattle.trace_model.specs.Linking.{links};
 ghost use Rattle.trace_model.specs.Searching.{traces, found_in};
@@ -13,7 +13,6 @@ ghost use Rattle.trace_model.specs.Refusals.{followed_by, with_admitted};
 ghost use Rattle.arrival_journal.specs.Journals.{admission_by, place_by};
 ghost use Rattle.trace_assembly.specs.Located.{located_events, shown_spots};
 ghost use Rattle.trace_assembly.specs.Rows.{spots_of};
-ghost use Rattle.trace_model.specs.Sharing.{ShareProcesses};
 ghost use Rattle.call_links.specs.Seen.{AreNumbered};
 ghost use Rattle.journal_traces.specs.Given.{given_traces};
 ghost use Rattle.journal_traces.specs.Standing.{traces_named};
@@ -25,24 +24,24 @@ use arrival_journal::{Journal, OutlinedEntry, PreparedEntry};
 use arrival_names::ArrivalNames;
 use call_links::NumberedSpan;
 use find_traces::Wanted;
-use jaeger_model::{Placed, Seq, Text, TraceId};
+use jaeger_model::{Seq, Text, TraceId};
 use journal_traces::{Candidates, gather, ring_ids, see_within, spots_along};
 use service_places::ServicePlaces;
-use span_steps::all_unadjusted;
 use std::alloc::{AllocError, Global};
 use std::hash::RandomState;
 use std::marker::Model;
 use std::sync::Arc;
-use trace_adjust::adjusted;
 use trace_assembly::{Assembly, Spots};
-use trace_model::{Admission, Answer, Entry, Find, Limits, Query, Refusal, ShownTrace};
+use trace_model::{
+    Admission, Answer, AnsweredTrace, Entry, Find, KeptTrace, Limits, Query, Refusal,
+};
 use trace_ring::Ring;
 
 /// The accepted entries of one store, and quick answers from them.
 ///
 /// A trace by its id costs its own spans, and names cost what is listed. A search looks at the entries
 /// of its service and at the first span of each of their traces. It judges these traces as the answer
-/// orders them, until as many match as it asks for, and copies only what it finds.
+/// orders them, until as many match as it asks for. It copies no span: what it answers shares the entries.
 #[derive(Drop)]
 pub struct SpanStore {
     alloc: Global,
@@ -329,7 +328,7 @@ impl SpanStore {
             wanted: &wanted,
             spots: &spots,
         };
-        let found = finding::find(self.alloc, &traces, self.limits().max_skew)?;
+        let found = finding::find(self.alloc, &traces, self.limits())?;
         Ok(Answer::Traces(Seq::from_vec(found)))
     }
 
@@ -395,33 +394,12 @@ impl SpanStore {
             return Ok(Answer::Trace(None));
         }
         let gathered = gather(self.alloc, &self.journal, spots)?;
-        let shown = shown_as(
-            self.alloc,
-            gathered.spans,
-            gathered.places,
-            self.limits(),
+        let kept = KeptTrace {
+            spans: gathered.spans,
+            places: gathered.places,
+            limits: self.limits(),
             raw,
-        )?;
-        Ok(Answer::Trace(Some(shown)))
+        };
+        Ok(Answer::Trace(Some(AnsweredTrace::kept(kept))))
     }
-}
-
-/// The spans of a trace, which the entries at these places brought, as they are shown: as they arrived
-/// where `raw` is asked, else adjusted.
-fn shown_as(
-    alloc: Global,
-    spans: Vec<Placed>,
-    places: Vec<u64>,
-    limits: Limits,
-    raw: bool,
-) -> Result<ShownTrace, AllocError>
-    requires { ShareProcesses spans.items places.items }
-    ensures { IfOk result (λ s. s ≡ shown_as limits raw spans.items) }
-{
-    if raw {
-        let shown = all_unadjusted(alloc, spans)?;
-        return Ok(ShownTrace::new(shown, places));
-    }
-    let shown = adjusted(alloc, spans, &places, limits.max_skew)?;
-    Ok(ShownTrace::new(Seq::from_vec(shown), places))
 }

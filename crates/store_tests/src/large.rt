@@ -7,7 +7,7 @@ use std::hash::RandomState;
 use std::mem::drop;
 use std::sync::Arc;
 use std::test::*;
-use trace_model::{Answer, Entry, Find, Limits, Query};
+use trace_model::{Answer, AnsweredTrace, Entry, Find, Limits, Query, TraceForm};
 use trace_samples::{list_of, span};
 
 const MANY: u32 = 10_000;
@@ -33,10 +33,18 @@ fn entries_of(alloc: Global, many: u32) -> Result<Vec<Arc<Entry>>, AllocError> {
     kept(entries, added)
 }
 
+/// How many spans a trace of an answer has.
+fn span_count(trace: &AnsweredTrace) -> usize {
+    match trace.form() {
+        TraceForm::Ready(made) => made.len(),
+        TraceForm::Kept(kept) => kept.spans.len(),
+    }
+}
+
 /// How many spans, names, operations, traces, ids or links were answered.
 fn count_in(answer: &Answer) -> usize {
     match answer {
-        Answer::Trace(Some(shown)) => shown.len(),
+        Answer::Trace(Some(trace)) => span_count(trace),
         Answer::Trace(None) => 0,
         Answer::Names(names) => names.len(),
         Answer::Operations(operations) => operations.len(),

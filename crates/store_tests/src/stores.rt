@@ -521,7 +521,7 @@ const FIRST: &[u64] = &[1, 2, 3];
 
 const SECOND: &[u64] = &[1, 1];
 
-/// An entry's number and the traces of its spans, and what is told of it.
+/// An entry's number and the traces of its spans, and what the store says to it.
 type Row = (u64, &'static [u64], Result<u64, Refusal>);
 
 /// In a store for three batches and five spans.
@@ -548,18 +548,18 @@ const ROWS: [Row; 6] = [
     ),
 ];
 
-/// The store tells what the row says, and then answers as the plain store.
-fn is_told(alloc: Global, store: &mut SpanStore, row: &Row) -> Result<bool, AllocError> {
+/// The store answers an entry as the row says, and then answers queries as the plain store.
+fn is_as_said(alloc: Global, store: &mut SpanStore, row: &Row) -> Result<bool, AllocError> {
     let (number, traces, want) = *row;
     let got = store.apply(entry_of(alloc, number, traces)?);
     Ok(got == want && same_answers(alloc, store, number)?)
 }
 
-/// How many of the rows are told as they say, each behind the ones before.
+/// How many of the rows are answered as they say, each behind the ones before.
 fn history_of(alloc: Global, store: &mut SpanStore) -> Result<usize, AllocError> {
     let mut history_of = 0usize;
     for row in &ROWS {
-        if !is_told(alloc, store, row)? {
+        if !is_as_said(alloc, store, row)? {
             break;
         }
         history_of = history_of.saturating_add(1);
@@ -568,7 +568,7 @@ fn history_of(alloc: Global, store: &mut SpanStore) -> Result<usize, AllocError>
 }
 
 /// The same in a store that is opened for them.
-fn told_by_one(alloc: Global, keys: RandomState) -> Result<usize, Fail> {
+fn as_said_by_one(alloc: Global, keys: RandomState) -> Result<usize, Fail> {
     let limits = Limits::new(3, 5, 2, 0).ok_or("limits")?;
     let mut store = SpanStore::open(alloc, keys, limits)?;
     let history_of = history_of(alloc, &mut store);
@@ -578,7 +578,7 @@ fn told_by_one(alloc: Global, keys: RandomState) -> Result<usize, Fail> {
 
 #[test]
 fn refused_entries_change_nothing(rt: HostRuntime) -> Result<(), Fail> {
-    let history_of = told_by_one(rt.alloc(), RandomState::new(&rt)?)?;
+    let history_of = as_said_by_one(rt.alloc(), RandomState::new(&rt)?)?;
     assert_eq!(rt; history_of, ROWS.len());
     Ok(())
 }

@@ -1,5 +1,5 @@
 -- The hosts of the spans of a trace by numbers, and clocks that name them so.
-use Rattle.std.specs.Prelude.{◌≡◌, ℕ, suc, pos, ◌+◌, ◌<◌, List, [], ◌∷◌, get_or, map, not, ◌||◌, ◌==◌, Option, Some, None, option_map, unwrap_or, ℤ, if◌then◌else◌}
+use Rattle.std.specs.Prelude.{◌≡◌, ℕ, suc, pos, List, [], ◌∷◌, get_or, map, not, ◌||◌, ◌==◌, Option, Some, None, option_map, unwrap_or, ℤ, if◌then◌else◌}
 use Rattle.jaeger_model.specs.declared.placed.Placed.{Placed}
 use Rattle.jaeger_model.specs.declared.span.Span.{Span}
 use Rattle.jaeger_model.specs.Texts.{same_text}

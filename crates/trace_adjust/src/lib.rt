@@ -8,13 +8,16 @@
 //! * `clock`: the clock of one span.
 //! * `clocks`: the clock of each span.
 //! * `skew`: the spans moved by their clocks.
+//! * `showing`: traces of an answer, whose spans are copied from their entries.
 #![tactic(auto)]
 
 mod clock;
 mod clocks;
 mod hosts;
 mod parents;
+mod showing;
 mod skew;
 
 pub use parents::parent_first;
+pub use showing::{show, shown};
 pub use skew::{adjust_skew, adjusted};

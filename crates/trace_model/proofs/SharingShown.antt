@@ -8,8 +8,7 @@ use Rattle.jaeger_model.specs.declared.placed.Placed.{Placed}
 use Rattle.trace_model.specs.declared.clock.Clock.{Clock}
 use Rattle.trace_model.specs.declared.limits.Limits.{Limits}
 use Rattle.trace_model.specs.Linking.{has_id}
-use Rattle.trace_model.specs.Answers.{shown_as}
-use Rattle.trace_model.specs.Adjusting.{spans_of, with_parent_first, unadjusted, warned, moved_placed, past_limit, past_times, adjusted_by, all_fit, shifted, shifted_by, shown_after, skew_adjusted_after, adjusted, clock_of}
+use Rattle.trace_model.specs.Adjusting.{spans_of, with_parent_first, unadjusted, warned, moved_placed, past_limit, past_times, adjusted_by, all_fit, shifted, shifted_by, shown_after, skew_adjusted_after, adjusted, clock_of, shown_as}
 use Rattle.trace_model.specs.Sharing.{ShareProcesses}
 
 abbrev pub process_at : List Placed → ℕ → Placed → Process

@@ -19,3 +19,4 @@ pub mod Steadiness
 pub mod Places
 pub mod Seeing
 pub mod Sharing
+pub mod Keeping

@@ -2,7 +2,8 @@
 //! plain list.
 //!
 //! * `limits`, `entry`, `admission`, `refusal`: what is kept, and why an entry is turned away.
-//! * `query`, `answer`: what can be asked, and what is answered; `shown_trace`: the spans of a trace that is shown.
+//! * `query`, `answer`: what can be asked, and what is answered; `shown_trace`: the spans of a trace that is shown;
+//!   `answered_trace`: a trace of an answer, whose spans are made or lie in their entries.
 //! * `clock`: what the spans below a span are given of its host's clock.
 //!
 //! `specs/` says what is shown and answered. The program of crate `plain_store` computes it, and
@@ -11,6 +12,7 @@
 
 mod admission;
 mod answer;
+mod answered_trace;
 mod clock;
 mod entry;
 mod limits;
@@ -20,6 +22,7 @@ mod shown_trace;
 
 pub use admission::Admission;
 pub use answer::{Answer, Link, Operation, Shown};
+pub use answered_trace::{AnsweredTrace, KeptSpan, KeptTrace, TraceForm};
 pub use clock::Clock;
 pub use entry::{Entry, Work};
 pub use limits::Limits;

@@ -4,7 +4,7 @@ use std::alloc::{AllocError, Global};
 use std::mem::drop;
 use std::test::*;
 use trace_adjust::{adjust_skew, adjusted};
-use trace_model::{Answer, Query, Shown};
+use trace_model::{Answer, AnsweredTrace, Query, Shown, TraceForm};
 use trace_samples::{host_process, list_of, process, span};
 
 const OWN: TraceId = TraceId { high: 0, low: 1 };
@@ -421,10 +421,18 @@ const SHOWN: [(&[Reported], u64, bool, &[(i64, &str)]); 4] = [
     (&CYCLE, 200, false, &[(1000, ""), (1010, "")]),
 ];
 
+/// The spans of a trace that is made already, as the plain store's are.
+fn spans_of(trace: &AnsweredTrace) -> &[Shown] {
+    match trace.form() {
+        TraceForm::Ready(made) => made.as_slice(),
+        TraceForm::Kept(_) => &[],
+    }
+}
+
 /// The spans of a trace that is found.
 fn shown_in(answer: &Answer) -> &[Shown] {
     match answer {
-        Answer::Trace(Some(shown)) => shown.as_slice(),
+        Answer::Trace(Some(trace)) => spans_of(trace),
         _ => &[],
     }
 }

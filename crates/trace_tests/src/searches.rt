@@ -5,7 +5,8 @@ use std::alloc::{AllocError, Global};
 use std::hash::RandomState;
 use std::mem::drop;
 use std::test::*;
-use trace_model::{Answer, Find, Query, Shown, ShownTrace};
+use trace_adjust::show;
+use trace_model::{Answer, AnsweredTrace, Find, Query, Shown, TraceForm};
 use trace_samples::{list_of, placed, process, span};
 
 /// A span of service `a` of this trace.
@@ -183,13 +184,31 @@ fn low_of(trace: &[Shown]) -> u64 {
     }
 }
 
+/// The same of a trace of an answer, whether it is made already or not.
+fn low_of_trace(alloc: Global, trace: &AnsweredTrace) -> Result<u64, AllocError> {
+    match trace.form() {
+        TraceForm::Ready(made) => Ok(low_of(made.as_slice())),
+        TraceForm::Kept(kept) => {
+            let shown = show(alloc, kept)?;
+            let low = low_of(shown.as_slice());
+            drop(shown);
+            Ok(low)
+        }
+    }
+}
+
 /// The traces are those at these places.
-fn are_traces_at(traces: &[ShownTrace], places: &[usize]) -> bool {
-    traces.len() == places.len()
-        && traces
-            .iter()
-            .zip(places)
-            .all(|(trace, place)| is_at(low_of(trace.as_slice()), *place))
+fn are_traces_at(
+    alloc: Global,
+    traces: &[AnsweredTrace],
+    places: &[usize],
+) -> Result<bool, AllocError> {
+    let mut same = traces.len() == places.len();
+    for (trace, place) in traces.iter().zip(places) {
+        let low = low_of_trace(alloc, trace)?;
+        same = same && is_at(low, *place);
+    }
+    Ok(same)
 }
 
 /// The ids that are found.
@@ -201,7 +220,7 @@ fn ids_in(answer: &Answer) -> &[TraceId] {
 }
 
 /// The traces that are found.
-fn traces_in(answer: &Answer) -> &[ShownTrace] {
+fn traces_in(answer: &Answer) -> &[AnsweredTrace] {
     match answer {
         Answer::Traces(traces) => traces.as_slice(),
         _ => &[],
@@ -233,9 +252,9 @@ fn finds_traces_at(
 ) -> Result<bool, Fail> {
     let find = limited(alloc, limit)?;
     let answer = store_answer_of(alloc, keys, rows, 0, Query::Find(find))?;
-    let same = are_traces_at(traces_in(&answer), places);
+    let same = are_traces_at(alloc, traces_in(&answer), places);
     drop(answer);
-    Ok(same)
+    Ok(same?)
 }
 
 #[test]

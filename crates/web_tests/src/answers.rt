@@ -4,7 +4,7 @@ use serde_json::Value;
 use std::alloc::{AllocError, Global};
 use std::process::Abort;
 use std::test::*;
-use trace_model::{Answer, Shown, ShownTrace};
+use trace_model::{Answer, AnsweredTrace, Shown, ShownTrace};
 use trace_samples::{list_of, placed};
 
 /// The span of the sample batch: trace 1, span 2, operation `op`, from 1000 for 50 microseconds.
@@ -21,7 +21,8 @@ fn shown(alloc: Global, service: &str, span: Span) -> Result<Shown, AllocError> 
 
 fn found(alloc: Global, span: Shown) -> Result<Answer, AllocError> {
     let spans = list_of(alloc, span)?;
-    Ok(Answer::Trace(Some(ShownTrace::of_unknown(alloc, spans))))
+    let shown = ShownTrace::of_unknown(alloc, spans);
+    Ok(Answer::Trace(Some(AnsweredTrace::made(shown))))
 }
 
 /// A call that found no memory is made once more.
@@ -124,7 +125,8 @@ fn many_spans(alloc: Global) -> Result<Answer, AllocError> {
         spans.push(shown(alloc, "a", span(alloc)?)?)?;
     }
     let spans = Seq::from_vec(spans);
-    Ok(Answer::Trace(Some(ShownTrace::of_unknown(alloc, spans))))
+    let shown = ShownTrace::of_unknown(alloc, spans);
+    Ok(Answer::Trace(Some(AnsweredTrace::made(shown))))
 }
 
 /// How long the text of the answer is, and that of its tree.

@@ -5,7 +5,7 @@ ghost use Rattle.query_json.specs.Writing.{field_tokens, tree_tokens};
 use super::{WriteJson, count_field, list_field, null_field, text_field};
 use json::Writer;
 use std::alloc::{AllocError, Global};
-use trace_model::{Answer, ShownTrace};
+use trace_model::{Answer, AnsweredTrace};
 
 /// The items, with nothing refused.
 fn write_items<T: WriteJson>(alloc: Global, out: &mut Writer, items: &[T]) -> Result<(), AllocError>
@@ -68,7 +68,7 @@ pub(crate) fn write_error(out: &mut Writer, code: u16, msg: &str) -> Result<(), 
 fn write_found(
     alloc: Global,
     out: &mut Writer,
-    trace: &Option<ShownTrace>,
+    trace: &Option<AnsweredTrace>,
 ) -> Result<(), AllocError>
     ensures tokens { OnOk result
         (out.new.tokens ≡ out.old.tokens ++ tree_tokens (found_tree trace.now)) }

@@ -15,7 +15,8 @@ use crate::trace::trace_id_text;
 use crate::values::flags_number;
 use json::Writer;
 use std::alloc::{AllocError, Global};
-use trace_model::{Shown, ShownTrace};
+use trace_adjust::show;
+use trace_model::{AnsweredTrace, Shown, ShownTrace, TraceForm};
 
 fn flags_field(out: &mut Writer, key: &str, flags: &i32) -> Result<(), AllocError>
     ensures tokens { OnOk result (out.new.tokens
@@ -96,5 +97,17 @@ impl WriteJson for ShownTrace {
         null_field(out, "warnings")?;
         out.end_object()?;
         Ok(())
+    }
+}
+
+/// A trace of an answer. Spans that their entries keep are copied for it, and given up behind it.
+impl WriteJson for AnsweredTrace {
+    ghost tree = { trace_tree };
+
+    fn write(&self, alloc: Global, out: &mut Writer) -> Result<(), AllocError> {
+        match self.form() {
+            TraceForm::Ready(made) => made.write(alloc, out),
+            TraceForm::Kept(kept) => show(alloc, kept)?.write(alloc, out),
+        }
     }
 }

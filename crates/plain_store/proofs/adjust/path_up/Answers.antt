@@ -1,4 +1,4 @@
-use Rattle.std.proofs.Common.{◌∙◌, ap, sym, length, rules}
+use Rattle.std.proofs.Common.{length, rules}
 use Rattle.plain_store.specs.Climbing.{path}
 use Rattle.plain_store.proofs.Climbing.{path_more, path_ends, path_out}
 use Rattle.plain_store.proofs.adjust.path_up.Goals as goal

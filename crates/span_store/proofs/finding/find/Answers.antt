@@ -9,7 +9,7 @@ use Rattle.span_store.proofs.finding.find.Goals as goal
 pub returns : goal.returns
 returns c =
     let ts : List (List Placed) = traces_named c.args.traces.now.journal.now.held.entries c.args.traces.now.spots.now in
-    c.in_ok-shown.ensures
-    ∙ ap (map (λ i. adjusted c.args.max_skew (slice_index_or ts i []))) c.deref.ensures.value
-    ∙ sym (map_map (adjusted c.args.max_skew) (λ i. slice_index_or ts i []) c.in_ok-places.places.items)
-    ∙ ap (map (adjusted c.args.max_skew)) c.in_ok-places.ensures.traces
+    c.in_ok-kept.ensures
+    ∙ ap (map (λ i. adjusted c.args.limits.max_skew (slice_index_or ts i []))) c.deref.ensures.value
+    ∙ sym (map_map (adjusted c.args.limits.max_skew) (λ i. slice_index_or ts i []) c.in_ok-places.places.items)
+    ∙ ap (map (adjusted c.args.limits.max_skew)) c.in_ok-places.ensures.traces

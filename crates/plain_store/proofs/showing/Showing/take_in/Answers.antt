@@ -1,7 +1,4 @@
-use Rattle.std.proofs.Common.{◌≡◌, ℕ, List, [], ◌∷◌, ◌++◌, ◌∙◌, ap, sym, subst}
-use Rattle.std.specs.Prelude.{IfOk}
-use Rattle.jaeger_model.specs.declared.placed.Placed.{Placed}
-use Rattle.trace_model.specs.Events.{Event}
+use Rattle.std.proofs.Common.{[], ◌∷◌, ◌++◌, sym, subst}
 use Rattle.plain_store.specs.Happened.{event_of, Shows}
 use Rattle.plain_store.specs.declared.showing.Happening.{Happening}
 use Rattle.plain_store.proofs.Happenings.{once_came, once_limited, if_ok}

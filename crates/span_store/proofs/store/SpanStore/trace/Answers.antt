@@ -2,8 +2,9 @@ use Rattle.std.proofs.Common.{rules, ◌≡◌, ◌∙◌, ◌<◌, Some, None, 
 use Rattle.std.specs.Prelude.{option_map}
 use Rattle.trace_model.specs.Held.{Held}
 use Rattle.trace_model.specs.declared.answer.Answer.TheVariants.{Trace}
-use Rattle.trace_model.specs.Answers.{shown_as}
+use Rattle.trace_model.specs.Adjusting.{shown_as}
 use Rattle.trace_model.specs.Histories.{events}
+use Rattle.trace_model.specs.Keeping.{spans_there}
 use Rattle.trace_model.specs.Showing.{spans_of_trace, trace_found}
 use Rattle.trace_assembly.specs.Rows.{spots_of}
 use Rattle.span_store.proofs.Sharing.{share_processes}
@@ -25,11 +26,12 @@ returns c =
     let spots = c.spots-spots.result in
     let some : 0 < length spots = search rules in
     let named = spots_name held.limits.traces held.entries c.self.inside.ring (spots_of c.self.inside.assembly) c.args.id spots c.self.invariant.follows c.spots-spots.ensures in
-    let shown : c.in_ok-shown.shown ≡ shown_as held.limits c.args.raw c.in_ok-gathered.gathered.spans.items = c.in_ok-shown.ensures ∙ ap (λ l. shown_as l c.args.raw c.in_ok-gathered.gathered.spans.items) (c.limits.ensures ∙ ap (λ (v : Held). v.limits) (sym c.self.view_is)) in
-    subst (λ (v : Held). Trace (Some c.in_ok-shown.shown) ≡ Trace (option_map (shown_as v.limits c.args.raw) (trace_found v.limits.traces (events v.entries) c.args.id))) c.self.view_is
-    (ap Trace (some_found (shown_as held.limits c.args.raw) held.entries spots (spans_of_trace held.limits.traces (events held.entries) c.args.id) c.in_ok-gathered.gathered.spans.items c.in_ok-shown.shown named c.in_ok-gathered.ensures.spans some shown))
+    let there = spans_there c.in_ok-gathered.gathered.spans.items in
+    let shown : c.kept.result ≡ shown_as held.limits c.args.raw there = c.kept.ensures ∙ ap (λ l. shown_as l c.args.raw there) (c.limits.ensures ∙ ap (λ (v : Held). v.limits) (sym c.self.view_is)) in
+    subst (λ (v : Held). Trace (Some c.kept.result) ≡ Trace (option_map (shown_as v.limits c.args.raw) (trace_found v.limits.traces (events v.entries) c.args.id))) c.self.view_is
+    (ap Trace (some_found (shown_as held.limits c.args.raw) held.entries spots (spans_of_trace held.limits.traces (events held.entries) c.args.id) there c.kept.result named c.in_ok-gathered.ensures.spans some shown))
 
-pub shown_as-requires : goal.shown_as-requires
-shown_as-requires c =
+pub kept-requires : goal.kept-requires
+kept-requires c =
     let gathered = c.in_ok-gathered.gathered in
-    share_processes c.self.inside.journal.held.entries gathered.spans.items gathered.places.items c.in_ok-gathered.ensures.places
+    share_processes c.self.inside.journal.held.entries (spans_there gathered.spans.items) gathered.places.items c.in_ok-gathered.ensures.places

@@ -2,7 +2,7 @@ use Rattle.std.proofs.Common.{◌∙◌, sym, subst}
 use Rattle.trace_model.specs.Adjusting.{spans_of}
 use Rattle.trace_model.specs.Sharing.{ShareProcesses}
 use Rattle.trace_model.proofs.SharingShown.{adjusted_shares, unadjusted_shares}
-use Rattle.span_store.proofs.store.shown_as.Goals as goal
+use Rattle.trace_adjust.proofs.showing.shown_as.Goals as goal
 
 pub new-requires : goal.new-requires
 new-requires c =

@@ -1,0 +1,73 @@
+//! Traces of an answer as they are shown: spans that their entries keep are copied.
+
+ghost use Rattle.std.specs.Prelude.{◌≡◌, IfOk};
+ghost use Rattle.trace_model.specs.Adjusting.{shown_as};
+ghost use Rattle.trace_model.specs.Keeping.{spans_there, kept_value, KeptShares};
+ghost use Rattle.trace_model.specs.Sharing.{ShareProcesses};
+
+use crate::skew::adjusted;
+use jaeger_model::{Placed, Seq};
+use span_steps::all_unadjusted;
+use std::alloc::{AllocError, Global};
+use trace_model::{AnsweredTrace, KeptSpan, KeptTrace, Limits, ShownTrace, TraceForm};
+
+/// The spans that are there, copied.
+fn copied(alloc: Global, kept: &[KeptSpan]) -> Result<Vec<Placed>, AllocError>
+    ensures { IfOk result (λ v. v.items ≡ spans_there kept.now) }
+{
+    let mut spans = Vec::with_capacity(alloc, kept.len())?;
+    for span in kept {
+        if let Some(placed) = span.copy(alloc)? {
+            spans.push(placed)?;
+        }
+    }
+    Ok(spans)
+}
+
+/// The spans of a trace, which the entries at these places brought, as they are shown: as they arrived
+/// where `raw` is asked, else adjusted.
+fn shown_as(
+    alloc: Global,
+    spans: Vec<Placed>,
+    places: Vec<u64>,
+    limits: Limits,
+    raw: bool,
+) -> Result<ShownTrace, AllocError>
+    requires { ShareProcesses spans.items places.items }
+    ensures { IfOk result (λ s. s ≡ shown_as limits raw spans.items) }
+{
+    if raw {
+        let shown = all_unadjusted(alloc, spans)?;
+        return Ok(ShownTrace::new(shown, places));
+    }
+    let shown = adjusted(alloc, spans, &places, limits.max_skew)?;
+    Ok(ShownTrace::new(Seq::from_vec(shown), places))
+}
+
+/// A trace whose spans their entries keep, as it is shown. Its spans are copied, and their processes shared.
+///
+/// # Errors
+///
+/// Out of memory, and nothing else.
+pub fn show(alloc: Global, trace: &KeptTrace) -> Result<ShownTrace, AllocError>
+    requires { KeptShares trace.now }
+    ensures { IfOk result (λ t. t ≡ kept_value trace.now) }
+{
+    let spans = copied(alloc, &trace.spans)?;
+    let places = trace.places.clone()?;
+    shown_as(alloc, spans, places, trace.limits, trace.raw)
+}
+
+/// A trace of an answer as it is shown.
+///
+/// # Errors
+///
+/// Out of memory, and nothing else.
+pub fn shown(alloc: Global, trace: AnsweredTrace) -> Result<ShownTrace, AllocError>
+    ensures { IfOk result (λ t. t ≡ trace) }
+{
+    match trace.into_form() {
+        TraceForm::Ready(made) => Ok(made),
+        TraceForm::Kept(kept) => show(alloc, &kept),
+    }
+}
