@@ -241,7 +241,7 @@ def main():
             continue
         half, whole = seen
         print(f"{name:45} {whole[2]:6.2f} {whole[3]:7.2f} {half[0]:7.2f}, {whole[0]:7.2f} {whole[0] / max(half[0], 1e-3):6.1f}"
-              f" {half[1]:6.0f}, {whole[1]:7.0f} {whole[1] / max(half[1], 1e-3):6.1f} {whole[1] / (whole[2] + whole[3]):8.0f}", flush=True)
+              f" {half[1]:6.1f}, {whole[1]:7.1f} {whole[1] / max(half[1], 1e-3):6.1f} {whole[1] / (whole[2] + whole[3]):8.1f}", flush=True)
 
 
 if __name__ == "__main__":

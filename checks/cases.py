@@ -8,6 +8,7 @@ case isn't there). A line is printed for each case that fails, then `N passed, M
 status is 0 only where none failed. cases/README.md says how a case is added.
 """
 
+import argparse
 import re
 import shutil
 import subprocess
@@ -71,7 +72,13 @@ def tried(room):
 
 
 def main():
-    subjects = sys.argv[1:] or sorted(it.name for it in CASES.iterdir() if it.is_dir())
+    asked = argparse.ArgumentParser(description=__doc__, formatter_class=argparse.RawDescriptionHelpFormatter)
+    folders = sorted(it.name for it in CASES.iterdir() if it.is_dir())
+    asked.add_argument("folders", nargs="*", metavar="FOLDER", help="folders of cases/; all where none is named")
+    subjects = asked.parse_args().folders or folders
+    for name in subjects:
+        if name not in folders:
+            asked.error(f"cases/ has no folder {name}")
     wanted = statuses()
     with tempfile.TemporaryDirectory(prefix="cases-") as room:
         names = gather(subjects, room)

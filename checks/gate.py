@@ -57,8 +57,9 @@ def main():
     """Prints the table of the log that is named."""
     if sys.argv[1:] == ["--stamp"]:
         return stamp()
-    if len(sys.argv) != 2:
-        sys.exit(__doc__)
+    if len(sys.argv) != 2 or sys.argv[1] in ("-h", "--help"):
+        print(__doc__)
+        return None
     crates, timed = read(sys.argv[1])
     form = "{:<18}{:<18}{:<18}{:<12}{:>8}{:>12}"
     print(form.format("crate", "proof", "tests", "edits begun", "refused", "not refused"))
