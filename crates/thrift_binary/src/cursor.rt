@@ -1,10 +1,10 @@
 ghost use Rattle.std.specs.Prelude.{◌≡◌, ◌<◌, ◌≤◌, List, ℕ, length, take, drop, [], ◌∷◌, OnOk, IfOk, MatchOption};
 ghost use Rattle.std.specs.Int.{w16, w32, w64};
 ghost use Rattle.thrift_binary.specs.Spelling.{Beginning, IsBool, IsI32, IsI64, IsDouble, IsString, IsFieldHead, IsListHead};
-ghost use Rattle.thrift_binary.specs.Reading.{Reads, bytes_at, byte_at, bool_at, number_at, signed_at, is_code, size_at, string_at, field_at, list_at, map_at};
+ghost use Rattle.thrift_binary.specs.Reading.{Reads, bytes_at, byte_at, bool_at, number_at, signed_at, size_at, string_at, field_at, list_at, map_at};
 
 use crate::fault::WireError;
-use crate::types;
+use crate::types::is_code;
 use byteorder::{BigEndian, ByteOrder};
 use std::marker::Model;
 
@@ -286,21 +286,4 @@ impl<'a> Cursor<'a> {
         }
         Ok((key, value, size))
     }
-}
-
-/// The code is one of the table.
-#[inline]
-pub(crate) fn is_code(code: u8) -> bool
-    ensures { result ≡ is_code code }
-{
-    matches!(
-        code,
-        types::BOOL
-            | types::BYTE
-            | types::DOUBLE
-            | types::I16
-            | types::I32
-            | types::I64
-            | types::STRING..=types::LIST
-    )
 }

@@ -1,4 +1,6 @@
 //! The type codes of the protocol. No other code is a type; 0 in a field's place is the stop byte.
+ghost use Rattle.std.specs.Prelude.{◌≡◌};
+ghost use Rattle.thrift_binary.specs.Reading.{is_code};
 
 /// One byte, 1 for true and 0 for false.
 pub const BOOL: u8 = 2;
@@ -22,3 +24,11 @@ pub const MAP: u8 = 13;
 pub const SET: u8 = 14;
 /// An element type, a size of four bytes, then that many elements.
 pub const LIST: u8 = 15;
+
+/// The code is one of this table.
+#[inline]
+pub fn is_code(code: u8) -> bool
+    ensures table { result ≡ is_code code }
+{
+    matches!(code, BOOL | BYTE | DOUBLE | I16 | I32 | I64 | STRING..=LIST)
+}

@@ -1,28 +1,13 @@
 ghost use Rattle.std.specs.Prelude.{◌≡◌, true, false, List, ℕ, None, Ok};
-ghost use Rattle.thrift_binary.specs.Reading.{is_code, field_at, list_at};
+ghost use Rattle.thrift_binary.specs.Reading.{field_at, list_at};
 ghost use Rattle.wire_pieces.specs.Pieces.{Continues, OkTakes};
 ghost use Rattle.wire_pieces.specs.Heads.{IsTyped, id_from, head_from, typed_size_from, list_head};
 
 use crate::fault::PieceError;
 use crate::numbers::{I16, Size};
 use crate::piece::Piece;
-use thrift_binary::{WireError, types};
-
-/// The code is one of the table ([`thrift_binary::types`]).
-pub fn is_code(code: u8) -> bool
-    ensures table { result ≡ is_code code }
-{
-    matches!(
-        code,
-        types::BOOL
-            | types::BYTE
-            | types::DOUBLE
-            | types::I16
-            | types::I32
-            | types::I64
-            | types::STRING..=types::LIST
-    )
-}
+use thrift_binary::WireError;
+use thrift_binary::types::is_code;
 
 /// The id behind a field's type.
 #[derive(Drop)]

@@ -26,7 +26,7 @@ mod skip;
 mod strings;
 
 pub use fault::PieceError;
-pub use heads::{FieldHead, ListHead, is_code};
+pub use heads::{FieldHead, ListHead};
 pub use maps::MapHead;
 pub use numbers::{Bool, Double, I16, I32, I64, Size, size_of};
 pub use piece::Piece;

@@ -4,10 +4,10 @@ ghost use Rattle.wire_pieces.specs.Pieces.{Continues, OkTakes};
 ghost use Rattle.wire_pieces.specs.Heads.{pair_size_from, pair_head, map_head};
 
 use crate::fault::PieceError;
-use crate::heads::is_code;
 use crate::numbers::Size;
 use crate::piece::Piece;
 use thrift_binary::WireError;
+use thrift_binary::types::is_code;
 
 /// The size behind the types of a map's keys and values.
 #[derive(Drop)]
