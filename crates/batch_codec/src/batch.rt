@@ -4,7 +4,7 @@ ghost use Rattle.batch_codec.specs.BatchReading.{batch_from, batch_at, decoded};
 ghost use Rattle.batch_codec.specs.Decoding.{Decodes, Gives};
 ghost use Rattle.batch_codec.specs.ProcessReading.{process_at};
 
-use crate::fault::{DecodeError, Part};
+use crate::fault::{DecodeError, Decoded, Part};
 use crate::fields::{Slots, read_fields, required};
 use crate::items::read_list;
 use crate::process::read_process;
@@ -44,7 +44,7 @@ impl BatchSlots {
     /// [`DecodeError::Missing`] of the least required field that is missing.
     #[tactic(auto, unfolding(crate::specs::BatchReading::batch_from))]
     #[inline]
-    pub fn whole(self) -> Result<Batch, DecodeError>
+    pub fn whole(self) -> Decoded<Batch>
         ensures exact { result ≡ batch_from self }
     {
         let process = required(self.process, Part::Batch, 1)?;
@@ -59,7 +59,7 @@ impl BatchSlots {
 
 /// The process, to be shared by the spans of its batch.
 #[tactic(auto, unfolding(crate::specs::ProcessReading::process_at))]
-fn read_shared(alloc: Global, cursor: &mut Cursor<'_>) -> Result<SharedProcess, DecodeError>
+fn read_shared(alloc: Global, cursor: &mut Cursor<'_>) -> Decoded<SharedProcess>
     ensures exact { Decodes (λ p. p) process_at cursor.old result cursor.new }
     ensures no_longer { OnOk result (length cursor.new ≤ length cursor.old) }
 {
@@ -73,13 +73,7 @@ impl<'a> Slots<'a> for BatchSlots {
     ghost puts = { take_batch };
 
     #[tactic(auto, unfolding(crate::specs::BatchReading::take_batch))]
-    fn put(
-        &mut self,
-        alloc: Global,
-        code: u8,
-        id: i16,
-        cursor: &mut Cursor<'a>,
-    ) -> Result<(), DecodeError> {
+    fn put(&mut self, alloc: Global, code: u8, id: i16, cursor: &mut Cursor<'a>) -> Decoded<()> {
         match (code, id) {
             (STRUCT, 1) => self.process = Some(read_shared(alloc, cursor)?),
             (LIST, 2) => self.spans = Some(read_list(alloc, cursor)?),
@@ -91,7 +85,7 @@ impl<'a> Slots<'a> for BatchSlots {
 }
 
 #[tactic(auto, unfolding(crate::specs::BatchReading::batch_at))]
-fn read_batch(alloc: Global, cursor: &mut Cursor<'_>) -> Result<Batch, DecodeError>
+fn read_batch(alloc: Global, cursor: &mut Cursor<'_>) -> Decoded<Batch>
     ensures exact { Decodes (λ b. b) batch_at cursor.old result cursor.new }
 {
     let slots = read_fields(alloc, BatchSlots::new(), cursor)?;
@@ -99,7 +93,7 @@ fn read_batch(alloc: Global, cursor: &mut Cursor<'_>) -> Result<Batch, DecodeErr
 }
 
 #[tactic(auto, unfolding(crate::specs::BatchReading::decoded))]
-fn read_whole(alloc: Global, bytes: &[u8]) -> Result<Batch, DecodeError>
+fn read_whole(alloc: Global, bytes: &[u8]) -> Decoded<Batch>
     ensures { Gives result (decoded bytes.now) }
 {
     let mut cursor = Cursor::new(bytes);
@@ -117,7 +111,7 @@ fn read_whole(alloc: Global, bytes: &[u8]) -> Result<Batch, DecodeError>
 ///
 /// The first fault from left to right, or [`DecodeError::Memory`] where there was no memory for the
 /// batch. Nothing is reserved by a size alone that the bytes claim.
-pub fn decode(alloc: Global, bytes: &[u8]) -> Result<Batch, DecodeError>
+pub fn decode(alloc: Global, bytes: &[u8]) -> Decoded<Batch>
     // What is read is spelled so, and what is spelled so is read.
     ensures found { IfOk result (λ b. IsBatch bytes.now b) }
     ensures complete { Answers bytes.now result }

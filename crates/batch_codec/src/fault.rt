@@ -49,6 +49,9 @@ pub enum DecodeError {
     Memory,
 }
 
+/// What reading gives: a value, or the first fault of the bytes.
+pub type Decoded<T> = Result<T, DecodeError>;
+
 impl DecodeError {
     /// The number that names the fault for good.
     pub fn number(self) -> u8

@@ -3,7 +3,7 @@ ghost use Rattle.batch_codec.specs.declared.fault.DecodeError.{DecodeError};
 ghost use Rattle.batch_codec.specs.Decoding.{Takes, Decodes, required, wire};
 ghost use Rattle.thrift_binary.specs.Fields.{fields_at};
 
-use crate::fault::{DecodeError, Part};
+use crate::fault::{DecodeError, Decoded, Part};
 use std::alloc::Global;
 use thrift_binary::Cursor;
 
@@ -12,13 +12,7 @@ pub(crate) trait Slots<'a>: Drop {
     ghost puts: { Self → ℕ → ℤ → List ℕ → Result (Self × List ℕ) DecodeError };
 
     /// Reads the value of a field of this type and id.
-    fn put(
-        &mut self,
-        alloc: Global,
-        code: u8,
-        id: i16,
-        cursor: &mut Cursor<'a>,
-    ) -> Result<(), DecodeError>
+    fn put(&mut self, alloc: Global, code: u8, id: i16, cursor: &mut Cursor<'a>) -> Decoded<()>
         ensures exact { Takes puts self.old code id cursor.old result self.new cursor.new }
         ensures no_longer { OnOk result (length cursor.new ≤ length cursor.old) };
 }
@@ -28,7 +22,7 @@ pub(crate) fn read_fields<'a, S: Slots<'a>>(
     alloc: Global,
     slots: S,
     cursor: &mut Cursor<'a>,
-) -> Result<S, DecodeError>
+) -> Decoded<S>
     ensures exact { Decodes (λ s. s) (fields_at wire S.puts slots) cursor.old result cursor.new }
     ensures shorter { OnOk result (length cursor.new < length cursor.old) }
 {
@@ -41,14 +35,14 @@ pub(crate) fn read_fields<'a, S: Slots<'a>>(
 
 /// The value of a required field, or that it is missing.
 #[inline]
-pub fn required<T>(slot: Option<T>, part: Part, id: u8) -> Result<T, DecodeError>
+pub fn required<T>(slot: Option<T>, part: Part, id: u8) -> Decoded<T>
     ensures { result ≡ required slot part id }
 {
     slot.ok_or(DecodeError::Missing(part, id))
 }
 
 /// Keeps a value that was read in its place.
-pub(crate) fn keep<T: Drop>(slot: &mut T, read: Result<T, DecodeError>) -> Result<(), DecodeError>
+pub(crate) fn keep<T: Drop>(slot: &mut T, read: Decoded<T>) -> Decoded<()>
     ensures kept { (x : T) → read ≡ Ok x → slot.new ≡ x }
     ensures same { (x : T) → read ≡ Ok x → IsOk result }
     ensures refused { (e : DecodeError) → read ≡ Err e → result ≡ Err e }
@@ -58,10 +52,7 @@ pub(crate) fn keep<T: Drop>(slot: &mut T, read: Result<T, DecodeError>) -> Resul
 }
 
 /// The same where the place may be empty.
-pub(crate) fn keep_some<T: Drop>(
-    slot: &mut Option<T>,
-    read: Result<T, DecodeError>,
-) -> Result<(), DecodeError>
+pub(crate) fn keep_some<T: Drop>(slot: &mut Option<T>, read: Decoded<T>) -> Decoded<()>
     ensures kept { (x : T) → read ≡ Ok x → slot.new ≡ Some x }
     ensures same { (x : T) → read ≡ Ok x → IsOk result }
     ensures refused { (e : DecodeError) → read ≡ Err e → result ≡ Err e }

@@ -3,7 +3,7 @@ ghost use Rattle.batch_codec.specs.declared.fault.DecodeError.{DecodeError};
 ghost use Rattle.batch_codec.specs.Decoding.{Decodes, wire};
 ghost use Rattle.thrift_binary.specs.Lists.{items_at, list_of};
 
-use crate::fault::DecodeError;
+use crate::fault::{DecodeError, Decoded};
 use jaeger_model::Seq;
 use std::alloc::Global;
 use thrift_binary::{Cursor, WireError, types};
@@ -15,7 +15,7 @@ pub(crate) trait Element: Drop + Sized {
     /// The least number of bytes of one item.
     fn least() -> usize;
 
-    fn read(alloc: Global, cursor: &mut Cursor<'_>) -> Result<Self, DecodeError>
+    fn read(alloc: Global, cursor: &mut Cursor<'_>) -> Decoded<Self>
         ensures exact { Decodes (λ s. s) reads cursor.old result cursor.new }
         ensures shorter { OnOk result (length cursor.new < length cursor.old) };
 }
@@ -31,11 +31,7 @@ pub fn room(size: u32, left: usize, least: usize) -> usize
     (size as usize).min(held).min(16)
 }
 
-fn read_items<T: Element>(
-    alloc: Global,
-    size: u32,
-    cursor: &mut Cursor<'_>,
-) -> Result<Vec<T>, DecodeError>
+fn read_items<T: Element>(alloc: Global, size: u32, cursor: &mut Cursor<'_>) -> Decoded<Vec<T>>
     ensures exact { Decodes (λ v. v.items) (items_at T.reads size) cursor.old result cursor.new }
     ensures no_longer { OnOk result (length cursor.new ≤ length cursor.old) }
 {
@@ -49,10 +45,7 @@ fn read_items<T: Element>(
 
 /// A list of structs. Nothing is reserved by its size alone, which may be any that the bytes claim.
 #[tactic(auto, unfolding(thrift_binary::specs::Lists::list_of))]
-pub(crate) fn read_list<T: Element>(
-    alloc: Global,
-    cursor: &mut Cursor<'_>,
-) -> Result<Seq<T>, DecodeError>
+pub(crate) fn read_list<T: Element>(alloc: Global, cursor: &mut Cursor<'_>) -> Decoded<Seq<T>>
     ensures exact { Decodes (λ v. v) (list_of wire 12 T.reads) cursor.old result cursor.new }
     ensures no_longer { OnOk result (length cursor.new ≤ length cursor.old) }
 {

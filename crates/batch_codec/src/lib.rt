@@ -31,7 +31,7 @@ mod values;
 mod writer;
 
 pub use batch::{BatchSlots, decode};
-pub use fault::{DecodeError, Part};
+pub use fault::{DecodeError, Decoded, Part};
 pub use fields::required;
 pub use items::room;
 pub use log::{LEAST_LOG, LogSlots};

@@ -1,7 +1,7 @@
 ghost use Rattle.std.specs.Prelude.{◌≡◌};
 ghost use Rattle.batch_codec.specs.LogReading.{log_at, log_from};
 
-use crate::fault::{DecodeError, Part};
+use crate::fault::{Decoded, Part};
 use crate::fields::{Slots, read_fields, required};
 use crate::items::{Element, read_list};
 use crate::values::read_i64;
@@ -41,7 +41,7 @@ impl LogSlots {
     /// [`DecodeError::Missing`] of the least required field that is missing.
     #[tactic(auto, unfolding(crate::specs::LogReading::log_from))]
     #[inline]
-    pub fn whole(self) -> Result<Log, DecodeError>
+    pub fn whole(self) -> Decoded<Log>
         ensures exact { result ≡ log_from self }
     {
         let at = required(self.at, Part::Log, 1)?;
@@ -56,13 +56,7 @@ impl<'a> Slots<'a> for LogSlots {
     ghost puts = { take_log };
 
     #[tactic(auto, unfolding(crate::specs::LogReading::take_log))]
-    fn put(
-        &mut self,
-        alloc: Global,
-        code: u8,
-        id: i16,
-        cursor: &mut Cursor<'a>,
-    ) -> Result<(), DecodeError> {
+    fn put(&mut self, alloc: Global, code: u8, id: i16, cursor: &mut Cursor<'a>) -> Decoded<()> {
         match (code, id) {
             (I64, 1) => self.at = Some(read_i64(cursor)?),
             (LIST, 2) => self.fields = Some(read_list(alloc, cursor)?),
@@ -80,7 +74,7 @@ impl Element for Log {
     }
 
     #[tactic(auto, unfolding(crate::specs::LogReading::log_at))]
-    fn read(alloc: Global, cursor: &mut Cursor<'_>) -> Result<Self, DecodeError> {
+    fn read(alloc: Global, cursor: &mut Cursor<'_>) -> Decoded<Self> {
         let slots = read_fields(alloc, LogSlots::new(), cursor)?;
         slots.whole()
     }

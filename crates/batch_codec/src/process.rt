@@ -2,7 +2,7 @@ ghost use Rattle.std.specs.Prelude.{◌≡◌, ◌≤◌, ◌<◌, length, OnOk}
 ghost use Rattle.batch_codec.specs.Decoding.{Decodes, Gives};
 ghost use Rattle.batch_codec.specs.ProcessReading.{process_at, process_from};
 
-use crate::fault::{DecodeError, Part};
+use crate::fault::{Decoded, Part};
 use crate::fields::{Slots, read_fields, required};
 use crate::items::read_list;
 use crate::values::{TextSlice, read_text};
@@ -24,13 +24,7 @@ impl<'a> Slots<'a> for ProcessSlots<'a> {
     ghost puts = { take_process };
 
     #[tactic(auto, unfolding(crate::specs::ProcessReading::take_process))]
-    fn put(
-        &mut self,
-        alloc: Global,
-        code: u8,
-        id: i16,
-        cursor: &mut Cursor<'a>,
-    ) -> Result<(), DecodeError> {
+    fn put(&mut self, alloc: Global, code: u8, id: i16, cursor: &mut Cursor<'a>) -> Decoded<()> {
         match (code, id) {
             (STRING, 1) => self.service = Some(read_text(cursor)?),
             (LIST, 2) => self.tags = read_list(alloc, cursor)?,
@@ -41,7 +35,7 @@ impl<'a> Slots<'a> for ProcessSlots<'a> {
 }
 
 #[tactic(auto, unfolding(crate::specs::ProcessReading::process_from))]
-fn process_of(alloc: Global, slots: ProcessSlots<'_>) -> Result<Process, DecodeError>
+fn process_of(alloc: Global, slots: ProcessSlots<'_>) -> Decoded<Process>
     ensures { Gives result (process_from slots.entry) }
 {
     let service = required(slots.service, Part::Process, 1)?;
@@ -52,7 +46,7 @@ fn process_of(alloc: Global, slots: ProcessSlots<'_>) -> Result<Process, DecodeE
 }
 
 #[tactic(auto, unfolding(crate::specs::ProcessReading::process_at))]
-pub(crate) fn read_process(alloc: Global, cursor: &mut Cursor<'_>) -> Result<Process, DecodeError>
+pub(crate) fn read_process(alloc: Global, cursor: &mut Cursor<'_>) -> Decoded<Process>
     ensures exact { Decodes (λ p. p) process_at cursor.old result cursor.new }
     ensures no_longer { OnOk result (length cursor.new ≤ length cursor.old) }
 {

@@ -3,7 +3,7 @@ ghost use Rattle.batch_codec.specs.declared.fault.DecodeError.TheVariants.{BadEn
 ghost use Rattle.batch_codec.specs.Decoding.{Decodes};
 ghost use Rattle.batch_codec.specs.ReferenceReading.{reference_at, reference_from, kind_at, kind_of_number};
 
-use crate::fault::{DecodeError, Part};
+use crate::fault::{DecodeError, Decoded, Part};
 use crate::fields::{Slots, read_fields, required};
 use crate::items::Element;
 use crate::values::{read_i32, read_id};
@@ -48,7 +48,7 @@ impl ReferenceSlots {
     /// [`DecodeError::Missing`] of the least required field that is missing.
     #[tactic(auto, unfolding(crate::specs::ReferenceReading::reference_from))]
     #[inline]
-    pub fn whole(self) -> Result<SpanRef, DecodeError>
+    pub fn whole(self) -> Decoded<SpanRef>
         ensures exact { result ≡ reference_from self }
     {
         let kind = required(self.kind, Part::SpanRef, 1)?;
@@ -69,13 +69,7 @@ impl<'a> Slots<'a> for ReferenceSlots {
     ghost puts = { take_reference };
 
     #[tactic(auto, unfolding(crate::specs::ReferenceReading::take_reference))]
-    fn put(
-        &mut self,
-        _alloc: Global,
-        code: u8,
-        id: i16,
-        cursor: &mut Cursor<'a>,
-    ) -> Result<(), DecodeError> {
+    fn put(&mut self, _alloc: Global, code: u8, id: i16, cursor: &mut Cursor<'a>) -> Decoded<()> {
         match (code, id) {
             (I32, 1) => self.kind = Some(read_kind(cursor)?),
             (I64, 2) => self.trace_low = Some(read_id(cursor)?),
@@ -94,7 +88,7 @@ impl<'a> Slots<'a> for ReferenceSlots {
 /// [`DecodeError::BadEnum`] where none has it.
 #[tactic(auto, unfolding(crate::specs::ReferenceReading::kind_of_number))]
 #[inline]
-pub fn kind_of_number(number: i32) -> Result<RefKind, DecodeError>
+pub fn kind_of_number(number: i32) -> Decoded<RefKind>
     ensures exact { result ≡ kind_of_number number }
     ensures fault { IfErr result (λ error. error ≡ BadEnum) }
 {
@@ -112,7 +106,7 @@ pub fn kind_of_number(number: i32) -> Result<RefKind, DecodeError>
 /// The bytes are too few, or no kind has the number.
 #[tactic(auto, unfolding(crate::specs::ReferenceReading::kind_at))]
 #[inline]
-pub fn read_kind(cursor: &mut Cursor<'_>) -> Result<RefKind, DecodeError>
+pub fn read_kind(cursor: &mut Cursor<'_>) -> Decoded<RefKind>
     ensures exact { Decodes (λ k. k) kind_at cursor.old result cursor.new }
     ensures no_longer { OnOk result (length cursor.new ≤ length cursor.old) }
 {
@@ -127,7 +121,7 @@ impl Element for SpanRef {
     }
 
     #[tactic(auto, unfolding(crate::specs::ReferenceReading::reference_at))]
-    fn read(alloc: Global, cursor: &mut Cursor<'_>) -> Result<Self, DecodeError> {
+    fn read(alloc: Global, cursor: &mut Cursor<'_>) -> Decoded<Self> {
         let slots = read_fields(alloc, ReferenceSlots::new(), cursor)?;
         slots.whole()
     }

@@ -2,7 +2,7 @@ ghost use Rattle.std.specs.Prelude.{◌≡◌, ◌≤◌, length, OnOk};
 ghost use Rattle.batch_codec.specs.Decoding.{Decodes, text_at};
 ghost use Rattle.batch_codec.specs.SpanReading.{span_at, span_from};
 
-use crate::fault::{DecodeError, Part};
+use crate::fault::{Decoded, Part};
 use crate::fields::{Slots, keep, keep_some, read_fields, required};
 use crate::items::{Element, read_list};
 use crate::values::{read_i32, read_i64, read_id, read_text};
@@ -59,7 +59,7 @@ impl SpanSlots {
     ///
     /// [`DecodeError::Missing`] of the least required field that is missing.
     #[tactic(auto, unfolding(crate::specs::SpanReading::span_from))]
-    pub fn whole(self) -> Result<Span, DecodeError>
+    pub fn whole(self) -> Decoded<Span>
         ensures exact { result ≡ span_from self }
     {
         let low = required(self.trace_low, Part::Span, 1)?;
@@ -86,7 +86,7 @@ impl SpanSlots {
 }
 
 /// The operation's name, copied from the input.
-fn read_operation(alloc: Global, cursor: &mut Cursor<'_>) -> Result<Text, DecodeError>
+fn read_operation(alloc: Global, cursor: &mut Cursor<'_>) -> Decoded<Text>
     ensures exact { Decodes (λ t. t) text_at cursor.old result cursor.new }
     ensures no_longer { OnOk result (length cursor.new ≤ length cursor.old) }
 {
@@ -99,13 +99,7 @@ impl<'a> Slots<'a> for SpanSlots {
     ghost puts = { take_span };
 
     #[tactic(auto, unfolding(crate::specs::SpanReading::take_span))]
-    fn put(
-        &mut self,
-        alloc: Global,
-        code: u8,
-        id: i16,
-        cursor: &mut Cursor<'a>,
-    ) -> Result<(), DecodeError> {
+    fn put(&mut self, alloc: Global, code: u8, id: i16, cursor: &mut Cursor<'a>) -> Decoded<()> {
         match (code, id) {
             (I64, 1) => keep_some(&mut self.trace_low, read_id(cursor)),
             (I64, 2) => keep_some(&mut self.trace_high, read_id(cursor)),
@@ -131,7 +125,7 @@ impl Element for Span {
     }
 
     #[tactic(auto, unfolding(crate::specs::SpanReading::span_at))]
-    fn read(alloc: Global, cursor: &mut Cursor<'_>) -> Result<Self, DecodeError> {
+    fn read(alloc: Global, cursor: &mut Cursor<'_>) -> Decoded<Self> {
         let slots = read_fields(alloc, SpanSlots::new(alloc), cursor)?;
         slots.whole()
     }
@@ -143,7 +137,7 @@ impl Element for Span {
 ///
 /// The first fault of its bytes, or out of memory.
 #[inline(never)]
-pub fn read_span(alloc: Global, cursor: &mut Cursor<'_>) -> Result<Span, DecodeError>
+pub fn read_span(alloc: Global, cursor: &mut Cursor<'_>) -> Decoded<Span>
     ensures exact { Decodes (λ s. s) span_at cursor.old result cursor.new }
     ensures no_longer { OnOk result (length cursor.new ≤ length cursor.old) }
 {

@@ -3,7 +3,7 @@ ghost use Rattle.batch_codec.specs.declared.fault.DecodeError.TheVariants.{BadEn
 ghost use Rattle.batch_codec.specs.Decoding.{Decodes, Gives};
 ghost use Rattle.batch_codec.specs.TagReading.{tag_at, tag_from, type_at, type_of_number};
 
-use crate::fault::{DecodeError, Part};
+use crate::fault::{DecodeError, Decoded, Part};
 use crate::fields::{Slots, read_fields, required};
 use crate::items::Element;
 use crate::values::{
@@ -64,13 +64,7 @@ impl<'a> Slots<'a> for TagSlots<'a> {
     ghost puts = { take_tag };
 
     #[tactic(auto, unfolding(crate::specs::TagReading::take_tag))]
-    fn put(
-        &mut self,
-        alloc: Global,
-        code: u8,
-        id: i16,
-        cursor: &mut Cursor<'a>,
-    ) -> Result<(), DecodeError> {
+    fn put(&mut self, alloc: Global, code: u8, id: i16, cursor: &mut Cursor<'a>) -> Decoded<()> {
         match (code, id) {
             (STRING, 1) => self.key = Some(read_text(cursor)?),
             (I32, 2) => self.kind = Some(read_type(cursor)?),
@@ -92,7 +86,7 @@ impl<'a> Slots<'a> for TagSlots<'a> {
 /// [`DecodeError::BadEnum`] where none has it.
 #[tactic(auto, unfolding(crate::specs::TagReading::type_of_number))]
 #[inline]
-pub fn type_of_number(number: i32) -> Result<TagType, DecodeError>
+pub fn type_of_number(number: i32) -> Decoded<TagType>
     ensures exact { result ≡ type_of_number number }
     ensures fault { IfErr result (λ error. error ≡ BadEnum) }
 {
@@ -113,7 +107,7 @@ pub fn type_of_number(number: i32) -> Result<TagType, DecodeError>
 /// The bytes are too few, or no type has the number.
 #[tactic(auto, unfolding(crate::specs::TagReading::type_at))]
 #[inline]
-pub fn read_type(cursor: &mut Cursor<'_>) -> Result<TagType, DecodeError>
+pub fn read_type(cursor: &mut Cursor<'_>) -> Decoded<TagType>
     ensures exact { Decodes (λ t. t) type_at cursor.old result cursor.new }
     ensures no_longer { OnOk result (length cursor.new ≤ length cursor.old) }
 {
@@ -121,7 +115,7 @@ pub fn read_type(cursor: &mut Cursor<'_>) -> Result<TagType, DecodeError>
 }
 
 #[tactic(auto, unfolding(crate::specs::TagReading::tag_from))]
-fn tag_of(alloc: Global, slots: TagSlots<'_>) -> Result<Tag, DecodeError>
+fn tag_of(alloc: Global, slots: TagSlots<'_>) -> Decoded<Tag>
     ensures { Gives result (tag_from slots.entry) }
 {
     let key = required(slots.key, Part::Tag, 1)?;
@@ -147,7 +141,7 @@ impl Element for Tag {
     }
 
     #[tactic(auto, unfolding(crate::specs::TagReading::tag_at))]
-    fn read(alloc: Global, cursor: &mut Cursor<'_>) -> Result<Self, DecodeError> {
+    fn read(alloc: Global, cursor: &mut Cursor<'_>) -> Decoded<Self> {
         let slots = read_fields(alloc, TagSlots::new(), cursor)?;
         tag_of(alloc, slots)
     }

@@ -2,7 +2,7 @@ ghost use Rattle.std.specs.Prelude.{◌≡◌, ◌≤◌, ◌<◌, List, ℕ, le
 ghost use Rattle.std.specs.Int.{w64};
 ghost use Rattle.batch_codec.specs.Decoding.{Decodes, bool_at, double_at, i32_at, i64_at, id_at, text_at, binary_at};
 
-use crate::fault::DecodeError;
+use crate::fault::{DecodeError, Decoded};
 use jaeger_model::{Seq, Text};
 use std::alloc::{AllocError, Global};
 use std::marker::Model;
@@ -67,7 +67,7 @@ impl<'a> ByteSlice<'a> {
 /// The bytes are too few, or no bool.
 #[tactic(auto, unfolding(crate::specs::Decoding::bool_at))]
 #[inline]
-pub fn read_bool(cursor: &mut Cursor<'_>) -> Result<bool, DecodeError>
+pub fn read_bool(cursor: &mut Cursor<'_>) -> Decoded<bool>
     ensures exact { Decodes (λ b. b) bool_at cursor.old result cursor.new }
     ensures no_longer { OnOk result (length cursor.new ≤ length cursor.old) }
 {
@@ -81,7 +81,7 @@ pub fn read_bool(cursor: &mut Cursor<'_>) -> Result<bool, DecodeError>
 /// The bytes are too few.
 #[tactic(auto, unfolding(crate::specs::Decoding::double_at))]
 #[inline]
-pub fn read_double(cursor: &mut Cursor<'_>) -> Result<[u8; 8], DecodeError>
+pub fn read_double(cursor: &mut Cursor<'_>) -> Decoded<[u8; 8]>
     ensures exact { Decodes (λ b. b) double_at cursor.old result cursor.new }
     ensures no_longer { OnOk result (length cursor.new ≤ length cursor.old) }
 {
@@ -95,7 +95,7 @@ pub fn read_double(cursor: &mut Cursor<'_>) -> Result<[u8; 8], DecodeError>
 /// The bytes are too few.
 #[tactic(auto, unfolding(crate::specs::Decoding::i32_at))]
 #[inline]
-pub fn read_i32(cursor: &mut Cursor<'_>) -> Result<i32, DecodeError>
+pub fn read_i32(cursor: &mut Cursor<'_>) -> Decoded<i32>
     ensures exact { Decodes (λ z. z) i32_at cursor.old result cursor.new }
     ensures no_longer { OnOk result (length cursor.new ≤ length cursor.old) }
 {
@@ -109,7 +109,7 @@ pub fn read_i32(cursor: &mut Cursor<'_>) -> Result<i32, DecodeError>
 /// The bytes are too few.
 #[tactic(auto, unfolding(crate::specs::Decoding::i64_at))]
 #[inline]
-pub fn read_i64(cursor: &mut Cursor<'_>) -> Result<i64, DecodeError>
+pub fn read_i64(cursor: &mut Cursor<'_>) -> Decoded<i64>
     ensures exact { Decodes (λ z. z) i64_at cursor.old result cursor.new }
     ensures no_longer { OnOk result (length cursor.new ≤ length cursor.old) }
 {
@@ -123,7 +123,7 @@ pub fn read_i64(cursor: &mut Cursor<'_>) -> Result<i64, DecodeError>
 /// The bytes are too few.
 #[tactic(auto, unfolding(crate::specs::Decoding::id_at, crate::specs::Decoding::i64_at))]
 #[inline]
-pub fn read_id(cursor: &mut Cursor<'_>) -> Result<u64, DecodeError>
+pub fn read_id(cursor: &mut Cursor<'_>) -> Decoded<u64>
     ensures exact { Decodes (λ n. n) id_at cursor.old result cursor.new }
     ensures no_longer { OnOk result (length cursor.new ≤ length cursor.old) }
 {
@@ -132,7 +132,7 @@ pub fn read_id(cursor: &mut Cursor<'_>) -> Result<u64, DecodeError>
 
 /// A string, which has to be UTF-8.
 #[tactic(auto, unfolding(crate::specs::Decoding::text_at))]
-pub(crate) fn read_text<'a>(cursor: &mut Cursor<'a>) -> Result<TextSlice<'a>, DecodeError>
+pub(crate) fn read_text<'a>(cursor: &mut Cursor<'a>) -> Decoded<TextSlice<'a>>
     ensures exact { Decodes (λ t. t) text_at cursor.old result cursor.new }
     ensures no_longer { OnOk result (length cursor.new ≤ length cursor.old) }
 {
@@ -145,7 +145,7 @@ pub(crate) fn read_text<'a>(cursor: &mut Cursor<'a>) -> Result<TextSlice<'a>, De
 
 /// A binary: any bytes.
 #[tactic(auto, unfolding(crate::specs::Decoding::binary_at))]
-pub(crate) fn read_binary<'a>(cursor: &mut Cursor<'a>) -> Result<ByteSlice<'a>, DecodeError>
+pub(crate) fn read_binary<'a>(cursor: &mut Cursor<'a>) -> Decoded<ByteSlice<'a>>
     ensures exact { Decodes (λ b. b) binary_at cursor.old result cursor.new }
     ensures no_longer { OnOk result (length cursor.new ≤ length cursor.old) }
 {

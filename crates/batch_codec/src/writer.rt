@@ -8,7 +8,7 @@ ghost use Rattle.batch_codec.specs.CanonBatches.{WritesBatch};
 ghost use Rattle.batch_codec.specs.Canon.{Encodes, fits_length, front_text, text_field, i32_field, i64_field, id_field, double_field, list_field, list_fits, list_if_any, value_type, value_field, value_fits, span_front, span_middle, span_fields, span_fits, canon_process, process_fits, number_if_any, canon, batch_fits};
 ghost use Rattle.batch_codec.specs.Proper.{AreProper, IsProperValue, IsProperFront, IsProperMiddle, IsProperSpan, IsProperProcess, IsProperNumber, IsProper};
 
-use crate::fault::DecodeError;
+use crate::fault::{DecodeError, Decoded};
 use jaeger_model::{Batch, Log, Process, RefKind, Span, SpanRef, Tag, TagValue, ValueRef};
 use std::alloc::Global;
 use thrift_binary::{Out, WireError, WriteError, types};
@@ -301,7 +301,7 @@ fn write_batch(out: &mut Out, batch: &Batch) -> Result<(), WriteError>
 ///
 /// [`WireError::BadLength`] where a length or a size is above 2,147,483,647, and only there; else want of
 /// memory alone. The output is given up then.
-pub fn encode(alloc: Global, batch: &Batch) -> Result<Vec<u8>, DecodeError>
+pub fn encode(alloc: Global, batch: &Batch) -> Decoded<Vec<u8>>
     ensures writes { WritesBatch batch.now result }
 
     // What is written spells the batch, all of the bytes, so that decoding them gives it again.

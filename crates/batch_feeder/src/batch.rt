@@ -13,7 +13,7 @@ use crate::process::ProcessParts;
 use crate::skipped::SkipPart;
 use crate::structs::Struct;
 use crate::values::I64Part;
-use batch_codec::{BatchSlots, DecodeError, SpanSlots, read_i64};
+use batch_codec::{BatchSlots, Decoded, SpanSlots, read_i64};
 use jaeger_model::{Batch, SharedProcess};
 use std::alloc::Global;
 use thrift_binary::Cursor;
@@ -38,7 +38,7 @@ fn share(
     slot: &mut Option<SharedProcess>,
     alloc: Global,
     piece: &mut Piece<'_>,
-) -> Result<bool, DecodeError>
+) -> Decoded<bool>
     ensures continues { Sets
         (struct_from take_process process_continues process_from part.old.slots part.old.step)
         (struct_from take_process process_continues process_from part.new.slots part.new.step)
@@ -63,7 +63,7 @@ fn enter_process(
     next: &mut Option<Step<BatchHeld>>,
     alloc: Global,
     piece: &mut Piece<'_>,
-) -> Result<bool, DecodeError>
+) -> Decoded<bool>
     ensures continues { Opens (take_batch slots.old 12 (pos 1)) (batch_continues slots.new)
         slots.new next.new piece.old piece.new result }
     ensures no_longer { OnOk result (length piece.new ≤ length piece.old) }
@@ -93,7 +93,7 @@ fn enter_spans(
     next: &mut Option<Step<BatchHeld>>,
     alloc: Global,
     piece: &mut Piece<'_>,
-) -> Result<bool, DecodeError>
+) -> Decoded<bool>
     ensures continues { Opens (take_batch slots.old 15 (pos 2)) (batch_continues slots.new)
         slots.new next.new piece.old piece.new result }
     ensures no_longer { OnOk result (length piece.new ≤ length piece.old) }
@@ -145,13 +145,7 @@ impl Slots for BatchSlots {
 
     #[tactic(auto, unfolding(batch_codec::specs::BatchReading::take_batch))]
     #[inline(always)]
-    fn put(
-        &mut self,
-        code: u8,
-        id: i16,
-        _alloc: Global,
-        cursor: &mut Cursor<'_>,
-    ) -> Result<bool, DecodeError> {
+    fn put(&mut self, code: u8, id: i16, _alloc: Global, cursor: &mut Cursor<'_>) -> Decoded<bool> {
         match (code, id) {
             (I64, 3) => self.seq_no = Some(read_i64(cursor)?),
             _ => return Ok(false),
@@ -174,7 +168,7 @@ impl Slots for BatchSlots {
         held: &mut BatchHeld,
         alloc: Global,
         piece: &mut Piece<'_>,
-    ) -> Result<bool, DecodeError> {
+    ) -> Decoded<bool> {
         match held {
             BatchHeld::Process(part) => share(part, &mut self.process, alloc, piece),
             BatchHeld::Spans(part) => part.set(&mut self.spans, alloc, piece),
@@ -192,7 +186,7 @@ impl Slots for BatchSlots {
     }
 
     #[inline(always)]
-    fn whole(self) -> Result<Batch, DecodeError> {
+    fn whole(self) -> Decoded<Batch> {
         BatchSlots::whole(self)
     }
 
@@ -211,7 +205,7 @@ impl Fields for BatchSlots {
         id: i16,
         alloc: Global,
         piece: &mut Piece<'_>,
-    ) -> Result<bool, DecodeError> {
+    ) -> Decoded<bool> {
         match (code, id) {
             (STRUCT, 1) => enter_process(self, next, alloc, piece),
             (LIST, 2) => enter_spans(self, next, alloc, piece),
@@ -220,7 +214,7 @@ impl Fields for BatchSlots {
     }
 
     #[inline(always)]
-    fn read_whole(_alloc: Global, _cursor: &mut Cursor<'_>) -> Result<Option<Batch>, DecodeError> {
+    fn read_whole(_alloc: Global, _cursor: &mut Cursor<'_>) -> Decoded<Option<Batch>> {
         Ok(None)
     }
 }

@@ -4,7 +4,7 @@ ghost use Rattle.batch_codec.specs.ReferenceReading.{kind_at};
 ghost use Rattle.batch_feeder.specs.Values.{type_part, kind_part};
 
 use crate::partial::Partial;
-use batch_codec::{DecodeError, TagType, kind_of_number, type_of_number};
+use batch_codec::{Decoded, TagType, kind_of_number, type_of_number};
 use jaeger_model::RefKind;
 use std::alloc::Global;
 use wire_pieces::{I32, Piece};
@@ -20,11 +20,7 @@ impl Partial for TypePart {
 
     ghost resumes = { type_part };
 
-    fn more(
-        &mut self,
-        _alloc: Global,
-        piece: &mut Piece<'_>,
-    ) -> Result<Option<TagType>, DecodeError> {
+    fn more(&mut self, _alloc: Global, piece: &mut Piece<'_>) -> Decoded<Option<TagType>> {
         let Some(number) = self.part.more(piece) else {
             return Ok(None);
         };
@@ -54,11 +50,7 @@ impl Partial for KindPart {
 
     ghost resumes = { kind_part };
 
-    fn more(
-        &mut self,
-        _alloc: Global,
-        piece: &mut Piece<'_>,
-    ) -> Result<Option<RefKind>, DecodeError> {
+    fn more(&mut self, _alloc: Global, piece: &mut Piece<'_>) -> Decoded<Option<RefKind>> {
         let Some(number) = self.part.more(piece) else {
             return Ok(None);
         };

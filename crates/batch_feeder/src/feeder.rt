@@ -9,7 +9,7 @@ ghost use Rattle.batch_feeder.specs.Feeding.{IsSettled, IsBetweenFields, Holds, 
 
 use crate::partial::Item;
 use crate::structs::Struct;
-use batch_codec::{BatchSlots, DecodeError};
+use batch_codec::{BatchSlots, DecodeError, Decoded};
 use jaeger_model::Batch;
 use std::alloc::Global;
 use thrift_binary::{WireError, types};
@@ -51,7 +51,7 @@ fn refuse(state: &mut State, error: DecodeError)
 }
 
 /// Nothing follows the batch.
-fn end_of(left: &Piece<'_>) -> Result<(), DecodeError>
+fn end_of(left: &Piece<'_>) -> Decoded<()>
     ensures { Ends left.now result }
 {
     if left.is_empty() {
@@ -61,7 +61,7 @@ fn end_of(left: &Piece<'_>) -> Result<(), DecodeError>
 }
 
 /// Continues over a piece. A refusal leaves the state to be given up.
-fn advance(state: &mut State, alloc: Global, piece: &[u8]) -> Result<(), DecodeError>
+fn advance(state: &mut State, alloc: Global, piece: &[u8]) -> Decoded<()>
     requires { IsSettled state.old }
     ensures { Advances state.old state.new piece.now result }
 {
@@ -89,7 +89,7 @@ fn advance_or_refuse(
     wanted: &mut usize,
     alloc: Global,
     piece: &[u8],
-) -> Result<(), DecodeError>
+) -> Decoded<()>
     requires { IsSettled state.old }
     ensures feeds { Feeds (answers_of state.old) (answers_of state.new) piece.now result }
     ensures settled { IsSettled state.new }
@@ -106,6 +106,24 @@ fn advance_or_refuse(
             Ok(())
         }
     }
+}
+
+/// Continues over the bytes that wait, and none waits from there on.
+fn advance_over_waiting(
+    state: &mut State,
+    waiting: &mut Vec<u8>,
+    wanted: &mut usize,
+    alloc: Global,
+) -> Decoded<()>
+    requires { IsSettled state.old }
+    ensures feeds { Feeds (answers_of state.old) (answers_of state.new) waiting.old.items result }
+    ensures settled { IsSettled state.new }
+    ensures holds { Holds state.new [] wanted.new }
+    ensures empty { waiting.new.items ≡ [] }
+{
+    let result = advance_or_refuse(state, wanted, alloc, waiting.as_slice());
+    waiting.clear();
+    result
 }
 
 /// A byte is wanted where it stands between two fields of the innermost struct that has begun.
@@ -217,7 +235,7 @@ impl Feeder {
     /// The first fault of the bytes so far, as soon as its last byte has come, unless it is that they may be too few;
     /// or [`DecodeError::Memory`]. It is answered from now on, whatever comes: memory doesn't run out for a feeder that
     /// has refused.
-    pub fn feed(&mut self, alloc: Global, piece: &[u8]) -> Result<(), DecodeError>
+    pub fn feed(&mut self, alloc: Global, piece: &[u8]) -> Decoded<()>
         ensures feeds { Feeds (answers self.old) (answers self.new) piece.now result }
     {
         if let [byte] = piece {
@@ -228,7 +246,7 @@ impl Feeder {
 
     /// Takes a piece that isn't one byte: a short one byte by byte, since it is likely to end inside a field.
     #[inline(never)]
-    fn feed_bytes(&mut self, alloc: Global, piece: &[u8]) -> Result<(), DecodeError>
+    fn feed_bytes(&mut self, alloc: Global, piece: &[u8]) -> Decoded<()>
         ensures feeds { Feeds (answers self.old) (answers self.new) piece.now result }
     {
         if piece.is_empty() || piece.len() > SHORT {
@@ -242,7 +260,7 @@ impl Feeder {
 
     /// Takes a byte.
     #[inline(always)]
-    fn feed_byte(&mut self, alloc: Global, byte: u8) -> Result<(), DecodeError>
+    fn feed_byte(&mut self, alloc: Global, byte: u8) -> Decoded<()>
         ensures feeds { Feeds (answers self.old) (answers self.new) (byte ∷ []) result }
     {
         if self.wanted > 1 && self.waiting.len() < self.waiting.capacity() {
@@ -255,7 +273,7 @@ impl Feeder {
 
     /// Takes a byte that is looked at, or that there may be no room for.
     #[inline(never)]
-    fn feed_slowly(&mut self, alloc: Global, byte: u8) -> Result<(), DecodeError>
+    fn feed_slowly(&mut self, alloc: Global, byte: u8) -> Decoded<()>
         ensures feeds { Feeds (answers self.old) (answers self.new) (byte ∷ []) result }
     {
         if self.wanted > 1 {
@@ -265,7 +283,7 @@ impl Feeder {
     }
 
     /// Keeps a byte that shows no fault.
-    fn wait(&mut self, byte: u8) -> Result<(), DecodeError>
+    fn wait(&mut self, byte: u8) -> Decoded<()>
         requires { 1 < self.old.wanted }
         ensures feeds { Feeds (answers self.old) (answers self.new) (byte ∷ []) result }
     {
@@ -279,7 +297,7 @@ impl Feeder {
     }
 
     /// Takes the last byte that is wanted, or one where none is, which takes no memory to be kept.
-    fn feed_last(&mut self, alloc: Global, byte: u8) -> Result<(), DecodeError>
+    fn feed_last(&mut self, alloc: Global, byte: u8) -> Decoded<()>
         requires { self.old.wanted ≤ 1 }
         ensures feeds { Feeds (answers self.old) (answers self.new) (byte ∷ []) result }
     {
@@ -294,21 +312,14 @@ impl Feeder {
                     self.wanted = more;
                     return Ok(());
                 }
-                let result = advance_or_refuse(
-                    &mut self.state,
-                    &mut self.wanted,
-                    alloc,
-                    self.waiting.as_slice(),
-                );
-                self.waiting.clear();
-                result
+                advance_over_waiting(&mut self.state, &mut self.waiting, &mut self.wanted, alloc)
             }
         }
     }
 
     /// Refuses whatever comes.
     #[inline(never)]
-    fn give_up(&mut self, error: DecodeError) -> Result<(), DecodeError>
+    fn give_up(&mut self, error: DecodeError) -> Decoded<()>
         requires { error ≡ Wire Truncated → ⊥ }
         ensures refuses { result ≡ Err error }
         ensures stays { (w : List ℕ) → answers self.new w ≡ Err error }
@@ -321,7 +332,7 @@ impl Feeder {
 
     /// Takes a piece that is read where it stands, behind what waits.
     #[inline(never)]
-    fn feed_long(&mut self, alloc: Global, piece: &[u8]) -> Result<(), DecodeError>
+    fn feed_long(&mut self, alloc: Global, piece: &[u8]) -> Decoded<()>
         ensures feeds { Feeds (answers self.old) (answers self.new) piece.now result }
     {
         match self.read_waiting(alloc) {
@@ -331,21 +342,14 @@ impl Feeder {
     }
 
     /// Reads what waits.
-    fn read_waiting(&mut self, alloc: Global) -> Result<(), DecodeError>
+    fn read_waiting(&mut self, alloc: Global) -> Decoded<()>
         ensures keeps { Keeps (answers self.old) (answers self.new) result }
         ensures empty { self.new.waiting.items ≡ [] }
     {
         if self.waiting.is_empty() {
             return Ok(());
         }
-        let result = advance_or_refuse(
-            &mut self.state,
-            &mut self.wanted,
-            alloc,
-            self.waiting.as_slice(),
-        );
-        self.waiting.clear();
-        result
+        advance_over_waiting(&mut self.state, &mut self.waiting, &mut self.wanted, alloc)
     }
 
     /// What decoding answers of the pieces: the batch that they spell, all of the bytes, or the first fault. It takes
@@ -354,7 +358,7 @@ impl Feeder {
     /// # Errors
     ///
     /// What [`Feeder::feed`] refused, where it did; otherwise that the bytes are too few.
-    pub fn finish(self) -> Result<Batch, DecodeError>
+    pub fn finish(self) -> Decoded<Batch>
         ensures gives { result ≡ answers self [] }
     {
         let state = self.state;
@@ -374,7 +378,7 @@ impl Feeder {
 /// # Errors
 ///
 /// The first fault from left to right, or [`DecodeError::Memory`].
-pub fn decode_pieces(alloc: Global, pieces: &[Vec<u8>]) -> Result<Batch, DecodeError>
+pub fn decode_pieces(alloc: Global, pieces: &[Vec<u8>]) -> Decoded<Batch>
     ensures gives { Gives result (decoded (flat_map (λ p. p.items) pieces.now)) }
 {
     let mut feeder = Feeder::new(alloc);

@@ -12,7 +12,7 @@ ghost use Rattle.batch_feeder.specs.Fields.{IsFresh, Opens, Reads, fields_from, 
 ghost use Rattle.batch_feeder.specs.LeastBytes.{IsPart, least_bytes};
 
 use crate::partial::fault_of;
-use batch_codec::DecodeError;
+use batch_codec::{DecodeError, Decoded};
 use std::alloc::Global;
 use thrift_binary::{Cursor, WireError};
 use wire_pieces::{FieldHead, Piece};
@@ -44,13 +44,7 @@ pub(crate) trait Slots: Drop + Sized {
         ensures { result ≡ none };
 
     /// Reads the value of a field that is whole: whether it did. A list and a value that is read past are left.
-    fn put(
-        &mut self,
-        code: u8,
-        id: i16,
-        alloc: Global,
-        cursor: &mut Cursor<'_>,
-    ) -> Result<bool, DecodeError>
+    fn put(&mut self, code: u8, id: i16, alloc: Global, cursor: &mut Cursor<'_>) -> Decoded<bool>
         ensures tries { Tries (takes self.old code id) self.old self.new
             cursor.old cursor.new result }
         ensures no_longer { OnOk result (length cursor.new ≤ length cursor.old) };
@@ -61,12 +55,7 @@ pub(crate) trait Slots: Drop + Sized {
         ensures fresh { (w : List ℕ) → resumes self.now result w ≡ takes self.now code id w };
 
     /// Continues over a piece inside the value of a field: whether it is whole.
-    fn more(
-        &mut self,
-        held: &mut Self::Held,
-        alloc: Global,
-        piece: &mut Piece<'_>,
-    ) -> Result<bool, DecodeError>
+    fn more(&mut self, held: &mut Self::Held, alloc: Global, piece: &mut Piece<'_>) -> Decoded<bool>
         ensures continues { ContinuesTo self.new (resumes self.old held.old)
             (resumes self.new held.new) piece.old piece.new result }
         ensures no_longer { OnOk result (length piece.new ≤ length piece.old) };
@@ -76,7 +65,7 @@ pub(crate) trait Slots: Drop + Sized {
         ensures wants { result ≡ true → (s : Self) (w : List ℕ) → IsPart w →
             resumes s held.now w ≡ Err (Wire Truncated) };
 
-    fn whole(self) -> Result<Self::Output, DecodeError>
+    fn whole(self) -> Decoded<Self::Output>
         ensures { result ≡ makes self };
 
     /// The faults of a field's value have places.
@@ -99,17 +88,14 @@ pub(crate) trait Fields: Slots {
         id: i16,
         alloc: Global,
         piece: &mut Piece<'_>,
-    ) -> Result<bool, DecodeError>
+    ) -> Decoded<bool>
         requires { is_code code ≡ true }
         ensures continues { Opens (Self.takes self.old code id) (Self.resumes self.new)
             self.new next.new piece.old piece.new result }
         ensures no_longer { OnOk result (length piece.new ≤ length piece.old) };
 
     /// Reads the struct where it is whole, or leaves it to the way that continues over pieces.
-    fn read_whole(
-        alloc: Global,
-        cursor: &mut Cursor<'_>,
-    ) -> Result<Option<Self::Output>, DecodeError>
+    fn read_whole(alloc: Global, cursor: &mut Cursor<'_>) -> Decoded<Option<Self::Output>>
         ensures attempts { Attempts (struct_at Self.takes Self.none Self.makes)
             cursor.old cursor.new result }
         ensures no_longer { OnOk result (length cursor.new ≤ length cursor.old) };
@@ -153,11 +139,7 @@ pub(crate) fn is_truncated(error: DecodeError) -> bool
 
 /// Reads whole fields where they stand, from the first byte of a head on.
 #[inline(always)]
-fn read_fields<S: Slots>(
-    slots: &mut S,
-    alloc: Global,
-    piece: &mut Piece<'_>,
-) -> Result<FieldsEnd, DecodeError>
+fn read_fields<S: Slots>(slots: &mut S, alloc: Global, piece: &mut Piece<'_>) -> Decoded<FieldsEnd>
     ensures reads { Reads S.takes slots.old slots.new piece.old piece.new result }
     ensures no_longer { OnOk result (length piece.new ≤ length piece.old) }
 {
@@ -205,7 +187,7 @@ pub(crate) fn enter_slowly<S: Slots>(
     id: i16,
     alloc: Global,
     piece: &mut Piece<'_>,
-) -> Result<bool, DecodeError>
+) -> Decoded<bool>
     requires { is_code code ≡ true }
     ensures continues { Opens (S.takes slots.old code id) (S.resumes slots.new) slots.new next.new
         piece.old piece.new result }
@@ -228,7 +210,7 @@ fn enter_head<S: Slots>(
     _slots: &S,
     next: &mut Option<Step<S::Held>>,
     piece: &mut Piece<'_>,
-) -> Result<bool, DecodeError>
+) -> Decoded<bool>
     requires { field_at piece.old ≡ Err Truncated }
     ensures continues { Enters (fields_at wire S.takes _slots.now)
         (fields_from S.takes S.resumes _slots.now) _slots.now next.new piece.old piece.new result }
@@ -251,7 +233,7 @@ pub(crate) fn enter_fields<S: Fields>(
     next: &mut Option<Step<S::Held>>,
     alloc: Global,
     piece: &mut Piece<'_>,
-) -> Result<bool, DecodeError>
+) -> Decoded<bool>
     ensures continues { Enters (fields_at wire S.takes slots.old)
         (fields_from S.takes S.resumes slots.new) slots.new next.new piece.old piece.new result }
     ensures no_longer { OnOk result (length piece.new ≤ length piece.old) }
@@ -295,7 +277,7 @@ fn hold_fields<S: Fields>(
     step: &mut Step<S::Held>,
     alloc: Global,
     piece: &mut Piece<'_>,
-) -> Result<bool, DecodeError>
+) -> Decoded<bool>
     ensures continues { ContinuesTo slots.new (fields_at wire S.takes slots.old)
         (fields_from S.takes S.resumes slots.new step.new)
         piece.old piece.new result }
@@ -316,7 +298,7 @@ fn hold_field<S: Fields>(
     id: i16,
     alloc: Global,
     piece: &mut Piece<'_>,
-) -> Result<bool, DecodeError>
+) -> Decoded<bool>
     requires { is_code code ≡ true }
     ensures continues { ContinuesTo slots.new
         (fields_value wire S.takes (S.takes slots.old code id))
@@ -342,7 +324,7 @@ fn read_on<S: Fields>(
     step: &mut Step<S::Held>,
     alloc: Global,
     piece: &mut Piece<'_>,
-) -> Result<bool, DecodeError>
+) -> Decoded<bool>
     requires { IsFresh S.takes S.resumes step.old }
     ensures continues { ContinuesTo slots.new (fields_at wire S.takes slots.old)
         (fields_from S.takes S.resumes slots.new step.new)
@@ -369,7 +351,7 @@ pub(crate) fn more_fields<S: Fields>(
     step: &mut Step<S::Held>,
     alloc: Global,
     piece: &mut Piece<'_>,
-) -> Result<bool, DecodeError>
+) -> Decoded<bool>
     ensures continues { ContinuesTo slots.new (fields_from S.takes S.resumes slots.old step.old)
         (fields_from S.takes S.resumes slots.new step.new) piece.old piece.new result }
     ensures no_longer { OnOk result (length piece.new ≤ length piece.old) }

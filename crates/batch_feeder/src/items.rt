@@ -9,7 +9,7 @@ ghost use Rattle.batch_feeder.specs.Lists.{items_behind, items_ended, list_from}
 ghost use Rattle.batch_feeder.specs.LeastBytes.{IsPart};
 
 use crate::partial::{Item, fault_of};
-use batch_codec::{DecodeError, room};
+use batch_codec::{DecodeError, Decoded, room};
 use jaeger_model::Seq;
 use std::alloc::Global;
 use std::mem;
@@ -23,7 +23,7 @@ fn begin_items<P: Item>(
     one: &mut Option<P>,
     alloc: Global,
     piece: &mut Piece<'_>,
-) -> Result<bool, DecodeError>
+) -> Decoded<bool>
     ensures continues { Enters (items_behind P.reads items.old.items left.old)
         (λ p. items_from P.reads items.new.items left.new (P.Partial.resumes p))
         items.new.items one.new piece.old piece.new result }
@@ -48,7 +48,7 @@ fn next_items<P: Item>(
     one: &mut P,
     alloc: Global,
     piece: &mut Piece<'_>,
-) -> Result<bool, DecodeError>
+) -> Decoded<bool>
     ensures continues { ContinuesTo items.new.items
         (items_ended P.reads items.old.items left.old (P.ends one.old))
         (items_from P.reads items.new.items left.new (P.Partial.resumes one.new))
@@ -110,13 +110,7 @@ impl<P: Item> ListPart<P> {
 
     /// Continues behind the head of a list.
     #[inline]
-    fn enter(
-        &mut self,
-        code: u8,
-        size: u32,
-        alloc: Global,
-        piece: &mut Piece<'_>,
-    ) -> Result<bool, DecodeError>
+    fn enter(&mut self, code: u8, size: u32, alloc: Global, piece: &mut Piece<'_>) -> Decoded<bool>
         ensures continues { ContinuesTo self.new.items.items
             (behind_head wire 12 P.reads (code, size))
             (list_from P.reads P.Partial.resumes self.new.items.items self.new.left self.new.head
@@ -137,7 +131,7 @@ impl<P: Item> ListPart<P> {
 
     /// Continues over a piece.
     #[inline(always)]
-    fn go_on(&mut self, alloc: Global, piece: &mut Piece<'_>) -> Result<bool, DecodeError>
+    fn go_on(&mut self, alloc: Global, piece: &mut Piece<'_>) -> Decoded<bool>
         ensures continues { ContinuesTo self.new.items.items
             (list_from P.reads P.Partial.resumes self.old.items.items self.old.left self.old.head
             self.old.one)
@@ -165,7 +159,7 @@ impl<P: Item> ListPart<P> {
         slot: &mut Seq<P::Value>,
         alloc: Global,
         piece: &mut Piece<'_>,
-    ) -> Result<Option<Self>, DecodeError>
+    ) -> Decoded<Option<Self>>
         ensures continues { Lays (list_of wire 12 P.reads)
             (λ p. list_from P.reads P.Partial.resumes p.items.items p.left p.head p.one)
             slot.old slot.new piece.old piece.new result }
@@ -186,7 +180,7 @@ impl<P: Item> ListPart<P> {
         slot: &mut Seq<P::Value>,
         alloc: Global,
         piece: &mut Piece<'_>,
-    ) -> Result<bool, DecodeError>
+    ) -> Decoded<bool>
         ensures continues { Places (list_from P.reads P.Partial.resumes
             self.old.items.items self.old.left self.old.head self.old.one)
             (list_from P.reads P.Partial.resumes
@@ -208,7 +202,7 @@ impl<P: Item> ListPart<P> {
         slot: &mut Option<Seq<P::Value>>,
         alloc: Global,
         piece: &mut Piece<'_>,
-    ) -> Result<bool, DecodeError>
+    ) -> Decoded<bool>
         ensures continues { Sets (list_from P.reads P.Partial.resumes
             self.old.items.items self.old.left self.old.head self.old.one)
             (list_from P.reads P.Partial.resumes

@@ -10,7 +10,7 @@ use crate::skipped::SkipPart;
 use crate::structs::Struct;
 use crate::tag::TagParts;
 use crate::values::I64Part;
-use batch_codec::{DecodeError, LEAST_LOG, LogSlots, read_i64};
+use batch_codec::{Decoded, LEAST_LOG, LogSlots, read_i64};
 use jaeger_model::Log;
 use std::alloc::Global;
 use thrift_binary::Cursor;
@@ -33,7 +33,7 @@ fn enter_log_fields(
     next: &mut Option<Step<LogHeld>>,
     alloc: Global,
     piece: &mut Piece<'_>,
-) -> Result<bool, DecodeError>
+) -> Decoded<bool>
     ensures continues { Opens (take_log slots.old 15 (pos 2)) (log_continues slots.new) slots.new
         next.new piece.old piece.new result }
     ensures no_longer { OnOk result (length piece.new ≤ length piece.old) }
@@ -85,13 +85,7 @@ impl Slots for LogSlots {
 
     #[tactic(auto, unfolding(batch_codec::specs::LogReading::take_log))]
     #[inline(always)]
-    fn put(
-        &mut self,
-        code: u8,
-        id: i16,
-        _alloc: Global,
-        cursor: &mut Cursor<'_>,
-    ) -> Result<bool, DecodeError> {
+    fn put(&mut self, code: u8, id: i16, _alloc: Global, cursor: &mut Cursor<'_>) -> Decoded<bool> {
         match (code, id) {
             (I64, 1) => self.at = Some(read_i64(cursor)?),
             _ => return Ok(false),
@@ -108,12 +102,7 @@ impl Slots for LogSlots {
         }
     }
 
-    fn more(
-        &mut self,
-        held: &mut LogHeld,
-        alloc: Global,
-        piece: &mut Piece<'_>,
-    ) -> Result<bool, DecodeError> {
+    fn more(&mut self, held: &mut LogHeld, alloc: Global, piece: &mut Piece<'_>) -> Decoded<bool> {
         match held {
             LogHeld::At(part) => set(part, &mut self.at, alloc, piece),
             LogHeld::Fields(part) => part.set(&mut self.fields, alloc, piece),
@@ -129,7 +118,7 @@ impl Slots for LogSlots {
     }
 
     #[inline(always)]
-    fn whole(self) -> Result<Log, DecodeError> {
+    fn whole(self) -> Decoded<Log> {
         LogSlots::whole(self)
     }
 
@@ -148,7 +137,7 @@ impl Fields for LogSlots {
         id: i16,
         alloc: Global,
         piece: &mut Piece<'_>,
-    ) -> Result<bool, DecodeError> {
+    ) -> Decoded<bool> {
         match (code, id) {
             (LIST, 2) => enter_log_fields(self, next, alloc, piece),
             _ => enter_slowly(self, next, code, id, alloc, piece),
@@ -156,7 +145,7 @@ impl Fields for LogSlots {
     }
 
     #[inline(always)]
-    fn read_whole(_alloc: Global, _cursor: &mut Cursor<'_>) -> Result<Option<Log>, DecodeError> {
+    fn read_whole(_alloc: Global, _cursor: &mut Cursor<'_>) -> Decoded<Option<Log>> {
         Ok(None)
     }
 }

@@ -6,7 +6,7 @@ ghost use Rattle.batch_codec.specs.Decoding.{Reading};
 ghost use Rattle.batch_feeder.specs.LeastBytes.{IsPart};
 ghost use Rattle.batch_feeder.specs.Continuing.{Arrives, BeginsValue, Continues, Places, Sets, fault_of};
 
-use batch_codec::DecodeError;
+use batch_codec::{DecodeError, Decoded};
 use std::alloc::Global;
 use wire_pieces::{Piece, PieceError};
 
@@ -18,11 +18,7 @@ pub(crate) trait Partial: Drop + Sized {
     ghost resumes: { Self → List ℕ → Result (Self.Value × List ℕ) DecodeError };
 
     /// Continues over a piece: the value where it is whole, and nothing where the piece ends before.
-    fn more(
-        &mut self,
-        alloc: Global,
-        piece: &mut Piece<'_>,
-    ) -> Result<Option<Self::Value>, DecodeError>
+    fn more(&mut self, alloc: Global, piece: &mut Piece<'_>) -> Decoded<Option<Self::Value>>
         ensures continues { Continues (resumes self.old) (resumes self.new)
             piece.old piece.new result }
         ensures no_longer { OnOk result (length piece.new ≤ length piece.old) };
@@ -48,18 +44,18 @@ pub(crate) trait Item: Partial {
         part: &mut Option<Self>,
         alloc: Global,
         piece: &mut Piece<'_>,
-    ) -> Result<Option<Self::Value>, DecodeError>
+    ) -> Decoded<Option<Self::Value>>
         ensures continues { BeginsValue reads Self.resumes part.new piece.old piece.new result }
         ensures no_longer { OnOk result (length piece.new ≤ length piece.old) };
 
     /// Continues over a piece: whether all bytes of the value have come, which is then to be taken.
-    fn arrive(&mut self, alloc: Global, piece: &mut Piece<'_>) -> Result<bool, DecodeError>
+    fn arrive(&mut self, alloc: Global, piece: &mut Piece<'_>) -> Decoded<bool>
         ensures continues { Arrives (Self.resumes self.old) (Self.resumes self.new) (ends self.new)
             piece.old piece.new result }
         ensures no_longer { OnOk result (length piece.new ≤ length piece.old) };
 
     /// Takes the value, all of whose bytes have come, and stands before the first byte of another.
-    fn take(&mut self, alloc: Global) -> Result<Self::Value, DecodeError>
+    fn take(&mut self, alloc: Global) -> Decoded<Self::Value>
         ensures value { result ≡ ends self.old }
         ensures no_want { result ≡ Err (Wire Truncated) → ⊥ }
         ensures fresh { (w : List ℕ) → Self.resumes self.new w ≡ reads w };
@@ -81,7 +77,7 @@ pub(crate) fn place<P: Partial>(
     slot: &mut P::Value,
     alloc: Global,
     piece: &mut Piece<'_>,
-) -> Result<bool, DecodeError>
+) -> Decoded<bool>
     ensures continues { Places (P.resumes part.old) (P.resumes part.new) slot.old slot.new
         piece.old piece.new result }
     ensures no_longer { OnOk result (length piece.new ≤ length piece.old) }
@@ -102,7 +98,7 @@ pub(crate) fn set<P: Partial>(
     slot: &mut Option<P::Value>,
     alloc: Global,
     piece: &mut Piece<'_>,
-) -> Result<bool, DecodeError>
+) -> Decoded<bool>
     ensures continues { Sets (P.resumes part.old) (P.resumes part.new) slot.old slot.new
         piece.old piece.new result }
     ensures no_longer { OnOk result (length piece.new ≤ length piece.old) }

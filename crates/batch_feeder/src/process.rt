@@ -9,7 +9,7 @@ use crate::skipped::SkipPart;
 use crate::structs::Struct;
 use crate::tag::TagParts;
 use crate::texts::TextPart;
-use batch_codec::{DecodeError, Part, required};
+use batch_codec::{Decoded, Part, required};
 use jaeger_model::{Process, Seq, Tag, Text};
 use std::alloc::Global;
 use std::marker::Model;
@@ -55,7 +55,7 @@ impl ProcessParts {
         next: &mut Option<Step<ProcessHeld>>,
         alloc: Global,
         piece: &mut Piece<'_>,
-    ) -> Result<bool, DecodeError>
+    ) -> Decoded<bool>
         ensures continues { Opens (take_process self.old 15 (pos 2)) (process_continues self.new)
             self.new next.new piece.old piece.new result }
         ensures no_longer { OnOk result (length piece.new ≤ length piece.old) }
@@ -104,13 +104,7 @@ impl Slots for ProcessParts {
 
     #[tactic(auto, unfolding(batch_codec::specs::ProcessReading::take_process))]
     #[inline(always)]
-    fn put(
-        &mut self,
-        code: u8,
-        id: i16,
-        alloc: Global,
-        cursor: &mut Cursor<'_>,
-    ) -> Result<bool, DecodeError> {
+    fn put(&mut self, code: u8, id: i16, alloc: Global, cursor: &mut Cursor<'_>) -> Decoded<bool> {
         match (code, id) {
             (STRING, 1) => self.service = Some(read_text(alloc, cursor)?),
             _ => return Ok(false),
@@ -132,7 +126,7 @@ impl Slots for ProcessParts {
         held: &mut ProcessHeld,
         alloc: Global,
         piece: &mut Piece<'_>,
-    ) -> Result<bool, DecodeError> {
+    ) -> Decoded<bool> {
         match held {
             ProcessHeld::Service(part) => set(part, &mut self.service, alloc, piece),
             ProcessHeld::Tags(part) => part.place(&mut self.tags, alloc, piece),
@@ -149,7 +143,7 @@ impl Slots for ProcessParts {
 
     #[tactic(auto, unfolding(batch_codec::specs::ProcessReading::process_from))]
     #[inline(always)]
-    fn whole(self) -> Result<Process, DecodeError> {
+    fn whole(self) -> Decoded<Process> {
         let service = required(self.service, Part::Process, 1)?;
         Ok(Process {
             service,
@@ -172,7 +166,7 @@ impl Fields for ProcessParts {
         id: i16,
         alloc: Global,
         piece: &mut Piece<'_>,
-    ) -> Result<bool, DecodeError> {
+    ) -> Decoded<bool> {
         match (code, id) {
             (LIST, 2) => self.enter_tags(next, alloc, piece),
             _ => enter_slowly(self, next, code, id, alloc, piece),
@@ -180,10 +174,7 @@ impl Fields for ProcessParts {
     }
 
     #[inline(always)]
-    fn read_whole(
-        _alloc: Global,
-        _cursor: &mut Cursor<'_>,
-    ) -> Result<Option<Process>, DecodeError> {
+    fn read_whole(_alloc: Global, _cursor: &mut Cursor<'_>) -> Decoded<Option<Process>> {
         Ok(None)
     }
 }

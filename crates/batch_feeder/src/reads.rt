@@ -1,7 +1,7 @@
 ghost use Rattle.std.specs.Prelude.{◌≤◌, length, OnOk};
 ghost use Rattle.batch_codec.specs.Decoding.{Decodes, text_at, binary_at};
 
-use batch_codec::DecodeError;
+use batch_codec::{DecodeError, Decoded};
 use jaeger_model::{Seq, Text};
 use std::alloc::Global;
 use thrift_binary::{Cursor, WireError};
@@ -9,7 +9,7 @@ use thrift_binary::{Cursor, WireError};
 /// A string that is whole, which has to be UTF-8. It is judged where it stands, and copied once.
 #[tactic(auto, unfolding(batch_codec::specs::Decoding::text_at))]
 #[inline]
-pub(crate) fn read_text(alloc: Global, cursor: &mut Cursor<'_>) -> Result<Text, DecodeError>
+pub(crate) fn read_text(alloc: Global, cursor: &mut Cursor<'_>) -> Decoded<Text>
     ensures exact { Decodes (λ t. t) text_at cursor.old result cursor.new }
     ensures no_longer { OnOk result (length cursor.new ≤ length cursor.old) }
 {
@@ -23,7 +23,7 @@ pub(crate) fn read_text(alloc: Global, cursor: &mut Cursor<'_>) -> Result<Text, 
 /// A binary that is whole: any bytes.
 #[tactic(auto, unfolding(batch_codec::specs::Decoding::binary_at))]
 #[inline]
-pub(crate) fn read_binary(alloc: Global, cursor: &mut Cursor<'_>) -> Result<Seq<u8>, DecodeError>
+pub(crate) fn read_binary(alloc: Global, cursor: &mut Cursor<'_>) -> Decoded<Seq<u8>>
     ensures exact { Decodes (λ b. b) binary_at cursor.old result cursor.new }
     ensures no_longer { OnOk result (length cursor.new ≤ length cursor.old) }
 {

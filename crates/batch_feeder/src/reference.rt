@@ -3,7 +3,7 @@ use crate::fields::{Fields, Slots, Step, enter_slowly};
 use crate::partial::{place, set};
 use crate::skipped::SkipPart;
 use crate::values::IdPart;
-use batch_codec::{DecodeError, LEAST_REFERENCE, ReferenceSlots, read_id, read_kind};
+use batch_codec::{Decoded, LEAST_REFERENCE, ReferenceSlots, read_id, read_kind};
 use jaeger_model::SpanRef;
 use std::alloc::Global;
 use thrift_binary::Cursor;
@@ -50,13 +50,7 @@ impl Slots for ReferenceSlots {
 
     #[tactic(auto, unfolding(batch_codec::specs::ReferenceReading::take_reference))]
     #[inline(always)]
-    fn put(
-        &mut self,
-        code: u8,
-        id: i16,
-        _alloc: Global,
-        cursor: &mut Cursor<'_>,
-    ) -> Result<bool, DecodeError> {
+    fn put(&mut self, code: u8, id: i16, _alloc: Global, cursor: &mut Cursor<'_>) -> Decoded<bool> {
         match (code, id) {
             (I32, 1) => self.kind = Some(read_kind(cursor)?),
             (I64, 2) => self.trace_low = Some(read_id(cursor)?),
@@ -83,7 +77,7 @@ impl Slots for ReferenceSlots {
         held: &mut ReferenceHeld,
         alloc: Global,
         piece: &mut Piece<'_>,
-    ) -> Result<bool, DecodeError> {
+    ) -> Decoded<bool> {
         match held {
             ReferenceHeld::Kind(part) => set(part, &mut self.kind, alloc, piece),
             ReferenceHeld::TraceLow(part) => set(part, &mut self.trace_low, alloc, piece),
@@ -98,7 +92,7 @@ impl Slots for ReferenceSlots {
     }
 
     #[inline(always)]
-    fn whole(self) -> Result<SpanRef, DecodeError> {
+    fn whole(self) -> Decoded<SpanRef> {
         ReferenceSlots::whole(self)
     }
 
@@ -117,15 +111,12 @@ impl Fields for ReferenceSlots {
         id: i16,
         alloc: Global,
         piece: &mut Piece<'_>,
-    ) -> Result<bool, DecodeError> {
+    ) -> Decoded<bool> {
         enter_slowly(self, next, code, id, alloc, piece)
     }
 
     #[inline(always)]
-    fn read_whole(
-        _alloc: Global,
-        _cursor: &mut Cursor<'_>,
-    ) -> Result<Option<SpanRef>, DecodeError> {
+    fn read_whole(_alloc: Global, _cursor: &mut Cursor<'_>) -> Decoded<Option<SpanRef>> {
         Ok(None)
     }
 }

@@ -5,7 +5,7 @@ ghost use Rattle.batch_codec.specs.Decoding.{wire};
 ghost use Rattle.batch_feeder.specs.Values.{skip_from};
 
 use crate::partial::{Partial, fault_of};
-use batch_codec::DecodeError;
+use batch_codec::Decoded;
 use std::alloc::Global;
 use wire_pieces::{Piece, Skipping};
 
@@ -32,7 +32,7 @@ impl Partial for SkipPart {
 
     ghost resumes = { skip_from };
 
-    fn more(&mut self, _alloc: Global, piece: &mut Piece<'_>) -> Result<Option<()>, DecodeError> {
+    fn more(&mut self, _alloc: Global, piece: &mut Piece<'_>) -> Decoded<Option<()>> {
         match self.part.more(piece) {
             Ok(value) => Ok(value),
             Err(error) => Err(fault_of(error)),

@@ -13,7 +13,7 @@ use crate::tag::TagParts;
 use crate::texts::TextPart;
 use crate::values::{I32Part, I64Part, IdPart};
 use batch_codec::{
-    DecodeError, LEAST_SPAN, LogSlots, ReferenceSlots, SpanSlots, read_i32, read_i64, read_id,
+    Decoded, LEAST_SPAN, LogSlots, ReferenceSlots, SpanSlots, read_i32, read_i64, read_id,
     read_span,
 };
 use jaeger_model::Span;
@@ -47,7 +47,7 @@ fn enter_references(
     next: &mut Option<Step<SpanHeld>>,
     alloc: Global,
     piece: &mut Piece<'_>,
-) -> Result<bool, DecodeError>
+) -> Decoded<bool>
     ensures continues { Opens (take_span slots.old 15 (pos 6)) (span_continues slots.new) slots.new
         next.new piece.old piece.new result }
     ensures no_longer { OnOk result (length piece.new ≤ length piece.old) }
@@ -70,7 +70,7 @@ fn enter_tags(
     next: &mut Option<Step<SpanHeld>>,
     alloc: Global,
     piece: &mut Piece<'_>,
-) -> Result<bool, DecodeError>
+) -> Decoded<bool>
     ensures continues { Opens (take_span slots.old 15 (pos 10)) (span_continues slots.new) slots.new
         next.new piece.old piece.new result }
     ensures no_longer { OnOk result (length piece.new ≤ length piece.old) }
@@ -93,7 +93,7 @@ fn enter_logs(
     next: &mut Option<Step<SpanHeld>>,
     alloc: Global,
     piece: &mut Piece<'_>,
-) -> Result<bool, DecodeError>
+) -> Decoded<bool>
     ensures continues { Opens (take_span slots.old 15 (pos 11)) (span_continues slots.new) slots.new
         next.new piece.old piece.new result }
     ensures no_longer { OnOk result (length piece.new ≤ length piece.old) }
@@ -137,13 +137,7 @@ impl Slots for SpanSlots {
 
     #[tactic(auto, unfolding(batch_codec::specs::SpanReading::take_span))]
     #[inline(always)]
-    fn put(
-        &mut self,
-        code: u8,
-        id: i16,
-        alloc: Global,
-        cursor: &mut Cursor<'_>,
-    ) -> Result<bool, DecodeError> {
+    fn put(&mut self, code: u8, id: i16, alloc: Global, cursor: &mut Cursor<'_>) -> Decoded<bool> {
         match (code, id) {
             (I64, 1) => self.trace_low = Some(read_id(cursor)?),
             (I64, 2) => self.trace_high = Some(read_id(cursor)?),
@@ -176,12 +170,7 @@ impl Slots for SpanSlots {
         }
     }
 
-    fn more(
-        &mut self,
-        held: &mut SpanHeld,
-        alloc: Global,
-        piece: &mut Piece<'_>,
-    ) -> Result<bool, DecodeError> {
+    fn more(&mut self, held: &mut SpanHeld, alloc: Global, piece: &mut Piece<'_>) -> Decoded<bool> {
         match held {
             SpanHeld::TraceLow(part) => set(part, &mut self.trace_low, alloc, piece),
             SpanHeld::TraceHigh(part) => set(part, &mut self.trace_high, alloc, piece),
@@ -208,7 +197,7 @@ impl Slots for SpanSlots {
     }
 
     #[inline(always)]
-    fn whole(self) -> Result<Span, DecodeError> {
+    fn whole(self) -> Decoded<Span> {
         SpanSlots::whole(self)
     }
 
@@ -227,7 +216,7 @@ impl Fields for SpanSlots {
         id: i16,
         alloc: Global,
         piece: &mut Piece<'_>,
-    ) -> Result<bool, DecodeError> {
+    ) -> Decoded<bool> {
         match (code, id) {
             (LIST, 6) => enter_references(self, next, alloc, piece),
             (LIST, 10) => enter_tags(self, next, alloc, piece),
@@ -238,7 +227,7 @@ impl Fields for SpanSlots {
 
     #[tactic(auto, unfolding(batch_codec::specs::SpanReading::span_at))]
     #[inline(always)]
-    fn read_whole(alloc: Global, cursor: &mut Cursor<'_>) -> Result<Option<Span>, DecodeError> {
+    fn read_whole(alloc: Global, cursor: &mut Cursor<'_>) -> Decoded<Option<Span>> {
         let span = read_span(alloc, cursor)?;
         Ok(Some(span))
     }

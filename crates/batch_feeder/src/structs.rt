@@ -8,7 +8,7 @@ ghost use Rattle.batch_feeder.specs.LeastBytes.{IsPart};
 
 use crate::fields::{Fields, Slots, Step, enter_fields, is_truncated, more_fields};
 use crate::partial::{Item, Partial};
-use batch_codec::DecodeError;
+use batch_codec::Decoded;
 use std::alloc::Global;
 use std::mem;
 use thrift_binary::Cursor;
@@ -26,11 +26,7 @@ impl<S: Fields> Partial for Struct<S> {
 
     ghost resumes = { λ p. struct_from S.takes S.resumes S.makes p.slots p.step };
 
-    fn more(
-        &mut self,
-        alloc: Global,
-        piece: &mut Piece<'_>,
-    ) -> Result<Option<S::Output>, DecodeError> {
+    fn more(&mut self, alloc: Global, piece: &mut Piece<'_>) -> Decoded<Option<S::Output>> {
         match more_fields(&mut self.slots, &mut self.step, alloc, piece) {
             Err(error) => Err(error),
             Ok(false) => Ok(None),
@@ -59,7 +55,7 @@ impl<S: Fields> Item for Struct<S> {
         part: &mut Option<Self>,
         alloc: Global,
         piece: &mut Piece<'_>,
-    ) -> Result<Option<S::Output>, DecodeError> {
+    ) -> Decoded<Option<S::Output>> {
         let mut cursor = Cursor::new(piece.rest());
         match S::read_whole(alloc, &mut cursor) {
             Ok(Some(value)) => {
@@ -78,11 +74,11 @@ impl<S: Fields> Item for Struct<S> {
     }
 
     #[inline(always)]
-    fn arrive(&mut self, alloc: Global, piece: &mut Piece<'_>) -> Result<bool, DecodeError> {
+    fn arrive(&mut self, alloc: Global, piece: &mut Piece<'_>) -> Decoded<bool> {
         more_fields(&mut self.slots, &mut self.step, alloc, piece)
     }
 
-    fn take(&mut self, alloc: Global) -> Result<S::Output, DecodeError> {
+    fn take(&mut self, alloc: Global) -> Decoded<S::Output> {
         self.take_made(alloc)
     }
 }
@@ -92,7 +88,7 @@ fn begin_fields<S: Fields>(
     part: &mut Option<Struct<S>>,
     alloc: Global,
     piece: &mut Piece<'_>,
-) -> Result<Option<S::Output>, DecodeError>
+) -> Decoded<Option<S::Output>>
     ensures continues { BeginsValue (struct_at S.takes S.none S.makes)
         (λ p. struct_from S.takes S.resumes S.makes p.slots p.step)
         part.new piece.old piece.new result }
@@ -123,7 +119,7 @@ fn hold<S: Slots>(part: &mut Option<Struct<S>>, slots: S, next: Option<Step<S::H
 
 /// The struct of fields that are whole.
 #[inline(always)]
-fn made<S: Slots>(slots: S) -> Result<Option<S::Output>, DecodeError>
+fn made<S: Slots>(slots: S) -> Decoded<Option<S::Output>>
     ensures { result ≡ made_of S.makes slots }
 {
     match slots.whole() {
@@ -159,7 +155,7 @@ impl<S: Slots> Struct<S> {
     /// Takes the struct of its fields, which are whole, and stands before the first byte of another. It stands apart, so
     /// that a call that continues inside a field has no place for a struct on its stack.
     #[inline(never)]
-    fn take_made(&mut self, alloc: Global) -> Result<S::Output, DecodeError>
+    fn take_made(&mut self, alloc: Global) -> Decoded<S::Output>
         ensures made { result ≡ S.makes self.old.slots }
         ensures fresh { (w : List ℕ) → struct_from S.takes S.resumes S.makes self.new.slots
             self.new.step w ≡ struct_at S.takes S.none S.makes w }

@@ -8,7 +8,7 @@ use crate::skipped::SkipPart;
 use crate::texts::{BinaryPart, TextPart};
 use crate::values::{BoolPart, DoublePart, I64Part};
 use batch_codec::{
-    DecodeError, LEAST_TAG, Part, TagType, read_bool, read_double, read_i64, read_type, required,
+    Decoded, LEAST_TAG, Part, TagType, read_bool, read_double, read_i64, read_type, required,
 };
 use jaeger_model::{Seq, Tag, TagValue, Text, Value};
 use std::alloc::Global;
@@ -96,13 +96,7 @@ impl Slots for TagParts {
 
     #[tactic(auto, unfolding(batch_codec::specs::TagReading::take_tag))]
     #[inline(always)]
-    fn put(
-        &mut self,
-        code: u8,
-        id: i16,
-        alloc: Global,
-        cursor: &mut Cursor<'_>,
-    ) -> Result<bool, DecodeError> {
+    fn put(&mut self, code: u8, id: i16, alloc: Global, cursor: &mut Cursor<'_>) -> Decoded<bool> {
         match (code, id) {
             (STRING, 1) => self.key = Some(read_text(alloc, cursor)?),
             (I32, 2) => self.kind = Some(read_type(cursor)?),
@@ -130,12 +124,7 @@ impl Slots for TagParts {
         }
     }
 
-    fn more(
-        &mut self,
-        held: &mut TagHeld,
-        alloc: Global,
-        piece: &mut Piece<'_>,
-    ) -> Result<bool, DecodeError> {
+    fn more(&mut self, held: &mut TagHeld, alloc: Global, piece: &mut Piece<'_>) -> Decoded<bool> {
         match held {
             TagHeld::Key(part) => set(part, &mut self.key, alloc, piece),
             TagHeld::Kind(part) => set(part, &mut self.kind, alloc, piece),
@@ -154,7 +143,7 @@ impl Slots for TagParts {
 
     #[tactic(auto, unfolding(batch_codec::specs::TagReading::tag_from))]
     #[inline(always)]
-    fn whole(self) -> Result<Tag, DecodeError> {
+    fn whole(self) -> Decoded<Tag> {
         let TagParts {
             key,
             kind,
@@ -194,12 +183,12 @@ impl Fields for TagParts {
         id: i16,
         alloc: Global,
         piece: &mut Piece<'_>,
-    ) -> Result<bool, DecodeError> {
+    ) -> Decoded<bool> {
         enter_slowly(self, next, code, id, alloc, piece)
     }
 
     #[inline(always)]
-    fn read_whole(_alloc: Global, _cursor: &mut Cursor<'_>) -> Result<Option<Tag>, DecodeError> {
+    fn read_whole(_alloc: Global, _cursor: &mut Cursor<'_>) -> Decoded<Option<Tag>> {
         Ok(None)
     }
 }

@@ -3,7 +3,7 @@ ghost use Rattle.batch_codec.specs.Decoding.{text_at, binary_at};
 ghost use Rattle.batch_feeder.specs.Values.{text_part, binary_part};
 
 use crate::partial::{Partial, fault_of};
-use batch_codec::DecodeError;
+use batch_codec::{DecodeError, Decoded};
 use jaeger_model::{Seq, Text};
 use std::alloc::Global;
 use thrift_binary::WireError;
@@ -20,7 +20,7 @@ impl Partial for TextPart {
 
     ghost resumes = { text_part };
 
-    fn more(&mut self, alloc: Global, piece: &mut Piece<'_>) -> Result<Option<Text>, DecodeError> {
+    fn more(&mut self, alloc: Global, piece: &mut Piece<'_>) -> Decoded<Option<Text>> {
         match self.part.more(alloc, piece) {
             Err(error) => Err(fault_of(error)),
             Ok(None) => Ok(None),
@@ -55,11 +55,7 @@ impl Partial for BinaryPart {
 
     ghost resumes = { binary_part };
 
-    fn more(
-        &mut self,
-        alloc: Global,
-        piece: &mut Piece<'_>,
-    ) -> Result<Option<Seq<u8>>, DecodeError> {
+    fn more(&mut self, alloc: Global, piece: &mut Piece<'_>) -> Decoded<Option<Seq<u8>>> {
         match self.part.more(alloc, piece) {
             Err(error) => Err(fault_of(error)),
             Ok(None) => Ok(None),

@@ -3,7 +3,7 @@ ghost use Rattle.batch_codec.specs.Decoding.{bool_at, double_at, i32_at, i64_at,
 ghost use Rattle.batch_feeder.specs.Values.{bool_from, double_part, i32_part, i64_part, id_part};
 
 use crate::partial::{Partial, fault_of};
-use batch_codec::DecodeError;
+use batch_codec::Decoded;
 use std::alloc::Global;
 use wire_pieces::{Bool, Double, I32, I64, Piece};
 
@@ -18,7 +18,7 @@ impl Partial for BoolPart {
 
     ghost resumes = { bool_from };
 
-    fn more(&mut self, _alloc: Global, piece: &mut Piece<'_>) -> Result<Option<bool>, DecodeError> {
+    fn more(&mut self, _alloc: Global, piece: &mut Piece<'_>) -> Decoded<Option<bool>> {
         match self.part.more(piece) {
             Ok(value) => Ok(value),
             Err(error) => Err(fault_of(error)),
@@ -47,11 +47,7 @@ impl Partial for DoublePart {
 
     ghost resumes = { double_part };
 
-    fn more(
-        &mut self,
-        _alloc: Global,
-        piece: &mut Piece<'_>,
-    ) -> Result<Option<[u8; 8]>, DecodeError> {
+    fn more(&mut self, _alloc: Global, piece: &mut Piece<'_>) -> Decoded<Option<[u8; 8]>> {
         Ok(self.part.more(piece))
     }
 }
@@ -79,7 +75,7 @@ impl Partial for I32Part {
 
     ghost resumes = { i32_part };
 
-    fn more(&mut self, _alloc: Global, piece: &mut Piece<'_>) -> Result<Option<i32>, DecodeError> {
+    fn more(&mut self, _alloc: Global, piece: &mut Piece<'_>) -> Decoded<Option<i32>> {
         Ok(self.part.more(piece))
     }
 }
@@ -105,7 +101,7 @@ impl Partial for I64Part {
 
     ghost resumes = { i64_part };
 
-    fn more(&mut self, _alloc: Global, piece: &mut Piece<'_>) -> Result<Option<i64>, DecodeError> {
+    fn more(&mut self, _alloc: Global, piece: &mut Piece<'_>) -> Decoded<Option<i64>> {
         Ok(self.part.more(piece))
     }
 }
@@ -131,7 +127,7 @@ impl Partial for IdPart {
 
     ghost resumes = { id_part };
 
-    fn more(&mut self, _alloc: Global, piece: &mut Piece<'_>) -> Result<Option<u64>, DecodeError> {
+    fn more(&mut self, _alloc: Global, piece: &mut Piece<'_>) -> Decoded<Option<u64>> {
         let Some(number) = self.part.more(piece) else {
             return Ok(None);
         };
