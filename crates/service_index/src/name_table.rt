@@ -108,23 +108,6 @@ impl NameTable {
         if self.has_row(labels, guess, label) {
             return guess;
         }
-        let row = self.look_up(labels, n);
-        self.guesses.keep(label, row);
-        row
-    }
-
-    /// The same, by the hash of the label.
-    fn look_up<L: Labels>(&mut self, labels: &L, n: u32) -> u32
-        requires leads { IsNamed (L.labels labels.now) self.old }
-        requires held { n < (L.labels labels.now).count }
-        requires room { length self.old.numbers < self.old.room }
-        ensures row { result ≡ row_of (L.labels labels.now) self.old.numbers
-            ((L.labels labels.now).at n) }
-        ensures numbers { self.new.numbers ≡ with_number (L.labels labels.now) self.old.numbers n }
-        ensures room { self.new.room ≡ self.old.room }
-        ensures leads { IsNamed (L.labels labels.now) self.new }
-    {
-        let label = labels.label_at(n);
         let hash = label_hash(self.keys, label);
         let sought = SoughtLabel {
             keys: self.keys,
@@ -133,11 +116,15 @@ impl NameTable {
             label,
         };
         match self.places.find(hash, &sought) {
-            Some(row) => return row,
+            Some(row) => {
+                self.guesses.keep(label, row);
+                return row;
+            }
             None => self.places.mark(hash, &sought),
         }
         let row = self.numbers.len() as u32;
         self.numbers.push_reserved(n);
+        self.guesses.keep(label, row);
         row
     }
 }

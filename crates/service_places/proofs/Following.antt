@@ -60,98 +60,120 @@ row_added h numbers now n r more row =
       | inr past ↦ subst (λ (x : List ℕ). r < length x) (sym (number_new labels numbers n (omega arith))) (omega arith)
     ])
 
-pub kept_own : (h0 h : List Entry) (e : Entry) (old : Reported) (services : Table) (newest earlier groups : List ℕ) (s n group : ℕ) → h0 ++ e ∷ [] ≡ h → n ≡ length h0 → IsKept h0 old
-    → IsNamed (service_labels h) services → services.numbers ≡ with_number (service_labels h) old.services.numbers n → s ≡ row_of (service_labels h) old.services.numbers ((service_labels h).at n) → services.room ≡ old.services.room
-    → group ≡ get_or services.numbers s 0 → groups ≡ old.groups ++ group ∷ []
+-- One more entry, e: its number n is among the services, in row s, and the number of its service is noted.
+pub record HasOneMore (h0 h : List Entry) (e : Entry) (old : Reported) (services : Table) (groups : List ℕ) (s n group : ℕ) : Type 0 where
+  pub is : h0 ++ e ∷ [] ≡ h
+  pub at : n ≡ length h0
+  pub kept : IsKept h0 old
+  pub named : IsNamed (service_labels h) services
+  pub numbers : services.numbers ≡ with_number (service_labels h) old.services.numbers n
+  pub row : s ≡ row_of (service_labels h) old.services.numbers ((service_labels h).at n)
+  pub room : services.room ≡ old.services.room
+  pub number : group ≡ get_or services.numbers s 0
+  pub noted : groups ≡ old.groups ++ group ∷ []
+
+-- what was kept before the entry e, in the words of the longer list
+record IsFollowed (h0 h : List Entry) (e : Entry) (old : Reported) (s n : ℕ) : Type 0 where
+  pub longer : length h ≡ length h0 + 1
+  pub reported : length (reporters h0) ≡ length h0
+  pub listed : length (map (service_at h) old.services.numbers) ≡ length old.services.numbers
+  pub few : length old.services.numbers ≤ length h0
+  pub last : service_at h n ≡ service_brought e.work
+  pub held : AreNumbers (length h0) old.services.numbers
+  pub found : s ≡ position_or_len (same_text (service_at h n)) (map (service_at h) old.services.numbers)
+  pub linked : IsLinked (reporters h0) (map (service_at h) old.services.numbers) old.newest old.earlier
+  pub named : IsNamed (service_labels h) old.services
+
+followed : (h0 h : List Entry) (e : Entry) (old : Reported) (services : Table) (groups : List ℕ) (s n group : ℕ) → HasOneMore h0 h e old services groups s n group → IsFollowed h0 h e old s n
+followed h0 h e old services groups s n group m =
+    let l = length-append h0 (e ∷ []) in
+    let j : length h ≡ length (h0 ++ e ∷ []) = ap length (sym m.is) in
+    let still : IsNamed (service_labels h) old.services = named_extends (service_labels h0) (service_labels h) old.services (extends_one h0 h e m.is) m.kept.named in
+    record {
+      longer = omega arith;
+      reported = as_many_reporters h0;
+      listed = length-map old.services.numbers (service_at h);
+      few = m.kept.few;
+      last = service_last h0 h e n m.is m.at;
+      held = record { held = m.kept.named.numbers.held };
+      found = m.row ∙ row_is h old.services.numbers (service_at h n) still.numbers;
+      linked = linked_still h0 h e old m.is m.kept;
+      named = still;
+    }
+
+pub kept_own : (h0 h : List Entry) (e : Entry) (old : Reported) (services : Table) (newest earlier groups : List ℕ) (s n group : ℕ) → HasOneMore h0 h e old services groups s n group
     → s < length old.services.numbers → newest ≡ set old.newest s (n + 1) → earlier ≡ old.earlier ++ get_or old.newest s 0 ∷ []
     → IsKept h (record { services = services; newest = newest; earlier = earlier; groups = groups; batches = old.batches })
-kept_own h0 h e old services newest earlier groups s n group is at k named more row room g gs below to f =
+kept_own h0 h e old services newest earlier groups s n group m below to f =
     let labels = service_labels h in
     let numbers = old.services.numbers in
     let new = service_brought e.work in
-    let l = length-append h0 (e ∷ []) in
-    let j : length h ≡ length (h0 ++ e ∷ []) = ap length (sym is) in
-    let m = as_many_reporters h0 in
-    let o = length-map numbers (service_at h) in
-    let few = k.few in
-    let last : service_at h n ≡ new = service_last h0 h e n is at in
-    let still : IsNamed labels old.services = named_extends (service_labels h0) labels old.services (extends_one h0 h e is) k.named in
-    let found : s ≡ position_or_len (same_text (service_at h n)) (map (service_at h) numbers) = row ∙ row_is h numbers (service_at h n) still.numbers in
-    let own : get_or (map (service_at h) numbers) s [] ≡ new = service_own (map (service_at h) numbers) (service_at h n) s found (omega arith) ∙ last in
-    let linked = linked_known (reporters h0) (map (service_at h) numbers) old.newest old.earlier s new (linked_still h0 h e old is k) (distinct labels (service_at h) old.services (services_keyed h) still) (omega arith) own in
-    let same : services.numbers ≡ numbers = more ∙ number_known labels numbers n (omega arith) in
-    let count : length (reporters h0) + 1 ≡ n + 1 = omega arith in
-    let fewer : length services.numbers ≤ length h = subst (λ (x : List ℕ). length x ≤ length h) (sym same) (omega arith) in
+    let b = followed h0 h e old services groups s n group m in
+    let own : get_or (map (service_at h) numbers) s [] ≡ new = service_own (map (service_at h) numbers) (service_at h n) s b.found (omega (arith, b.listed, below)) ∙ b.last in
+    let linked = linked_known (reporters h0) (map (service_at h) numbers) old.newest old.earlier s new b.linked (distinct labels (service_at h) old.services (services_keyed h) b.named) (omega (arith, b.listed, below)) own in
+    let same : services.numbers ≡ numbers = m.numbers ∙ number_known labels numbers n (omega (arith, m.row, below)) in
+    let count : length (reporters h0) + 1 ≡ n + 1 = omega (arith, b.reported, m.at) in
+    let fewer : length services.numbers ≤ length h = subst (λ (x : List ℕ). length x ≤ length h) (sym same) (omega (arith, b.longer, b.few)) in
     let q = get_or numbers s 0 in
     let there : service_at h q ≡ new = sym (get_or-map (service_at h) numbers s 0 [] below) ∙ own in
     let one : group ≡ group_in h new =
-    g ∙ ap (λ (x : List ℕ). get_or x s 0) same ∙ sym (first_old h0 h e numbers s is (record { held = k.named.numbers.held }) k.first below) ∙ ap (group_in h) there in
+    m.number ∙ ap (λ (x : List ℕ). get_or x s 0) same ∙ sym (first_old h0 h e numbers s m.is b.held m.kept.first below) ∙ ap (group_in h) there in
     record {
-      fits = k.fits;
-      room = room ∙ k.room;
+      fits = m.kept.fits;
+      room = m.room ∙ m.kept.room;
       few = fewer;
-      named = named;
+      named = m.named;
       linked =
           subst (λ (x : List ℕ). IsLinked (reporters h) (map (service_at h) x) newest earlier) (sym same)
-          (subst (λ (x : List (List ℕ)). IsLinked x (map (service_at h) numbers) newest earlier) (sym (reporters_push h0 h e is))
+          (subst (λ (x : List (List ℕ)). IsLinked x (map (service_at h) numbers) newest earlier) (sym (reporters_push h0 h e m.is))
           (subst (λ (x : List ℕ). IsLinked (reporters h0 ++ new ∷ []) (map (service_at h) numbers) x earlier) (sym (to ∙ ap (set old.newest s) (sym count)))
           (subst (λ (x : List ℕ). IsLinked (reporters h0 ++ new ∷ []) (map (service_at h) numbers) (set old.newest s (length (reporters h0) + 1)) x) (sym f) linked)));
       first =
           subst (λ (x : List ℕ). (r : ℕ) → r < length x → group_in h (service_at h (get_or x r 0)) ≡ get_or x r 0) (sym same)
-          (λ r low. first_old h0 h e numbers r is (record { held = k.named.numbers.held }) k.first low);
-      grouped = subst (λ (x : List ℕ). AreGroups h x) (sym gs) (groups_more h0 h e old.groups group is k.grouped one);
+          (λ r low. first_old h0 h e numbers r m.is b.held m.kept.first low);
+      grouped = subst (λ (x : List ℕ). AreGroups h x) (sym m.noted) (groups_more h0 h e old.groups group m.is m.kept.grouped one);
     }
 
-pub kept_new : (h0 h : List Entry) (e : Entry) (old : Reported) (services : Table) (newest earlier groups : List ℕ) (s n group : ℕ) → h0 ++ e ∷ [] ≡ h → n ≡ length h0 → IsKept h0 old
-    → IsNamed (service_labels h) services → services.numbers ≡ with_number (service_labels h) old.services.numbers n → s ≡ row_of (service_labels h) old.services.numbers ((service_labels h).at n) → services.room ≡ old.services.room
-    → group ≡ get_or services.numbers s 0 → groups ≡ old.groups ++ group ∷ []
+pub kept_new : (h0 h : List Entry) (e : Entry) (old : Reported) (services : Table) (newest earlier groups : List ℕ) (s n group : ℕ) → HasOneMore h0 h e old services groups s n group
     → length old.services.numbers ≤ s → newest ≡ old.newest ++ (n + 1) ∷ [] → earlier ≡ old.earlier ++ 0 ∷ []
     → IsKept h (record { services = services; newest = newest; earlier = earlier; groups = groups; batches = old.batches })
-kept_new h0 h e old services newest earlier groups s n group is at k named more row room g gs beyond to f =
+kept_new h0 h e old services newest earlier groups s n group m beyond to f =
     let labels = service_labels h in
     let numbers = old.services.numbers in
     let new = service_brought e.work in
-    let l = length-append h0 (e ∷ []) in
-    let j : length h ≡ length (h0 ++ e ∷ []) = ap length (sym is) in
-    let m = as_many_reporters h0 in
-    let o = length-map numbers (service_at h) in
-    let few = k.few in
+    let b = followed h0 h e old services groups s n group m in
     let w = row_within labels numbers (labels.at n) in
-    let last : service_at h n ≡ new = service_last h0 h e n is at in
-    let still : IsNamed labels old.services = named_extends (service_labels h0) labels old.services (extends_one h0 h e is) k.named in
-    let found : s ≡ position_or_len (same_text (service_at h n)) (map (service_at h) numbers) = row ∙ row_is h numbers (service_at h n) still.numbers in
-    let absent : list_any (same_text new) (map (service_at h) numbers) ≡ false = ap (λ (x : List ℕ). list_any (same_text x) (map (service_at h) numbers)) (sym last) ∙ service_new (map (service_at h) numbers) (service_at h n) s found (omega arith) in
-    let before = linked_still h0 h e old is k in
-    let linked = linked_new (reporters h0) (map (service_at h) numbers) old.newest old.earlier new before absent in
-    let fresh : services.numbers ≡ numbers ++ n ∷ [] = more ∙ number_new labels numbers n (omega arith) in
-    let count : length (reporters h0) + 1 ≡ n + 1 = omega arith in
+    let absent : list_any (same_text new) (map (service_at h) numbers) ≡ false = ap (λ (x : List ℕ). list_any (same_text x) (map (service_at h) numbers)) (sym b.last) ∙ service_new (map (service_at h) numbers) (service_at h n) s b.found (omega (arith, b.listed, beyond)) in
+    let linked = linked_new (reporters h0) (map (service_at h) numbers) old.newest old.earlier new b.linked absent in
+    let fresh : services.numbers ≡ numbers ++ n ∷ [] = m.numbers ∙ number_new labels numbers n (omega (arith, m.row, beyond)) in
+    let count : length (reporters h0) + 1 ≡ n + 1 = omega (arith, b.reported, m.at) in
     let one = length-append numbers (n ∷ []) in
-    let fewer : length services.numbers ≤ length h = subst (λ (x : List ℕ). length x ≤ length h) (sym fresh) (omega arith) in
-    let none : length h0 ≤ group_in h0 new = subst (λ (x : ℕ). x ≤ group_in h0 new) m (none_first (reporters h0) new (sym (before.same (same_text new)) ∙ absent)) in
-    let number : group_in h new ≡ n = group_new h0 h e is none ∙ sym at in
-    let row_last : length numbers ≡ s = omega arith in
-    let added : group ≡ group_in h new = g ∙ ap (λ (x : List ℕ). get_or x s 0) fresh ∙ get_or_push numbers n 0 s row_last ∙ sym number in
+    let fewer : length services.numbers ≤ length h = subst (λ (x : List ℕ). length x ≤ length h) (sym fresh) (omega (arith, one, b.longer, b.few)) in
+    let none : length h0 ≤ group_in h0 new = subst (λ (x : ℕ). x ≤ group_in h0 new) b.reported (none_first (reporters h0) new (sym (b.linked.same (same_text new)) ∙ absent)) in
+    let number : group_in h new ≡ n = group_new h0 h e m.is none ∙ sym m.at in
+    let row_last : length numbers ≡ s = omega (arith, m.row, w, beyond) in
+    let added : group ≡ group_in h new = m.number ∙ ap (λ (x : List ℕ). get_or x s 0) fresh ∙ get_or_push numbers n 0 s row_last ∙ sym number in
     record {
-      fits = k.fits;
-      room = room ∙ k.room;
+      fits = m.kept.fits;
+      room = m.room ∙ m.kept.room;
       few = fewer;
-      named = named;
+      named = m.named;
       linked =
           subst (λ (x : List ℕ). IsLinked (reporters h) (map (service_at h) x) newest earlier) (sym fresh)
-          (subst (λ (x : List (List ℕ)). IsLinked (reporters h) x newest earlier) (sym (map_push (service_at h) numbers n ∙ ap (λ (x : List ℕ). map (service_at h) numbers ++ x ∷ []) last))
-          (subst (λ (x : List (List ℕ)). IsLinked x (map (service_at h) numbers ++ new ∷ []) newest earlier) (sym (reporters_push h0 h e is))
+          (subst (λ (x : List (List ℕ)). IsLinked (reporters h) x newest earlier) (sym (map_push (service_at h) numbers n ∙ ap (λ (x : List ℕ). map (service_at h) numbers ++ x ∷ []) b.last))
+          (subst (λ (x : List (List ℕ)). IsLinked x (map (service_at h) numbers ++ new ∷ []) newest earlier) (sym (reporters_push h0 h e m.is))
           (subst (λ (x : List ℕ). IsLinked (reporters h0 ++ new ∷ []) (map (service_at h) numbers ++ new ∷ []) x earlier) (sym (to ∙ ap (λ (q : ℕ). old.newest ++ q ∷ []) (sym count)))
           (subst (λ (x : List ℕ). IsLinked (reporters h0 ++ new ∷ []) (map (service_at h) numbers ++ new ∷ []) (old.newest ++ (length (reporters h0) + 1) ∷ []) x) (sym f) linked))));
       first =
           subst (λ (x : List ℕ). (r : ℕ) → r < length x → group_in h (service_at h (get_or x r 0)) ≡ get_or x r 0) (sym fresh)
           (λ r low. elim (cases_eq r (length numbers)) [
-            | inl e ↦ let here = get_or_push numbers n 0 r (sym e) in ap (λ (x : ℕ). group_in h (service_at h x)) here ∙ ap (group_in h) last ∙ number ∙ sym here
+            | inl e ↦ let here = get_or_push numbers n 0 r (sym e) in ap (λ (x : ℕ). group_in h (service_at h x)) here ∙ ap (group_in h) b.last ∙ number ∙ sym here
             | inr other ↦
                 let below : r < length numbers = omega arith in
                 let here = get_or_append_left numbers (n ∷ []) 0 r below in
-                ap (λ (x : ℕ). group_in h (service_at h x)) here ∙ first_old h0 h e numbers r is (record { held = k.named.numbers.held }) k.first below ∙ sym here
+                ap (λ (x : ℕ). group_in h (service_at h x)) here ∙ first_old h0 h e numbers r m.is b.held m.kept.first below ∙ sym here
           ]);
-      grouped = subst (λ (x : List ℕ). AreGroups h x) (sym gs) (groups_more h0 h e old.groups group is k.grouped added);
+      grouped = subst (λ (x : List ℕ). AreGroups h x) (sym m.noted) (groups_more h0 h e old.groups group m.is m.kept.grouped added);
     }
   where
     none_first : (rows : List (List ℕ)) (s : List ℕ) → list_any (same_text s) rows ≡ false → length rows ≤ position_or_len (same_text s) rows

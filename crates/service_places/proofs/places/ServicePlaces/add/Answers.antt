@@ -43,8 +43,17 @@ returns-then-service-len-clause-kept c =
     let rows = newest_rows (before_last h) old kept in
     let within : s < length old.newest = omega (arith, c.if-service-len.true) in
     let below : s < length old.services.numbers = omega arith in
-    kept_own (before_last h) h last.0 old c.add-service.new.self (set old.newest s (n + 1)) c.push_reserved-then-service-len.new.self.items c.push_reserved.new.self.items s n (get_or c.numbers.result.now s 0) last.1 at kept
-    c.add-service.ensures.leads c.add-service.ensures.numbers c.add-service.ensures.row c.add-service.ensures.room (ap (λ (x : List ℕ). get_or x s 0) c.numbers.ensures) c.push_reserved.ensures.items below refl
+    kept_own (before_last h) h last.0 old c.add-service.new.self (set old.newest s (n + 1)) c.push_reserved-then-service-len.new.self.items c.push_reserved.new.self.items s n (get_or c.numbers.result.now s 0) (record {
+      is = last.1;
+      at = at;
+      kept = kept;
+      named = c.add-service.ensures.leads;
+      numbers = c.add-service.ensures.numbers;
+      row = c.add-service.ensures.row;
+      room = c.add-service.ensures.room;
+      number = ap (λ (x : List ℕ). get_or x s 0) c.numbers.ensures;
+      noted = c.push_reserved.ensures.items;
+    }) below refl
     (c.push_reserved-then-service-len.ensures.items ∙ ap (λ x. old.earlier ++ x ∷ []) (get_or_read old.newest s c.index.result.now within c.index.ensures 0))
 
 pub returns-else-service-len-clause-kept : goal.returns-else-service-len-clause-kept
@@ -59,5 +68,14 @@ returns-else-service-len-clause-kept c =
     let s = c.add-service.result in
     let rows = newest_rows (before_last h) old kept in
     let beyond : length old.services.numbers ≤ s = omega (arith, c.if-service-len.false) in
-    kept_new (before_last h) h last.0 old c.add-service.new.self c.push_reserved-else-service-len-2.new.self.items c.push_reserved-else-service-len.new.self.items c.push_reserved.new.self.items s n (get_or c.numbers.result.now s 0) last.1 at kept
-    c.add-service.ensures.leads c.add-service.ensures.numbers c.add-service.ensures.row c.add-service.ensures.room (ap (λ (x : List ℕ). get_or x s 0) c.numbers.ensures) c.push_reserved.ensures.items beyond c.push_reserved-else-service-len-2.ensures.items c.push_reserved-else-service-len.ensures.items
+    kept_new (before_last h) h last.0 old c.add-service.new.self c.push_reserved-else-service-len-2.new.self.items c.push_reserved-else-service-len.new.self.items c.push_reserved.new.self.items s n (get_or c.numbers.result.now s 0) (record {
+      is = last.1;
+      at = at;
+      kept = kept;
+      named = c.add-service.ensures.leads;
+      numbers = c.add-service.ensures.numbers;
+      row = c.add-service.ensures.row;
+      room = c.add-service.ensures.room;
+      number = ap (λ (x : List ℕ). get_or x s 0) c.numbers.ensures;
+      noted = c.push_reserved.ensures.items;
+    }) beyond c.push_reserved-else-service-len-2.ensures.items c.push_reserved-else-service-len.ensures.items
