@@ -113,8 +113,8 @@ is_binary_again t r x is = rw (string_again t x r is) refl
 
 -- ---- enums
 
-abbrev given : {K : Type 0} → K → Result K DecodeError
-given k = Ok k
+abbrev decoded : {K : Type 0} → K → Result K DecodeError
+decoded k = Ok k
 
 -- what the number read stands for
 enum_found : {K : Type 0} (number : K → ℤ) (named : ℤ → Result K DecodeError) → ((n : ℤ) (k : K) → named n ≡ Ok k → n ≡ number k)
@@ -132,14 +132,14 @@ enum_found {K = K} number named numbered w x r e =
     }
 
 -- a number of the table, and what it stands for
-one_of_table : {K : Type 0} (number : K → ℤ) (z : ℤ) (k x : K) → z ≡ number k → given k ≡ given x → z ≡ number x
+one_of_table : {K : Type 0} (number : K → ℤ) (z : ℤ) (k x : K) → z ≡ number k → decoded k ≡ decoded x → z ≡ number x
 one_of_table number z k x z-is e = z-is ∙ ap number (ok_is k x e)
 
 kind_numbered : (n : ℤ) (k : RefKind) → kind_of_number n ≡ Ok k → n ≡ kind_number k
 unfolding kind_of_number
 kind_numbered n x = by (int_eq n (pos 0)) refl (int_eq n (pos 1)) refl
   where
-    by : (p : Bool) → int_eq n (pos 0) ≡ p → (q : Bool) → int_eq n (pos 1) ≡ q → cond p (given ChildOf) (cond q (given FollowsFrom) (Err BadEnum)) ≡ given x → n ≡ kind_number x
+    by : (p : Bool) → int_eq n (pos 0) ≡ p → (q : Bool) → int_eq n (pos 1) ≡ q → cond p (decoded ChildOf) (cond q (decoded FollowsFrom) (Err BadEnum)) ≡ decoded x → n ≡ kind_number x
     by true p q q-is h = one_of_table kind_number n ChildOf x ((Decides-int_eq n (pos 0)).0 p) h
     by false p true q h = one_of_table kind_number n FollowsFrom x ((Decides-int_eq n (pos 1)).0 q) h
     by false p false q h = absurd cc
@@ -161,7 +161,7 @@ type_numbered n x = by (int_eq n (pos 0)) refl (int_eq n (pos 1)) refl (int_eq n
     is m e = (Decides-int_eq n (pos m)).0 e
 
     by : (a : Bool) → int_eq n (pos 0) ≡ a → (b : Bool) → int_eq n (pos 1) ≡ b → (c : Bool) → int_eq n (pos 2) ≡ c → (d : Bool) → int_eq n (pos 3) ≡ d → (f : Bool) → int_eq n (pos 4) ≡ f
-        → cond a (given types.Text) (cond b (given types.Double) (cond c (given types.Bool) (cond d (given types.Long) (cond f (given types.Binary) (Err BadEnum))))) ≡ given x → n ≡ type_number x
+        → cond a (decoded types.Text) (cond b (decoded types.Double) (cond c (decoded types.Bool) (cond d (decoded types.Long) (cond f (decoded types.Binary) (Err BadEnum))))) ≡ decoded x → n ≡ type_number x
     by true a _ _ _ _ _ _ _ _ h = one_of_table type_number n types.Text x (is 0 a) h
     by false _ true b _ _ _ _ _ _ h = one_of_table type_number n types.Double x (is 1 b) h
     by false _ false _ true c _ _ _ _ h = one_of_table type_number n types.Bool x (is 2 c) h

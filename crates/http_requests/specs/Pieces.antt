@@ -11,5 +11,5 @@ pub record GetsPiece {R : Type 0} (source : Source R) (s t : R) (old new : List 
   pub most : count ≤ PIECE
   pub grown : new ≡ old ++ piece
   pub read : Consumes (source.remaining s) (source.remaining t) piece
-  pub given : source.gives s piece t
+  pub piece_given : source.gives s piece t
   pub end : count ≡ 0 → IsAtEnd (source.remaining t)

@@ -38,6 +38,6 @@ returns-clause-ok g c =
       most = omega (arith, bound.0, long);
       grown = ap (λ (l : List ℕ). slice_range l r.start (r.end + n)) (whole ∙ same) ∙ grown r.bytes.items c.read.new.buf r.start r.end size n r.ordered within bound.0;
       read = bytes.0;
-      given = c.in_ok-count.ensures.given;
+      piece_given = c.in_ok-count.ensures.given;
       end = λ none. bytes.1 none (omega (arith, long));
     }
