@@ -7,4 +7,3 @@ pub mod Seating
 pub mod Places
 pub mod Taking
 pub mod Numbers
-pub mod Tallying

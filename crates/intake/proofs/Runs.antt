@@ -60,7 +60,7 @@ ran limits before accounts start taken after end js bs t a each judged = record 
   taken_is = t;
   accounts_are = a;
   each = each;
-  judged = judged;
+  in_turn = judged;
   gained = all-accepted limits start js bs end judged;
   answered = all-answered limits start js bs end judged;
 }
@@ -82,7 +82,7 @@ ran-served limits before accounts start c d m end seat number h s =
     (t ∙ (ap (λ z. z ++ j ∷ []) h.taken_is ∙ append_assoc before h.jobs (j ∷ [])))
     (b ∙ (ap (λ z. z ++ a ∷ []) h.accounts_are ∙ append_assoc accounts h.answers (a ∷ [])))
     each
-    (judged-snoc limits start h.jobs h.answers m j a end h.judged s.5)
+    (judged-snoc limits start h.jobs h.answers m j a end h.in_turn s.5)
 
 pub ran-unchanged : (limits : Limits) (before : List Entry) (accounts : List Account) (start : Lists) (c d : ClerkValue) (m end : Lists)
     → Ran limits before accounts start c.taken c.accounts m → d ≡ c → end ≡ m → Ran limits before accounts start d.taken d.accounts end × (d.desk ≡ c.desk) × (d.ended ≡ c.ended)

@@ -141,6 +141,23 @@ at_end [] a b (suc j) e = absurd (some-ne-none b (sym e))
 at_end (x ∷ xs) a b zero e = inl (e, omega arith)
 at_end (x ∷ xs) a b (suc j) e = ⊎_elim (λ t. inl (t.0, (let l = t.1 in omega (arith, l)))) (λ t. inr (ap suc t.0, t.1)) (at_end xs a b j e)
 
+-- each view of a list in which one has become another and one stands at the end: those two, and each other one
+each_forked : (Q : ℕ → QueueView → Type 0) (views : List QueueView) (pass : ℕ) (w new : QueueView) → Q pass w → Q (length (set views pass w)) new
+    → ((k : ℕ) (u : QueueView) → k ≢ pass → get_elem? views k ≡ some u → Q k u) → (k : ℕ) (u : QueueView) → get_elem? (set views pass w ++ new ∷ []) k ≡ some u → Q k u
+each_forked Q views pass w new changed added others k u e =
+    ⊎_elim
+    (λ p. ⊎_elim
+    (λ t. subst (λ (z : QueueView). Q k z) t.1 (subst (λ (j : ℕ). Q j w) (sym t.0) changed))
+    (λ t. others k u t.0 t.1)
+    (at_set views pass k w u p.0))
+    (λ t. subst (λ (z : QueueView). Q k z) t.1 (subst (λ (j : ℕ). Q j new) (sym t.0) added))
+    (at_end (set views pass w) new u k e)
+
+-- the same jobs, where seats have other views: each view has to fit
+reheld : (items : List Entry) (views views' : List QueueView) (b : Balanced items views) (holder' : ℕ → Option ℕ)
+    → ((k : ℕ) (u : QueueView) → get_elem? views' k ≡ some u → FitsSeat holder' b.2 k u × FitsClerk b.0 holder' b.2 b.3 k u) → Balanced items views'
+reheld items views views' b holder' fits = (b.0, holder', b.2, b.3, b.4, b.5, fits)
+
 -- a new seat
 pub seats : (pass : ℕ) (v : QueueView) → v.takes ≡ true → v.submits ≡ false → Forks Balanced pass v (one_more v) (new_seat v)
 seats pass v may not items views b at =
@@ -148,37 +165,25 @@ seats pass v may not items views b at =
     let here = length (set views pass w) in
     let holder = b.1 in
     let handed = b.2 in
-    let taken = b.3 in
     let mine = (b.6 pass v at).1 may in
     let holder' = seat_given holder v.made (some here) in
     let fresh = mine.2 v.made (omega arith) in
-    let older : (s : ℕ) → s ≢ v.made → holder' s ≡ holder s = λ s n. seat_given-else holder v.made (some here) s n in (
-      b.0,
-      holder',
-      handed,
-      taken,
-      b.4,
-      b.5,
-      (λ k u e. ⊎_elim
-          (λ p. ⊎_elim
-          (λ t. subst (λ (z : QueueView). FitsSeat holder' handed k z × FitsClerk b.0 holder' handed taken k z) t.1 (
-            (λ y. absurd (cc (y, not))),
-            (λ y. (
-              t.0 ∙ mine.0,
-              mine.1,
-              (λ s le. let g = mine.2 s (omega (arith, le)) in (older s (omega (arith, le)) ∙ g.0, g.1)),
-              ended-on holder holder' handed handed v.made (v.made + 1) v.ended (omega arith) (λ s l free. (older s (omega (arith, l)) ∙ free, refl)) mine.3,
-            )),
-          ))
-          (λ t. let f = b.6 k u t.1 in (
-            (λ y. (older u.seat (λ same. some-ne-none k (sym ((f.0 y).0) ∙ (ap holder same ∙ fresh.0))) ∙ (f.0 y).0, (f.0 y).1)),
-            (λ y. absurd (t.0 ((f.1 y).0 ∙ sym mine.0))),
-          ))
-          (at_set views pass k w u p.0))
-          (λ t. subst (λ (z : QueueView). FitsSeat holder' handed k z × FitsClerk b.0 holder' handed taken k z) t.1
-          ((λ y. (seat_given-here holder v.made (some here) ∙ ap some (sym t.0), sym fresh.1)), (λ y. absurd (cc y))))
-          (at_end (set views pass w) (new_seat v) u k e)),
+    let older : (s : ℕ) → s ≢ v.made → holder' s ≡ holder s = λ s n. seat_given-else holder v.made (some here) s n in
+    reheld items views (set views pass w ++ new_seat v ∷ []) b holder'
+    (each_forked (λ k u. FitsSeat holder' handed k u × FitsClerk b.0 holder' handed b.3 k u) views pass w (new_seat v) (
+      (λ y. absurd (cc (y, not))),
+      (λ y. (
+        mine.0,
+        mine.1,
+        (λ s le. let g = mine.2 s (omega (arith, le)) in (older s (omega (arith, le)) ∙ g.0, g.1)),
+        ended-on holder holder' handed handed v.made (v.made + 1) v.ended (omega arith) (λ s l free. (older s (omega (arith, l)) ∙ free, refl)) mine.3,
+      )),
     )
+    ((λ y. (seat_given-here holder v.made (some here), sym fresh.1)), (λ y. absurd (cc y)))
+    (λ k u apart is. let f = b.6 k u is in (
+      (λ y. (older u.seat (λ same. some-ne-none k (sym ((f.0 y).0) ∙ (ap holder same ∙ fresh.0))) ∙ (f.0 y).0, (f.0 y).1)),
+      (λ y. absurd (apart ((f.1 y).0 ∙ sym mine.0))),
+    )))
 
 -- a seat's right to hand in goes to a new view
 pub resigns : (pass : ℕ) (v : QueueView) → v.submits ≡ true → v.takes ≡ false → Forks Balanced pass v (retired v) v
@@ -187,28 +192,17 @@ resigns pass v may not items views b at =
     let here = length (set views pass w) in
     let holder = b.1 in
     let handed = b.2 in
-    let taken = b.3 in
     let mine = (b.6 pass v at).0 may in
     let holder' = seat_given holder v.seat (some here) in
-    let other : (s : ℕ) → holder s ≡ none → holder' s ≡ none = λ s free. seat_given-else holder v.seat (some here) s (λ same. some-ne-none pass (sym mine.0 ∙ (ap holder (sym same) ∙ free))) ∙ free in (
-      b.0,
-      holder',
-      handed,
-      taken,
-      b.4,
-      b.5,
-      (λ k u e. ⊎_elim
-          (λ p. ⊎_elim
-          (λ t. subst (λ (z : QueueView). FitsSeat holder' handed k z × FitsClerk b.0 holder' handed taken k z) t.1 ((λ y. absurd (cc y)), (λ y. absurd (cc (y, not)))))
-          (λ t. let f = b.6 k u t.1 in (
-            (λ y. (seat_given-else holder v.seat (some here) u.seat (λ same. t.0 (some-injective k pass (sym ((f.0 y).0) ∙ (ap holder same ∙ mine.0)))) ∙ (f.0 y).0, (f.0 y).1)),
-            (λ y. ((f.1 y).0, (f.1 y).1, (λ s le. let g = (f.1 y).2 s le in (other s g.0, g.1)), ended-on holder holder' handed handed u.made u.made u.ended (omega arith) (λ s l free. (other s free, refl)) (f.1 y).3)),
-          ))
-          (at_set views pass k w u p.0))
-          (λ t. subst (λ (z : QueueView). FitsSeat holder' handed k z × FitsClerk b.0 holder' handed taken k z) t.1
-          ((λ y. (seat_given-here holder v.seat (some here) ∙ ap some (sym t.0), mine.1)), (λ y. absurd (cc (y, not)))))
-          (at_end (set views pass w) v u k e)),
-    )
+    let other : (s : ℕ) → holder s ≡ none → holder' s ≡ none = λ s free. seat_given-else holder v.seat (some here) s (λ same. some-ne-none pass (sym mine.0 ∙ (ap holder (sym same) ∙ free))) ∙ free in
+    reheld items views (set views pass w ++ v ∷ []) b holder'
+    (each_forked (λ k u. FitsSeat holder' handed k u × FitsClerk b.0 holder' handed b.3 k u) views pass w v
+    ((λ y. absurd (cc y)), (λ y. absurd (cc (y, not))))
+    ((λ y. (seat_given-here holder v.seat (some here), mine.1)), (λ y. absurd (cc (y, not))))
+    (λ k u apart is. let f = b.6 k u is in (
+      (λ y. (seat_given-else holder v.seat (some here) u.seat (λ same. apart (some-injective k pass (sym ((f.0 y).0) ∙ (ap holder same ∙ mine.0)))) ∙ (f.0 y).0, (f.0 y).1)),
+      (λ y. ((f.1 y).0, (f.1 y).1, (λ s le. let g = (f.1 y).2 s le in (other s g.0, g.1)), ended-on holder holder' handed handed u.made u.made u.ended (omega arith) (λ s l free. (other s free, refl)) (f.1 y).3)),
+    )))
 
 -- the clerk takes a seat in
 pub takes_in : (pass : ℕ) (v : QueueView) (other : ℕ) (w : QueueView) → v.takes ≡ true → v.submits ≡ false → w.submits ≡ true → w.takes ≡ false → Merges Balanced pass v other w (took_in v w) spent

@@ -105,9 +105,9 @@ left-more value before reserved after x e a b is =
 
 pub balances-more : (taken taken' left left' : List Entry) (accounts : List Account) (e : Entry) → Balances taken accounts left → taken' ≡ taken ++ e ∷ [] → left' ≡ left ++ e ∷ [] → Balances taken' accounts left'
 balances-more taken taken' left left' accounts e b t l = record {
-  judged = b.judged;
+  judged_jobs = b.judged_jobs;
   each = b.each;
-  taken_is = t ∙ (ap (λ z. z ++ e ∷ []) b.taken_is ∙ (append_assoc b.judged left (e ∷ []) ∙ ap (λ z. b.judged ++ z) (sym l)));
+  taken_is = t ∙ (ap (λ z. z ++ e ∷ []) b.taken_is ∙ (append_assoc b.judged_jobs left (e ∷ []) ∙ ap (λ z. b.judged_jobs ++ z) (sym l)));
 }
 
 -- one more was taken, and it was not the seat's last job

@@ -59,15 +59,15 @@ pub record Ran (limits : Limits) (before : List Entry) (accounts : List Account)
   pub taken_is : taken ≡ before ++ jobs
   pub accounts_are : after ≡ accounts ++ answers
   pub each : Accounted taken after
-  pub judged : JudgedInTurn limits start jobs answers end
+  pub in_turn : JudgedInTurn limits start jobs answers end
   pub gained : accepted end ≡ accepted start ++ gained_jobs (accepted start) jobs answers
   pub answered : AllAnswered end.published jobs answers
 
 -- the jobs that were judged, each with its account, and behind them those that are left
 pub record Balances (taken : List Entry) (accounts : List Account) (left : List Entry) : Type 0 where
-  pub judged : List Entry
-  pub each : Accounted judged accounts
-  pub taken_is : taken ≡ judged ++ left
+  pub judged_jobs : List Entry
+  pub each : Accounted judged_jobs accounts
+  pub taken_is : taken ≡ judged_jobs ++ left
 
 -- the seat's list is among those of the ended ones
 abbrev pub HasEnded : List EndedSeat → ℕ → List Entry → Type 0

@@ -2,5 +2,4 @@ pub mod Queues
 pub mod Seats
 pub mod Turns
 pub mod Books
-pub mod Counting
 pub mod Naming

@@ -17,7 +17,7 @@ pub struct Tally;
 impl Rule<Account, u64> for Tally {
     ghost use Rattle.std.specs.Prelude.{[]};
     ghost use base.Fml.{ftrue};
-    ghost use Rattle.intake.specs.Counting.{IsCounted};
+    ghost use Rattle.read_side.specs.Rules.{IsCounted};
 
     ghost holds = { λ cells log. IsCounted cells log };
 
@@ -45,7 +45,7 @@ impl Gain<Account, u64> for Nothing {
 pub struct Add;
 
 impl Play<Account, u64> for Add {
-    ghost use Rattle.intake.specs.Counting.{Adds};
+    ghost use Rattle.read_side.specs.Rules.{Adds};
 
     ghost then = { Adds };
 }

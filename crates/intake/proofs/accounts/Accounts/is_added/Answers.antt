@@ -1,5 +1,5 @@
 use Rattle.std.proofs.Common.{rules, ◌≡◌, sym, ◌∙◌, ap, length}
-use Rattle.intake.proofs.Tallying.{adds_moves}
+use Rattle.read_side.proofs.Adding.{adds_moves}
 use Rattle.intake.proofs.accounts.Accounts.is_added.Goals as goal
 
 pub compare_exchange-found-requires : goal.compare_exchange-found-requires
