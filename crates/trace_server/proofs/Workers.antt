@@ -121,15 +121,15 @@ new_open desk seats each = λ k d lt. let n = each k d lt in (n.0, n.1)
 
 pub balanced : (limits : Limits) (taken : List Entry) (accounts : List Account) (left : List Entry) (a r : ℕ) → HasJudged limits taken accounts a r → left ≡ [] → Balances taken accounts left
 balanced limits taken accounts left a r h none =
-    record { judged = taken; each = h.ran.each; taken_is = sym (append-nil taken) ∙ ap (λ z. taken ++ z) (sym none) }
+    record { judged_jobs = taken; each = h.ran.each; taken_is = sym (append-nil taken) ∙ ap (λ z. taken ++ z) (sym none) }
 
 pub books_closed : (limits : Limits) (seats : List SeatValue) (judged : List Entry) (accounts : List Account) (before taken left : List Entry) (a0 r0 a r l : ℕ)
     → HasJudged limits judged accounts a0 r0 → a ≡ a0 → r ≡ r0 → before ≡ [] → Moves judged before taken left → AreTaken taken seats → l ≡ length left → ClosesBooks limits seats a r l
 books_closed limits seats judged accounts before taken left a0 r0 a r l h aa rr none moves whole ls = record {
-  judged = judged;
+  judged_jobs = judged;
   accounts = accounts;
   lists = h.lists;
-  unjudged = moves.0;
+  unjudged_jobs = moves.0;
   ran = h.ran;
   whole = subst (λ z. AreTaken z seats) moves.1 whole;
   acknowledged_is = aa ∙ h.acknowledged_is;

@@ -35,15 +35,15 @@ last_lines served acknowledged refused left =
 -- A clerk of an empty store judged some jobs, and some are left. All that these seats handed in is among
 -- them, for each seat whole and in order. The counts are those of the answers, and of what is left.
 pub record ClosesBooks (limits : Limits) (seats : List SeatValue) (acknowledged refused left : ℕ) : Type 0 where
-  pub judged : List Entry
+  pub judged_jobs : List Entry
   pub accounts : List Account
   pub lists : Lists
-  pub unjudged : List Entry
-  pub ran : Ran limits [] [] no_entries judged accounts lists
-  pub whole : All (λ (s : SeatValue). AllTaken s.seat s.jobs (judged ++ unjudged)) seats
+  pub unjudged_jobs : List Entry
+  pub ran : Ran limits [] [] no_entries judged_jobs accounts lists
+  pub whole : All (λ (s : SeatValue). AllTaken s.seat s.jobs (judged_jobs ++ unjudged_jobs)) seats
   pub acknowledged_is : acknowledged ≡ acknowledged_of accounts
   pub refused_is : refused ≡ refused_of accounts
-  pub left_is : left ≡ length unjudged
+  pub left_is : left ≡ length unjudged_jobs
 
 -- each worker has one of these seats, the one with its number
 abbrev pub OneForEach : ℕ → List SeatValue → Type 0

@@ -27,6 +27,14 @@ use std::thread::{Threads, spawn};
 use std::time::Clock;
 use trace_model::Limits;
 
+/// Where a server takes connections, how it is set up, and what hears of its workers' calls.
+#[derive(Drop)]
+struct ServerSetup<'a, G> {
+    listener: &'a TcpListener,
+    config: &'a ServerConfig,
+    gate: &'a G,
+}
+
 /// What the clerk leaves, and what the workers did, each with its ends of the store.
 type Left<N> = (Books<N>, Result<Vec<(WorkerOutcome, Live<N>)>, AllocError>);
 
@@ -53,14 +61,7 @@ fn serve_sessions<
     D: DeskName + Send + Sync,
     G: Gate + Sync,
     R: Threads + Wait + Clock + Eprint + Sync,
->(
-    rt: &R,
-    alloc: Global,
-    shared: SharedStore<N>,
-    listener: &TcpListener,
-    config: &ServerConfig,
-    gate: &G,
-) -> Left<N>
+>(rt: &R, alloc: Global, shared: SharedStore<N>, setup: &ServerSetup<'_, G>) -> Left<N>
     requires keeper { shared.keeper ≡ no_entries }
     requires clerk { IsNewClerk shared.clerk }
     requires desk { shared.clerk.desk ≡ D.desk }
@@ -84,14 +85,14 @@ fn serve_sessions<
     let workers = {
         let server = Server {
             alloc,
-            listener,
+            listener: setup.listener,
             desk: &desk,
-            gate,
+            gate: setup.gate,
             notices: &notices,
             clerk: &clerk,
-            sessions: config.sessions,
+            sessions: setup.config.sessions,
             claimed: &claimed,
-            idle: config.idle,
+            idle: setup.config.idle,
         };
         work_all(rt, &server, lives)
     };
@@ -106,26 +107,18 @@ fn serve_store<
     G: Gate + Sync,
     W: Output,
     R: Threads + Wait + Clock + Eprint + Sync,
->(
-    rt: &R,
-    alloc: Global,
-    shared: SharedStore<N>,
-    listener: &TcpListener,
-    config: &ServerConfig,
-    gate: &G,
-    output: &mut W,
-) -> u8
+>(rt: &R, alloc: Global, shared: SharedStore<N>, setup: &ServerSetup<'_, G>, output: &mut W) -> u8
     requires keeper { shared.keeper ≡ no_entries }
     requires clerk { IsNewClerk shared.clerk }
     requires new { AreNew shared.clerk.desk (map (λ p. p.1.seat) shared.lives.items) }
-    requires numbers { OneForEach config.now.workers (map (λ p. p.1.seat) shared.lives.items) }
+    requires numbers { OneForEach setup.now.config.now.workers
+        (map (λ p. p.1.seat) shared.lives.items) }
     requires output_works { W.has_failed output.old ≡ false }
-    ensures { Reports N.limits config.now.workers (map (λ p. p.1.seat) shared.lives.items)
+    ensures { Reports N.limits setup.now.config.now.workers
+        (map (λ p. p.1.seat) shared.lives.items)
         (W.contents output.old) (W.contents output.new) (W.has_failed output.new) result }
 {
-    let (books, workers) = serve_sessions::<N, Brand, G, R>(
-        rt, alloc, shared, listener, config, gate,
-    );
+    let (books, workers) = serve_sessions::<N, Brand, G, R>(rt, alloc, shared, setup);
     let Ok(workers) = workers else {
         close_store(rt, books);
         return 5;
@@ -159,31 +152,29 @@ fn serve_named<
     alloc: Global,
     name: Opened,
     limits: Limits,
-    listener: &TcpListener,
-    config: &ServerConfig,
-    gate: &G,
+    setup: &ServerSetup<'_, G>,
     output: &mut W,
 ) -> u8
     requires book { name.seen.book ≡ N.book }
     requires limits { limits ≡ N.limits }
-    requires workers { (1 ≤ config.now.workers) × (config.now.workers ≤ 64) }
-    requires queue { (1 ≤ config.now.queue) × (config.now.queue ≤ 4096) }
+    requires workers { (1 ≤ setup.now.config.now.workers) × (setup.now.config.now.workers ≤ 64) }
+    requires queue { (1 ≤ setup.now.config.now.queue) × (setup.now.config.now.queue ≤ 4096) }
     requires output_works { W.has_failed output.old ≡ false }
-    ensures { Serves limits config.now.workers (W.contents output.old) (W.contents output.new)
-        (W.has_failed output.new) result }
+    ensures { Serves limits setup.now.config.now.workers (W.contents output.old)
+        (W.contents output.new) (W.has_failed output.new) result }
 {
-    let Ok(address) = listener.local_addr() else {
+    let Ok(address) = setup.listener.local_addr() else {
         return 5;
     };
-    let Ok(shared) = SharedStore::<N>::open(rt, alloc, name, limits, config) else {
+    let Ok(shared) = SharedStore::<N>::open(rt, alloc, name, limits, setup.config) else {
         return 5;
     };
     if let Err(error) = say_listening(alloc, output, address.port()) {
         shared.close(rt);
         return error.status();
     }
-    say_limits(rt, &config.limits);
-    serve_store(rt, alloc, shared, listener, config, gate, output)
+    say_limits(rt, &setup.config.limits);
+    serve_store(rt, alloc, shared, setup, output)
 }
 
 /// Serves the connections of a socket that listens on this machine's own address, over an empty store,
@@ -216,5 +207,10 @@ pub fn serve_with<G: Gate + Sync, W: Output, R: Threads + Wait + Clock + Eprint 
         return 5;
     }
     let (name, limits) = (Opened::new(), config.limits);
-    serve_named::<Brand, G, W, R>(rt, alloc, name, limits, listener, config, gate, output)
+    let setup = ServerSetup {
+        listener,
+        config,
+        gate,
+    };
+    serve_named::<Brand, G, W, R>(rt, alloc, name, limits, &setup, output)
 }
