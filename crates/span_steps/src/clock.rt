@@ -1,18 +1,31 @@
 //! How one host's clock runs against another's, and a span moved by the difference.
 
-ghost use Rattle.std.specs.Prelude.{◌≡◌, IfOk, OnOk, OnErr, IsTrue, map, string_bytes, pos, ◌+ℤ◌, [], not, ◌||◌};
+ghost use Rattle.std.specs.Prelude.{◌≡◌, IfOk, OnOk, OnErr, IsTrue, map, codes, string_bytes, pos, ◌+ℤ◌, [], not, ◌||◌};
 ghost use Rattle.std.specs.List.{list_all};
 ghost use Rattle.jaeger_model.specs.declared.span.Log.{Log as LogValue};
+ghost use Rattle.jaeger_model.specs.Tags.{first_text};
 ghost use Rattle.jaeger_model.specs.Texts.{same_text};
 ghost use Rattle.trace_model.specs.Adjusting.{host_of, fits, all_fit, is_applied, start_at, new_delta, clock_at, is_elsewhere, clock_below, moved, move_log, said_after, warned, past_limit, past_times, adjusted_by, shifted, unadjusted};
 
 use crate::skew::{can_move, delta_between, is_within, moved_by};
-use jaeger_model::{Log, Placed, Seq, Span, Text, first_text};
+use jaeger_model::{Log, Placed, Process, Seq, Span, Text, first_text};
 use std::alloc::{AllocError, Global};
 use std::mem;
 use trace_model::{Clock, Shown};
 
-/// The host of a span: the text of its process's first tag `ip`, or an empty one.
+/// The host that a process names: the text of its first tag `ip`, or an empty one.
+///
+/// # Errors
+///
+/// Out of memory, and nothing else.
+pub fn host_named(alloc: Global, process: &Process) -> Result<Text, AllocError>
+    ensures { IfOk result (λ t. t ≡ first_text (codes "ip") process.now.tags) }
+{
+    let host = first_text(alloc, process.tags.as_slice(), "ip")?;
+    Ok(Text::from_string(host))
+}
+
+/// The host of a span: the one that its process names.
 ///
 /// # Errors
 ///
@@ -20,8 +33,7 @@ use trace_model::{Clock, Shown};
 pub fn host_of(alloc: Global, placed: &Placed) -> Result<Text, AllocError>
     ensures { IfOk result (λ t. t ≡ host_of placed.now) }
 {
-    let host = first_text(alloc, placed.process.get().tags.as_slice(), "ip")?;
-    Ok(Text::from_string(host))
+    host_named(alloc, placed.process.get())
 }
 
 /// Each log time so much later is a time.
@@ -31,8 +43,8 @@ fn all_logs_fit(delta: i128, logs: &[Log]) -> bool
     logs.iter().all(|l| can_move(l.at, delta))
 }
 
-/// Start and log times so much later are all times.
-fn all_fit(delta: i128, span: &Span) -> bool
+/// Start and log times so much later are all times. The delta is microseconds.
+pub fn all_fit(delta: i128, span: &Span) -> bool
     ensures { result ≡ all_fit delta span.now }
 {
     can_move(span.start, delta) && all_logs_fit(delta, span.logs.as_slice())

@@ -1,15 +1,16 @@
 //! A trace of an answer: made already, or by its spans where their entries keep them.
 
-ghost use Rattle.std.specs.Prelude.{◌≡◌, slice_get, is_some, IfOk};
+ghost use Rattle.std.specs.Prelude.{◌≡◌, slice_get, is_some, IfOk, option_map};
 ghost use Rattle.std.specs.Arc.{arc_value};
 ghost use Rattle.jaeger_model.specs.Parents.{domain};
 ghost use Rattle.trace_model.specs.Works.{placed_brought};
 ghost use Rattle.trace_model.specs.Keeping.{kept_value, KeptShares, form_value, FormShares};
+ghost use Rattle.trace_model.specs.Seeing.{placed_by_its_entry};
 
 use crate::entry::Entry;
 use crate::limits::Limits;
 use crate::shown_trace::ShownTrace;
-use jaeger_model::{Batch, Placed, place_span};
+use jaeger_model::{Batch, Placed, Seen, place_span};
 use std::alloc::{AllocError, Global};
 use std::marker::Model;
 use std::sync::Arc;
@@ -43,6 +44,19 @@ fn placed_in(alloc: Global, batch: &Batch, index: u32) -> Result<Option<Placed>,
     }
 }
 
+/// The span of a batch at an index, to look at as it was reported.
+fn reported_in(batch: &Batch, index: u32) -> Option<Seen>
+    ensures { option_map placed_by_its_entry result ≡ slice_get (domain batch.now) index }
+{
+    match batch.spans.as_slice().get(index as usize) {
+        Some(span) => Some(Seen {
+            process: batch.process.get(),
+            span,
+        }),
+        None => None,
+    }
+}
+
 impl KeptSpan {
     /// The span of the entry at an index, the first being 0.
     ///
@@ -62,6 +76,17 @@ impl KeptSpan {
         ensures { result ≡ is_some self.now }
     {
         (self.index as usize) < self.entry.work.spans().len()
+    }
+
+    /// The span where its entry keeps it, as it was reported: its parent need not be among its references. Takes
+    /// no memory.
+    pub fn reported(&self) -> Option<Seen>
+        ensures { option_map placed_by_its_entry result ≡ self.now }
+    {
+        match self.entry.work.batch() {
+            Some(batch) => reported_in(batch, self.index),
+            None => None,
+        }
     }
 
     /// The span, copied; its process is shared.
