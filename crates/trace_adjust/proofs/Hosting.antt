@@ -10,13 +10,11 @@ use Rattle.jaeger_model.specs.declared.placed.Placed.{Placed}
 use Rattle.jaeger_model.specs.declared.span.Span.{Span}
 use Rattle.jaeger_model.specs.Texts.{same_text, text_cmp}
 use Rattle.jaeger_model.specs.Tags.{first_text}
-use Rattle.trace_model.specs.declared.answer.Shown.{Shown}
 use Rattle.trace_model.specs.Adjusting.{host_of, spans_of, unadjusted, with_parent_first, new_delta, clock_at, clock_below}
 use Rattle.trace_adjust.specs.declared.clock.HostClock.{HostClock}
 use Rattle.trace_adjust.specs.Settling.{near, is_unset, written, delta_at, delta_or_none}
 use Rattle.trace_model.specs.Sharing.{ShareProcesses}
 use Rattle.trace_adjust.specs.Hosts.{hosts_of, number_in, hosted, all_hosted, AreNumbers, IsNumber, IsNumbered, AreNumbered, clock_by, below_by, near_by, delta_of, delta_by}
-use Rattle.trace_adjust.proofs.Places.{as_many, placed_at}
 
 -- ---- processes
 first_process : (ps : List Placed) (k : ℕ) (d : Placed) → (get_or (spans_of (map unadjusted (map with_parent_first ps))) k d).process ≡ (get_or ps k d).process
@@ -192,56 +190,52 @@ number_read hosts (p ∷ trace) (n ∷ ns) zero d e l are = let first : Some n �
 number_read hosts (p ∷ trace) (n ∷ ns) (suc i) d e l are = let rest : AreNumbers hosts trace ns = cc are in number_read hosts trace ns i d e (omega arith) rest
 
 -- ---- one more span's host
-module _ (ss : List Shown) (i : ℕ) (s : Shown) (l : i < length ss) (e : s ≡ get_or ss i s) where
+module _ (ps : List Placed) (i : ℕ) (p : Placed) (l : i < length ps) (e : p ≡ get_or ps i p) where
   abbrev all : List (List ℕ)
-  all = hosts_of (spans_of ss)
+  all = hosts_of ps
 
   abbrev before : List (List ℕ)
-  before = hosts_of (spans_of (take i ss))
+  before = hosts_of (take i ps)
 
-  within : i < length (spans_of ss)
-  within = let many = as_many ss in omega (arith, many, l)
+  hosts_more : map host_of (take (i + 1) ps) ≡ map host_of (take i ps) ++ host_of p ∷ []
+  hosts_more = map_more host_of ps i p l ∙ ap (λ x. map host_of (take i ps) ++ host_of x ∷ []) (sym e)
 
-  there : s.placed ≡ get_or (spans_of ss) i s.placed
-  there = placed_at ss i s l e
+  before_more : hosts_of (take (i + 1) ps) ≡ before ++ host_of p ∷ []
+  before_more = ap (λ hs. [] ∷ hs) hosts_more
 
-  before_more : hosts_of (spans_of (take (i + 1) ss)) ≡ before ++ host_of s.placed ∷ []
-  before_more = ap hosts_of (map_more (λ (x : Shown). x.placed) ss i s l ∙ ap (λ (x : Shown). spans_of (take i ss) ++ x.placed ∷ []) (sym e)) ∙ ap (λ hs. [] ∷ hs) (map_push host_of (spans_of (take i ss)) s.placed)
+  all_is : all ≡ hosts_of (take (i + 1) ps) ++ map host_of (drop (i + 1) ps)
+  all_is = ap hosts_of (sym (take-append-drop (i + 1) ps)) ∙ ap (λ hs. [] ∷ hs) (map-append host_of (take (i + 1) ps) (drop (i + 1) ps))
 
-  all_is : all ≡ hosts_of (spans_of (take (i + 1) ss)) ++ map host_of (spans_of (drop (i + 1) ss))
-  all_is = ap hosts_of (ap spans_of (sym (take-append-drop (i + 1) ss)) ∙ map-append (λ (x : Shown). x.placed) (take (i + 1) ss) (drop (i + 1) ss)) ∙ ap (λ hs. [] ∷ hs) (map-append host_of (spans_of (take (i + 1) ss)) (spans_of (drop (i + 1) ss)))
-
-  host_at : get_or all (i + 1) [] ≡ host_of s.placed
-  host_at = ap (λ k. get_or all k []) (add_one i) ∙ get_or-map host_of (spans_of ss) i s.placed [] within ∙ ap host_of (sym there)
+  host_at : get_or all (i + 1) [] ≡ host_of p
+  host_at = ap (λ k. get_or all k []) (add_one i) ∙ get_or-map host_of ps i p [] l ∙ ap host_of (sym e)
     where
       add_one : (k : ℕ) → k + 1 ≡ suc k
       add_one k = omega arith
 
-  pub table_more : (g : List ℕ → Option ℕ) → ((t : List ℕ) → g t ≡ number_in (before ++ host_of s.placed ∷ []) t) → (t : List ℕ) → g t ≡ number_in (hosts_of (spans_of (take (i + 1) ss))) t
+  pub table_more : (g : List ℕ → Option ℕ) → ((t : List ℕ) → g t ≡ number_in (before ++ host_of p ∷ []) t) → (t : List ℕ) → g t ≡ number_in (hosts_of (take (i + 1) ps)) t
   table_more g is t = is t ∙ ap (λ hs. number_in hs t) (sym before_more)
 
-  pub last_more : (n : ℕ) → number_in (before ++ host_of s.placed ∷ []) (host_of s.placed) ≡ Some n → number_in (hosts_of (spans_of (take (i + 1) ss))) (get_or all (i + 1) []) ≡ Some n
+  pub last_more : (n : ℕ) → number_in (before ++ host_of p ∷ []) (host_of p) ≡ Some n → number_in (hosts_of (take (i + 1) ps)) (get_or all (i + 1) []) ≡ Some n
   last_more n is = (λ j. number_in (before_more j) (host_at j)) ∙ is
 
-  pub numbers_more : (ns new : List ℕ) (n : ℕ) → AreNumbers all (spans_of (take i ss)) ns → new ≡ ns ++ n ∷ [] → number_in (before ++ host_of s.placed ∷ []) (host_of s.placed) ≡ Some n → AreNumbers all (spans_of (take (i + 1) ss)) new
+  pub numbers_more : (ns new : List ℕ) (n : ℕ) → AreNumbers all (take i ps) ns → new ≡ ns ++ n ∷ [] → number_in (before ++ host_of p ∷ []) (host_of p) ≡ Some n → AreNumbers all (take (i + 1) ps) new
   numbers_more ns new n are put is =
-      let known : number_in all (host_of s.placed) ≡ Some n = ap (λ hs. number_in hs (host_of s.placed)) (all_is ∙ ap (λ hs. hs ++ map host_of (spans_of (drop (i + 1) ss))) before_more) ∙ number_stays (before ++ host_of s.placed ∷ []) _ (host_of s.placed) n is in
+      let known : number_in all (host_of p) ≡ Some n = ap (λ hs. number_in hs (host_of p)) (all_is ∙ ap (λ hs. hs ++ map host_of (drop (i + 1) ps)) before_more) ∙ number_stays (before ++ host_of p ∷ []) _ (host_of p) n is in
       ap (map Some) put ∙ map_push Some ns n ∙ (λ j. are j ++ (sym known) j ∷ [])
-      ∙ sym (map_push (λ p. number_in all (host_of p)) (spans_of (take i ss)) s.placed)
-      ∙ ap (map (λ p. number_in all (host_of p))) (sym (map_more (λ (x : Shown). x.placed) ss i s l ∙ ap (λ (x : Shown). spans_of (take i ss) ++ x.placed ∷ []) (sym e)))
+      ∙ sym (map_more (λ q. number_in all (host_of q)) ps i p l ∙ ap (λ x. map (λ q. number_in all (host_of q)) (take i ps) ++ number_in all (host_of x) ∷ []) (sym e))
 
   pub fresh_is : length before ≡ i + 1
-  fresh_is = let a = length-map (spans_of (take i ss)) host_of in let b = as_many (take i ss) in let c = length-take-le i ss (omega (arith, l)) in omega (arith, a, b, c)
+  fresh_is = let a = length-map (take i ps) host_of in let c = length-take-le i ps (omega (arith, l)) in omega (arith, a, c)
 
   -- the span before has the same host
-  pub same_host : (places : List ℕ) → ShareProcesses (spans_of ss) places → 0 < i → i < length places → get_or places (i - 1) 0 ≡ get_or places i 0 → get_or all i [] ≡ host_of s.placed
+  pub same_host : (places : List ℕ) → ShareProcesses ps places → 0 < i → i < length places → get_or places (i - 1) 0 ≡ get_or places i 0 → get_or all i [] ≡ host_of p
   same_host places share above short same =
       let one : (i - 1) + 1 ≡ i = omega (arith, above) in
       let next : suc (i - 1) ≡ i = omega (arith, above) in
-      let shared = share (i - 1) s.placed (omega (arith, one, short)) (same ∙ ap (λ k. get_or places k 0) (sym one)) in
-      ap (λ k. get_or all k []) (sym next) ∙ get_or-map host_of (spans_of ss) (i - 1) s.placed [] (omega (arith, within))
-      ∙ ap (λ q. first_text (codes "ip") q.tags) (shared ∙ ap (λ k. (get_or (spans_of ss) k s.placed).process) one)
-      ∙ ap host_of (sym there)
+      let shared = share (i - 1) p (omega (arith, one, short)) (same ∙ ap (λ k. get_or places k 0) (sym one)) in
+      ap (λ k. get_or all k []) (sym next) ∙ get_or-map host_of ps (i - 1) p [] (omega (arith, l))
+      ∙ ap (λ q. first_text (codes "ip") q.tags) (shared ∙ ap (λ k. (get_or ps k p).process) one)
+      ∙ ap host_of (sym e)
 
 -- the number that a host gets
 pub number_given : (hosts : List (List ℕ)) (h : List ℕ) (o : Option ℕ) (n fresh : ℕ) → o ≡ number_in hosts h → n ≡ unwrap_or o fresh → length hosts ≡ fresh → number_in (hosts ++ h ∷ []) h ≡ Some n

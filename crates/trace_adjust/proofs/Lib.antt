@@ -1,4 +1,5 @@
 pub mod Hosting
+pub mod Lent
 pub mod Places
 pub mod Settled
 pub mod Shifting

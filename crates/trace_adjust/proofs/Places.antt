@@ -7,7 +7,7 @@ use Rattle.std.specs.List.{list_any}
 use Rattle.std.specs.Ordering.{nat_cmp, is_eq}
 use Rattle.std.specs.Cmp.{unsigned_ties}
 use Rattle.std.proofs.lemmas.Bool.{false≢true}
-use Rattle.std.proofs.lemmas.List.{take_more, take-map, map_more, map_push, length-map, length-take-le, get_or-map}
+use Rattle.std.proofs.lemmas.List.{take_more, map_push, length-map, length-take-le, get_or-map}
 use Rattle.jaeger_model.specs.declared.ids.SpanId.{SpanId}
 use Rattle.jaeger_model.specs.declared.placed.Placed.{Placed}
 use Rattle.jaeger_model.specs.Parents.{parent}
@@ -140,23 +140,10 @@ as_many ss = length-map ss span_of
 pub placed_at : (ss : List Shown) (i : ℕ) (s : Shown) → i < length ss → s ≡ get_or ss i s → s.placed ≡ get_or (spans_of ss) i s.placed
 placed_at ss i s l e = ap span_of e ∙ sym (get_or-map span_of ss i s s.placed l)
 
-module _ (q : ℕ) (g : ℕ → Option ℕ) (ss : List Shown) (i : ℕ) (s : Shown) (l : i < length ss) (e : s ≡ get_or ss i s) (inv : (id : ℕ) → g id ≡ first_at id (spans_of (take i ss))) where
-  before : (id : ℕ) → g id ≡ first_at id (take i (spans_of ss))
-  before id = inv id ∙ ap (first_at id) (sym (take-map span_of i ss))
-
-  within : i < length (spans_of ss)
-  within = let n = as_many ss in omega (arith, n, l)
-
-  pub entered_shown : (o : Option ℕ) → is_some (g s.placed.span.id.0) ≡ false → o ≡ cond (is_eq (nat_cmp s.placed.span.id.0 q)) (Some i) (g q) → o ≡ first_at q (spans_of (take (i + 1) ss))
-  entered_shown o none put = entered q g o (spans_of ss) i s.placed within (placed_at ss i s l e) before none put ∙ ap (first_at q) (take-map span_of (i + 1) ss)
-
-  pub kept_shown : is_some (g s.placed.span.id.0) ≡ true → g q ≡ first_at q (spans_of (take (i + 1) ss))
-  kept_shown some = kept q g (spans_of ss) i s.placed within (placed_at ss i s l e) before some ∙ ap (first_at q) (take-map span_of (i + 1) ss)
-
 -- one more place of a parent
-pub places_more : (f : Placed → Option ℕ) (ss : List Shown) (i : ℕ) (s : Shown) (had has : List (Option ℕ)) (o : Option ℕ) → i < length ss → s ≡ get_or ss i s
-    → had ≡ map f (spans_of (take i ss)) → o ≡ f s.placed → has ≡ had ++ o ∷ [] → has ≡ map f (spans_of (take (i + 1) ss))
-places_more f ss i s had has o l e inv here put =
-    put ∙ (λ j. inv j ++ (here ∙ ap (λ x. f (span_of x)) e) j ∷ [])
-    ∙ sym (map_push f (spans_of (take i ss)) (get_or ss i s).placed)
-    ∙ ap (map f) (sym (map_more span_of ss i s l))
+pub places_more : (f : Placed → Option ℕ) (ps : List Placed) (i : ℕ) (p : Placed) (had has : List (Option ℕ)) (o : Option ℕ) → i < length ps → p ≡ get_or ps i p
+    → had ≡ map f (take i ps) → o ≡ f p → has ≡ had ++ o ∷ [] → has ≡ map f (take (i + 1) ps)
+places_more f ps i p had has o l e inv here put =
+    put ∙ (λ j. inv j ++ (here ∙ ap f e) j ∷ [])
+    ∙ sym (map_push f (take i ps) (get_or ps i p))
+    ∙ ap (map f) (sym (take_more ps i p l))

@@ -4,8 +4,8 @@ ghost use Rattle.std.specs.Prelude.{◌≡◌, pos, ◌==◌, ◌||◌, not};
 ghost use Rattle.trace_model.specs.Adjusting.{delta_between};
 ghost use Rattle.trace_adjust.specs.Hosts.{clock_by, below_by};
 
-use jaeger_model::Span;
-use span_steps::{delta_between, start_at};
+use crate::lent_placed::LentPlaced;
+use span_steps::delta_between;
 
 /// The number of the empty host, which is that of a span whose process names none.
 pub(crate) const NO_HOST: usize = 0;
@@ -20,22 +20,22 @@ pub(crate) struct HostClock {
     pub(crate) duration: i64,
 }
 
-fn clock_at(max_skew: u64, host: usize, delta: i128, span: &Span) -> HostClock
-    ensures { result ≡ clock_by max_skew host delta span.now }
+fn clock_at(max_skew: u64, host: usize, delta: i128, placed: &LentPlaced) -> HostClock
+    ensures { result ≡ clock_by max_skew host delta placed.now.span }
 {
     HostClock {
         host,
         delta,
-        start: start_at(max_skew, delta, span),
-        duration: span.duration,
+        start: placed.start_at(max_skew, delta),
+        duration: placed.duration(),
     }
 }
 
 /// The clock of a span whose parent is not in its trace: its own host's, with no delta.
-pub(crate) fn root_clock(host: usize, span: &Span, max_skew: u64) -> HostClock
-    ensures { result ≡ clock_by max_skew host (pos 0) span.now }
+pub(crate) fn root_clock(host: usize, placed: &LentPlaced, max_skew: u64) -> HostClock
+    ensures { result ≡ clock_by max_skew host (pos 0) placed.now.span }
 {
-    clock_at(max_skew, host, 0, span)
+    clock_at(max_skew, host, 0, placed)
 }
 
 /// The host is none, or another than the one whose clock runs there.
@@ -46,19 +46,30 @@ fn is_elsewhere(above: HostClock, host: usize) -> bool
 }
 
 /// What brings the span into the time of its parent, which has this clock.
-fn new_delta(above: HostClock, span: &Span) -> i128
-    ensures { result ≡ delta_between above.start above.duration span.now.start span.now.duration }
+fn new_delta(above: HostClock, placed: &LentPlaced) -> i128
+    ensures { result ≡ delta_between above.start above.duration
+        placed.now.span.start placed.now.span.duration }
 {
-    delta_between(above.start, above.duration, span.start, span.duration)
+    delta_between(
+        above.start,
+        above.duration,
+        placed.start(),
+        placed.duration(),
+    )
 }
 
 /// The clock of a span whose parent has this one: the parent's where the span is of the same host,
 /// else its own host's, with a delta that brings the span into its parent's time.
-pub(crate) fn clock_below(above: HostClock, host: usize, span: &Span, max_skew: u64) -> HostClock
-    ensures { result ≡ below_by max_skew above host span.now }
+pub(crate) fn clock_below(
+    above: HostClock,
+    host: usize,
+    placed: &LentPlaced,
+    max_skew: u64,
+) -> HostClock
+    ensures { result ≡ below_by max_skew above host placed.now.span }
 {
     if is_elsewhere(above, host) {
-        return clock_at(max_skew, host, new_delta(above, span), span);
+        return clock_at(max_skew, host, new_delta(above, placed), placed);
     }
-    clock_at(max_skew, above.host, above.delta, span)
+    clock_at(max_skew, above.host, above.delta, placed)
 }

@@ -1,14 +1,12 @@
 //! The clock of each span of a trace.
 
 ghost use Rattle.std.specs.Prelude.{◌≡◌, ◌<◌, ◌+◌, ℕ, false, true, IfOk, None, map, length, get_or, cond};
-ghost use Rattle.trace_model.specs.Adjusting.{spans_of};
 ghost use Rattle.trace_adjust.specs.Settling.{place_in, written, writes, unset_count, IsClosed, AreClosed, AreClocks};
 ghost use Rattle.trace_adjust.specs.Hosts.{hosts_of, all_hosted, near_by, AreNumbers, AreSet};
 
 use crate::clock::{HostClock, clock_below, root_clock};
-use jaeger_model::Span;
+use crate::lent_placed::LentPlaced;
 use std::alloc::{AllocError, Global};
-use trace_model::Shown;
 
 /// The places of the spans in an order in which parents stand in front of their children wherever
 /// no cycle forbids it: from each span on up to one that was reached before, and back. The order
@@ -49,17 +47,17 @@ fn climb(
 fn clock_near(
     clocks: &[Option<HostClock>],
     host: usize,
-    span: &Span,
+    placed: &LentPlaced,
     parent: Option<usize>,
     max_skew: u64,
 ) -> Option<HostClock>
-    ensures { result ≡ near_by max_skew clocks.now host span.now parent }
+    ensures { result ≡ near_by max_skew clocks.now host placed.now.span parent }
 {
     let Some(parent) = parent else {
-        return Some(root_clock(host, span, max_skew));
+        return Some(root_clock(host, placed, max_skew));
     };
     match clocks.get(parent) {
-        Some(Some(above)) => Some(clock_below(*above, host, span, max_skew)),
+        Some(Some(above)) => Some(clock_below(*above, host, placed, max_skew)),
         _ => None,
     }
 }
@@ -70,63 +68,70 @@ fn settle(
     clocks: &mut Vec<Option<HostClock>>,
     place: usize,
     host: usize,
-    span: &Span,
+    placed: &LentPlaced,
     parent: Option<usize>,
     max_skew: u64,
 ) -> bool
     requires { place < length clocks.old.items }
     ensures after { clocks.new.items ≡ written clocks.old.items place
-        (near_by max_skew clocks.old.items host span.now parent) }
+        (near_by max_skew clocks.old.items host placed.now.span parent) }
     ensures set { result ≡ writes clocks.old.items place
-        (near_by max_skew clocks.old.items host span.now parent) }
+        (near_by max_skew clocks.old.items host placed.now.span parent) }
 {
     if clocks[place].is_some() {
         return false;
     }
-    let clock = clock_near(clocks, host, span, parent, max_skew);
+    let clock = clock_near(clocks, host, placed, parent, max_skew);
     clocks[place] = clock;
     clock.is_some()
 }
 
 /// The same for the span at the place, where there is one.
 fn settle_at(
-    trace: &[Shown],
+    trace: &[LentPlaced],
     parents: &[Option<usize>],
     hosts: &[usize],
     clocks: &mut Vec<Option<HostClock>>,
     place: usize,
     max_skew: u64,
 ) -> bool
-    requires parents { parents.now ≡ map (place_in (spans_of trace.now)) (spans_of trace.now) }
-    requires hosts { AreNumbers (hosts_of (spans_of trace.now)) (spans_of trace.now) hosts.now }
-    requires set { AreSet max_skew (spans_of trace.now) clocks.old.items }
+    requires parents { parents.now ≡ map (place_in trace.now) trace.now }
+    requires hosts { AreNumbers (hosts_of trace.now) trace.now hosts.now }
+    requires set { AreSet max_skew trace.now clocks.old.items }
     requires within { place < length trace.now }
-    ensures set { AreSet max_skew (spans_of trace.now) clocks.new.items }
+    ensures set { AreSet max_skew trace.now clocks.new.items }
     ensures closed { result ≡ false → (clocks.new.items ≡ clocks.old.items)
-        × IsClosed max_skew (spans_of trace.now) place
-        (all_hosted (hosts_of (spans_of trace.now)) clocks.new.items) }
+        × IsClosed max_skew trace.now place
+        (all_hosted (hosts_of trace.now) clocks.new.items) }
     ensures fewer { unset_count clocks.new.items + cond result 1 0 ≡ unset_count clocks.old.items }
 {
-    let span = &trace[place].placed.span;
-    settle(clocks, place, hosts[place], span, parents[place], max_skew)
+    let placed = &trace[place];
+    settle(
+        clocks,
+        place,
+        hosts[place],
+        placed,
+        parents[place],
+        max_skew,
+    )
 }
 
 /// Sets each clock that can be set, from the first span to the last, and returns whether there was
 /// one.
 fn settle_all(
-    trace: &[Shown],
+    trace: &[LentPlaced],
     parents: &[Option<usize>],
     hosts: &[usize],
     clocks: &mut Vec<Option<HostClock>>,
     max_skew: u64,
 ) -> bool
-    requires parents { parents.now ≡ map (place_in (spans_of trace.now)) (spans_of trace.now) }
-    requires hosts { AreNumbers (hosts_of (spans_of trace.now)) (spans_of trace.now) hosts.now }
-    requires set { AreSet max_skew (spans_of trace.now) clocks.old.items }
-    ensures set { AreSet max_skew (spans_of trace.now) clocks.new.items }
+    requires parents { parents.now ≡ map (place_in trace.now) trace.now }
+    requires hosts { AreNumbers (hosts_of trace.now) trace.now hosts.now }
+    requires set { AreSet max_skew trace.now clocks.old.items }
+    ensures set { AreSet max_skew trace.now clocks.new.items }
     ensures closed { result ≡ false →
-        AreClosed max_skew (spans_of trace.now) (length trace.now)
-        (all_hosted (hosts_of (spans_of trace.now)) clocks.new.items) }
+        AreClosed max_skew trace.now (length trace.now)
+        (all_hosted (hosts_of trace.now) clocks.new.items) }
     ensures fewer { result ≡ true → unset_count clocks.new.items < unset_count clocks.old.items }
 {
     let mut changed = false;
@@ -157,15 +162,15 @@ fn no_clocks(alloc: Global, count: usize) -> Result<Vec<Option<HostClock>>, Allo
 /// follows finds none that is left to set, which shows that the others have none.
 pub(crate) fn all_clocks(
     alloc: Global,
-    trace: &[Shown],
+    trace: &[LentPlaced],
     parents: &[Option<usize>],
     hosts: &[usize],
     max_skew: u64,
 ) -> Result<Vec<Option<HostClock>>, AllocError>
-    requires parents { parents.now ≡ map (place_in (spans_of trace.now)) (spans_of trace.now) }
-    requires hosts { AreNumbers (hosts_of (spans_of trace.now)) (spans_of trace.now) hosts.now }
-    ensures { IfOk result (λ v. AreClocks max_skew (spans_of trace.now)
-        (all_hosted (hosts_of (spans_of trace.now)) v.items)) }
+    requires parents { parents.now ≡ map (place_in trace.now) trace.now }
+    requires hosts { AreNumbers (hosts_of trace.now) trace.now hosts.now }
+    ensures { IfOk result (λ v. AreClocks max_skew trace.now
+        (all_hosted (hosts_of trace.now) v.items)) }
 {
     let mut clocks = no_clocks(alloc, trace.len())?;
     for place in downward_order(alloc, parents)? {

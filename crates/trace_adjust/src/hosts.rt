@@ -4,16 +4,14 @@ ghost use Rattle.std.specs.Prelude.{◌≡◌, ◌+◌, ◌<◌, ◌-◌, ℕ, L
 ghost use Rattle.std.specs.BTreeMap.{get};
 ghost use Rattle.std.specs.Option.{option_or};
 ghost use Rattle.jaeger_model.specs.Texts.{same_text, text_cmp};
-ghost use Rattle.trace_model.specs.Adjusting.{spans_of};
 ghost use Rattle.trace_model.specs.Sharing.{ShareProcesses};
 ghost use Rattle.trace_adjust.specs.Hosts.{AreNumbers, hosts_of};
 
 use crate::clock::NO_HOST;
+use crate::lent_placed::LentPlaced;
 use jaeger_model::Text;
-use span_steps::host_of;
 use std::alloc::{AllocError, Global};
 use std::collections::BTreeMap;
-use trace_model::Shown;
 
 /// The number of a host, which gets the fresh one where it has none.
 fn number_of(
@@ -45,20 +43,20 @@ fn goes_on(places: &[u64], index: usize) -> bool
 /// which have one process, and else for each span.
 pub(crate) fn host_numbers(
     alloc: Global,
-    trace: &[Shown],
+    trace: &[LentPlaced],
     places: &[u64],
 ) -> Result<Vec<usize>, AllocError>
-    requires { ShareProcesses (spans_of trace.now) places.now }
+    requires { ShareProcesses trace.now places.now }
     ensures { IfOk result (λ v.
-        AreNumbers (hosts_of (spans_of trace.now)) (spans_of trace.now) v.items) }
+        AreNumbers (hosts_of trace.now) trace.now v.items) }
 {
     let mut numbers = BTreeMap::new(alloc);
     numbers.insert(Text::new(alloc), NO_HOST)?;
     let mut hosts = Vec::new(alloc);
     let mut last = NO_HOST;
-    for (index, shown) in trace.iter().enumerate() {
+    for (index, placed) in trace.iter().enumerate() {
         if !goes_on(places, index) {
-            last = number_of(&mut numbers, host_of(alloc, &shown.placed)?, index + 1)?;
+            last = number_of(&mut numbers, placed.host(alloc)?, index + 1)?;
         }
         hosts.push(last)?;
     }

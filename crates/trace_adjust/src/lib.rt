@@ -4,6 +4,7 @@
 //! recursion, however deep the trace is.
 //!
 //! * `parents`: references to parents, and the places of parents in a trace.
+//! * `lent_placed`: a span with its process, lent by what keeps both.
 //! * `hosts`: the hosts of a trace by numbers.
 //! * `clock`: the clock of one span.
 //! * `clocks`: the clock of each span.
@@ -14,6 +15,7 @@
 mod clock;
 mod clocks;
 mod hosts;
+mod lent_placed;
 mod parents;
 mod showing;
 mod skew;

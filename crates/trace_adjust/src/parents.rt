@@ -3,14 +3,14 @@
 ghost use Rattle.std.specs.Prelude.{◌≡◌, ℕ, IfOk, map};
 ghost use Rattle.std.specs.Ordering.{nat_cmp};
 ghost use Rattle.std.specs.BTreeMap.{get};
-ghost use Rattle.trace_model.specs.Adjusting.{parent_first, with_parent_first, spans_of};
+ghost use Rattle.trace_model.specs.Adjusting.{parent_first, with_parent_first};
 ghost use Rattle.trace_adjust.specs.Settling.{first_at, parent_at, place_in};
 
-use jaeger_model::{Placed, Span, parent_of, refer_to_parent};
+use crate::lent_placed::LentPlaced;
+use jaeger_model::{Placed, Span, refer_to_parent};
 use span_steps::parent_place;
 use std::alloc::{AllocError, Global};
 use std::collections::BTreeMap;
-use trace_model::Shown;
 
 /// Puts the reference to the span's parent in front: the first child-of reference to its own trace,
 /// else the first other one, changes places with the first of all. Takes no memory.
@@ -39,13 +39,13 @@ pub(crate) fn with_parent_first(alloc: Global, placed: Placed) -> Result<Placed,
 /// The place of the first span with each id.
 pub(crate) fn first_places(
     alloc: Global,
-    trace: &[Shown],
+    trace: &[LentPlaced],
 ) -> Result<BTreeMap<u64, usize>, AllocError>
-    ensures { IfOk result (λ m. (id : ℕ) → get nat_cmp m id ≡ first_at id (spans_of trace.now)) }
+    ensures { IfOk result (λ m. (id : ℕ) → get nat_cmp m id ≡ first_at id trace.now) }
 {
     let mut first = BTreeMap::new(alloc);
-    for (place, shown) in trace.iter().enumerate() {
-        let id = shown.placed.span.id.0;
+    for (place, placed) in trace.iter().enumerate() {
+        let id = placed.id().0;
         if !first.contains_key(&id) {
             first.insert(id, place)?;
         }
@@ -54,10 +54,10 @@ pub(crate) fn first_places(
 }
 
 /// The place of a span's parent.
-fn place_of_parent(first: &BTreeMap<u64, usize>, placed: &Placed) -> Option<usize>
+fn place_of_parent(first: &BTreeMap<u64, usize>, placed: &LentPlaced) -> Option<usize>
     ensures { result ≡ parent_at (λ id. get nat_cmp first.now id) placed.now }
 {
-    let parent = parent_of(&placed.span);
+    let parent = placed.parent();
     if parent.0 == 0 {
         return None;
     }
@@ -67,16 +67,16 @@ fn place_of_parent(first: &BTreeMap<u64, usize>, placed: &Placed) -> Option<usiz
 /// The places of the parents of the spans.
 pub(crate) fn parent_places(
     alloc: Global,
-    trace: &[Shown],
+    trace: &[LentPlaced],
     first: &BTreeMap<u64, usize>,
 ) -> Result<Vec<Option<usize>>, AllocError>
-    requires { (id : ℕ) → get nat_cmp first.now id ≡ first_at id (spans_of trace.now) }
+    requires { (id : ℕ) → get nat_cmp first.now id ≡ first_at id trace.now }
     ensures { IfOk result (λ v. v.items ≡
-        map (place_in (spans_of trace.now)) (spans_of trace.now)) }
+        map (place_in trace.now) trace.now) }
 {
     let mut parents = Vec::new(alloc);
-    for shown in trace {
-        parents.push(place_of_parent(first, &shown.placed))?;
+    for placed in trace {
+        parents.push(place_of_parent(first, placed))?;
     }
     Ok(parents)
 }

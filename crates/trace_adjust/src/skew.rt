@@ -1,23 +1,77 @@
 //! The spans of a trace, moved by their clocks.
 
-ghost use Rattle.std.specs.Prelude.{◌≡◌, ℕ, IfOk, OnOk, OnErr, map};
+ghost use Rattle.std.specs.Prelude.{◌≡◌, IfOk, OnOk, OnErr, map};
 ghost use Rattle.std.specs.Ordering.{nat_cmp};
 ghost use Rattle.std.specs.BTreeMap.{get};
 ghost use Rattle.trace_model.specs.Adjusting.{with_parent_first, unadjusted, spans_of, shown_adjusted, adjusted};
-ghost use Rattle.trace_adjust.specs.Settling.{first_at, AreClocks};
 ghost use Rattle.trace_model.specs.Sharing.{ShareProcesses};
-ghost use Rattle.trace_adjust.specs.Hosts.{hosts_of, all_hosted, delta_by};
+ghost use Rattle.trace_adjust.specs.Hosts.{delta_by};
+ghost use Rattle.trace_adjust.specs.Skewing.{AreTraceClocks};
 ghost use Rattle.trace_adjust.specs.Partly.{IsPartlyAdjusted};
 
 use crate::clock::HostClock;
 use crate::clocks::all_clocks;
 use crate::hosts::host_numbers;
+use crate::lent_placed::LentPlaced;
 use crate::parents::{first_places, parent_places, with_parent_first};
-use jaeger_model::Placed;
+use jaeger_model::{Placed, SpanId};
 use span_steps::{shift, unadjusted};
 use std::alloc::{AllocError, Global};
 use std::collections::BTreeMap;
 use trace_model::Shown;
+
+/// The clocks of the spans of a trace, and the place of the first span with each id.
+#[derive(Drop)]
+pub(crate) struct TraceClocks {
+    first: BTreeMap<u64, usize>,
+    clocks: Vec<Option<HostClock>>,
+}
+
+/// The clocks of a trace's spans, which the entries at these places brought.
+pub(crate) fn clocks_of(
+    alloc: Global,
+    trace: &[LentPlaced],
+    places: &[u64],
+    max_skew: u64,
+) -> Result<TraceClocks, AllocError>
+    requires { ShareProcesses trace.now places.now }
+    ensures { IfOk result (λ s. AreTraceClocks max_skew trace.now s) }
+{
+    let first = first_places(alloc, trace)?;
+    let parents = parent_places(alloc, trace, &first)?;
+    let hosts = host_numbers(alloc, trace, places)?;
+    let clocks = all_clocks(alloc, trace, &parents, &hosts, max_skew)?;
+    Ok(TraceClocks { first, clocks })
+}
+
+/// The spans, lent as they are.
+#[tactic(auto, using(std::proofs::lemmas::List::map_more))]
+fn lent_as_they_are<'a>(
+    alloc: Global,
+    trace: &'a [Shown],
+) -> Result<Vec<LentPlaced<'a>>, AllocError>
+    ensures { IfOk result (λ v. v.items ≡ spans_of trace.now) }
+{
+    let mut lent = Vec::with_capacity(alloc, trace.len())?;
+    for shown in trace {
+        lent.push(LentPlaced::as_it_is(&shown.placed))?;
+    }
+    Ok(lent)
+}
+
+/// The clocks of spans that are made.
+fn clocks_of_shown(
+    alloc: Global,
+    trace: &[Shown],
+    places: &[u64],
+    max_skew: u64,
+) -> Result<TraceClocks, AllocError>
+    requires { ShareProcesses (spans_of trace.now) places.now }
+    ensures { IfOk result (λ s. AreTraceClocks max_skew (spans_of trace.now) s) }
+{
+    let lent = lent_as_they_are(alloc, trace)?;
+    clocks_of(alloc, &lent, places, max_skew)
+}
 
 /// The delta of the span at the place: 0 where it has no clock, or where a span in front of it has
 /// its id.
@@ -38,23 +92,30 @@ fn delta_at(
     }
 }
 
+impl TraceClocks {
+    /// The delta of the span at the place, which has this id.
+    pub(crate) fn delta_at(&self, place: usize, id: SpanId) -> i128
+        ensures { result ≡ delta_by (λ id. get nat_cmp self.now.first id)
+            self.now.clocks.items place id.0 }
+    {
+        delta_at(&self.first, &self.clocks, place, id.0)
+    }
+}
+
 /// Moves the spans by their clocks.
 fn shift_all(
     alloc: Global,
     trace: &mut [Shown],
-    first: &BTreeMap<u64, usize>,
-    clocks: &[Option<HostClock>],
+    clocks: &TraceClocks,
     max_skew: u64,
 ) -> Result<(), AllocError>
-    requires first { (id : ℕ) → get nat_cmp first.now id ≡ first_at id (spans_of trace.old) }
-    requires clocks { AreClocks max_skew (spans_of trace.old)
-        (all_hosted (hosts_of (spans_of trace.old)) clocks.now) }
+    requires { AreTraceClocks max_skew (spans_of trace.old) clocks.now }
     ensures ok { OnOk result (trace.new ≡ shown_adjusted max_skew trace.old) }
     ensures err { OnErr result (IsPartlyAdjusted max_skew trace.old trace.new) }
 {
     for place in 0..trace.len() {
         let shown = &mut trace[place];
-        let delta = delta_at(first, clocks, place, shown.placed.span.id.0);
+        let delta = clocks.delta_at(place, shown.placed.span.id);
         shift(alloc, shown, delta, max_skew)?;
     }
     Ok(())
@@ -82,11 +143,8 @@ pub fn adjust_skew(
     ensures ok { OnOk result (trace.new ≡ shown_adjusted max_skew trace.old) }
     ensures err { OnErr result (IsPartlyAdjusted max_skew trace.old trace.new) }
 {
-    let first = first_places(alloc, trace)?;
-    let parents = parent_places(alloc, trace, &first)?;
-    let hosts = host_numbers(alloc, trace, places)?;
-    let clocks = all_clocks(alloc, trace, &parents, &hosts, max_skew)?;
-    shift_all(alloc, trace, &first, &clocks, max_skew)
+    let clocks = clocks_of_shown(alloc, trace, places, max_skew)?;
+    shift_all(alloc, trace, &clocks, max_skew)
 }
 
 /// The spans in their order, in each the reference to its parent in front.

@@ -1,17 +1,13 @@
-use Rattle.std.proofs.Common.{◌∙◌, sym, subst}
-use Rattle.trace_model.specs.Adjusting.{spans_of}
-use Rattle.trace_adjust.specs.Settling.{AreClosed}
 use Rattle.trace_adjust.specs.Hosts.{hosts_of, all_hosted}
-use Rattle.trace_adjust.proofs.Places.{as_many}
 use Rattle.trace_adjust.proofs.Settled.{all_known, none_set}
 use Rattle.trace_adjust.proofs.clocks.all_clocks.Goals as goal
 
 pub returns-then-not-settle_all : goal.returns-then-not-settle_all
 returns-then-not-settle_all c =
-    let all = spans_of c.args.trace.now in
+    let all = c.args.trace.now in
     let clocks = all_hosted (hosts_of all) c.settle_all.new.clocks.items in
-    let closed = subst (λ n. AreClosed c.args.max_skew all n clocks) (sym (as_many c.args.trace.now)) (c.settle_all.ensures.closed c.if-not-settle_all.true) in
+    let closed = c.settle_all.ensures.closed c.if-not-settle_all.true in
     all_known c.args.max_skew all clocks c.settle_all.ensures.set.0 closed
 
 pub loop-place-init : goal.loop-place-init
-loop-place-init c = none_set c.args.max_skew (spans_of c.args.trace.now) c.in_ok-clocks.clocks.items (c.in_ok-clocks.ensures.len ∙ sym (as_many c.args.trace.now)) c.in_ok-clocks.ensures.none
+loop-place-init c = none_set c.args.max_skew c.args.trace.now c.in_ok-clocks.clocks.items (c.in_ok-clocks.ensures.len) c.in_ok-clocks.ensures.none

@@ -1,6 +1,5 @@
 use Rattle.std.proofs.Common.{◌≡◌, ◌+◌, ◌≤◌, ◌∙◌, cond, sym, ap, arith}
 use Rattle.std.proofs.lemmas.Bool.{false≢true}
-use Rattle.trace_model.specs.Adjusting.{spans_of}
 use Rattle.trace_adjust.specs.Settling.{unset_count}
 use Rattle.trace_adjust.proofs.Settled.{closed_more}
 use Rattle.trace_adjust.proofs.clocks.settle_all.Goals as goal
@@ -16,7 +15,7 @@ loop-place-preserved c =
         | then-settle_at w ↦ λ e. absurd (false≢true (sym e ∙ w.changed-is))
         | else-settle_at w ↦ λ e.
             let h = c.settle_at.ensures.closed w.if-settle_at.false in
-            closed_more c.args.max_skew (spans_of c.args.trace.now) c.loop-place.place old new h.0 (c.loop-place.invariant.closed (sym w.changed-is ∙ e)) h.1
+            closed_more c.args.max_skew c.args.trace.now c.loop-place.place old new h.0 (c.loop-place.invariant.closed (sym w.changed-is ∙ e)) h.1
       ];
       fewer = elim c.if-settle_at.branch [
         | then-settle_at w ↦

@@ -1,18 +1,26 @@
-use Rattle.std.proofs.Common.{◌∙◌, sym, ap, rules}
-use Rattle.std.specs.Ordering.{nat_cmp}
+use Rattle.std.proofs.Common.{◌≡◌, ◌∙◌, true, false, cond, sym, ap, rules}
+use Rattle.std.specs.Prelude.{Some, is_some}
+use Rattle.std.specs.Ordering.{nat_cmp, is_eq}
 use Rattle.std.specs.BTreeMap.{get}
-use Rattle.trace_adjust.proofs.Places.{entered_shown, kept_shown}
+use Rattle.jaeger_model.specs.declared.ids.SpanId.{SpanId}
+use Rattle.trace_adjust.proofs.Places.{entered, kept}
 use Rattle.trace_adjust.proofs.parents.first_places.Goals as goal
 use Rattle.trace_adjust.proofs.parents.first_places.Goals.{then-not-contains_key+in_ok-insert, else-not-contains_key}
 
 pub loop-place-preserved : goal.loop-place-preserved
-loop-place-preserved c = λ q. elim c.if-not-contains_key.branch [
-  | then-not-contains_key+in_ok-insert w ↦
-      ap (λ m. get nat_cmp m q) w.first-is
-      ∙ entered_shown q (get nat_cmp c.loop-place.first) c.args.trace.now c.loop-place.place c.index-trace-place.result (search rules) c.index-trace-place.is c.loop-place.invariant
-      (get nat_cmp w.insert.new.self q) (sym c.contains_key.ensures ∙ w.if-not-contains_key.true) (w.in_ok-insert.ensures.updates.0 q)
-  | else-not-contains_key w ↦
-      ap (λ m. get nat_cmp m q) w.first-is
-      ∙ kept_shown q (get nat_cmp c.loop-place.first) c.args.trace.now c.loop-place.place c.index-trace-place.result (search rules) c.index-trace-place.is c.loop-place.invariant
-      (sym c.contains_key.ensures ∙ w.if-not-contains_key.false)
-]
+loop-place-preserved c = λ q.
+    let ps = c.args.trace.now in
+    let had = get nat_cmp c.loop-place.first in
+    let i = c.loop-place.place in
+    let p = c.index-trace-place.result in
+    let here = c.index-trace-place.is in
+    let own = c.id-id.ensures in
+    elim c.if-not-contains_key.branch [
+      | then-not-contains_key+in_ok-insert w ↦
+          let none : is_some (had p.span.id.0) ≡ false = ap (λ (k : SpanId). is_some (had k.0)) (sym own) ∙ sym c.contains_key.ensures ∙ w.if-not-contains_key.true in
+          let put = w.in_ok-insert.ensures.updates.0 q ∙ ap (λ (k : SpanId). cond (is_eq (nat_cmp k.0 q)) (Some i) (had q)) own in
+          ap (λ m. get nat_cmp m q) w.first-is ∙ entered q had (get nat_cmp w.insert.new.self q) ps i p (search rules) here c.loop-place.invariant none put
+      | else-not-contains_key w ↦
+          let there : is_some (had p.span.id.0) ≡ true = ap (λ (k : SpanId). is_some (had k.0)) (sym own) ∙ sym c.contains_key.ensures ∙ w.if-not-contains_key.false in
+          ap (λ m. get nat_cmp m q) w.first-is ∙ kept q had ps i p (search rules) here c.loop-place.invariant there
+    ]

@@ -16,11 +16,11 @@ loop-place-preserved c =
     let i = c.loop-place.place in
     let s = get_or c.loop-place.trace i c.index-trace-place.result in
     let hosts = hosts_of (spans_of c.args.trace.now) in
-    let first : ℕ → Option ℕ = λ id. get nat_cmp c.args.first.now id in
+    let first : ℕ → Option ℕ = λ id. get nat_cmp c.args.clocks.now.first id in
     let fits : SFits w128 c.delta_at-delta.result = search rules in
     let one = rw (to_z-of_z w128 c.delta_at-delta.result fits) at c.in_ok-shift.ensures.ok in
-    let delta = c.delta_at-delta.ensures ∙ same_delta hosts first c.args.clocks.now i s.placed.span.id.0 in
-    shifted_more m c.args.trace.now c.loop-place.trace (all_hosted hosts c.args.clocks.now) first i s c.shift.new.shown (search rules)
+    let delta = c.delta_at-delta.ensures ∙ same_delta hosts first c.args.clocks.now.clocks.items i s.placed.span.id.0 in
+    shifted_more m c.args.trace.now c.loop-place.trace (all_hosted hosts c.args.clocks.now.clocks.items) first i s c.shift.new.shown (search rules)
     (ap (get_or c.loop-place.trace i) c.index-trace-place.is) c.requires.clocks c.requires.first (one ∙ ap (λ d. said_after s (shifted m d s.placed)) delta) c.loop-place.invariant
 
 pub returns-clause-ok : goal.returns-clause-ok

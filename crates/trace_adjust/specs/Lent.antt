@@ -1,0 +1,31 @@
+-- A span as it is lent: the reference to its parent where it is to stand.
+use Rattle.std.specs.Prelude.{◌≡◌, ◌<◌, List, ◌∷◌, length, swap}
+use Rattle.jaeger_model.specs.declared.batch.Process.{Process}
+use Rattle.jaeger_model.specs.declared.placed.Placed.{Placed}
+use Rattle.jaeger_model.specs.declared.span.Span.{Span}
+use Rattle.jaeger_model.specs.declared.span.SpanRef.{SpanRef}
+use Rattle.jaeger_model.specs.Parents.{parent, parent_reference}
+use Rattle.trace_adjust.specs.declared.lent_placed.ParentReference.{ParentReference}
+use Rattle.trace_adjust.specs.declared.lent_placed.ParentReference.TheVariants.{AsKept, Made, InFront}
+
+abbrev pub references_by : ParentReference → Span → List SpanRef
+references_by AsKept s = s.references
+references_by Made s = parent_reference s ∷ s.references
+references_by (InFront i) s = swap s.references 0 i
+
+abbrev pub referred : ParentReference → Span → Span
+referred r s = record s { references = references_by r s }
+
+abbrev pub lent_placed : ParentReference → Process → Span → Placed
+lent_placed r p s = record { process = p; span = referred r s }
+
+-- what goes to the front is there
+abbrev pub IsPlace : ParentReference → Span → Type 0
+IsPlace AsKept s = Unit {0}
+IsPlace Made s = Unit {0}
+IsPlace (InFront i) s = i < length s.references
+
+-- the parent stays the same
+pub record IsReferred (r : ParentReference) (s : Span) : Type 0 where
+  pub parent_stays : parent (referred r s) ≡ parent s
+  pub place : IsPlace r s

@@ -1,0 +1,192 @@
+//! A span with its process, lent by what keeps both.
+
+ghost use Rattle.std.specs.Prelude.{◌≡◌, ◌+◌, ◌<◌, ◌∷◌, length, slice_get, IfOk, swap};
+ghost use Rattle.jaeger_model.specs.Parents.{parent, parent_reference, with_parent};
+ghost use Rattle.trace_model.specs.Adjusting.{host_of, parent_first, start_at, with_parent_first};
+ghost use Rattle.trace_model.specs.Seeing.{placed_by_its_entry};
+ghost use Rattle.trace_adjust.specs.Lent.{referred, IsReferred};
+
+use jaeger_model::{Placed, Process, RefKind, Seen, Span, SpanId, SpanRef, Text, parent_of};
+use span_steps::{host_named, needs_no_reference, parent_place, start_at};
+use std::alloc::{AllocError, Global};
+use std::marker::Model;
+
+/// Where the reference to a span's parent stands among those that are shown.
+#[derive(Clone, Copy)]
+pub(crate) enum ParentReference {
+    /// The references are those that are kept.
+    AsKept,
+    /// One is made of the parent's id, in front of those that are kept.
+    Made,
+    /// The kept one at this place has changed places with the first.
+    InFront(usize),
+}
+
+/// A span with its process where they are kept, and the reference to its parent where it is to stand. Contracts
+/// see the span so.
+#[derive(Drop)]
+pub(crate) struct LentPlaced<'a> {
+    process: &'a Process,
+    span: &'a Span,
+    parent: ParentReference,
+}
+
+impl<'a> Model for LentPlaced<'a> {
+    ghost use Rattle.jaeger_model.specs.declared.placed.Placed.{Placed};
+    ghost use Rattle.trace_adjust.specs.Lent.{lent_placed, IsReferred};
+
+    ghost Value = { Placed };
+
+    ghost view = { λ l. lent_placed l.parent l.process.now l.span.now };
+
+    ghost invariant = { λ l. IsReferred l.parent l.span.now };
+}
+
+/// The reference to its parent among the span's, as a store keeps it.
+fn among(span: &Span) -> ParentReference
+    ensures span { referred result span.now ≡ with_parent span.now }
+    ensures kept { IsReferred result span.now }
+{
+    if needs_no_reference(span) {
+        ParentReference::AsKept
+    } else {
+        ParentReference::Made
+    }
+}
+
+/// The same in front of the others.
+fn in_front(span: &Span) -> ParentReference
+    ensures span { referred result span.now ≡ parent_first (with_parent span.now) }
+    ensures kept { IsReferred result span.now }
+{
+    if !needs_no_reference(span) {
+        return ParentReference::Made;
+    }
+    match parent_place(span.references.as_slice(), span.trace) {
+        Some(place) => ParentReference::InFront(place),
+        None => ParentReference::AsKept,
+    }
+}
+
+/// The reference at an index, once the one at the place has changed places with the first.
+fn swapped(references: &[SpanRef], place: usize, index: usize) -> SpanRef
+    requires place { place < length references.now }
+    requires index { index < length references.now }
+    ensures { slice_get (swap references.now 0 place) index ≡ Some result }
+{
+    if index == 0 {
+        references[place]
+    } else if index == place {
+        references[0]
+    } else {
+        references[index]
+    }
+}
+
+/// The reference to the span's parent that is made.
+fn made(span: &Span) -> SpanRef
+    ensures { result ≡ parent_reference span.now }
+{
+    SpanRef {
+        kind: RefKind::ChildOf,
+        trace: span.trace,
+        id: span.parent,
+    }
+}
+
+/// The reference at an index, one that is made in front of the others.
+fn with_made(span: &Span, index: usize) -> SpanRef
+    requires { index < length span.now.references + 1 }
+    ensures { slice_get (parent_reference span.now ∷ span.now.references) index ≡ Some result }
+{
+    if index == 0 {
+        return made(span);
+    }
+    span.references.as_slice()[index - 1]
+}
+
+impl<'a> LentPlaced<'a> {
+    /// The span as it is.
+    pub(crate) fn as_it_is(placed: &'a Placed) -> LentPlaced<'a>
+        ensures { result ≡ placed.now }
+    {
+        LentPlaced {
+            process: placed.process.get(),
+            span: &placed.span,
+            parent: ParentReference::AsKept,
+        }
+    }
+
+    /// A span that was reported so, its parent among its references.
+    pub(crate) fn with_parent(reported: Seen<'a>) -> LentPlaced<'a>
+        ensures { result ≡ placed_by_its_entry reported.entry }
+    {
+        LentPlaced {
+            process: reported.process,
+            span: reported.span,
+            parent: among(reported.span),
+        }
+    }
+
+    /// A span that was reported so, the reference to its parent in front of its others.
+    pub(crate) fn with_parent_first(reported: Seen<'a>) -> LentPlaced<'a>
+        ensures { result ≡ with_parent_first (placed_by_its_entry reported.entry) }
+    {
+        LentPlaced {
+            process: reported.process,
+            span: reported.span,
+            parent: in_front(reported.span),
+        }
+    }
+
+    /// The same once more.
+    pub(crate) fn again(&self) -> LentPlaced<'a>
+        ensures { result ≡ self.now }
+    {
+        LentPlaced {
+            process: self.process,
+            span: self.span,
+            parent: self.parent,
+        }
+    }
+
+    pub(crate) fn id(&self) -> SpanId
+        ensures { result ≡ self.now.span.id }
+    {
+        self.span.id
+    }
+
+    pub(crate) fn parent(&self) -> SpanId
+        ensures { result ≡ parent self.now.span }
+    {
+        parent_of(self.span)
+    }
+
+    /// Microseconds since 1970.
+    pub(crate) fn start(&self) -> i64
+        ensures { result ≡ self.now.span.start }
+    {
+        self.span.start
+    }
+
+    /// Microseconds.
+    pub(crate) fn duration(&self) -> i64
+        ensures { result ≡ self.now.span.duration }
+    {
+        self.span.duration
+    }
+
+    /// The start as it is shown, moved by the delta of the span's clock where that can be.
+    pub(crate) fn start_at(&self, max_skew: u64, delta: i128) -> i64
+        ensures { result ≡ start_at max_skew delta self.now.span }
+    {
+        start_at(max_skew, delta, self.span)
+    }
+
+    /// Its host, or an empty text.
+    pub(crate) fn host(&self, alloc: Global) -> Result<Text, AllocError>
+        ensures { IfOk result (λ t. t ≡ host_of self.now) }
+    {
+        host_named(alloc, self.process)
+    }
+}
