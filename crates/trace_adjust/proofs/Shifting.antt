@@ -93,3 +93,27 @@ same_spans (p ∷ ps) = ap (λ r. p ∷ r) (same_spans ps)
 
 pub fresh : (m : ℕ) (ps : List Placed) → shown_adjusted m (map unadjusted ps) ≡ skew_adjusted m ps
 fresh m ps = ap (λ all. shown_adjusted_after m all [] (map unadjusted ps)) (same_spans ps) ∙ fresh_after m ps [] ps
+
+-- ---- one more span that is lent
+many_skewed : (m : ℕ) (all before rest : List Placed) → length (skew_adjusted_after m all before rest) ≡ length rest
+many_skewed m all before [] = refl
+many_skewed m all before (p ∷ rest) = ap suc (many_skewed m all (before ++ p ∷ []) rest)
+
+skewed_at : (m : ℕ) (all before rest : List Placed) (i : ℕ) (p : Placed) (d : Shown) → i < length rest → p ≡ get_or rest i p → get_or (skew_adjusted_after m all before rest) i d ≡ shown_after m all (before ++ take i rest) p
+skewed_at m all before [] i p d l e = absurd (omega arith)
+skewed_at m all before (q ∷ rest) zero p d l e = (λ j. shown_after m all (sym (append-nil before) j) (sym e j))
+skewed_at m all before (q ∷ rest) (suc i) p d l e =
+    skewed_at m all (before ++ q ∷ []) rest i p d (omega arith) e
+    ∙ ap (λ b. shown_after m all b p) (append_assoc before (q ∷ []) (take i rest))
+
+-- v is what the span at the place is shown as
+pub lent_more : (m : ℕ) (ps : List Placed) (cs : List (Option Clock)) (g : ℕ → Option ℕ) (i : ℕ) (p : Placed) (v : Shown) (had has : List Shown) → i < length ps → p ≡ get_or ps i p
+    → AreClocks m ps cs → ((id : ℕ) → g id ≡ first_at id ps) → v ≡ shifted m (delta_at g cs i p.span.id.0) p
+    → had ≡ take i (skew_adjusted m ps) → has ≡ had ++ v ∷ [] → has ≡ take (i + 1) (skew_adjusted m ps)
+lent_more m ps cs g i p v had has l here known first one inv put =
+    let many = many_skewed m ps [] ps in
+    let right : v ≡ get_or (skew_adjusted m ps) i v = one ∙ one_shifted m ps cs g i p l here known first ∙ sym (skewed_at m ps [] ps i p v l here) in
+    put ∙ (λ j. inv j ++ right j ∷ []) ∙ sym (take_more (skew_adjusted m ps) i v (omega (arith, l, many)))
+
+pub all_lent : (m : ℕ) (ps : List Placed) (i : ℕ) → length ps ≤ i → take i (skew_adjusted m ps) ≡ skew_adjusted m ps
+all_lent m ps i l = let many = many_skewed m ps [] ps in take_all i (skew_adjusted m ps) (omega (arith, l, many))

@@ -19,6 +19,16 @@ referred r s = record s { references = references_by r s }
 abbrev pub lent_placed : ParentReference → Process → Span → Placed
 lent_placed r p s = record { process = p; span = referred r s }
 
+-- the span is shown as it is kept but for its references, its start and the times of its logs
+pub record IsLent (kept shown : Span) : Type 0 where
+  pub trace : kept.trace ≡ shown.trace
+  pub id : kept.id ≡ shown.id
+  pub parent : kept.parent ≡ shown.parent
+  pub operation : kept.operation ≡ shown.operation
+  pub flags : kept.flags ≡ shown.flags
+  pub duration : kept.duration ≡ shown.duration
+  pub tags : kept.tags ≡ shown.tags
+
 -- what goes to the front is there
 abbrev pub IsPlace : ParentReference → Span → Type 0
 IsPlace AsKept s = Unit {0}

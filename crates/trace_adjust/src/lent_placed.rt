@@ -1,13 +1,13 @@
 //! A span with its process, lent by what keeps both.
 
-ghost use Rattle.std.specs.Prelude.{◌≡◌, ◌+◌, ◌<◌, ◌∷◌, length, slice_get, IfOk, swap};
+ghost use Rattle.std.specs.Prelude.{◌≡◌, ◌+◌, ◌<◌, ◌∷◌, length, slice_get, Some, IfOk, swap};
 ghost use Rattle.jaeger_model.specs.Parents.{parent, parent_reference, with_parent};
-ghost use Rattle.trace_model.specs.Adjusting.{host_of, parent_first, start_at, with_parent_first};
+ghost use Rattle.trace_model.specs.Adjusting.{all_fit, host_of, parent_first, start_at, with_parent_first};
 ghost use Rattle.trace_model.specs.Seeing.{placed_by_its_entry};
-ghost use Rattle.trace_adjust.specs.Lent.{referred, IsReferred};
+ghost use Rattle.trace_adjust.specs.Lent.{referred, IsLent, IsReferred};
 
-use jaeger_model::{Placed, Process, RefKind, Seen, Span, SpanId, SpanRef, Text, parent_of};
-use span_steps::{host_named, needs_no_reference, parent_place, start_at};
+use jaeger_model::{Log, Placed, Process, RefKind, Seen, Span, SpanId, SpanRef, Text, parent_of};
+use span_steps::{all_fit, host_named, needs_no_reference, parent_place, start_at};
 use std::alloc::{AllocError, Global};
 use std::marker::Model;
 
@@ -160,6 +160,54 @@ impl<'a> LentPlaced<'a> {
         ensures { result ≡ parent self.now.span }
     {
         parent_of(self.span)
+    }
+
+    /// Where it is kept.
+    pub(crate) fn kept(&self) -> &'a Span
+        ensures { IsLent result.now self.now.span }
+    {
+        self.span
+    }
+
+    pub(crate) fn process(&self) -> &'a Process
+        ensures { result.now ≡ self.now.process }
+    {
+        self.process
+    }
+
+    pub(crate) fn logs(&self) -> &'a [Log]
+        ensures { result.now ≡ self.now.span.logs }
+    {
+        self.span.logs.as_slice()
+    }
+
+    pub(crate) fn reference_count(&self) -> usize
+        ensures { result ≡ length self.now.span.references }
+    {
+        let kept = self.span.references.as_slice().len();
+        match self.parent {
+            ParentReference::Made => kept + 1,
+            ParentReference::AsKept | ParentReference::InFront(_) => kept,
+        }
+    }
+
+    pub(crate) fn reference(&self, index: usize) -> SpanRef
+        requires { index < length self.now.span.references }
+        ensures { slice_get self.now.span.references index ≡ Some result }
+    {
+        let kept = self.span.references.as_slice();
+        match self.parent {
+            ParentReference::AsKept => kept[index],
+            ParentReference::Made => with_made(self.span, index),
+            ParentReference::InFront(place) => swapped(kept, place, index),
+        }
+    }
+
+    /// Its start and the times of its logs so much later are all times.
+    pub(crate) fn all_fit(&self, delta: i128) -> bool
+        ensures { result ≡ all_fit delta self.now.span }
+    {
+        all_fit(delta, self.span)
     }
 
     /// Microseconds since 1970.

@@ -3,23 +3,33 @@
 //! `plain_store::adjusted_trace`, in time linear in the spans up to a logarithm and without
 //! recursion, however deep the trace is.
 //!
-//! * `parents`: references to parents, and the places of parents in a trace.
 //! * `lent_placed`: a span with its process, lent by what keeps both.
+//! * `parents`: references to parents, and the places of parents in a trace.
 //! * `hosts`: the hosts of a trace by numbers.
 //! * `clock`: the clock of one span.
 //! * `clocks`: the clock of each span.
 //! * `skew`: the spans moved by their clocks.
 //! * `showing`: traces of an answer, whose spans are copied from their entries.
+//! * `lent_span`, `lent_logs`, `warning`: a span of an answer where its entry keeps it, with what is shown otherwise.
+//! * `lending`: traces of an answer, whose spans are lent by their entries.
 #![tactic(auto)]
 
 mod clock;
 mod clocks;
 mod hosts;
+mod lending;
+mod lent_logs;
 mod lent_placed;
+mod lent_span;
 mod parents;
 mod showing;
 mod skew;
+mod warning;
 
+pub use lending::lend;
+pub use lent_logs::{LentLog, LentLogs};
+pub use lent_span::LentSpan;
 pub use parents::parent_first;
 pub use showing::{show, shown};
 pub use skew::{adjust_skew, adjusted};
+pub use warning::Warning;
