@@ -1,7 +1,9 @@
 -- Pairs that a search asks and that tags have.
 use Rattle.std.proofs.Common.{◌≡◌, ℕ, ◌+◌, ◌<◌, ◌≤◌, Bool, true, false, true≢false, ◌||◌, ◌&&◌, cond, List, [], ◌∷◌, ◌++◌, length, get_or, take, refl, sym, ap, ◌∙◌, arith, Some, None}
-use Rattle.std.specs.Prelude.{not, flat_map, if◌then◌else◌, ◌==◌}
-use Rattle.std.specs.List.{IsDistinct, list_any, list_all}
+use Rattle.std.specs.Prelude.{◌%◌, ◌^◌, not, flat_map, if◌then◌else◌, ◌==◌}
+use Rattle.std.specs.Int.{bit_at}
+use Rattle.std.specs.Int.Bits.{bit_or}
+use Rattle.std.specs.List.{IsDistinct, fold, list_any, list_all}
 use Rattle.std.specs.List.Sorted.{IsStrictlySortedBy}
 use Rattle.std.specs.declared.cmp.Ordering.{Ordering}
 use Rattle.std.specs.declared.cmp.Ordering.TheVariants.{Less, Equal, Greater}
@@ -9,6 +11,8 @@ use Rattle.std.specs.Ordering.{ordering_then, eq_by_cmp, is_eq, nat_cmp}
 use Rattle.std.specs.Cmp.{IsEquivalence, IsTotalOrder, on_total, then_total, eq_by_cmp_equiv, nat_cmp_total}
 use Rattle.std.specs.Cmp.Lexicographic.{nat_list_cmp_total, texts_ties, bytes_decides}
 use Rattle.std.proofs.lemmas.List.{take_more, flat_map_more}
+use Rattle.std.proofs.lemmas.List.Sums.{fold_more}
+use Rattle.std.proofs.lemmas.Nat.Bits.{bit_at_or, bit_at-lt, bit_at-pow_same}
 use Rattle.std.proofs.lemmas.List.Folds.{list_any-append, list_any_more}
 use Rattle.std.proofs.lemmas.Map.Keys.{IsDistinct-from_sorted}
 use Rattle.std.proofs.lemmas.Map.Steps.{list_any_congr}
@@ -21,7 +25,7 @@ use Rattle.jaeger_model.specs.Tags.{tag_text}
 use Rattle.jaeger_model.specs.Texts.{text_cmp}
 use Rattle.trace_model.specs.declared.query.Find.{Find}
 use Rattle.trace_model.specs.Searching.{tag_matches, has_tag, tags_of}
-use Rattle.find_traces.specs.Wanting.{pair_of, pair_cmp, same_pair, asks, asked_count, if_asked, has_pair, is_in, wants}
+use Rattle.find_traces.specs.Wanting.{pair_of, pair_cmp, same_pair, with_key, key_bits, asks, asked_count, if_asked, has_pair, is_in, wants}
 use Rattle.find_traces.specs.Prepared.{IsJudged}
 use Rattle.find_traces.proofs.Counting.{and_first, few, counted, none_left}
 
@@ -101,6 +105,36 @@ no_key (x ∷ xs) k t h = by (eq_by_cmp text_cmp k x.0) refl h (no_key xs k t)
         → (list_any (λ (a : List ℕ × List ℕ). eq_by_cmp text_cmp k a.0) xs ≡ false → list_any (same_pair (k, t)) xs ≡ false) → (same_pair (k, t) x || list_any (same_pair (k, t)) xs) ≡ false
     by true e g more = absurd (true≢false g)
     by false e g more = ap (λ b. b || list_any (same_pair (k, t)) xs) (then_not (text_cmp k x.0) (text_cmp t x.1) e) ∙ more g
+
+-- ---- bits for the lengths of keys
+pub bits_put : (xs : List (List ℕ × List ℕ)) (i : ℕ) (x : List ℕ × List ℕ) → i < length xs → x ≡ get_or xs i x → with_key (key_bits (take i xs)) x ≡ key_bits (take (i + 1) xs)
+bits_put xs i x le is = ap (with_key (key_bits (take i xs))) is ∙ sym (fold_more with_key 0 xs i x le)
+
+bit_still : (b : ℕ) (xs : List (List ℕ × List ℕ)) (k : ℕ) → bit_at b k ≡ 1 → bit_at (fold with_key b xs) k ≡ 1
+bit_still b [] k e = e
+bit_still b (x ∷ xs) k e = bit_still (with_key b x) xs k (bit_at_or b (2 ^ (length x.0 % 64)) k ∙ omega (arith, e, bit_at-lt (2 ^ (length x.0 % 64)) k))
+
+bit_own : (b k : ℕ) → bit_at (bit_or b (2 ^ k)) k ≡ 1
+bit_own b k = bit_at_or b (2 ^ k) k ∙ omega (arith, bit_at-pow_same k, bit_at-lt b k)
+
+any_bit : (b : ℕ) (xs : List (List ℕ × List ℕ)) (k : List ℕ) → list_any (λ (a : List ℕ × List ℕ). eq_by_cmp text_cmp k a.0) xs ≡ true → bit_at (fold with_key b xs) (length k % 64) ≡ 1
+any_bit b [] k h = absurd (true≢false (sym h))
+any_bit b (x ∷ xs) k h = by (eq_by_cmp text_cmp k x.0) refl h (any_bit (with_key b x) xs k)
+  where
+    by : (c : Bool) → eq_by_cmp text_cmp k x.0 ≡ c → (c || list_any (λ (a : List ℕ × List ℕ). eq_by_cmp text_cmp k a.0) xs) ≡ true
+        → (list_any (λ (a : List ℕ × List ℕ). eq_by_cmp text_cmp k a.0) xs ≡ true → bit_at (fold with_key (with_key b x) xs) (length k % 64) ≡ 1) → bit_at (fold with_key (with_key b x) xs) (length k % 64) ≡ 1
+    by true e g more =
+        let same : k ≡ x.0 = (bytes_decides k x.0).0 (texts_ties k x.0 ∙ e) in
+        bit_still (with_key b x) xs (length k % 64) (ap (λ (y : List ℕ). bit_at (with_key b x) (length y % 64)) same ∙ bit_own b (length x.0 % 64))
+    by false e g more = more g
+
+-- a key whose length has no bit is not asked
+pub no_bit : (xs : List (List ℕ × List ℕ)) (k t : List ℕ) → (bit_at (key_bits xs) (length k % 64) == 1) ≡ false → list_any (same_pair (k, t)) xs ≡ false
+no_bit xs k t h = by (list_any (λ (a : List ℕ × List ℕ). eq_by_cmp text_cmp k a.0) xs) refl
+  where
+    by : (b : Bool) → list_any (λ (a : List ℕ × List ℕ). eq_by_cmp text_cmp k a.0) xs ≡ b → list_any (same_pair (k, t)) xs ≡ false
+    by true e = absurd (true≢false (sym (ap (λ n. n == 1) (any_bit 0 xs k e)) ∙ h))
+    by false e = no_key xs k t e
 
 -- texts of other lengths are other texts
 other_length : (s t : List ℕ) → eq_by_cmp nat_cmp (length s) (length t) ≡ false → is_eq (text_cmp s t) ≡ false

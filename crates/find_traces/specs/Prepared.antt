@@ -6,11 +6,12 @@ use Rattle.std.specs.Ordering.{eq_by_cmp, nat_cmp}
 use Rattle.jaeger_model.specs.declared.batch.Process.{Process}
 use Rattle.jaeger_model.specs.Texts.{text_cmp}
 use Rattle.trace_model.specs.declared.query.Find.{Find}
-use Rattle.find_traces.specs.Wanting.{pair_cmp, asks_key, asks_length, asks, asked_count, has_pair, is_in}
+use Rattle.find_traces.specs.Wanting.{pair_cmp, asks_key, key_bits, asks_length, asks, asked_count, has_pair, is_in}
 
--- the keys, the lengths of the texts, and the pairs of a search
-pub record IsPrepared (q : Find) (keys : List (List ℕ)) (lengths : List ℕ) (pairs : List (List ℕ × List ℕ)) : Type 0 where
+-- the keys, the bits for their lengths, the lengths of the texts, and the pairs of a search
+pub record IsPrepared (q : Find) (keys : List (List ℕ)) (bits : ℕ) (lengths : List ℕ) (pairs : List (List ℕ × List ℕ)) : Type 0 where
   pub keys_asked : (k : List ℕ) → list_any (eq_by_cmp text_cmp k) keys ≡ asks_key q k
+  pub bits_set : bits ≡ key_bits q.tags
   pub lengths_asked : (n : ℕ) → list_any (eq_by_cmp nat_cmp n) lengths ≡ asks_length q n
   pub pairs_asked : (a : List ℕ × List ℕ) → is_in pairs a ≡ asks q a
 

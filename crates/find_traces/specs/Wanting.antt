@@ -1,6 +1,7 @@
 -- The pairs of a key and a text that a search asks, and which of them tags have.
-use Rattle.std.specs.Prelude.{ℕ, Bool, not, ◌&&◌, List, length, Option, Some, None, if◌then◌else◌}
-use Rattle.std.specs.List.{list_any}
+use Rattle.std.specs.Prelude.{ℕ, ◌%◌, ◌^◌, Bool, not, ◌&&◌, List, length, Option, Some, None, if◌then◌else◌}
+use Rattle.std.specs.Int.Bits.{bit_or}
+use Rattle.std.specs.List.{fold, list_any}
 use Rattle.std.specs.Set.{distinct_count}
 use Rattle.std.specs.declared.cmp.Ordering.{Ordering}
 use Rattle.std.specs.Ordering.{ordering_then, eq_by_cmp, nat_cmp}
@@ -28,6 +29,13 @@ asks_key q k = list_any (λ (a : List ℕ × List ℕ). eq_by_cmp text_cmp k a.0
 -- the search asks a pair with a text of so many bytes
 abbrev pub asks_length : Find → ℕ → Bool
 asks_length q n = list_any (λ (a : List ℕ × List ℕ). eq_by_cmp nat_cmp n (length a.1)) q.tags
+
+-- bits for the lengths of keys: that of the rest by 64 of each one's length is set
+abbrev pub with_key : ℕ → List ℕ × List ℕ → ℕ
+with_key bits a = bit_or bits (2 ^ (length a.0 % 64))
+
+abbrev pub key_bits : List (List ℕ × List ℕ) → ℕ
+key_bits asked = fold with_key 0 asked
 
 abbrev pub asks : Find → List ℕ × List ℕ → Bool
 asks q a = list_any (same_pair a) q.tags

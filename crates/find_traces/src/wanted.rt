@@ -1,12 +1,13 @@
 //! Searches whose asked tags are put in order once.
 
-ghost use Rattle.std.specs.Prelude.{◌≡◌, ℕ, List, [], IfOk, length, false};
+ghost use Rattle.std.specs.Prelude.{◌≡◌, ◌==◌, ◌%◌, ◌^◌, ℕ, List, [], IfOk, length, false};
 ghost use Rattle.std.specs.Bool.{OnTrue, OnFalse};
+ghost use Rattle.std.specs.Int.{bit_at};
 ghost use Rattle.std.specs.List.{list_any};
 ghost use Rattle.std.specs.Ordering.{eq_by_cmp, nat_cmp};
 ghost use Rattle.jaeger_model.specs.Tags.{tag_text};
 ghost use Rattle.jaeger_model.specs.Texts.{text_cmp};
-ghost use Rattle.find_traces.specs.Wanting.{pair_of, same_pair, is_in, asks, asked_count, if_asked};
+ghost use Rattle.find_traces.specs.Wanting.{pair_of, same_pair, is_in, key_bits, asks, asked_count, if_asked};
 
 use jaeger_model::{Tag, TagValue, Text, ValueRef, tag_text};
 use std::alloc::{AllocError, Global};
@@ -20,6 +21,8 @@ use trace_model::Find;
 pub struct Wanted<'q> {
     query: &'q Find,
     keys: BTreeSet<Text>,
+    /// Bits for the lengths of the keys.
+    key_bits: u64,
     /// How long the asked texts are.
     lengths: BTreeSet<usize>,
     pairs: BTreeSet<(Text, Text)>,
@@ -33,7 +36,7 @@ impl<'q> Model for Wanted<'q> {
 
     ghost view = { λ w. w.query.now };
 
-    ghost invariant = { λ w. IsPrepared w.query.now w.keys.keys w.lengths.keys w.pairs.keys };
+    ghost invariant = { λ w. IsPrepared w.query.now w.keys.keys w.key_bits w.lengths.keys w.pairs.keys };
 }
 
 /// The keys of the pairs.
@@ -47,6 +50,31 @@ fn keys_of(alloc: Global, asked: &[(Text, Text)]) -> Result<BTreeSet<Text>, Allo
         keys.insert(key)?;
     }
     Ok(keys)
+}
+
+/// Of 64 bits the one that stands for keys as long as this.
+fn bit_of_key(key: &Text) -> u64
+    ensures { result ≡ 2 ^ (length key.now % 64) }
+{
+    1u64 << (key.len() % 64)
+}
+
+/// The bits for the lengths of the pairs' keys.
+fn key_bits(asked: &[(Text, Text)]) -> u64
+    ensures { result ≡ key_bits asked.now }
+{
+    let mut bits = 0;
+    for pair in asked {
+        bits |= bit_of_key(&pair.0);
+    }
+    bits
+}
+
+/// Whether the bit for keys as long as this is among these.
+fn is_set(bits: u64, key: &Text) -> bool
+    ensures { result ≡ (bit_at bits (length key.now % 64) == 1) }
+{
+    (bits >> (key.len() % 64)) & 1 == 1
 }
 
 /// The lengths of the pairs' texts.
@@ -107,6 +135,7 @@ impl<'q> Wanted<'q> {
         Ok(Wanted {
             query,
             keys,
+            key_bits: key_bits(asked),
             lengths,
             pairs,
         })
@@ -133,6 +162,13 @@ impl<'q> Wanted<'q> {
         self.pairs.len()
     }
 
+    /// Whether a key may be asked: one whose length has the same bit is. No other key has to be looked up.
+    fn may_ask_key(&self, key: &Text) -> bool
+        ensures { OnFalse result ((t : List ℕ) → asks self.now (key.now, t) ≡ false) }
+    {
+        is_set(self.key_bits, key)
+    }
+
     /// Whether a value may have an asked text: one that is a text has the length of one of these.
     fn may_ask(&self, value: &TagValue) -> bool
         ensures { OnFalse result ((k : List ℕ) → asks self.now (k, tag_text value.now) ≡ false) }
@@ -152,6 +188,9 @@ impl<'q> Wanted<'q> {
     ) -> Result<Option<(Text, Text)>, AllocError>
         ensures { IfOk result (λ p. p ≡ if_asked self.now (pair_of tag.now)) }
     {
+        if !self.may_ask_key(&tag.key) {
+            return Ok(None);
+        }
         if !self.keys.contains(&tag.key) {
             return Ok(None);
         }

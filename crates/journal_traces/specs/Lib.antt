@@ -4,3 +4,4 @@ pub mod Standing
 pub mod Looked
 pub mod Pruned
 pub mod Lasting
+pub mod Reporting

@@ -5,6 +5,7 @@
 //! * `gathering`: these spans where their entries keep them, which are shared.
 //! * `pruning`: entries that a search passes over by their outlines.
 //! * `searching`: which traces a search by a service looks at.
+//! * `reporting`: which traces a search by a service alone looks at, where many entries are of that service.
 //! * `judging`: spans judged one after the other.
 //! * `candidates`: these traces, as a search looks at them.
 //! * `seeing`: the spans of the traces in a window of time.
@@ -14,11 +15,13 @@ mod candidates;
 mod gathering;
 mod judging;
 mod pruning;
+mod reporting;
 mod searching;
 mod seeing;
 mod standing;
 
 pub use candidates::Candidates;
 pub use gathering::{GatheredSpans, gather};
+pub use reporting::spots_reported;
 pub use searching::spots_along;
 pub use seeing::{ring_ids, see_within};

@@ -1,9 +1,9 @@
 -- The traces that a search by a service looks at are all that can match.
-use Rattle.std.proofs.Common.{◌≡◌, ℕ, suc, Bool, true, false, ◌||◌, ◌&&◌, cond, List, [], ◌∷◌, ◌++◌, map, length, get_or, zero, ◌+◌, ◌<◌, ◌≤◌, refl, sym, ap, ◌∙◌, arith}
-use Rattle.std.specs.Prelude.{filter, flat_map, if◌then◌else◌, take, ◌==◌}
-use Rattle.std.specs.List.{list_any, list_all}
+use Rattle.std.proofs.Common.{◌≡◌, ℕ, suc, ◌-◌, eq-eqb, Some, None, Option, Bool, true, false, ◌||◌, ◌&&◌, cond, List, [], ◌∷◌, ◌++◌, map, length, get_or, zero, ◌+◌, ◌<◌, ◌≤◌, refl, sym, ap, ◌∙◌, arith}
+use Rattle.std.specs.Prelude.{filter, flat_map, if◌then◌else◌, take, ◌==◌, nat_lt, is_some, slice_get}
+use Rattle.std.specs.List.{list_any, list_all, cons_option}
 use Rattle.std.specs.Option.{option_and_then}
-use Rattle.std.specs.Cmp.Lexicographic.{lists_equiv}
+use Rattle.std.specs.Cmp.Lexicographic.{lists_equiv, same_text as texts_are}
 use Rattle.std.specs.Cmp.{nat_eq_equiv}
 use Rattle.std.proofs.Math.Seq.{take-nil}
 use Rattle.std.proofs.lemmas.Bool.{false≢true}
@@ -28,12 +28,18 @@ use Rattle.trace_model.specs.Searching.{matches, matching, found_in, ranked_by_s
 use Rattle.trace_model.specs.Showing.{ring, shown, spans_of_trace, lasting_after, longer_beginnings, stands, trace_of}
 use Rattle.trace_model.proofs.NameLaws.{any_filter}
 use Rattle.trace_model.proofs.Parents.{with_parent-trace}
+use Rattle.trace_model.specs.Places.{entry_at}
+use Rattle.trace_assembly.specs.declared.spot.Spot.{Spot}
+use Rattle.trace_assembly.specs.Located.{span_at}
 use Rattle.trace_assembly.specs.Rows.{is_of}
 use Rattle.arrival_names.proofs.Numbering.{arrivals_push}
 use Rattle.arrival_names.specs.Kept.{reports_service, reports_operation}
-use Rattle.service_places.specs.Reported.{service_brought, reporters, places_upto, places_of}
+use Rattle.service_places.specs.Reported.{service_brought, reporters, places_upto, places_of, group_in, group_of, AreGroups}
 use Rattle.journal_traces.specs.Picked.{reaches, meets, met, met_or_none, met_at, met_along}
+use Rattle.journal_traces.specs.Reporting.{is_reported, are_reported}
+use Rattle.journal_traces.specs.Standing.{spans_named}
 use Rattle.journal_traces.proofs.Adopting.{matches-adopted}
+use Rattle.journal_traces.proofs.Numbers.{number_there}
 
 and_true : (a b : Bool) → (a && b) ≡ true → (a ≡ true) × (b ≡ true)
 and_true true b e = (refl, e)
@@ -181,6 +187,46 @@ pub found_among : (q : Find) (n : ℕ) (h : List Entry) (service : List ℕ) (r 
 found_among q n h service r same =
     ap (λ s. found_in q (map (spans_of_trace n (events h)) (filter (reaches (met_along q h (places_of h s))) r))) (sym same)
     ∙ ap (λ l. cut q.limit (ranked_by_start first_start l)) (match_among q (spans_of_trace n (events h)) (reaches (met_along q h (places_of h q.service))) (covered q n h) r)
+
+-- ---- the traces of a service by its number
+-- the number of a service is the one that is found
+number_is : (h : List Entry) (service : List ℕ) (n : ℕ) → Some n ≡ group_of h service → group_in h service ≡ n
+number_is h service n e = by (nat_lt (group_in h service) (length (reporters h))) e
+  where
+    by : (b : Bool) → Some n ≡ cond b (Some (group_in h service)) None → group_in h service ≡ n
+    by true e = let same : n ≡ group_in h service = cc e in sym same
+    by false e = absurd (cc e)
+
+entry_there : (h : List Entry) (s : Spot) (p : Placed) → span_at h s ≡ Some p → is_some (entry_at h s.place) ≡ true
+entry_there h s p e = by (entry_at h s.place) e
+  where
+    by : (o : Option Entry) → option_and_then (λ (x : Entry). slice_get (placed_brought x.work) s.index) o ≡ Some p → is_some o ≡ true
+    by None e = absurd (cc e)
+    by (Some x) e = refl
+
+module _ (q : Find) (h : List Entry) (groups : List ℕ) (k : ℕ) (kept : AreGroups h groups) (known : Some k ≡ group_of h q.service) where
+  -- a span that matches stands at a spot of the service
+  own_spot : (s : Spot) (p : Placed) → span_at h s ≡ Some p → matches q p ≡ true → is_reported h groups k s ≡ true
+  own_spot s p at m =
+      let service : p.process.service ≡ q.service = texts_are p.process.service q.service (sym (match_reported q p m)) in
+      let number : get_or groups (s.place - 1) 0 ≡ k = (number_there h groups s p kept (sym at)).0 ∙ ap (group_in h) service ∙ number_is h q.service k known in
+      both_true (is_some (entry_at h s.place)) (get_or groups (s.place - 1) 0 == k) (entry_there h s p at) (eq-eqb (get_or groups (s.place - 1) 0) k number)
+
+  own_spots : (ss : List Spot) → list_any (matches q) (spans_named h ss) ≡ true → are_reported h groups k ss ≡ true
+  own_spots [] e = absurd (false≢true e)
+  own_spots (s ∷ ss) e = by (own_spots ss) (span_at h s) refl e
+    where
+      by : (list_any (matches q) (spans_named h ss) ≡ true → are_reported h groups k ss ≡ true) → (o : Option Placed) → span_at h s ≡ o → list_any (matches q) (cons_option o (spans_named h ss)) ≡ true → (is_reported h groups k s || are_reported h groups k ss) ≡ true
+      by later None at e = or_right (is_reported h groups k s) (are_reported h groups k ss) (later e)
+      by later (Some p) at e = or_cases (matches q p) (list_any (matches q) (spans_named h ss)) e
+          (λ m. ap (λ b. b || are_reported h groups k ss) (own_spot s p at m))
+          (λ rest. or_right (is_reported h groups k s) (are_reported h groups k ss) (later rest))
+
+  -- a search finds the same among the traces with a spot of the service as among all
+  pub found_reported : (n : ℕ) (spots : TraceId → List Spot) (r : List TraceId) → ((t : TraceId) → spans_named h (spots t) ≡ spans_of_trace n (events h) t)
+      → found_in q (map (spans_of_trace n (events h)) (filter (λ t. are_reported h groups k (spots t)) r)) ≡ found_in q (map (spans_of_trace n (events h)) r)
+  found_reported n spots r stands =
+      ap (λ l. cut q.limit (ranked_by_start first_start l)) (match_among q (spans_of_trace n (events h)) (λ t. are_reported h groups k (spots t)) (λ t e. own_spots (spots t) (ap (list_any (matches q)) (stands t) ∙ e)) r)
 
 -- ---- where no arrival has the service, or the operation of the service, nothing is found
 pub nothing_found : (q : Find) → found_in q [] ≡ []

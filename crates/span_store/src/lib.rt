@@ -7,12 +7,14 @@
 //! is taken when a store is opened: applying an entry takes no memory.
 //!
 //! * `arrange`: what one more entry changes in ring and assembly.
+//! * `common`: which searches look at all traces, and not at a service's entries.
 //! * `finding`: searches and calls over traces that stand in the journal.
 //! * `store`: the [`SpanStore`].
 //! * `replaying`: a store made of a whole list of entries.
 #![tactic(auto)]
 
 mod arrange;
+mod common;
 mod finding;
 mod replaying;
 mod store;

@@ -1,4 +1,4 @@
-ghost use Rattle.std.specs.Prelude.{◌≡◌, ◌+◌, ◌==◌, [], map, length, Ok, IfOk, IfErr};
+ghost use Rattle.std.specs.Prelude.{◌≡◌, ◌+◌, ◌==◌, [], map, length, Ok, IfOk, IfErr, IfSome, Some};
 ghost use Rattle.std.specs.Arc.{arc_value};
 ghost use Rattle.std.specs.Bool.{OnFalse};
 ghost use Rattle.trace_model.specs.declared.query.Query.TheVariants as ask;
@@ -16,16 +16,18 @@ ghost use Rattle.trace_assembly.specs.Rows.{spots_of};
 ghost use Rattle.call_links.specs.Seen.{AreNumbered};
 ghost use Rattle.journal_traces.specs.Given.{given_traces};
 ghost use Rattle.journal_traces.specs.Standing.{traces_named};
+ghost use Rattle.service_places.specs.Reported.{group_of};
 ghost use Rattle.span_store.specs.Kept.{Follows, IsNamed, IsPlaced};
 
 use crate::arrange::follow;
+use crate::common::{COMMON, are_more, asks_service_alone};
 use crate::finding;
 use arrival_journal::{Journal, OutlinedEntry, PreparedEntry};
 use arrival_names::ArrivalNames;
 use call_links::NumberedSpan;
 use find_traces::Wanted;
 use jaeger_model::{Seq, Text, TraceId};
-use journal_traces::{Candidates, gather, ring_ids, see_within, spots_along};
+use journal_traces::{Candidates, gather, ring_ids, see_within, spots_along, spots_reported};
 use service_places::ServicePlaces;
 use std::alloc::{AllocError, Global};
 use std::hash::RandomState;
@@ -40,8 +42,9 @@ use trace_ring::Ring;
 /// The accepted entries of one store, and quick answers from them.
 ///
 /// A trace by its id costs its own spans, and names cost what is listed. A search looks at the entries
-/// of its service and at the first span of each of their traces. It judges these traces as the answer
-/// orders them, until as many match as it asks for. It copies no span: what it answers shares the entries.
+/// of its service, or at the numbers of the services of each trace where it asks for a service alone that many entries
+/// are of, and at the first span of each trace that is left. It judges these traces as the answer orders them, until as
+/// many match as it asks for. It copies no span: what it answers shares the entries.
 #[derive(Drop)]
 pub struct SpanStore {
     alloc: Global,
@@ -54,6 +57,7 @@ pub struct SpanStore {
 
 impl Model for SpanStore {
     ghost use Rattle.trace_model.specs.Held.{Held};
+    ghost use Rattle.service_places.specs.Reported.{group_of};
     ghost use Rattle.span_store.specs.Kept.{IsKept};
 
     ghost Value = { Held };
@@ -290,17 +294,48 @@ impl SpanStore {
             .knows_operation(entries, &self.reported, service, operation)
     }
 
+    /// The number of the service of a search that asks for nothing else, where many entries are of it: most traces have a
+    /// span of it then.
+    fn common_service(&self, query: &Find) -> Option<u32>
+        ensures { IfSome result (λ n. Some n ≡ group_of self.now.entries query.now.service) }
+    {
+        if !asks_service_alone(query) {
+            return None;
+        }
+        let entries = self.journal.entries();
+        let service = query.service.as_str();
+        let places = self.reported.places_of(entries, service);
+        if !are_more(places, self.journal.len() / COMMON) {
+            return None;
+        }
+        self.reported.group_of(entries, service)
+    }
+
+    /// The spots of the shown traces of which entries of the service with this number brought a span.
+    fn candidates_reported(&self, query: &Find, service: u32) -> Result<Vec<Spots<'_>>, AllocError>
+        requires { Some service ≡ group_of self.now.entries query.now.service }
+        ensures { IfOk result (λ v. found_in query.now (traces_named self.now.entries v.items) ≡
+            found_in query.now (traces self.now.limits.traces (events self.now.entries))) }
+    {
+        let _legal = self.journal.len();
+        let spots = spots_reported(
+            self.alloc,
+            &self.ring,
+            &self.assembly,
+            &self.journal,
+            &self.reported,
+            service,
+        )?;
+        Ok(spots)
+    }
+
     /// The spots of the shown traces of which entries of the search's service have a span that meets the
-    /// search, those of the one opened longest ago first: the search finds the same among these traces as
-    /// among all.
-    fn candidates(&self, wanted: &Wanted<'_>) -> Result<Vec<Spots<'_>>, AllocError>
+    /// search.
+    fn candidates_met(&self, wanted: &Wanted<'_>) -> Result<Vec<Spots<'_>>, AllocError>
         ensures { IfOk result (λ v. found_in wanted.now (traces_named self.now.entries v.items) ≡
             found_in wanted.now (traces self.now.limits.traces (events self.now.entries))) }
     {
         let query = wanted.query();
-        if !self.may_find(query) {
-            return Ok(Vec::new(self.alloc));
-        }
         let places = self
             .reported
             .places_of(self.journal.entries(), query.service.as_str());
@@ -314,6 +349,22 @@ impl SpanStore {
             wanted,
         )?;
         Ok(spots)
+    }
+
+    /// The spots of the shown traces that a search looks at, those of the one opened longest ago first: it finds the
+    /// same among these traces as among all.
+    fn candidates(&self, wanted: &Wanted<'_>) -> Result<Vec<Spots<'_>>, AllocError>
+        ensures { IfOk result (λ v. found_in wanted.now (traces_named self.now.entries v.items) ≡
+            found_in wanted.now (traces self.now.limits.traces (events self.now.entries))) }
+    {
+        let query = wanted.query();
+        if !self.may_find(query) {
+            return Ok(Vec::new(self.alloc));
+        }
+        match self.common_service(query) {
+            Some(service) => self.candidates_reported(query, service),
+            None => self.candidates_met(wanted),
+        }
     }
 
     /// The traces that a search finds, as they are shown.

@@ -12,5 +12,8 @@ returns-then-not-contains c =
     let absent = no_key q.tags t.key (tag_text t.value) (sym (c.self.invariant.keys_asked t.key) ∙ sym c.contains.ensures ∙ c.if-not-contains.true) in
     ap (λ b. if b then Some (pair_of t) else None) (sym absent) ∙ ap (λ f. if_asked f (pair_of t)) c.self.view_is
 
+pub returns-then-not-may_ask_key : goal.returns-then-not-may_ask_key
+returns-then-not-may_ask_key c = ap (λ b. if b then Some (pair_of c.args.tag.now) else None) (sym (c.if-not-may_ask_key.ensures (tag_text c.args.tag.now.value)))
+
 pub returns-then-not-may_ask : goal.returns-then-not-may_ask
 returns-then-not-may_ask c = ap (λ b. if b then Some (pair_of c.args.tag.now) else None) (sym (c.if-not-may_ask.ensures c.args.tag.now.key))

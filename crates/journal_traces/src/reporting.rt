@@ -1,0 +1,73 @@
+//! The traces of which a service brought a span, by the numbers of the services of entries: no span is looked at.
+
+ghost use Rattle.std.specs.Prelude.{◌≡◌, ◌<◌, ◌^◌, IfOk, map, filter, length};
+ghost use Rattle.std.specs.List.{list_any};
+ghost use Rattle.trace_assembly.specs.Rows.{spots_of};
+ghost use Rattle.service_places.specs.Reported.{AreGroups};
+ghost use Rattle.journal_traces.specs.Reporting.{is_reported, are_reported};
+
+use arrival_journal::Journal;
+use service_places::ServicePlaces;
+use std::alloc::{AllocError, Global};
+use trace_assembly::{Assembly, Spot, Spots};
+use trace_ring::Ring;
+
+/// Whether there is an entry at a spot's place, and its service has this number.
+fn is_reported(journal: &Journal, reported: &ServicePlaces, service: u32, spot: Spot) -> bool
+    requires few { length journal.now.held.entries < 2 ^ 32 }
+    requires numbers { AreGroups journal.now.held.entries reported.now.groups }
+    ensures { result ≡
+        is_reported journal.now.held.entries reported.now.groups service spot }
+{
+    if journal.entry(spot.place).is_none() {
+        return false;
+    }
+    let before = spot.place - 1;
+    reported.group_at(before as u32) == service
+}
+
+/// Whether this is so of one of the spots.
+fn are_reported(journal: &Journal, reported: &ServicePlaces, service: u32, spots: Spots<'_>) -> bool
+    requires few { length journal.now.held.entries < 2 ^ 32 }
+    requires numbers { AreGroups journal.now.held.entries reported.now.groups }
+    ensures { result ≡
+        are_reported journal.now.held.entries reported.now.groups service spots.entry }
+{
+    for spot in spots {
+        if is_reported(journal, reported, service, spot) {
+            return true;
+        }
+    }
+    false
+}
+
+/// The spots of each trace of the ring of which an entry of the service with this number brought a span, those of the
+/// one opened longest ago first. It looks at each trace of the ring, at no more of its spots than up to the first
+/// that the service brought, and at no span.
+///
+/// # Errors
+///
+/// Out of memory, and nothing else.
+pub fn spots_reported<'a>(
+    alloc: Global,
+    ring: &Ring,
+    assembly: &'a Assembly,
+    journal: &Journal,
+    reported: &ServicePlaces,
+    service: u32,
+) -> Result<Vec<Spots<'a>>, AllocError>
+    requires few { length journal.now.held.entries < 2 ^ 32 }
+    requires numbers { AreGroups journal.now.held.entries reported.now.groups }
+    ensures { IfOk result (λ v. v.items ≡ map (spots_of assembly.now)
+        (filter (λ t. are_reported journal.now.held.entries reported.now.groups service
+        (spots_of assembly.now t)) ring.now.ids)) }
+{
+    let mut found = Vec::new(alloc);
+    for place in 0..ring.len() {
+        let spots = assembly.spots_near(ring.row_at(place), ring.trace_at(place));
+        if are_reported(journal, reported, service, spots.again()) {
+            found.push(spots)?;
+        }
+    }
+    Ok(found)
+}
