@@ -1,7 +1,7 @@
 #!/usr/bin/env python3
 """What searches, dependencies and applying cost, beside a plain scan over the same data, in one run on one machine.
 
-    bench/searches.py [--bin PATH | --folder PATH] [--spans 100000] [--rounds 15] [--load]
+    bench/searches.py [--bin PATH | --folder PATH] [--spans 100000] [--rounds 15] [--load | --count]
 
 Traces of 10 to 50 spans, each span with 5 to 15 tags, are handed in by batches of up to 10 spans of one service, the traces mixed in time. Then each
 question is asked in turn by two programs, each a process of its own:
@@ -12,7 +12,9 @@ question is asked in turn by two programs, each a process of its own:
 
 The bodies are the same, and so are the answers: the script compares how many traces or links each program found. A time is that of the
 machine's monotonic clock around one question, the least of the rounds, in milliseconds. `with JSON` has the JSON of the answer. With `--load` it
-prints what applying costs by number of spans held instead: microseconds a batch of 10 spans, the median of the last 200.
+prints what applying costs by number of spans held instead: microseconds a batch of 10 spans, the median of the last 200. With `--count` it prints
+how many instructions the JSON of 20 traces takes a byte, of a tenth of the spans, as callgrind counts them (Debian: valgrind): those of the
+question with its JSON, without those of the same question alone.
 """
 import argparse
 import os
@@ -23,6 +25,7 @@ import subprocess
 import sys
 import tempfile
 
+from compare import instructions
 from copies import below
 from decode import ROOT, field, span, text
 import shutil
@@ -99,7 +102,7 @@ fn filled<R: Clock + Print>(rt: &R, alloc: Global, store: &mut SpanStore, bodies
         let entry = entry_of(alloc, body, before + 1)?;
         let took = applied(rt, store, entry)?;
         if reporting {
-            println!(rt; "apply {took} 0")?;
+            println!(rt; "apply {took} 0 0")?;
         }
         rest = after;
     }
@@ -161,8 +164,8 @@ fn size_of(answer: &Answer) -> usize {
     }
 }
 
-/// Nanoseconds of one answer, and how much was found.
-fn asked<R: Clock>(rt: &R, alloc: Global, store: &SpanStore, query: &Query, json: bool) -> Result<(u64, usize)> {
+/// Nanoseconds of one answer, how much was found, and the bytes of its JSON, where that is wanted.
+fn asked<R: Clock>(rt: &R, alloc: Global, store: &SpanStore, query: &Query, json: bool) -> Result<(u64, usize, usize)> {
     let begin = now(rt);
     let answer = match store.answer(query) {
         Ok(answer) => answer,
@@ -176,15 +179,15 @@ fn asked<R: Clock>(rt: &R, alloc: Global, store: &SpanStore, query: &Query, json
     if json && bytes == 0 {
         bail!("no text");
     }
-    Ok((took, size_of(&answer)))
+    Ok((took, size_of(&answer), bytes))
 }
 
-/// Prints what a question took and found, so many times.
+/// Prints what a question took and found, and the bytes of its JSON, so many times.
 fn asked_often<R: Clock + Print>(rt: &R, alloc: Global, store: &SpanStore, number: u32, rounds: u32, end_ms: i64) -> Result<()> {
     let query = question(alloc, number, end_ms)?;
     for _ in 0..rounds {
-        let (took, size) = asked(rt, alloc, store, &query, number == 2)?;
-        println!(rt; "{number} {took} {size}")?;
+        let (took, size, bytes) = asked(rt, alloc, store, &query, number == 2)?;
+        println!(rt; "{number} {took} {size} {bytes}")?;
     }
     Ok(())
 }
@@ -300,13 +303,23 @@ def ask(program, path, rounds, end_ms):
         run = subprocess.run([program, str(rounds), str(end_ms)], stdin=stdin, capture_output=True, text=True, check=True)
     least, found = {}, {}
     for line in run.stdout.splitlines():
-        number, took, size = line.split()
+        number, took, size = line.split()[:3]
         if number == "apply":
             least.setdefault("apply", []).append(int(took))
             continue
         least[int(number)] = min(int(took), least.get(int(number), 1 << 62))
         found[int(number)] = int(size)
     return least, found
+
+
+def count(program, path, end_ms):
+    """The instructions of the JSON of 20 traces, and its bytes."""
+    def more(number):
+        one, eleven = (instructions(program, rounds, path, [str(end_ms), str(number)]) for rounds in (1, 11))
+        return (eleven - one) / 10
+    with open(path, "rb") as stdin:
+        said = subprocess.run([program, "1", str(end_ms), "2"], stdin=stdin, capture_output=True, text=True, check=True).stdout
+    return more(2) - more(1), int(said.split()[3])
 
 
 def load():
@@ -321,6 +334,7 @@ def main():
     asked.add_argument("--spans", type=int, default=100_000)
     asked.add_argument("--rounds", type=int, default=15)
     asked.add_argument("--load", action="store_true", help="what applying costs")
+    asked.add_argument("--count", action="store_true", help="the instructions that JSON takes")
     options = asked.parse_args()
     with tempfile.TemporaryDirectory() as folder:
         program = options.bin or build_store(os.path.abspath(options.folder) if options.folder else os.path.join(folder, "repository"))
@@ -331,6 +345,11 @@ def main():
                 write_bodies(random.Random(1), path, size)
                 times, _ = ask(program, path, 0, 0)
                 print(f"{size:>9} spans: {statistics.median(times['apply'][-200:]) / 1000:8.2f} us a batch", flush=True)
+            return
+        if options.count:
+            end_ms = write_bodies(random.Random(1), path, options.spans // 10)
+            taken, size = count(program, path, end_ms)
+            print(f"JSON of 20 traces: {size:,} bytes, {taken / size:.1f} instructions a byte")
             return
         end_ms = write_bodies(random.Random(1), path, options.spans)
         store, in_store = ask(program, path, options.rounds, end_ms)
