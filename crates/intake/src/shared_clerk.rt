@@ -1,6 +1,6 @@
 //! A clerk without a thread of its own: whoever waits for an answer does its work.
 
-ghost use Rattle.std.specs.Prelude.{◌≡◌, [], IfOk, IfErr};
+ghost use Rattle.std.specs.Prelude.{◌≡◌, [], IfOk, IfErr, IfSome};
 ghost use Rattle.std.specs.Arc.{arc_value};
 ghost use Rattle.read_side.specs.Receipts.{AnsweredAt};
 ghost use Rattle.read_side.specs.Keepers.{Lists, no_entries};
@@ -10,11 +10,16 @@ ghost use Rattle.intake.specs.Books.{Ran};
 
 use crate::clerk::{Clerk, Turn};
 use crate::ticket::{Ack, Ticket};
+use crossbeam_utils::Backoff;
 use read_side::{Keeper, StoreName};
 use std::marker::{Brand, Model, PhantomData};
 use std::sync::{Mutex, Wait};
 use std::thread::yield_now;
 use trace_model::Refusal;
+
+/// How often one looks for an answer and for the clerk's lock before one sleeps, with pauses between the looks that
+/// grow, and after a few looks with other threads let run. Another's turn takes less time than to wake a thread.
+const LOOKS: u32 = 1_000;
 
 /// Which desk a shared clerk is of. It is a parameter of whoever shares one, who picks it.
 pub trait DeskName {
@@ -113,8 +118,8 @@ impl<'a, N: StoreName, D: DeskName> SharedClerk<'a, N, D> {
         }
     }
 
-    /// The answer to a ticket, as [`Ticket::wait`] gives it. Where it isn't there yet, the caller waits for the
-    /// lock and does the clerk's work until it is.
+    /// The answer to a ticket, as [`Ticket::wait`] gives it. Where it isn't there yet, the caller does the clerk's
+    /// work until it is. It sleeps only where another has the lock for long.
     ///
     /// # Errors
     ///
@@ -125,13 +130,38 @@ impl<'a, N: StoreName, D: DeskName> SharedClerk<'a, N, D> {
         ensures reason { IfErr result IsUnacknowledged }
     {
         for _ in rt.forever() {
-            self.office.lock(rt).turn_for(rt, &ticket);
-            if let Some(answer) = ticket.answer() {
+            if let Some(answer) = self.answer_soon(rt, &ticket) {
                 return answer;
             }
-            yield_now();
+            self.office.lock(rt).turn_for(rt, &ticket);
         }
         unreachable!()
+    }
+
+    /// The answer, if it comes while one looks for it and for the lock in turns.
+    fn answer_soon<R: Wait>(&self, rt: &R, ticket: &Ticket<N>) -> Option<Result<Ack<N>, Refusal>>
+        ensures answered { IfSome result (λ r. IfOk r (λ a.
+            AnsweredAt (arc_value a.receipt).entries a.place ticket.now)) }
+        ensures reason { IfSome result (λ r. IfErr r IsUnacknowledged) }
+    {
+        let backoff = Backoff::new();
+        for _look in 0..LOOKS {
+            if !ticket.is_answered() {
+                self.try_turns(rt, ticket);
+            }
+            if let Some(answer) = ticket.answer() {
+                return Some(answer);
+            }
+            backoff.snooze();
+        }
+        None
+    }
+
+    /// Does the clerk's work until the ticket has its answer, unless another does it.
+    fn try_turns<R: Wait>(&self, rt: &R, ticket: &Ticket<N>) {
+        if let Some(mut office) = self.office.try_lock() {
+            office.turn_for(rt, ticket);
+        }
     }
 
     /// Takes what is left in the queue until the desk is closed and the queue is empty, and gives the clerk, which
