@@ -15,6 +15,19 @@ use std::sync::Wait;
 use store_backend::Backend;
 use trace_model::{Answer, Query, Refusal};
 
+/// How many batches a worker hands in between two times that its heap grows.
+const GROWN_FOR: u64 = 16;
+
+/// How much the heap grows then, in bytes: what so many usual batches take, and less than a block for which `malloc`
+/// asks the system by itself.
+const GROWTH: usize = 120_000;
+
+/// Has the calling thread's heap grow, where it has no such room: a block is taken and given back. A thread's heap else
+/// grows by a page or two at a time, with a system call for each batch. Where there is no memory nothing happens.
+fn grow_heap(alloc: Global) {
+    drop(Vec::<u8>::with_capacity(alloc, GROWTH));
+}
+
 /// A worker's store, of whose calls the gate hears, and which does the clerk's work while it waits. Contracts see the store alone.
 #[derive(Drop)]
 pub(crate) struct Gated<'a, 'k, N: StoreName, D: DeskName, G, R> {
@@ -103,6 +116,9 @@ impl<'a, 'k, N: StoreName, D: DeskName, G: Gate, R: Wait + Eprint> Backend<R>
 
     fn submit(&mut self, rt: &R, alloc: Global, batch: Batch) -> Result<u64, Refusal> {
         self.calls = self.calls.saturating_add(1);
+        if self.calls % GROWN_FOR == 0 {
+            grow_heap(alloc);
+        }
         self.gate.before(self.rt, self.worker, self.calls);
         let place = self.live.submit_shared(rt, alloc, self.clerk, batch);
         self.gate.after(self.rt, self.worker, self.calls);
