@@ -1,8 +1,8 @@
 -- The sixteen digits of an id are those of its eight bytes.
-use Rattle.std.proofs.Common.{◌≡◌, ℕ, zero, suc, ◌*◌, ◌/◌, ◌%◌, ◌^◌, ◌<◌, List, [], ◌∷◌, ◌++◌, refl, sym, ap, ap₂, ◌∙◌, ◌≢◌, arith, append-nil, drop, eq-eqb, length, length-append, ne_eqb, slice_index}
+use Rattle.std.proofs.Common.{◌≡◌, ℕ, zero, suc, ◌*◌, ◌/◌, ◌%◌, ◌^◌, ◌<◌, Bool, true, false, [], ◌∷◌, ◌++◌, refl, sym, ap, ap₂, ◌∙◌, arith, length, length-append, slice_index}
+use Rattle.std.specs.Prelude.{◌==◌, if◌then◌else◌}
 use Rattle.std.proofs.Math.Nat.{div-div-eq-div-mul, div-one, pow-suc}
 use Rattle.std.proofs.lemmas.Bool.Decides.{nat_tests}
-use Rattle.std.proofs.lemmas.List.{drop_all, drop_at, take_at}
 use Rattle.std.proofs.lemmas.Str.{IsAscii-append}
 use Rattle.std.proofs.lemmas.Str.Ascii.{IsAscii-cons, IsAscii-nil}
 use Rattle.std.specs.Str.{IsAscii}
@@ -12,7 +12,6 @@ use Rattle.jaeger_model.specs.declared.ids.TraceId.{TraceId}
 use Rattle.jaeger_model.specs.Ids.{hex_digit, low_digits, trace_text}
 use Rattle.jaeger_model.specs.Tags.{hex_text}
 use Rattle.jaeger_model.proofs.Digits.{encoded}
-use borrow.Rule.Slice.PartMut.{put_mid}
 
 -- the digit in front
 low_digits-front : (k n : ℕ) → low_digits (suc k) n ≡ hex_digit (n / 16 ^ k % 16) ∷ low_digits k n
@@ -68,6 +67,9 @@ bytes_small (suc k) n (suc i) = bytes_small k n i
 pub digits_of_bytes : (n : ℕ) → encode_lower (to_be_bytes w64 n) ≡ low_digits 16 n
 digits_of_bytes n = encoded (to_be_bytes w64 n) (bytes_small 8 n) ∙ hex_text-bytes 8 n
 
+pub hex_text-number : (n : ℕ) → hex_text (to_be_bytes w64 n) ≡ low_digits 16 n
+hex_text-number n = hex_text-bytes 8 n
+
 -- ---- ASCII
 
 hex_digit_small : (d : ℕ) → d < 16 → hex_digit d < 128
@@ -85,18 +87,11 @@ length-low_digits (suc k) n = length-append (low_digits k (n / 16)) (hex_digit (
 
 -- ---- a trace's id
 
-pub trace_text-short : (t : TraceId) → t.high ≡ 0 → trace_text t ≡ low_digits 16 t.low
+-- one half, or two
+pub trace_text-halves : (t : TraceId) → (if t.high == 0 then [] else low_digits 16 t.high) ++ low_digits 16 t.low ≡ trace_text t
 unfolding trace_text
-trace_text-short t e = rw (eq-eqb t.high 0 e) refl
-
-pub trace_text-long : (t : TraceId) → t.high ≢ 0 → trace_text t ≡ low_digits 16 t.high ++ low_digits 16 t.low
-unfolding trace_text
-trace_text-long t e = rw (ne_eqb t.high 0 e) refl
-
--- the second half is pasted behind the first
-pub pasted : (n : ℕ) (low rest : List ℕ) → length rest ≡ 16 → put_mid 16 16 (low_digits 16 n ++ rest) low ≡ low_digits 16 n ++ low
-pasted n low rest long =
-    let digits = low_digits 16 n in
-    let behind : drop 16 (digits ++ rest) ≡ rest = drop_at digits rest 16 (length-low_digits 16 n) in
-    let none : drop 16 (drop 16 (digits ++ rest)) ≡ [] = ap (drop 16) behind ∙ drop_all 16 rest (omega arith) in
-    ap₂ (λ (a b : List ℕ). a ++ (low ++ b)) (take_at digits rest 16 (length-low_digits 16 n)) none ∙ ap (λ (l : List ℕ). digits ++ l) (append-nil low)
+trace_text-halves t = by (t.high == 0)
+  where
+    by : (b : Bool) → (if b then [] else low_digits 16 t.high) ++ low_digits 16 t.low ≡ (if b then low_digits 16 t.low else low_digits 16 t.high ++ low_digits 16 t.low)
+    by true = refl
+    by false = refl

@@ -1,6 +1,10 @@
+pub mod Around
+pub mod Named
 pub mod Naming
+pub mod Numbered
 pub mod Numbering
 pub mod Order
 pub mod OrderLaws
+pub mod Page
 pub mod Trees
 pub mod Writing

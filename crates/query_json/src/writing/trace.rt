@@ -1,113 +1,142 @@
-ghost use Rattle.std.specs.Prelude.{◌≡◌, ◌++◌, List, OnOk, length, map, string_bytes};
-ghost use Rattle.serde_json.specs.Data.{number, unsigned};
+ghost use Rattle.std.specs.Prelude.{◌≡◌, ◌+◌, ◌<◌, ◌^◌, IfOk, List, OnOk, decimal, length, map};
+ghost use Rattle.serde_json.specs.Data.{string};
+ghost use Rattle.serde_json.specs.Written.{compact_text};
 ghost use Rattle.jaeger_model.specs.declared.batch.Process.{Process as ProcessValue};
-ghost use Rattle.query_json.specs.Naming.{process_name};
-ghost use Rattle.query_json.specs.Trees.{flags_number, list, processes_of, span_tree, trace_tree};
-ghost use Rattle.query_json.specs.Writing.{field_tokens, process_names, process_place, tree_tokens};
+ghost use Rattle.query_json.specs.Page.{Puts};
+ghost use Rattle.query_json.specs.Trees.{flags_number, list, processes_of, span_tree, trace_id_text, trace_tree};
+ghost use Rattle.query_json.specs.Writing.{process_place};
 
-use super::processes::write_processes;
-use super::{
-    WriteJson, count_field, field, integer_field, list_field, null_field, text_field,
-    warnings_field,
-};
-use crate::naming::{names, places};
-use crate::trace::trace_id_text;
+use super::processes::{NamedProcess, in_order, write_name, write_processes};
+use super::{Page, WriteJson, write_list, write_warnings};
+use crate::naming::places;
 use crate::values::flags_number;
-use json::Writer;
 use std::alloc::{AllocError, Global};
 use trace_adjust::show;
 use trace_model::{AnsweredTrace, Shown, ShownTrace, TraceForm};
 
-fn flags_field(out: &mut Writer, key: &str, flags: &i32) -> Result<(), AllocError>
-    ensures tokens { OnOk result (out.new.tokens
-        ≡ out.old.tokens ++ field_tokens key.now (number (unsigned (flags_number flags.now)))) }
-    ensures before { out.new.before ≡ out.old.before }
+/// The flags' 32 bits, read as unsigned.
+fn write_flags(out: &mut Page, flags: &i32)
+    ensures { Puts out.old out.new (decimal (flags_number flags.now)) }
 {
-    count_field(out, key, u64::from(flags_number(*flags)))
+    out.count(u64::from(flags_number(*flags)));
 }
 
-/// A span whose process goes by this name.
-fn write_span(
-    alloc: Global,
-    out: &mut Writer,
-    process: &str,
-    shown: &Shown,
-) -> Result<(), AllocError>
-    ensures tokens { (ps : List ProcessValue) →
-        process.now ≡ process_name (process_place ps shown.now) →
-        OnOk result (out.new.tokens ≡ out.old.tokens ++ tree_tokens (span_tree ps shown.now)) }
-    ensures before { out.new.before ≡ out.old.before }
+/// A span whose process has this number, counted from 1.
+fn write_span(out: &mut Page, number: u64, shown: &Shown)
+    ensures { (ps : List ProcessValue) → number ≡ process_place ps shown.now + 1 →
+        Puts out.old out.new (compact_text (span_tree ps shown.now)) }
 {
     let span = &shown.placed.span;
-    out.begin_object()?;
-    integer_field(out, "duration", &span.duration)?;
-    flags_field(out, "flags", &span.flags)?;
-    list_field(alloc, out, "logs", span.logs.as_slice())?;
-    text_field(out, "operationName", span.operation.as_str())?;
-    text_field(out, "processID", process)?;
-    list_field(alloc, out, "references", span.references.as_slice())?;
-    field(alloc, out, "spanID", &span.id)?;
-    integer_field(out, "startTime", &span.start)?;
-    list_field(alloc, out, "tags", span.tags.as_slice())?;
-    field(alloc, out, "traceID", &span.trace)?;
-    warnings_field(alloc, out, "warnings", shown.warnings.as_slice())?;
-    out.end_object()?;
-    Ok(())
+    out.put(r#"{"duration":"#);
+    out.integer(&span.duration);
+    out.put(r#","flags":"#);
+    write_flags(out, &span.flags);
+    out.put(r#","logs":"#);
+    write_list(out, span.logs.as_slice());
+    out.put(r#","operationName":"#);
+    out.string(span.operation.as_str());
+    out.put(r#","processID":"#);
+    write_name(out, number);
+    out.put(r#","references":"#);
+    write_list(out, span.references.as_slice());
+    out.put(r#","spanID":"#);
+    span.id.write(out);
+    out.put(r#","startTime":"#);
+    out.integer(&span.start);
+    out.put(r#","tags":"#);
+    write_list(out, span.tags.as_slice());
+    out.put(r#","traceID":"#);
+    span.trace.write(out);
+    out.put(r#","warnings":"#);
+    write_warnings(out, shown.warnings.as_slice());
+    out.put("}");
 }
 
 /// The spans, each with the name of its process, which stands at its place.
-fn write_spans(
-    alloc: Global,
-    out: &mut Writer,
-    names: &[String],
-    places: &[usize],
-    spans: &[Shown],
-) -> Result<(), AllocError>
-    requires names { map string_bytes names.now ≡ process_names (length (processes_of spans.now)) }
-    requires count { length names.now ≡ length (processes_of spans.now) }
+fn write_spans(out: &mut Page, places: &[usize], spans: &[Shown])
     requires places { places.now ≡ map (process_place (processes_of spans.now)) spans.now }
-    ensures tokens { OnOk result (out.new.tokens ≡ out.old.tokens
-        ++ tree_tokens (list (map (span_tree (processes_of spans.now)) spans.now))) }
-    ensures before { out.new.before ≡ out.old.before }
+    requires few { length (processes_of spans.now) < 2 ^ 63 }
+    ensures { Puts out.old out.new
+        (compact_text (list (map (span_tree (processes_of spans.now)) spans.now))) }
 {
-    out.begin_array()?;
-    for (index, shown) in spans.iter().enumerate() {
-        let process = names[places[index]].as_str();
-        write_span(alloc, out, process, shown)?;
+    let Some((first, rest)) = spans.split_first() else {
+        out.put("[]");
+        return;
+    };
+    out.put("[");
+    write_span(out, places[0] as u64 + 1, first);
+    for (index, shown) in rest.iter().enumerate() {
+        out.put(",");
+        write_span(out, places[index + 1] as u64 + 1, shown);
     }
-    out.end_array()?;
-    Ok(())
+    out.put("]");
 }
 
-/// A trace: its spans in order, and their processes under the names that the spans give.
-impl WriteJson for ShownTrace {
-    ghost tree = { trace_tree };
+/// The id of a trace, that of its first span.
+fn write_id(out: &mut Page, spans: &[Shown])
+    ensures { Puts out.old out.new (compact_text (string (trace_id_text spans.now))) }
+{
+    match spans.first() {
+        Some(shown) => shown.placed.span.trace.write(out),
+        None => out.put("\"\""),
+    }
+}
 
-    fn write(&self, alloc: Global, out: &mut Writer) -> Result<(), AllocError> {
-        let spans = self.as_slice();
-        let (places, processes) = places(alloc, self)?;
-        let names = names(alloc, processes.len())?;
-        let id = trace_id_text(alloc, spans)?;
-        out.begin_object()?;
-        out.key("processes")?;
-        write_processes(alloc, out, &names, &processes)?;
-        out.key("spans")?;
-        write_spans(alloc, out, &names, &places, spans)?;
-        text_field(out, "traceID", id.as_str())?;
-        null_field(out, "warnings")?;
-        out.end_object()?;
-        Ok(())
+/// A trace with what is to be known of its processes before it is written.
+#[derive(Drop)]
+struct Numbered<'a> {
+    spans: &'a [Shown],
+    places: Vec<usize>,
+    processes: Vec<NamedProcess<'a>>,
+}
+
+impl<'a> Numbered<'a> {
+    ghost use Rattle.query_json.specs.Numbered.{IsNumbered};
+
+    fn new(alloc: Global, trace: &'a ShownTrace) -> Result<Numbered<'a>, AllocError>
+        ensures spans { IfOk result (λ n. n.spans.now ≡ trace.now) }
+        ensures numbered { IfOk result IsNumbered }
+    {
+        let (places, processes) = places(alloc, trace)?;
+        let processes = in_order(alloc, &processes)?;
+        Ok(Numbered {
+            spans: trace.as_slice(),
+            places,
+            processes,
+        })
+    }
+
+    /// Its spans in order, and their processes under the names that the spans give.
+    fn write(&self, out: &mut Page)
+        requires { IsNumbered self.now }
+        ensures { Puts out.old out.new (compact_text (trace_tree self.now.spans.now)) }
+    {
+        out.put(r#"{"processes":"#);
+        write_processes(out, &self.processes);
+        out.put(r#","spans":"#);
+        write_spans(out, &self.places, self.spans);
+        out.put(r#","traceID":"#);
+        write_id(out, self.spans);
+        out.put(r#","warnings":"#);
+        out.put("null");
+        out.put("}");
     }
 }
 
 /// A trace of an answer. Spans that their entries keep are copied for it, and given up behind it.
-impl WriteJson for AnsweredTrace {
-    ghost tree = { trace_tree };
-
-    fn write(&self, alloc: Global, out: &mut Writer) -> Result<(), AllocError> {
-        match self.form() {
-            TraceForm::Ready(made) => made.write(alloc, out),
-            TraceForm::Kept(kept) => show(alloc, kept)?.write(alloc, out),
+pub(super) fn write_trace(
+    alloc: Global,
+    out: &mut Page,
+    trace: &AnsweredTrace,
+) -> Result<(), AllocError>
+    ensures { OnOk result (Puts out.old out.new (compact_text (trace_tree trace.now))) }
+{
+    match trace.form() {
+        TraceForm::Ready(made) => Numbered::new(alloc, made)?.write(out),
+        TraceForm::Kept(kept) => {
+            let shown = show(alloc, kept)?;
+            Numbered::new(alloc, &shown)?.write(out);
         }
     }
+    Ok(())
 }

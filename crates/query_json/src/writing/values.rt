@@ -1,25 +1,40 @@
-ghost use Rattle.std.specs.Prelude.{◌≡◌};
+ghost use Rattle.serde_json.specs.Data.{string};
+ghost use Rattle.serde_json.specs.Written.{compact_text};
+ghost use Rattle.jaeger_model.specs.Tags.{hex_text};
+ghost use Rattle.query_json.specs.Page.{Puts};
 ghost use Rattle.query_json.specs.Trees.{link_tree, log_tree, operation_tree, reference_tree, tag_tree, value_tree};
 
-use super::{WriteJson, count_field, field, integer_field, list_field, text_field, write_integer};
+use super::{Page, WriteJson, write_list};
 use crate::values::{kind_name, type_name};
-use jaeger_model::{Log, SpanRef, Tag, TagValue, ValueRef, tag_text};
-use json::Writer;
-use std::alloc::{AllocError, Global};
+use jaeger_model::{Log, SpanRef, Tag, TagValue, ValueRef};
 use trace_model::{Link, Operation};
+
+fn write_double(out: &mut Page, bytes: &[u8; 8])
+    ensures { Puts out.old out.new (compact_text (string (hex_text bytes.now))) }
+{
+    out.put("\"");
+    out.digits_of_eight(bytes);
+    out.put("\"");
+}
+
+fn write_bytes(out: &mut Page, bytes: &[u8])
+    ensures { Puts out.old out.new (compact_text (string (hex_text bytes.now))) }
+{
+    out.put("\"");
+    out.digits(bytes);
+    out.put("\"");
+}
 
 impl WriteJson for TagValue {
     ghost tree = { value_tree };
 
-    fn write(&self, alloc: Global, out: &mut Writer) -> Result<(), AllocError> {
+    fn write(&self, out: &mut Page) {
         match self.get() {
             ValueRef::Text(text) => out.string(text),
-            ValueRef::Bool(flag) => out.boolean(flag),
-            ValueRef::Long(number) => write_integer(out, number),
-            ValueRef::Double(_) | ValueRef::Bytes(_) => {
-                let digits = tag_text(alloc, self)?;
-                out.string(digits.as_str())
-            }
+            ValueRef::Bool(flag) => out.flag(flag),
+            ValueRef::Long(number) => out.integer(&number),
+            ValueRef::Double(bytes) => write_double(out, bytes),
+            ValueRef::Bytes(bytes) => write_bytes(out, bytes),
         }
     }
 }
@@ -27,62 +42,65 @@ impl WriteJson for TagValue {
 impl WriteJson for Tag {
     ghost tree = { tag_tree };
 
-    fn write(&self, alloc: Global, out: &mut Writer) -> Result<(), AllocError> {
-        out.begin_object()?;
-        text_field(out, "key", self.key.as_str())?;
-        text_field(out, "type", type_name(&self.value))?;
-        field(alloc, out, "value", &self.value)?;
-        out.end_object()?;
-        Ok(())
+    fn write(&self, out: &mut Page) {
+        out.put(r#"{"key":"#);
+        out.string(self.key.as_str());
+        out.put(r#","type":"#);
+        out.string(type_name(&self.value));
+        out.put(r#","value":"#);
+        self.value.write(out);
+        out.put("}");
     }
 }
 
 impl WriteJson for Log {
     ghost tree = { log_tree };
 
-    fn write(&self, alloc: Global, out: &mut Writer) -> Result<(), AllocError> {
-        out.begin_object()?;
-        list_field(alloc, out, "fields", self.fields.as_slice())?;
-        integer_field(out, "timestamp", &self.at)?;
-        out.end_object()?;
-        Ok(())
+    fn write(&self, out: &mut Page) {
+        out.put(r#"{"fields":"#);
+        write_list(out, self.fields.as_slice());
+        out.put(r#","timestamp":"#);
+        out.integer(&self.at);
+        out.put("}");
     }
 }
 
 impl WriteJson for SpanRef {
     ghost tree = { reference_tree };
 
-    fn write(&self, alloc: Global, out: &mut Writer) -> Result<(), AllocError> {
-        out.begin_object()?;
-        text_field(out, "refType", kind_name(self.kind))?;
-        field(alloc, out, "spanID", &self.id)?;
-        field(alloc, out, "traceID", &self.trace)?;
-        out.end_object()?;
-        Ok(())
+    fn write(&self, out: &mut Page) {
+        out.put(r#"{"refType":"#);
+        out.string(kind_name(self.kind));
+        out.put(r#","spanID":"#);
+        self.id.write(out);
+        out.put(r#","traceID":"#);
+        self.trace.write(out);
+        out.put("}");
     }
 }
 
 impl WriteJson for Operation {
     ghost tree = { operation_tree };
 
-    fn write(&self, _alloc: Global, out: &mut Writer) -> Result<(), AllocError> {
-        out.begin_object()?;
-        text_field(out, "name", self.name.as_str())?;
-        text_field(out, "spanKind", self.kind.as_str())?;
-        out.end_object()?;
-        Ok(())
+    fn write(&self, out: &mut Page) {
+        out.put(r#"{"name":"#);
+        out.string(self.name.as_str());
+        out.put(r#","spanKind":"#);
+        out.string(self.kind.as_str());
+        out.put("}");
     }
 }
 
 impl WriteJson for Link {
     ghost tree = { link_tree };
 
-    fn write(&self, _alloc: Global, out: &mut Writer) -> Result<(), AllocError> {
-        out.begin_object()?;
-        count_field(out, "callCount", self.calls)?;
-        text_field(out, "child", self.child.as_str())?;
-        text_field(out, "parent", self.parent.as_str())?;
-        out.end_object()?;
-        Ok(())
+    fn write(&self, out: &mut Page) {
+        out.put(r#"{"callCount":"#);
+        out.count(self.calls);
+        out.put(r#","child":"#);
+        out.string(self.child.as_str());
+        out.put(r#","parent":"#);
+        out.string(self.parent.as_str());
+        out.put("}");
     }
 }

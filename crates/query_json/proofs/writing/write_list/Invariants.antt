@@ -1,9 +1,9 @@
-use Rattle.std.proofs.Common.{◌≡◌, ◌++◌, map, drop}
-use Rattle.query_json.specs.Writing.{rest_tokens}
+use Rattle.std.proofs.Common.{map, drop}
+use Rattle.serde_json.specs.Written.{compact_text}
+use Rattle.query_json.specs.Trees.{list}
+use Rattle.query_json.proofs.Pages.{Going}
 use Rattle.query_json.proofs.writing.write_list.Given as goal
 
 abbrev pub invariant-loop-item : goal.invariant-loop-item
-invariant-loop-item g l = record {
-  before : l.out.before ≡ l.initial.out.before;
-  tokens : l.out.tokens ++ rest_tokens (map g.T.WriteJson.tree (drop l.item-index l.items)) ≡ l.initial.out.tokens ++ rest_tokens (map g.T.WriteJson.tree l.items);
-}
+invariant-loop-item g l =
+    Going (λ x. compact_text (g.T.WriteJson.tree x)) 93 l.fn.out l.out (drop l.item-index l.rest) (compact_text (list (map g.T.WriteJson.tree l.fn.items)))

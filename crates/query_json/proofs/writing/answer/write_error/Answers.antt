@@ -1,8 +1,12 @@
-use Rattle.query_json.specs.Trees.{error_tree}
-use Rattle.query_json.proofs.Objects.{put_tree-tokens}
+use Rattle.std.proofs.Common.{ap}
+use Rattle.std.specs.Fmt.{decimal, digits}
+use Rattle.json.specs.Print.{escape_byte}
+use Rattle.query_json.proofs.Answers.{error_text}
+use Rattle.query_json.proofs.Pages.{◌▸◌, Puts-is}
 use Rattle.query_json.proofs.writing.answer.write_error.Goals as goal
 
-pub returns-clause-tokens : goal.returns-clause-tokens
-returns-clause-tokens c =
-    rw (c.in_ok-end_object.ensures.ok, c.in_ok-count_field-3.ensures.tokens, c.in_ok-count_field-2.ensures.tokens, c.in_ok-count_field.ensures.tokens, c.in_ok-refused_field.ensures.tokens, c.in_ok-null_field.ensures.tokens, c.in_ok-begin_object.ensures.ok)
-    (put_tree-tokens c.args.out.now.tokens (error_tree c.args.code c.args.msg.now))
+pub returns : goal.returns
+unfolding escape_byte digits
+returns c =
+    Puts-is (c.put.ensures ▸ Puts-is c.count.ensures (ap decimal c.from.ensures) ▸ c.put-2.ensures ▸ c.string.ensures ▸ c.put-3.ensures)
+    (error_text c.args.code c.args.msg.now)

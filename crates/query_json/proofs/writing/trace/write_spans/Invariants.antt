@@ -1,10 +1,10 @@
-use Rattle.std.proofs.Common.{◌≡◌, ◌++◌, map, drop}
-use Rattle.query_json.specs.Trees.{processes_of, span_tree}
-use Rattle.query_json.specs.Writing.{rest_tokens}
+use Rattle.std.proofs.Common.{map, drop}
+use Rattle.serde_json.specs.Written.{compact_text}
+use Rattle.query_json.specs.Trees.{list, processes_of, span_tree}
+use Rattle.query_json.proofs.Pages.{Going}
 use Rattle.query_json.proofs.writing.trace.write_spans.Given as goal
 
 abbrev pub invariant-loop-index : goal.invariant-loop-index
-invariant-loop-index l = record {
-  before : l.out.before ≡ l.initial.out.before;
-  tokens : l.out.tokens ++ rest_tokens (map (span_tree (processes_of l.spans)) (drop l.index l.spans)) ≡ l.initial.out.tokens ++ rest_tokens (map (span_tree (processes_of l.spans)) l.spans);
-}
+invariant-loop-index l =
+    let ps = processes_of l.fn.spans in
+    Going (λ s. compact_text (span_tree ps s)) 93 l.fn.out l.out (drop l.index l.rest) (compact_text (list (map (span_tree ps) l.fn.spans)))

@@ -1,6 +1,10 @@
+use Rattle.std.proofs.Common.{◌∷◌, ◌++◌, [], ℕ, List, ap, sym}
 use Rattle.jaeger_model.specs.Ids.{span_text}
+use Rattle.query_json.proofs.Escapes.{escape_low_digits}
+use Rattle.query_json.proofs.Pages.{◌▸◌, Puts-is}
 use Rattle.query_json.proofs.writing.ids.SpanIdWriteJson.write.Goals as goal
 
-pub returns-clause-tokens : goal.returns-clause-tokens
+pub returns : goal.returns
 unfolding span_text
-returns-clause-tokens c = rw c.digits_of.ensures.digits at c.write_digits.ensures.tokens
+returns c =
+    Puts-is (c.put.ensures ▸ c.digits_of_number.ensures ▸ c.put-2.ensures) (ap (λ (t : List ℕ). 34 ∷ (t ++ 34 ∷ [])) (sym (escape_low_digits 16 c.args.self.now.0)))

@@ -1,8 +1,10 @@
+use Rattle.json.specs.Print.{escape_byte}
 use Rattle.query_json.specs.Trees.{process_tree}
-use Rattle.query_json.proofs.Objects.{put_tree-tokens}
+use Rattle.query_json.proofs.Pages.{◌▸◌, Puts-is, put_tree-text}
 use Rattle.query_json.proofs.writing.processes.ProcessWriteJson.write.Goals as goal
 
-pub returns-clause-tokens : goal.returns-clause-tokens
-returns-clause-tokens c =
-    rw (c.in_ok-end_object.ensures.ok, c.in_ok-list_field.ensures.tokens, c.in_ok-text_field.ensures.tokens, c.in_ok-begin_object.ensures.ok, c.as_str.ensures.value, c.as_slice.ensures)
-    (put_tree-tokens c.args.out.now.tokens (process_tree c.args.self.now))
+pub returns : goal.returns
+unfolding escape_byte
+returns c =
+    Puts-is (c.put.ensures ▸ c.string.ensures ▸ c.put-2.ensures ▸ c.write_list.ensures ▸ c.put-3.ensures)
+    (rw (c.as_str.ensures.value, c.as_slice.ensures) (put_tree-text (process_tree c.args.self.now)))

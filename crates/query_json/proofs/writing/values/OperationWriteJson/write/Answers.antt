@@ -1,8 +1,10 @@
+use Rattle.json.specs.Print.{escape_byte}
 use Rattle.query_json.specs.Trees.{operation_tree}
-use Rattle.query_json.proofs.Objects.{put_tree-tokens}
+use Rattle.query_json.proofs.Pages.{◌▸◌, Puts-is, put_tree-text}
 use Rattle.query_json.proofs.writing.values.OperationWriteJson.write.Goals as goal
 
-pub returns-clause-tokens : goal.returns-clause-tokens
-returns-clause-tokens c =
-    rw (c.in_ok-end_object.ensures.ok, c.in_ok-text_field-2.ensures.tokens, c.in_ok-text_field.ensures.tokens, c.in_ok-begin_object.ensures.ok, c.as_str.ensures.value, c.as_str-2.ensures.value)
-    (put_tree-tokens c.args.out.now.tokens (operation_tree c.args.self.now))
+pub returns : goal.returns
+unfolding escape_byte
+returns c =
+    Puts-is (c.put.ensures ▸ c.string.ensures ▸ c.put-2.ensures ▸ c.string-2.ensures ▸ c.put-3.ensures)
+    (rw (c.as_str.ensures.value, c.as_str-2.ensures.value) (put_tree-text (operation_tree c.args.self.now)))

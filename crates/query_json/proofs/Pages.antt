@@ -1,0 +1,173 @@
+-- What is put on a page, piece behind piece.
+use Rattle.std.proofs.Common.{◌≡◌, ◌<◌, ◌≤◌, ◌+◌, ℕ, Bool, true, false, List, [], ◌∷◌, ◌++◌, length, length-append, map, drop, get_or, refl, sym, ap, subst, ◌∙◌, append_assoc, append-nil, arith, true≢false, Result, Ok, Err, Vec, Global, IfOk}
+use Rattle.std.specs.Str.{IsUtf8}
+use Rattle.std.specs.Prelude.{vec_capacity}
+use Rattle.std.proofs.lemmas.List.{drop_all, drop_more}
+use Rattle.std.proofs.lemmas.Str.{IsUtf8-append, IsUtf8-nil}
+use Rattle.json.specs.Print.{quoted}
+use Rattle.serde_json.specs.Data.{Data, null, boolean, number, string, array, object, Members, no_members, member}
+use Rattle.serde_json.specs.View.{items_of}
+use Rattle.serde_json.specs.Written.{compact_text, items_text, members_text}
+use Rattle.query_json.specs.declared.writing.page.Page.{Page}
+use Rattle.query_json.specs.declared.writing.processes.NamedProcess.{NamedProcess}
+use Rattle.query_json.specs.Named.{name_of, named_members, named_text}
+use Rattle.query_json.specs.Page.{Adds, Puts}
+use Rattle.query_json.specs.Trees.{list, process_tree}
+
+pub Adds-nothing : (a : Page) → Adds a a []
+Adds-nothing a = record {
+  before = λ h. h;
+  behind = λ h. sym (append-nil a.bytes.items);
+  capacity = omega arith;
+  lacks = λ had full. absurd (clash a.full had full);
+}
+  where
+    clash : (t : Bool) → t ≡ false → t ≡ true → ⊥
+    clash true e f = absurd (true≢false e)
+    clash false e f = absurd (true≢false (sym f))
+
+pub Adds-then : {a b c : Page} {xs ys : List ℕ} → Adds a b xs → Adds b c ys → Adds a c (xs ++ ys)
+Adds-then {a = a} {b = b} {c = c} {xs = xs} {ys = ys} p q = record {
+  before = λ room. p.before (q.before room);
+  behind = λ room. q.behind room ∙ ap (λ l. l ++ ys) (p.behind (q.before room)) ∙ append_assoc a.bytes.items xs ys;
+  capacity = omega (arith, p.capacity, q.capacity);
+  lacks = λ had full. by had full b.full refl;
+}
+  where
+    by : a.full ≡ false → c.full ≡ true → (t : Bool) → b.full ≡ t → vec_capacity a.bytes < length a.bytes.items + length (xs ++ ys)
+    by had full true e = omega (arith, p.lacks had e, length-append xs ys)
+    by had full false e = omega (arith, p.capacity, q.lacks e full, ap length (p.behind e), length-append a.bytes.items xs, length-append xs ys)
+
+pub Adds-is : {a b : Page} {xs ys : List ℕ} → Adds a b xs → xs ≡ ys → Adds a b ys
+Adds-is {a = a} {b = b} p e = subst (Adds a b) e p
+
+infixl 10 ◌▸◌
+-- one piece and then another
+pub ◌▸◌ : {a b c : Page} {xs ys : List ℕ} → Puts a b xs → Puts b c ys → Puts a c (xs ++ ys)
+◌▸◌ {xs = xs} {ys = ys} p q = record { adds = Adds-then p.adds q.adds; utf8 = IsUtf8-append xs ys p.utf8 q.utf8 }
+
+pub Puts-nothing : (a : Page) → Puts a a []
+Puts-nothing a = record { adds = Adds-nothing a; utf8 = IsUtf8-nil }
+
+pub Puts-is : {a b : Page} {xs ys : List ℕ} → Puts a b xs → xs ≡ ys → Puts a b ys
+Puts-is {a = a} {b = b} p e = subst (Puts a b) e p
+
+-- a page that wasn't full has the text
+pub finished : {E : Type 0} (r : Result (Vec ℕ Global) E) {old now : Page} {text : List ℕ} → old.bytes.items ≡ [] → Puts old now text
+    → IfOk r (λ v. (now.full ≡ false) × (v ≡ now.bytes)) → IfOk r (λ v. v.items ≡ text)
+finished (Ok v) {text = text} none p h = ap (λ (w : Vec ℕ Global). w.items) h.1 ∙ p.adds.behind h.0 ∙ ap (λ (l : List ℕ). l ++ text) none
+finished (Err e) none p h = tt
+
+pub finished_utf8 : {E : Type 0} (r : Result (Vec ℕ Global) E) {old now : Page} {text : List ℕ} → old.bytes.items ≡ [] → Puts old now text
+    → IfOk r (λ v. (now.full ≡ false) × (v ≡ now.bytes)) → IfOk r (λ v. IsUtf8 v.items)
+finished_utf8 {E = E} (Ok v) none p h = subst IsUtf8 (sym (finished {E = E} (Ok v) none p h)) p.utf8
+finished_utf8 (Err e) none p h = tt
+
+-- ---- objects
+
+-- the other members one by one behind a text, and then the closing brace
+abbrev pub put_rest : List ℕ → Members → List ℕ
+put_rest t no_members = t ++ 125 ∷ []
+put_rest t (member k d ms) = put_rest ((t ++ (44 ∷ (quoted k ++ 58 ∷ []))) ++ compact_text d) ms
+
+put_rest-text : (t : List ℕ) (ms : Members) → put_rest t ms ≡ t ++ members_text true ms
+put_rest-text t no_members = refl
+put_rest-text t (member k d ms) =
+    let key : List ℕ = quoted k ++ 58 ∷ [] in
+    let rest : List ℕ = members_text true ms in
+    put_rest-text ((t ++ (44 ∷ key)) ++ compact_text d) ms ∙ append_assoc (t ++ (44 ∷ key)) (compact_text d) rest ∙ append_assoc t (44 ∷ key) (compact_text d ++ rest)
+    ∙ ap (λ (l : List ℕ). t ++ 44 ∷ l) (append_assoc (quoted k) (58 ∷ []) (compact_text d ++ rest))
+
+-- an object member by member, and any other tree whole
+abbrev pub put_tree : Data → List ℕ
+put_tree null = compact_text null
+put_tree (boolean b) = compact_text (boolean b)
+put_tree (number n) = compact_text (number n)
+put_tree (string s) = compact_text (string s)
+put_tree (array ds) = compact_text (array ds)
+put_tree (object no_members) = compact_text (object no_members)
+put_tree (object (member k d ms)) = put_rest ((123 ∷ (quoted k ++ 58 ∷ [])) ++ compact_text d) ms
+
+pub put_tree-text : (d : Data) → put_tree d ≡ compact_text d
+put_tree-text null = refl
+put_tree-text (boolean b) = refl
+put_tree-text (number n) = refl
+put_tree-text (string s) = refl
+put_tree-text (array ds) = refl
+put_tree-text (object no_members) = refl
+put_tree-text (object (member k d ms)) =
+    let rest : List ℕ = members_text true ms in
+    put_rest-text ((123 ∷ (quoted k ++ 58 ∷ [])) ++ compact_text d) ms ∙ append_assoc (123 ∷ (quoted k ++ 58 ∷ [])) (compact_text d) rest
+    ∙ ap (λ (l : List ℕ). 123 ∷ l) (append_assoc (quoted k) (58 ∷ []) (compact_text d ++ rest))
+
+-- ---- lists
+
+-- what is left, each with a comma before it, and then the closing bracket
+abbrev pub rest_text : {X : Type 0} → (X → List ℕ) → ℕ → List X → List ℕ
+rest_text f close [] = close ∷ []
+rest_text f close (x ∷ xs) = 44 ∷ (f x ++ rest_text f close xs)
+
+pub items_rest : {X : Type 0} (f : X → Data) (xs : List X) → rest_text (λ x. compact_text (f x)) 93 xs ≡ items_text true (items_of (map f xs))
+items_rest f [] = refl
+items_rest f (x ∷ xs) = ap (λ (l : List ℕ). 44 ∷ (compact_text (f x) ++ l)) (items_rest f xs)
+
+pub members_rest : (ps : List NamedProcess) → rest_text named_text 125 ps ≡ members_text true (named_members ps)
+members_rest [] = refl
+members_rest (p ∷ ps) =
+    let tree : List ℕ = compact_text (process_tree p.process.now) in
+    ap (λ (l : List ℕ). 44 ∷ (named_text p ++ l)) (members_rest ps)
+    ∙ ap (λ (l : List ℕ). 44 ∷ l) (append_assoc (quoted (name_of p)) (58 ∷ tree) (members_text true (named_members ps)))
+
+-- a list is put as far as `left`
+pub record Going {X : Type 0} (f : X → List ℕ) (close : ℕ) (old now : Page) (left : List X) (whole : List ℕ) : Type 0 where
+  pub front : List ℕ
+  pub put : Puts old now front
+  pub text : front ++ rest_text f close left ≡ whole
+
+pub Going-more : {X : Type 0} {f : X → List ℕ} {close : ℕ} {old now next : Page} {x : X} {left : List X} {whole : List ℕ}
+    → Going f close old now (x ∷ left) whole → Puts now next (44 ∷ f x) → Going f close old next left whole
+Going-more {f = f} {close = close} {x = x} {left = left} g p = record {
+  front = g.front ++ 44 ∷ f x;
+  put = g.put ▸ p;
+  text = append_assoc g.front (44 ∷ f x) (rest_text f close left) ∙ g.text;
+}
+
+pub Going-end : {X : Type 0} {f : X → List ℕ} {close : ℕ} {old now next : Page} {whole : List ℕ}
+    → Going f close old now [] whole → Puts now next (close ∷ []) → Puts old next whole
+Going-end g p = Puts-is (g.put ▸ p) g.text
+
+-- one more of them is put, the one at the index
+pub Going-at : {X : Type 0} {f : X → List ℕ} {close : ℕ} {old now next : Page} (xs : List X) (i : ℕ) (x : X) {whole : List ℕ}
+    → Going f close old now (drop i xs) whole → i < length xs → x ≡ get_or xs i x → Puts now next (44 ∷ f x) → Going f close old next (drop (i + 1) xs) whole
+Going-at {f = f} {close = close} {old = old} {now = now} xs i x {whole = whole} g within is p =
+    let here : drop i xs ≡ x ∷ drop (i + 1) xs = drop_more xs i x within ∙ ap (λ y. y ∷ drop (i + 1) xs) (sym is) in
+    Going-more (subst (λ ys. Going f close old now ys whole) here g) p
+
+-- all are put
+pub Going-over : {X : Type 0} {f : X → List ℕ} {close : ℕ} {old now next : Page} (xs : List X) (i : ℕ) {whole : List ℕ}
+    → Going f close old now (drop i xs) whole → length xs ≤ i → Puts now next (close ∷ []) → Puts old next whole
+Going-over {f = f} {close = close} {old = old} {now = now} xs i {whole = whole} g over p =
+    Going-end (subst (λ ys. Going f close old now ys whole) (drop_all i xs over) g) p
+
+-- the first of a list of trees is put
+pub list_begun : {X : Type 0} (f : X → Data) {old now : Page} {xs : List X} {x : X} {left : List X} → xs ≡ x ∷ left → Puts old now ((91 ∷ []) ++ compact_text (f x))
+    → Going (λ y. compact_text (f y)) 93 old now left (compact_text (list (map f xs)))
+list_begun f {x = x} {left = left} e p = record {
+  front = 91 ∷ compact_text (f x);
+  put = p;
+  text = ap (λ (l : List ℕ). 91 ∷ (compact_text (f x) ++ l)) (items_rest f left) ∙ sym (ap (λ ys. compact_text (list (map f ys))) e);
+}
+
+-- the first of some processes is put
+pub members_begun : {old now : Page} {ps : List NamedProcess} {p : NamedProcess} {left : List NamedProcess} → ps ≡ p ∷ left → Puts old now ((123 ∷ []) ++ named_text p)
+    → Going named_text 125 old now left (compact_text (object (named_members ps)))
+members_begun {p = p} {left = left} e put =
+    let tree : List ℕ = compact_text (process_tree p.process.now) in
+    record {
+      front = 123 ∷ named_text p;
+      put = put;
+      text =
+          ap (λ (l : List ℕ). 123 ∷ (named_text p ++ l)) (members_rest left)
+          ∙ ap (λ (l : List ℕ). 123 ∷ l) (append_assoc (quoted (name_of p)) (58 ∷ tree) (members_text true (named_members left)))
+          ∙ sym (ap (λ qs. compact_text (object (named_members qs))) e);
+    }
