@@ -1,17 +1,14 @@
 -- Digits stand for themselves in a string.
-use Rattle.std.proofs.Common.{◌≡◌, ◌<◌, ◌≤◌, ◌+◌, ◌/◌, ◌%◌, ◌^◌, ℕ, zero, suc, Bool, true, false, List, [], ◌∷◌, ◌++◌, length, take, drop, get_or, refl, sym, ap, ap₂, ◌∙◌, append-nil, arith, slice_index, ◌-◌}
+use Rattle.std.proofs.Common.{◌≡◌, ◌<◌, ◌≤◌, ◌+◌, ◌/◌, ◌%◌, ℕ, zero, suc, Bool, true, false, List, [], ◌∷◌, ◌++◌, length, take, drop, get_or, refl, sym, ap, ap₂, ◌∙◌, append-nil, append_assoc, ℤ, pos, negsuc, arith, slice_index, ◌-◌}
 use Rattle.std.specs.Prelude.{◌==◌, if◌then◌else◌}
-use Rattle.std.specs.Char.{digit_value}
-use Rattle.std.specs.Fmt.{decimal}
+use Rattle.std.specs.Fmt.{decimal, digit_glyph, digits, digits_onto, signed_decimal}
 use Rattle.std.specs.Str.{IsAscii}
-use Rattle.std.specs.Str.Parse.{AllDigits}
 use Rattle.std.specs.List.{prefix_len}
 use Rattle.std.proofs.lemmas.List.{drop_more}
 use Rattle.std.proofs.lemmas.Bool.Decides.{nat_tests}
-use Rattle.std.proofs.lemmas.Fmt.{decimal_is_IsNumeral}
 use Rattle.std.proofs.lemmas.Grind.{flat_map-append}
 use Rattle.std.proofs.lemmas.Str.Ascii.{IsAscii-cons, IsAscii-nil}
-use Rattle.json.specs.Print.{escape, escape_byte}
+use Rattle.json.specs.Print.{escape, escape_byte, quoted}
 use Rattle.json.specs.Run.{is_plain}
 use Rattle.json.proofs.Printed.Strings.{escape_byte_plain, escape_to_stop}
 use Rattle.jaeger_model.specs.declared.ids.TraceId.{TraceId}
@@ -73,24 +70,48 @@ small_byte b small (suc i) = omega arith
 
 -- ---- decimal
 
-digit_high : (c : ℕ) → digit_value c < 10 → 48 ≤ c
-digit_high c e = grind (arith, nat_tests)
+escape_glyph : (d : ℕ) → escape_byte (digit_glyph false d) ≡ digit_glyph false d ∷ []
+escape_glyph d = escape_hex_digit d
 
-digit_low : (c : ℕ) → digit_value c < 10 → c < 58
-digit_low c e = grind (arith, nat_tests)
+escape_either : (b : Bool) (xs ys : List ℕ) → escape xs ≡ xs → escape ys ≡ ys → escape (if b then xs else ys) ≡ (if b then xs else ys)
+escape_either true xs ys f g = f
+escape_either false xs ys f g = g
 
-escape_digits : (ds : List ℕ) → AllDigits 10 ds → escape ds ≡ ds
-escape_digits [] h = refl
-escape_digits (c ∷ cs) h =
-    let high = digit_high c h.0 in
-    let low = digit_low c h.0 in
-    let same : escape_byte c ≡ c ∷ [] = escape_byte_plain c (λ e. omega (arith, high, e)) (λ e. omega (arith, low, e)) (omega (arith, high)) in
-    ap₂ (λ (x y : List ℕ). x ++ y) same (escape_digits cs h.1)
+escape_onto : (k n : ℕ) (acc : List ℕ) → escape acc ≡ acc → escape (digits_onto k 10 false n acc) ≡ digits_onto k 10 false n acc
+escape_onto zero n acc h = h
+escape_onto (suc k) n acc h =
+    let longer : List ℕ = digit_glyph false (n % 10) ∷ acc in
+    let more : escape longer ≡ longer = ap₂ (λ (x y : List ℕ). x ++ y) (escape_glyph (n % 10)) h in
+    escape_either (n / 10 == 0) longer (digits_onto k 10 false (n / 10) longer) more (escape_onto k (n / 10) longer more)
 
--- the name of a process stands for itself
-pub escape_name : (n : ℕ) → n < 2 ^ 64 → escape (112 ∷ decimal n) ≡ 112 ∷ decimal n
+pub escape_decimal : (n : ℕ) → escape (decimal n) ≡ decimal n
+unfolding digits
+escape_decimal n = escape_onto 64 n [] refl
+
+pub escape_signed : (z : ℤ) → escape (signed_decimal z) ≡ signed_decimal z
 unfolding escape_byte
-escape_name n fits = ap (λ (l : List ℕ). 112 ∷ l) (escape_digits (decimal n) (decimal_is_IsNumeral n fits).0.1)
+escape_signed (pos n) = escape_decimal n
+escape_signed (negsuc n) = ap (λ (l : List ℕ). 45 ∷ l) (escape_decimal (suc n))
+
+-- ---- words with something between them
+
+escape-around : (a d b : List ℕ) → escape a ≡ a → escape d ≡ d → escape b ≡ b → escape (a ++ (d ++ b)) ≡ a ++ (d ++ b)
+escape-around a d b f g h =
+    escape-append a (d ++ b) ∙ ap₂ (λ (x y : List ℕ). x ++ y) f (escape-append d b ∙ ap₂ (λ (x y : List ℕ). x ++ y) g h)
+
+pub quoted_around : (a d b : List ℕ) → escape a ≡ a → escape d ≡ d → escape b ≡ b → ((34 ∷ a) ++ d) ++ (b ++ 34 ∷ []) ≡ quoted (a ++ (d ++ b))
+quoted_around a d b f g h =
+    append_assoc (34 ∷ a) d (b ++ 34 ∷ [])
+    ∙ ap (λ (l : List ℕ). 34 ∷ l) (ap (λ (l : List ℕ). a ++ l) (sym (append_assoc d b (34 ∷ []))) ∙ sym (append_assoc a (d ++ b) (34 ∷ [])))
+    ∙ ap (λ (l : List ℕ). 34 ∷ (l ++ 34 ∷ [])) (sym (escape-around a d b f g h))
+
+pub quoted_around_two : (a d m n b : List ℕ) → escape a ≡ a → escape d ≡ d → escape m ≡ m → escape n ≡ n → escape b ≡ b
+    → ((((34 ∷ a) ++ d) ++ m) ++ n) ++ (b ++ 34 ∷ []) ≡ quoted (a ++ (d ++ (m ++ (n ++ b))))
+quoted_around_two a d m n b f g h i j =
+    let front : List ℕ = (34 ∷ a) ++ d in
+    append_assoc (front ++ m) n (b ++ 34 ∷ []) ∙ append_assoc front m (n ++ (b ++ 34 ∷ []))
+    ∙ ap (λ (l : List ℕ). front ++ l) (ap (λ (l : List ℕ). m ++ l) (sym (append_assoc n b (34 ∷ []))) ∙ sym (append_assoc m (n ++ b) (34 ∷ [])))
+    ∙ quoted_around a d (m ++ (n ++ b)) f g (escape-around m n b h i j)
 
 -- ---- the steps of the loop that escapes
 

@@ -1,7 +1,7 @@
 pub mod Around
+pub mod LentTraces
 pub mod Named
 pub mod Naming
-pub mod Numbered
 pub mod Numbering
 pub mod Order
 pub mod OrderLaws

@@ -1,21 +1,23 @@
 //! Trees written as text, without the trees.
 //!
 //! * `page`: a text that grows piece by piece.
-//! * `values`: tags, logs, references, operations and links.
+//! * `values`: tags, references, operations and links.
 //! * `ids`: the ids of traces and spans.
 //! * `processes`: the processes of a trace, and their names.
+//! * `span`: a span with its logs and what is said of it.
 //! * `trace`: a trace with its spans.
 //! * `answer`: what stands around an answer's items, and errors.
 ghost use Rattle.std.specs.Prelude.{map};
 ghost use Rattle.serde_json.specs.Data.{Data, string};
 ghost use Rattle.serde_json.specs.Written.{compact_text};
 ghost use Rattle.query_json.specs.Page.{Puts};
-ghost use Rattle.query_json.specs.Trees.{list, warnings_tree};
+ghost use Rattle.query_json.specs.Trees.{list};
 
 mod answer;
 mod ids;
 mod page;
 mod processes;
+mod span;
 mod trace;
 mod values;
 
@@ -46,17 +48,6 @@ fn write_list<T: WriteJson>(out: &mut Page, items: &[T])
         item.write(out);
     }
     out.put("]");
-}
-
-/// A list of texts, or null where there are none.
-fn write_warnings(out: &mut Page, warnings: &[Text])
-    ensures { Puts out.old out.new (compact_text (warnings_tree warnings.now)) }
-{
-    if warnings.is_empty() {
-        out.put("null");
-    } else {
-        write_list(out, warnings);
-    }
 }
 
 impl WriteJson for Text {

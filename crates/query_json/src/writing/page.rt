@@ -82,7 +82,22 @@ impl Page {
     }
 
     /// A number as it is.
-    pub(crate) fn integer(&mut self, number: &i64)
+    pub(crate) fn integer(&mut self, number: i64)
+        ensures { Puts self.old self.new (signed_decimal number) }
+    {
+        let mut buffer = itoa::Buffer::new();
+        self.put(buffer.format(number));
+    }
+
+    /// A number that stands somewhere, as it is.
+    pub(crate) fn integer_at(&mut self, number: &i64)
+        ensures { Puts self.old self.new (signed_decimal number.now) }
+    {
+        self.integer(*number);
+    }
+
+    /// A number as it is.
+    pub(crate) fn delta(&mut self, number: &i128)
         ensures { Puts self.old self.new (signed_decimal number.now) }
     {
         let mut buffer = itoa::Buffer::new();

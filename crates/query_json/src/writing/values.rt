@@ -2,11 +2,11 @@ ghost use Rattle.serde_json.specs.Data.{string};
 ghost use Rattle.serde_json.specs.Written.{compact_text};
 ghost use Rattle.jaeger_model.specs.Tags.{hex_text};
 ghost use Rattle.query_json.specs.Page.{Puts};
-ghost use Rattle.query_json.specs.Trees.{link_tree, log_tree, operation_tree, reference_tree, tag_tree, value_tree};
+ghost use Rattle.query_json.specs.Trees.{link_tree, operation_tree, reference_tree, tag_tree, value_tree};
 
-use super::{Page, WriteJson, write_list};
+use super::{Page, WriteJson};
 use crate::values::{kind_name, type_name};
-use jaeger_model::{Log, SpanRef, Tag, TagValue, ValueRef};
+use jaeger_model::{SpanRef, Tag, TagValue, ValueRef};
 use trace_model::{Link, Operation};
 
 fn write_double(out: &mut Page, bytes: &[u8; 8])
@@ -32,7 +32,7 @@ impl WriteJson for TagValue {
         match self.get() {
             ValueRef::Text(text) => out.string(text),
             ValueRef::Bool(flag) => out.flag(flag),
-            ValueRef::Long(number) => out.integer(&number),
+            ValueRef::Long(number) => out.integer(number),
             ValueRef::Double(bytes) => write_double(out, bytes),
             ValueRef::Bytes(bytes) => write_bytes(out, bytes),
         }
@@ -49,18 +49,6 @@ impl WriteJson for Tag {
         out.string(type_name(&self.value));
         out.put(r#","value":"#);
         self.value.write(out);
-        out.put("}");
-    }
-}
-
-impl WriteJson for Log {
-    ghost tree = { log_tree };
-
-    fn write(&self, out: &mut Page) {
-        out.put(r#"{"fields":"#);
-        write_list(out, self.fields.as_slice());
-        out.put(r#","timestamp":"#);
-        out.integer(&self.at);
         out.put("}");
     }
 }

@@ -1,0 +1,13 @@
+use Rattle.std.proofs.Common.{sym}
+use Rattle.json.specs.Print.{escape_byte}
+use Rattle.trace_adjust.specs.Lending.{lent_log}
+use Rattle.query_json.specs.Trees.{log_tree}
+use Rattle.query_json.proofs.Numbers.{integer_text}
+use Rattle.query_json.proofs.Pages.{◌▸◌, Puts-is, put_tree-text}
+use Rattle.query_json.proofs.writing.span.LentLogWriteJson.write.Goals as goal
+
+pub returns : goal.returns
+unfolding escape_byte
+returns c =
+    Puts-is (c.put.ensures ▸ c.write_list.ensures ▸ c.put-2.ensures ▸ Puts-is c.integer_at.ensures (sym (integer_text c.args.self.now.at)) ▸ c.put-3.ensures)
+    (put_tree-text (log_tree (lent_log c.args.self.now)))

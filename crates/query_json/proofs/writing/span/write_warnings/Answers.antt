@@ -1,0 +1,10 @@
+use Rattle.std.proofs.Common.{ap, sym}
+use Rattle.serde_json.specs.Written.{compact_text}
+use Rattle.trace_adjust.specs.Lending.{warning_texts}
+use Rattle.query_json.specs.Trees.{warnings_tree}
+use Rattle.query_json.proofs.Pages.{◌▸◌, Puts-is}
+use Rattle.query_json.proofs.writing.span.write_warnings.Goals as goal
+
+pub returns-in-Some : goal.returns-in-Some
+returns-in-Some c =
+    Puts-is (c.put.ensures ▸ c.write_warning.ensures ▸ c.put-in-Some.ensures) (ap (λ o. compact_text (warnings_tree (warning_texts o))) (sym c.in-Some.is))

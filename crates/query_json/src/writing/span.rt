@@ -1,0 +1,138 @@
+//! A span of an answer, written where its entry keeps it.
+ghost use Rattle.std.specs.Prelude.{◌≡◌, ◌+◌, List, decimal, map};
+ghost use Rattle.serde_json.specs.Data.{string};
+ghost use Rattle.serde_json.specs.Written.{compact_text};
+ghost use Rattle.jaeger_model.specs.declared.batch.Process.{Process as ProcessValue};
+ghost use Rattle.trace_adjust.specs.Lending.{lent_log, warning_text, warning_texts};
+ghost use Rattle.query_json.specs.Page.{Puts};
+ghost use Rattle.query_json.specs.Trees.{flags_number, list, log_tree, reference_tree, span_tree, warnings_tree};
+ghost use Rattle.query_json.specs.Writing.{process_place};
+
+use super::processes::write_name;
+use super::{Page, WriteJson, write_list};
+use crate::values::flags_number;
+use trace_adjust::{LentLog, LentLogs, LentSpan, Warning};
+
+impl<'a> WriteJson for LentLog<'a> {
+    ghost tree = { λ l. log_tree (lent_log l) };
+
+    fn write(&self, out: &mut Page) {
+        out.put(r#"{"fields":"#);
+        write_list(out, self.fields);
+        out.put(r#","timestamp":"#);
+        out.integer_at(&self.at);
+        out.put("}");
+    }
+}
+
+/// The logs as one list.
+fn write_logs(out: &mut Page, logs: &LentLogs)
+    ensures { Puts out.old out.new (compact_text (list (map log_tree logs.now))) }
+{
+    if logs.is_empty() {
+        out.put("[]");
+        return;
+    }
+    out.put("[");
+    logs.log(0).write(out);
+    for index in 1..logs.len() {
+        out.put(",");
+        logs.log(index).write(out);
+    }
+    out.put("]");
+}
+
+/// The references of a span as one list.
+fn write_references(out: &mut Page, span: &LentSpan)
+    ensures { Puts out.old out.new
+        (compact_text (list (map reference_tree span.now.placed.span.references))) }
+{
+    if span.reference_count() == 0 {
+        out.put("[]");
+        return;
+    }
+    out.put("[");
+    span.reference(0).write(out);
+    for index in 1..span.reference_count() {
+        out.put(",");
+        span.reference(index).write(out);
+    }
+    out.put("]");
+}
+
+/// What is said of a span's clock.
+fn write_warning(out: &mut Page, warning: &Warning)
+    ensures { Puts out.old out.new (compact_text (string (warning_text warning.now))) }
+{
+    match warning {
+        Warning::Adjusted(delta) => {
+            out.put("\"clock skew adjusted by ");
+            out.delta(delta);
+            out.put(" us\"");
+        }
+        Warning::PastLimit { delta, max_skew } => {
+            out.put("\"clock skew of ");
+            out.delta(delta);
+            out.put(" us not applied: the limit is ");
+            out.count(*max_skew);
+            out.put(" us\"");
+        }
+        Warning::PastTimes(delta) => {
+            out.put("\"clock skew of ");
+            out.delta(delta);
+            out.put(" us not applied: a time would not fit\"");
+        }
+    }
+}
+
+/// A list of the one warning, or null where there is none.
+fn write_warnings(out: &mut Page, warning: &Option<Warning>)
+    ensures { Puts out.old out.new (compact_text (warnings_tree (warning_texts warning.now))) }
+{
+    match warning {
+        Some(warning) => {
+            out.put("[");
+            write_warning(out, warning);
+            out.put("]");
+        }
+        None => out.put("null"),
+    }
+}
+
+/// The flags' 32 bits, read as unsigned.
+fn write_flags(out: &mut Page, flags: &i32)
+    ensures { Puts out.old out.new (decimal (flags_number flags.now)) }
+{
+    out.count(u64::from(flags_number(*flags)));
+}
+
+/// A span whose process has this number, counted from 1.
+pub(super) fn write_span(out: &mut Page, number: u64, lent: &LentSpan)
+    ensures { (ps : List ProcessValue) → number ≡ process_place ps lent.now + 1 →
+        Puts out.old out.new (compact_text (span_tree ps lent.now)) }
+{
+    let span = lent.span();
+    out.put(r#"{"duration":"#);
+    out.integer_at(&span.duration);
+    out.put(r#","flags":"#);
+    write_flags(out, &span.flags);
+    out.put(r#","logs":"#);
+    write_logs(out, &lent.logs());
+    out.put(r#","operationName":"#);
+    out.string(span.operation.as_str());
+    out.put(r#","processID":"#);
+    write_name(out, number);
+    out.put(r#","references":"#);
+    write_references(out, lent);
+    out.put(r#","spanID":"#);
+    span.id.write(out);
+    out.put(r#","startTime":"#);
+    out.integer(lent.start());
+    out.put(r#","tags":"#);
+    write_list(out, span.tags.as_slice());
+    out.put(r#","traceID":"#);
+    span.trace.write(out);
+    out.put(r#","warnings":"#);
+    write_warnings(out, &lent.warning());
+    out.put("}");
+}
