@@ -26,11 +26,12 @@ field name value = name ++ codes ": " ++ value ++ line_end
 unfoldable pub status_line : ℕ → List ℕ
 status_line status = codes "HTTP/1.1 " ++ decimal status ++ codes " " ++ reason status ++ line_end
 
-unfoldable pub type_line : List ℕ → List ℕ
-type_line body = if not (length body == 0) then field (codes "Content-Type") (codes "application/json") else []
+-- of a body of so many bytes
+unfoldable pub type_line : ℕ → List ℕ
+type_line size = if not (size == 0) then field (codes "Content-Type") (codes "application/json") else []
 
-unfoldable pub length_line : List ℕ → List ℕ
-length_line body = field (codes "Content-Length") (decimal (length body))
+unfoldable pub length_line : ℕ → List ℕ
+length_line size = field (codes "Content-Length") (decimal size)
 
 unfoldable pub allow_line : List ℕ → List ℕ
 allow_line allow = if not (length allow == 0) then field (codes "Allow") allow else []
@@ -38,7 +39,11 @@ allow_line allow = if not (length allow == 0) then field (codes "Allow") allow e
 unfoldable pub close_line : Bool → List ℕ
 close_line close = if close then field (codes "Connection") (codes "close") else []
 
--- each part follows the ones before it, in the order in which they are written
+-- what stands in front of a body of so many bytes: each part follows the ones before it, in the order in which they are
+-- written
+abbrev pub response_head : ℕ → ℕ → List ℕ → Bool → List ℕ
+response_head status size allow close =
+    status_line status ++ type_line size ++ length_line size ++ allow_line allow ++ close_line close ++ line_end
+
 abbrev pub response : ℕ → List ℕ → List ℕ → Bool → List ℕ
-response status body allow close =
-    status_line status ++ type_line body ++ length_line body ++ allow_line allow ++ close_line close ++ line_end ++ body
+response status body allow close = response_head status (length body) allow close ++ body

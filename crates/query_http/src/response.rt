@@ -47,10 +47,10 @@ fn status_line(alloc: Global, status: u16) -> Result<Vec<u8>, AllocError>
 }
 
 #[tactic(auto, unfolding(crate::specs::Responses::type_line))]
-fn push_type(out: &mut Vec<u8>, body: &[u8]) -> Result<(), AllocError>
-    ensures { OnOk result (out.new.items ≡ out.old.items ++ spec.type_line body.now) }
+fn push_type(out: &mut Vec<u8>, length: usize) -> Result<(), AllocError>
+    ensures { OnOk result (out.new.items ≡ out.old.items ++ spec.type_line length) }
 {
-    if body.is_empty() {
+    if length == 0 {
         Ok(())
     } else {
         push_field(out, "Content-Type", b"application/json")
@@ -58,11 +58,11 @@ fn push_type(out: &mut Vec<u8>, body: &[u8]) -> Result<(), AllocError>
 }
 
 #[tactic(auto, unfolding(crate::specs::Responses::length_line))]
-fn push_length(alloc: Global, out: &mut Vec<u8>, body: &[u8]) -> Result<(), AllocError>
-    ensures { OnOk result (out.new.items ≡ out.old.items ++ spec.length_line body.now) }
+fn push_length(alloc: Global, out: &mut Vec<u8>, length: usize) -> Result<(), AllocError>
+    ensures { OnOk result (out.new.items ≡ out.old.items ++ spec.length_line length) }
 {
-    let length = body.len().to_string(alloc)?;
-    push_field(out, "Content-Length", length.as_bytes())
+    let digits = length.to_string(alloc)?;
+    push_field(out, "Content-Length", digits.as_bytes())
 }
 
 #[tactic(auto, unfolding(crate::specs::Responses::allow_line))]
@@ -87,10 +87,33 @@ fn push_close(out: &mut Vec<u8>, close: bool) -> Result<(), AllocError>
     }
 }
 
-/// The bytes of a response in front of its body: the status line, `Content-Type: application/json`
-/// where there is a body, `Content-Length`, `Allow` where the text of one is given,
-/// `Connection: close` where it closes, and an empty line. A status outside the table has the reason
+/// The bytes of a response in front of a body of so many bytes, which needn't be there yet: the status line,
+/// `Content-Type: application/json` where there is a body, `Content-Length`, `Allow` where the text of one is
+/// given, `Connection: close` where it closes, and an empty line. A status outside the table has the reason
 /// of 500.
+///
+/// # Errors
+///
+/// Out of memory, and nothing else.
+pub fn response_head_of(
+    alloc: Global,
+    status: u16,
+    length: usize,
+    allow: &str,
+    close: bool,
+) -> Result<Vec<u8>, AllocError>
+    ensures { IfOk result (λ v. v.items ≡ spec.response_head status length allow.now close) }
+{
+    let mut out = status_line(alloc, status)?;
+    push_type(&mut out, length)?;
+    push_length(alloc, &mut out, length)?;
+    push_allow(&mut out, allow)?;
+    push_close(&mut out, close)?;
+    out.extend_from_slice(b"\r\n")?;
+    Ok(out)
+}
+
+/// The bytes of a response in front of this body ([`response_head_of`]).
 ///
 /// # Errors
 ///
@@ -104,13 +127,7 @@ pub fn response_head(
 ) -> Result<Vec<u8>, AllocError>
     ensures { IfOk result (λ v. v.items ++ body.now ≡ response status body.now allow.now close) }
 {
-    let mut out = status_line(alloc, status)?;
-    push_type(&mut out, body)?;
-    push_length(alloc, &mut out, body)?;
-    push_allow(&mut out, allow)?;
-    push_close(&mut out, close)?;
-    out.extend_from_slice(b"\r\n")?;
-    Ok(out)
+    response_head_of(alloc, status, body.len(), allow, close)
 }
 
 /// The bytes of a response: its head ([`response_head`]), and then the body.
