@@ -12,7 +12,7 @@ const OWN: TraceId = TraceId { high: 0, low: 1 };
 const WIDEST: u64 = 18_446_744_073_709_551_615;
 
 /// Host, id, parent, start and duration of a span.
-type Row = (&'static str, u64, u64, i64, i64);
+pub(crate) type Row = (&'static str, u64, u64, i64, i64);
 
 /// A process on the host; without tags where the host is empty.
 fn process_on(alloc: Global, host: &str) -> Result<Process, AllocError> {
@@ -65,7 +65,7 @@ fn placed_on(alloc: Global, host: &str, span: Span) -> Result<Placed, AllocError
 }
 
 /// A span with one log, at its start, and its process.
-fn placed(alloc: Global, row: Row) -> Result<Placed, AllocError> {
+pub(crate) fn placed(alloc: Global, row: Row) -> Result<Placed, AllocError> {
     placed_on(alloc, row.0, span_of(alloc, row)?)
 }
 
@@ -77,7 +77,7 @@ fn add_placed(alloc: Global, trace: &mut Vec<Placed>, rows: &[Row]) -> Result<()
     Ok(())
 }
 
-fn trace_of(alloc: Global, rows: &[Row]) -> Result<Vec<Placed>, AllocError> {
+pub(crate) fn trace_of(alloc: Global, rows: &[Row]) -> Result<Vec<Placed>, AllocError> {
     let mut trace = Vec::new(alloc);
     let added = add_placed(alloc, &mut trace, rows);
     kept(trace, added)
@@ -119,7 +119,7 @@ fn are_shown(
 }
 
 /// Start and duration of the parent and of the child, the limit, and the child's start and warning.
-const PAIRS: [([i64; 4], u64, i64, &str); 18] = [
+pub(crate) const PAIRS: [([i64; 4], u64, i64, &str); 18] = [
     (
         [1000, 100, 900, 150],
         200,

@@ -103,7 +103,7 @@ fn add_placed(
 }
 
 /// An entry for each of the spans, with its process.
-fn history_of(alloc: Global, spans: Vec<Placed>) -> Result<Vec<Arc<Entry>>, AllocError> {
+pub(crate) fn history_of(alloc: Global, spans: Vec<Placed>) -> Result<Vec<Arc<Entry>>, AllocError> {
     let mut entries = Vec::new(alloc);
     let added = add_placed(alloc, &mut entries, spans);
     kept(entries, added)

@@ -5,6 +5,7 @@
 //! * `searches`: `find_traces`, and searches of the stores.
 //! * `calls`: the dependencies of the stores.
 //! * `adjusters`: `trace_adjust`, and the shown traces of the plain store.
+//! * `lending`: traces that are lent by their entries.
 //! * `histories`: histories of single spans, of which the stores are asked.
 #![tactic(auto)]
 
@@ -14,5 +15,7 @@ mod adjusters;
 mod calls;
 #[cfg(test)]
 mod histories;
+#[cfg(test)]
+mod lending;
 #[cfg(test)]
 mod searches;
