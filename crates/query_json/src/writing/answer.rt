@@ -11,14 +11,14 @@ use std::slice;
 use trace_model::{Answer, AnsweredTrace};
 
 /// What stands in front of an answer's items.
-fn begin_items(out: &mut Page)
+pub(crate) fn begin_items(out: &mut Page)
     ensures { Puts out.old out.new head_text }
 {
     out.put(r#"{"data":"#);
 }
 
 /// What stands behind so many items, with nothing refused.
-fn end_items(out: &mut Page, total: usize)
+pub(crate) fn end_items(out: &mut Page, total: usize)
     ensures { Puts out.old out.new (tail_text total) }
 {
     out.put(r#","errors":null,"limit":0,"offset":0,"total":"#);

@@ -1,5 +1,5 @@
 //! A text that is written piece by piece.
-ghost use Rattle.std.specs.Prelude.{◌≡◌, ◌+◌, ◌<◌, ◌≤◌, ◌-◌, ◌∷◌, [], false, true, IfOk, OnErr, decimal, drop, length, take};
+ghost use Rattle.std.specs.Prelude.{◌≡◌, ◌+◌, ◌<◌, ◌≤◌, ◌-◌, ◌∷◌, [], false, true, IfOk, OnErr, decimal, drop, length, take, vec_capacity};
 ghost use Rattle.std.specs.Fmt.{signed_decimal};
 ghost use Rattle.std.specs.List.{prefix_len};
 ghost use Rattle.std.specs.Str.{IsAscii};
@@ -39,6 +39,36 @@ impl Page {
             return Err(AllocError);
         }
         Ok(self.bytes)
+    }
+
+    /// How many bytes stand on it.
+    pub(crate) fn len(&self) -> usize
+        ensures { result ≡ length self.now.bytes.items }
+    {
+        self.bytes.len()
+    }
+
+    /// The bytes that stand on it.
+    pub(crate) fn as_slice(&self) -> &[u8]
+        ensures { result.now ≡ self.now.bytes.items }
+    {
+        self.bytes.as_slice()
+    }
+
+    /// Takes away what stands on it; its room stays.
+    pub(crate) fn clear(&mut self)
+        ensures items { self.new.bytes.items ≡ [] }
+        ensures capacity { vec_capacity self.new.bytes ≡ vec_capacity self.old.bytes }
+        ensures full { self.new.full ≡ self.old.full }
+    {
+        self.bytes.clear();
+    }
+
+    /// Whether it found no room for a piece.
+    pub(crate) fn is_full(&self) -> bool
+        ensures { result ≡ self.now.full }
+    {
+        self.full
     }
 
     fn add(&mut self, bytes: &[u8])
