@@ -6,6 +6,7 @@ pub mod Numbering
 pub mod Order
 pub mod OrderLaws
 pub mod Page
+pub mod Paging
 pub mod Parts
 pub mod Pieces
 pub mod Trees

@@ -1,20 +1,15 @@
--- What the parts of an answer say.
-use Rattle.std.specs.Prelude.{◌≡◌, ◌≤◌, ℕ, false, List, All, length, vec_capacity}
-use Rattle.query_json.specs.declared.parts.AnswerParts.{AnswerParts}
-use Rattle.query_json.specs.LentTraces.{IsNumbered}
-use Rattle.query_json.specs.Pieces.{piece_text, rest_pieces}
+-- A text that is given out in parts.
+use Rattle.std.specs.Prelude.{◌≡◌, ℕ, List, [], ◌++◌}
 
--- the part that stands
-abbrev pub part_of : AnswerParts → List ℕ
-part_of p = p.page.bytes.items
+-- the part that is given out next, and what comes behind it
+pub record Parted : Type 0 where
+  pub part : List ℕ
+  pub rest : List ℕ
 
--- what comes behind it
-abbrev pub rest_of : AnswerParts → List ℕ
-rest_of p = rest_pieces p.traces.items p.next
+-- what is still to come
+abbrev pub to_come : Parted → List ℕ
+to_come p = p.part ++ p.rest
 
--- what comes can be made, and there is room for each part of it
-pub record IsReady (p : AnswerParts) : Type 0 where
-  pub room : p.page.full ≡ false
-  pub numbered : All IsNumbered p.traces.items
-  pub fits : (k : ℕ) → p.next ≤ k → k ≤ length p.traces.items → length (piece_text p.traces.items k) ≤ vec_capacity p.page.bytes
-  pub left : p.left ≡ length (rest_of p)
+-- the part has bytes unless nothing comes behind it
+abbrev pub IsSome : List ℕ → List ℕ → Type 0
+IsSome part rest = part ≡ [] → rest ≡ []

@@ -2,7 +2,7 @@ use Rattle.std.proofs.Common.{◌≡◌, ◌≤◌, ◌+◌, false, length, leng
 use Rattle.std.specs.Prelude.{vec_capacity}
 use Rattle.query_json.specs.Pieces.{piece_text, rest_pieces}
 use Rattle.query_json.proofs.Pieces.{fits_more, put_items, rest_step, within_capacity}
-use Rattle.query_json.proofs.parts.measure.Goals as goal
+use Rattle.query_json.proofs.paging.measure.Goals as goal
 
 pub loop-number-preserved : goal.loop-number-preserved
 loop-number-preserved c =

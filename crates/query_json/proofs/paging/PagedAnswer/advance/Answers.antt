@@ -2,7 +2,7 @@ use Rattle.std.proofs.Common.{◌≤◌, ◌+◌, ◌++◌, ◌∙◌, length, l
 use Rattle.query_json.specs.Pieces.{piece_text, rest_pieces}
 use Rattle.query_json.proofs.Pages.{Puts-is}
 use Rattle.query_json.proofs.Pieces.{open_page, put_items, rest_step}
-use Rattle.query_json.proofs.parts.AnswerParts.advance.Goals as goal
+use Rattle.query_json.proofs.paging.PagedAnswer.advance.Goals as goal
 
 pub returns-clause-ready : goal.returns-clause-ready
 returns-clause-ready c =

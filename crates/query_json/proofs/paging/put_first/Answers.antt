@@ -2,7 +2,7 @@ use Rattle.std.proofs.Common.{◌≡◌, [], ap, rules, sym}
 use Rattle.std.proofs.lemmas.List.{nil_from_length}
 use Rattle.query_json.specs.Pieces.{first_text}
 use Rattle.query_json.proofs.Pages.{◌▸◌, Puts-is}
-use Rattle.query_json.proofs.parts.put_first.Goals as goal
+use Rattle.query_json.proofs.paging.put_first.Goals as goal
 
 pub returns-in_default : goal.returns-in_default
 returns-in_default c =

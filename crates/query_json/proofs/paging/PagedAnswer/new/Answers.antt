@@ -1,10 +1,10 @@
 use Rattle.std.proofs.Common.{◌≡◌, ◌++◌, ◌∙◌, IfOk, IfSome, ap, map, subst, sym}
 use Rattle.serde_json.specs.Written.{compact_text}
-use Rattle.query_json.specs.Parts.{part_of, rest_of}
+use Rattle.query_json.specs.Paging.{part_of, rest_of}
 use Rattle.query_json.specs.Pieces.{lent_tree, spans_lent}
 use Rattle.query_json.specs.Trees.{answer_tree, items_tree, trace_tree}
 use Rattle.query_json.proofs.Pieces.{lent_trees}
-use Rattle.query_json.proofs.parts.AnswerParts.new.Goals as goal
+use Rattle.query_json.proofs.paging.PagedAnswer.new.Goals as goal
 
 pub returns-in-Some-clause-text : goal.returns-in-Some-clause-text
 returns-in-Some-clause-text c =

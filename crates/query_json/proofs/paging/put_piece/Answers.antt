@@ -1,6 +1,6 @@
 use Rattle.query_json.proofs.Pages.{◌▸◌, Puts-is}
 use Rattle.query_json.proofs.Pieces.{piece_at, piece_end}
-use Rattle.query_json.proofs.parts.put_piece.Goals as goal
+use Rattle.query_json.proofs.paging.put_piece.Goals as goal
 
 pub returns-then-number-traces : goal.returns-then-number-traces
 returns-then-number-traces c =

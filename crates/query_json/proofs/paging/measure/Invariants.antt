@@ -1,7 +1,7 @@
 use Rattle.std.proofs.Common.{◌≡◌, ◌<◌, ◌≤◌, ◌+◌, ◌-◌, ℕ, false, length}
 use Rattle.std.specs.Prelude.{vec_capacity}
 use Rattle.query_json.specs.Pieces.{piece_text, rest_pieces}
-use Rattle.query_json.proofs.parts.measure.Given as goal
+use Rattle.query_json.proofs.paging.measure.Given as goal
 
 abbrev pub invariant-loop-number : goal.invariant-loop-number
 invariant-loop-number l = record {

@@ -2,7 +2,7 @@ use Rattle.std.proofs.Common.{◌+◌, ◌++◌, ◌∙◌, ap, sym, append_asso
 use Rattle.query_json.specs.Pieces.{first_text, piece_text, rest_pieces}
 use Rattle.query_json.proofs.Pages.{◌▸◌}
 use Rattle.query_json.proofs.Pieces.{rest_step, whole_text}
-use Rattle.query_json.proofs.parts.put_whole.Goals as goal
+use Rattle.query_json.proofs.paging.put_whole.Goals as goal
 
 pub loop-number-init : goal.loop-number-init
 loop-number-init c =

@@ -1,7 +1,7 @@
 use Rattle.std.proofs.Common.{◌≡◌, ◌++◌, ◌∙◌, false, ap, sym}
 use Rattle.query_json.specs.Pieces.{first_piece, first_text, rest_pieces}
 use Rattle.query_json.proofs.Pieces.{put_items, whole_text}
-use Rattle.query_json.proofs.parts.AnswerParts.by_trace.Goals as goal
+use Rattle.query_json.proofs.paging.PagedAnswer.by_trace.Goals as goal
 
 pub returns-clause-text : goal.returns-clause-text
 returns-clause-text c =

@@ -3,7 +3,7 @@ use Rattle.serde_json.specs.Written.{compact_text}
 use Rattle.query_json.specs.Page.{Puts}
 use Rattle.query_json.specs.Pieces.{lent_tree, rest_pieces}
 use Rattle.query_json.specs.Trees.{items_tree}
-use Rattle.query_json.proofs.parts.put_whole.Given as goal
+use Rattle.query_json.proofs.paging.put_whole.Given as goal
 
 abbrev pub invariant-loop-number : goal.invariant-loop-number
 invariant-loop-number l =

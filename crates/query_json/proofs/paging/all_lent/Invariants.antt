@@ -2,7 +2,7 @@ use Rattle.std.proofs.Common.{◌≡◌, map, take}
 use Rattle.std.specs.Prelude.{All}
 use Rattle.query_json.specs.LentTraces.{IsNumbered}
 use Rattle.query_json.specs.Pieces.{spans_lent}
-use Rattle.query_json.proofs.parts.all_lent.Given as goal
+use Rattle.query_json.proofs.paging.all_lent.Given as goal
 
 abbrev pub invariant-loop-trace : goal.invariant-loop-trace
 invariant-loop-trace l = record {
