@@ -4,6 +4,7 @@ pub mod Fed
 pub mod FedLaws
 pub mod Hearing
 pub mod Replies
+pub mod Responses
 pub mod Sessions
 pub mod InTurn
 pub mod InOrder

@@ -1,6 +1,8 @@
 ghost use Rattle.std.specs.Prelude.{◌≡◌, ◌≢◌, true, false, IfOk, IfErr, OnOk, ◌||◌, ◌++◌};
 ghost use Rattle.query_http.specs.Paths.{endpoint_rows};
+ghost use Rattle.query_json.specs.Parts.{to_come};
 ghost use Rattle.http_session.specs.Replies.{response_of, closes, takes_no_memory};
+ghost use Rattle.http_session.specs.Responses.{response_bytes};
 ghost use Rattle.http_session.specs.declared.exchanges.SessionErrorKind.TheVariants.{Writing, Memory};
 ghost use Rattle.http_session.specs.Sessions.{Step, Says, part_said, cause_by};
 ghost use Rattle.http_session.specs.InOrder.{line_of, EndsOver, FailsOver};
@@ -8,11 +10,12 @@ ghost use Rattle.http_session.specs.Between.{store_of, devices_of, EndsBetween, 
 
 use crate::hearing::{Heard, hear};
 use crate::reply::{Reply, Response};
-use crate::send::send;
+use crate::send::{send, send_parts};
 use crate::verdict::Verdict;
 use http_requests::{ReadBuffer, ReadError};
 use matchit::Router;
 use query_http::{Endpoint, endpoints};
+use query_json::AnswerParts;
 use session_devices::{Connection, Input, Join, Output};
 use std::alloc::Global;
 use std::mem::drop;
@@ -116,21 +119,39 @@ fn speak<W: Output>(output: &mut W, response: &[u8]) -> Result<(), Silence>
     }
 }
 
-/// Writes both pieces of a response, and takes no memory.
-fn speak_whole<W: Output>(output: &mut W, response: &Response) -> Result<(), Silence>
+/// Writes a head and the answer behind it, part by part, and takes no memory.
+fn speak_parts<W: Output>(
+    output: &mut W,
+    head: &[u8],
+    parts: AnswerParts<'_>,
+) -> Result<(), Silence>
     ensures says { Says (W.contents output.old) (W.contents output.new) (W.has_failed output.old)
-        (W.has_failed output.new) (response.now.first.items ++ response.now.rest.items) result }
+        (W.has_failed output.new) (head.now ++ to_come parts.entry) result }
     ensures took { W.takes output.old
-        (part_said (response.now.first.items ++ response.now.rest.items) result) output.new }
+        (part_said (head.now ++ to_come parts.entry) result) output.new }
     ensures writing { IfErr result (λ e. e.cause ≡ Writing) }
 {
-    speak(output, response.first.as_slice())?;
-    match send(output, response.rest.as_slice()) {
+    speak(output, head)?;
+    match send_parts(output, parts) {
         Ok(()) => Ok(()),
         Err(written) => Err(Silence {
-            written: response.first.len() + written,
+            written: head.len() + written,
             cause: SessionErrorKind::Writing,
         }),
+    }
+}
+
+/// Writes all of a response, and takes no memory.
+fn speak_whole<W: Output>(output: &mut W, response: Response<'_>) -> Result<(), Silence>
+    ensures says { Says (W.contents output.old) (W.contents output.new) (W.has_failed output.old)
+        (W.has_failed output.new) (response_bytes response.entry) result }
+    ensures took { W.takes output.old
+        (part_said (response_bytes response.entry) result) output.new }
+    ensures writing { IfErr result (λ e. e.cause ≡ Writing) }
+{
+    match response {
+        Response::Whole(bytes) => speak(output, bytes.as_slice()),
+        Response::InParts(head, parts) => speak_parts(output, head.as_slice(), parts),
     }
 }
 
@@ -150,7 +171,7 @@ fn say<W: Output>(alloc: Global, output: &mut W, reply: &Reply, close: bool) -> 
             cause: SessionErrorKind::Memory,
         });
     };
-    speak_whole(output, &response)
+    speak_whole(output, response)
 }
 
 /// Answers the requests of the connection one after the other.

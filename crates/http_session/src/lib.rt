@@ -10,7 +10,7 @@
 //! * `hearing`: hearing a request: its head, and its body as it comes, which is never held whole.
 //! * `reply`: what is answered, and its response.
 //! * `fixed`: the responses 202 and 500, which take no memory.
-//! * `send`: writing all of a piece.
+//! * `send`: writing all of a piece, or all parts of an answer.
 //! * `exchanges`: the session, one exchange after the other.
 #![tactic(auto)]
 

@@ -1,12 +1,17 @@
-ghost use Rattle.std.specs.Prelude.{◌≡◌, ◌++◌, IfOk, IfSome, is_some, string_bytes};
-ghost use Rattle.http_session.specs.Replies.{status_of, allow_of, body_of, closes, takes_no_memory, response_of, remark_message, remark_status, refusal_status, refusal_message, breach_status, breach_message};
+ghost use Rattle.std.specs.Prelude.{◌≡◌, ◌++◌, [], IfOk, IfSome, is_some, string_bytes};
+ghost use Rattle.serde_json.specs.Written.{compact_text};
+ghost use Rattle.query_http.specs.Responses.{response};
+ghost use Rattle.query_json.specs.Parts.{to_come};
+ghost use Rattle.query_json.specs.Trees.{answer_tree};
+ghost use Rattle.http_session.specs.Replies.{status_of, allow_of, closes, takes_no_memory, response_of, remark_message, remark_status, refusal_status, refusal_message, breach_status, breach_message, error_body};
+ghost use Rattle.http_session.specs.Responses.{response_bytes};
 ghost use Rattle.http_session.specs.declared.reply.Reply.TheVariants as reply;
 
 use crate::fixed::{accepted, internal_error, out_of_memory};
 use crate::verdict::Remark;
 use http_requests::Breach;
-use query_http::{Endpoint, respond, response_head};
-use query_json::{answer_bytes, error_bytes};
+use query_http::{Endpoint, respond, response_head_of};
+use query_json::{AnswerParts, error_bytes};
 use std::alloc::{AllocError, Global};
 use trace_model::{Answer, Refusal};
 
@@ -25,15 +30,16 @@ pub enum Reply {
     Broken(Breach),
 }
 
-/// The most bytes of a body that are copied behind their head, so that one write takes both.
+/// The most bytes of an answer that are copied behind their head, so that one write takes both.
 const JOINED: usize = 16_384;
 
-/// The bytes of a response in two pieces, of which the second may be empty: a large body isn't copied behind
-/// its head.
+/// The bytes of a response. The text of a large answer is not held as a whole: it is given out part by part.
 #[derive(Drop)]
-pub struct Response {
-    pub first: Vec<u8>,
-    pub rest: Vec<u8>,
+pub enum Response<'a> {
+    /// All of them.
+    Whole(Vec<u8>),
+    /// The head, and the answer that comes behind it.
+    InParts(Vec<u8>, AnswerParts<'a>),
 }
 
 fn refusal_status(refusal: Refusal) -> u16
@@ -107,6 +113,46 @@ fn breach_message(breach: Breach) -> &'static str
     }
 }
 
+fn remark_body(alloc: Global, remark: Remark) -> Result<Vec<u8>, AllocError>
+    ensures { IfOk result (λ v. v.items ≡
+        error_body (remark_status remark) (remark_message remark)) }
+{
+    let message = remark_message(alloc, remark)?;
+    error_bytes(alloc, remark_status(remark), message.as_str())
+}
+
+/// The head, and behind it all that is still to come of an answer.
+fn joined(head: Vec<u8>, mut parts: AnswerParts<'_>) -> Result<Vec<u8>, AllocError>
+    ensures { IfOk result (λ v. v.items ≡ head.items ++ to_come parts.entry) }
+{
+    let mut whole = head;
+    whole.reserve(parts.remaining())?;
+    while parts.remaining() > 0 {
+        whole.extend_from_slice(parts.part())?;
+        parts.advance();
+    }
+    Ok(whole)
+}
+
+/// The response of an answer, which goes out in parts where it is large.
+fn answered(
+    alloc: Global,
+    status: u16,
+    answer: &Answer,
+    close: bool,
+) -> Result<Response<'_>, AllocError>
+    ensures { IfOk result (λ r. response_bytes r ≡
+        response status (compact_text (answer_tree answer.now)) [] close) }
+{
+    let parts = AnswerParts::new(alloc, answer)?;
+    let head = response_head_of(alloc, status, parts.remaining(), "", close)?;
+    if parts.remaining() > JOINED {
+        return Ok(Response::InParts(head, parts));
+    }
+    let whole = joined(head, parts)?;
+    Ok(Response::Whole(whole))
+}
+
 /// The response of a refusal, where it takes no memory.
 #[tactic(auto, unfolding(crate::specs::Replies::response_of))]
 fn fixed_refusal(refusal: Refusal, close: bool) -> Option<&'static [u8]>
@@ -167,23 +213,6 @@ impl Reply {
         matches!(self, Reply::Said(Remark::NotAllowed(_)) | Reply::Broken(_))
     }
 
-    /// The body of its response.
-    fn body(&self, alloc: Global) -> Result<Vec<u8>, AllocError>
-        ensures { IfOk result (λ v. v.items ≡ body_of self.now) }
-    {
-        let status = self.status();
-        match self {
-            Reply::Accepted => Ok(Vec::new(alloc)),
-            Reply::Answered(answer) => answer_bytes(alloc, answer),
-            Reply::Refused(refusal) => error_bytes(alloc, status, refusal_message(*refusal)),
-            Reply::Said(remark) => {
-                let message = remark_message(alloc, *remark)?;
-                error_bytes(alloc, status, message.as_str())
-            }
-            Reply::Broken(breach) => error_bytes(alloc, status, breach_message(*breach)),
-        }
-    }
-
     /// The bytes of its response, where they take no memory: a batch was accepted, memory ran out, or
     /// there was an internal error.
     #[tactic(auto, unfolding(crate::specs::Replies::response_of))]
@@ -199,28 +228,25 @@ impl Reply {
         }
     }
 
-    /// Its response.
+    /// Its response, which borrows the answer where that goes out in parts. All the memory that it takes is taken
+    /// here.
     ///
     /// # Errors
     ///
     /// Out of memory, and nothing else.
     #[tactic(auto, unfolding(crate::specs::Replies::response_of))]
-    pub fn response(&self, alloc: Global, close: bool) -> Result<Response, AllocError>
-        ensures { IfOk result (λ r. r.first.items ++ r.rest.items ≡ response_of self.now close) }
+    pub fn response(&self, alloc: Global, close: bool) -> Result<Response<'_>, AllocError>
+        ensures { IfOk result (λ r. response_bytes r ≡ response_of self.now close) }
     {
         let (status, allow) = (self.status(), self.allow());
-        let body = self.body(alloc)?;
-        if body.len() <= JOINED {
-            let whole = respond(alloc, status, body.as_slice(), allow, close)?;
-            return Ok(Response {
-                first: whole,
-                rest: Vec::new(alloc),
-            });
-        }
-        let head = response_head(alloc, status, body.as_slice(), allow, close)?;
-        Ok(Response {
-            first: head,
-            rest: body,
-        })
+        let body = match self {
+            Reply::Accepted => Vec::new(alloc),
+            Reply::Answered(answer) => return answered(alloc, status, answer, close),
+            Reply::Refused(refusal) => error_bytes(alloc, status, refusal_message(*refusal))?,
+            Reply::Said(remark) => remark_body(alloc, *remark)?,
+            Reply::Broken(breach) => error_bytes(alloc, status, breach_message(*breach))?,
+        };
+        let whole = respond(alloc, status, body.as_slice(), allow, close)?;
+        Ok(Response::Whole(whole))
     }
 }

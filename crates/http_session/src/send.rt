@@ -1,7 +1,9 @@
-ghost use Rattle.std.specs.Prelude.{◌≡◌, ◌≤◌, true, OnOk, IfErr, length, take};
+ghost use Rattle.std.specs.Prelude.{◌≡◌, ◌<◌, ◌≤◌, ◌^◌, true, OnOk, IfErr, length, take};
 ghost use Rattle.std.specs.Io.KnownBytes.{Appends};
+ghost use Rattle.query_json.specs.Parts.{to_come};
 ghost use Rattle.http_session.specs.Sessions.{part_sent};
 
+use query_json::AnswerParts;
 use session_devices::Output;
 
 /// Writes all of the bytes.
@@ -23,6 +25,32 @@ pub(crate) fn send<W: Output>(output: &mut W, bytes: &[u8]) -> Result<(), usize>
             Ok(count) => done += count,
             Err(_) => return Err(done),
         }
+    }
+    Ok(())
+}
+
+/// Writes all that is still to come of an answer, part by part, and takes no memory.
+///
+/// # Errors
+///
+/// The output failed; how many of the bytes it took before.
+pub(crate) fn send_parts<W: Output>(output: &mut W, mut parts: AnswerParts<'_>) -> Result<(), usize>
+    ensures ok { OnOk result (Appends (W.contents output.old) (W.contents output.new)
+        (to_come parts.entry)) }
+    ensures took { W.takes output.old (part_sent (to_come parts.entry) result) output.new }
+    ensures same { OnOk result (W.has_failed output.new ≡ W.has_failed output.old) }
+    ensures err { IfErr result (λ n. (n ≤ length (to_come parts.entry))
+        × Appends (W.contents output.old) (W.contents output.new) (take n (to_come parts.entry))
+        × (W.has_failed output.new ≡ true)) }
+    ensures bound { IfErr result (λ n. n < 2 ^ 63) }
+{
+    let all = parts.remaining();
+    while parts.remaining() > 0 {
+        let sent = all - parts.remaining();
+        if let Err(written) = send(output, parts.part()) {
+            return Err(sent + written);
+        }
+        parts.advance();
     }
     Ok(())
 }
