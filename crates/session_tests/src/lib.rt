@@ -6,6 +6,7 @@
 //! * `requests`: the next request of an input, each end, and no read too many.
 //! * `chunked`: requests whose bodies come in chunks, and the same sessions as with a Content-Length.
 //! * `pipes`: whole sessions, those whose devices fail at each call, and one in which memory runs out.
+//! * `large`: an answer that is sent in several parts, and an output that fails inside it.
 //! * `turns`: no read before the responses to what was read are written.
 #![tactic(auto)]
 
@@ -13,6 +14,8 @@
 mod chunked;
 #[cfg(test)]
 mod devices;
+#[cfg(test)]
+mod large;
 #[cfg(test)]
 mod pipes;
 #[cfg(test)]
