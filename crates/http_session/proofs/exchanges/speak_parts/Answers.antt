@@ -1,4 +1,4 @@
-use Rattle.std.proofs.Common.{rules, ◌≡◌, ◌+◌, ◌≤◌, ◌++◌, sym, subst, arith, length, length-append, take}
+use Rattle.std.proofs.Common.{rules, ◌≡◌, ◌∙◌, ◌+◌, ◌≤◌, ◌++◌, sym, subst, arith, length, length-append, take}
 use Rattle.std.proofs.KnownBytes.{Appends-trans}
 use Rattle.std.proofs.lemmas.List.{take-append-le}
 use Rattle.std.proofs.lemmas.Result.{err_from_is_err_and}
@@ -6,6 +6,16 @@ use Rattle.std.proofs.Math.Seq.{take-append-add}
 use Rattle.std.specs.Io.KnownBytes.{Appends}
 use Rattle.query_json.specs.Parts.{to_come}
 use Rattle.http_session.proofs.exchanges.speak_parts.Goals as goal
+
+pub returns-in-Ok-clause-says : goal.returns-in-Ok-clause-says
+returns-in-Ok-clause-says g c =
+    let out0 = g.W.Output.contents c.args.output.now in
+    let out1 = g.W.Output.contents c.speak.new.output in
+    let out2 = g.W.Output.contents c.send_parts.new.output in
+    let head = c.args.head.now in
+    let body = to_come c.args.parts in
+    let said = c.in_ok-speak.ensures.says in
+    (Appends-trans out0 out1 out2 head body said.0 c.in-Ok.ensures.ok, c.in-Ok.ensures.same ∙ said.1)
 
 pub returns-in-Err-clause-says : goal.returns-in-Err-clause-says
 returns-in-Err-clause-says g c =
