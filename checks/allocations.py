@@ -45,14 +45,14 @@ QUERIES = [
 
 # The crate, the test, and one that takes as many allocations.
 TESTS = [
-    ("wire_tests", "batch_bytes::memory_for_a_batch", None),
-    ("piece_tests", "faults::memory_for_pieces", None),
-    ("piece_tests", "faults::sizes_beyond_the_bytes", None),
-    ("store_tests", "stores::apply_without_memory", "stores::a_store_is_opened"),
-    ("web_tests", "answers::memory_for_a_tree", None),
-    ("web_tests", "responses::memory_for_a_response", None),
-    ("session_tests", "pipes::memory_for_a_session", None),
-    ("read_tests", "rows::admit_all_or_nothing", None),
+    ("wire_tests", "tests::batch_bytes::memory_for_a_batch", None),
+    ("piece_tests", "tests::faults::memory_for_pieces", None),
+    ("piece_tests", "tests::faults::sizes_beyond_the_bytes", None),
+    ("store_tests", "tests::stores::apply_without_memory", "tests::stores::a_store_is_opened"),
+    ("web_tests", "tests::answers::memory_for_a_tree", None),
+    ("web_tests", "tests::responses::memory_for_a_response", None),
+    ("session_tests", "tests::pipes::memory_for_a_session", None),
+    ("read_tests", "tests::rows::admit_all_or_nothing", None),
 ]
 
 SCRIPT_END = ["publish", "learn 1 1", "enter 0", "publish", "publish", "leave 0", "enter 0", "leave 9", "bad", ""]

@@ -18,7 +18,7 @@ import sys
 import tempfile
 
 ROOT = os.path.dirname(os.path.dirname(os.path.abspath(__file__)))
-TEST = "ending::waiting_jobs_handed_back"
+TEST = "tests::ending::waiting_jobs_handed_back"
 
 
 class Tests:

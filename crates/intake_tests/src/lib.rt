@@ -3,12 +3,4 @@
 #![tactic(auto)]
 
 #[cfg(test)]
-mod ending;
-#[cfg(test)]
-mod fixture;
-#[cfg(test)]
-mod limits;
-#[cfg(test)]
-mod resent;
-#[cfg(test)]
-mod rows;
+mod tests;

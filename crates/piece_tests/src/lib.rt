@@ -7,8 +7,4 @@
 #![tactic(auto)]
 
 #[cfg(test)]
-mod cuts;
-#[cfg(test)]
-mod faults;
-#[cfg(test)]
-mod samples;
+mod tests;

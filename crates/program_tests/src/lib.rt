@@ -4,18 +4,4 @@
 #![tactic(auto)]
 
 #[cfg(test)]
-mod devices;
-#[cfg(test)]
-mod getting;
-#[cfg(test)]
-mod host;
-#[cfg(test)]
-mod piping;
-#[cfg(test)]
-mod playing;
-#[cfg(test)]
-mod runs;
-#[cfg(test)]
-mod serving;
-#[cfg(test)]
-mod words;
+mod tests;

@@ -10,16 +10,4 @@
 #![tactic(auto)]
 
 #[cfg(test)]
-mod entries;
-#[cfg(test)]
-mod fixture;
-#[cfg(test)]
-mod holding;
-#[cfg(test)]
-mod machine;
-#[cfg(test)]
-mod rows;
-#[cfg(test)]
-mod sent_again;
-#[cfg(test)]
-mod threads;
+mod tests;

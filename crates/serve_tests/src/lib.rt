@@ -4,14 +4,4 @@
 #![tactic(auto)]
 
 #[cfg(test)]
-mod clients;
-#[cfg(test)]
-mod gates;
-#[cfg(test)]
-mod guests;
-#[cfg(test)]
-mod over_live;
-#[cfg(test)]
-mod requests;
-#[cfg(test)]
-mod sockets;
+mod tests;

@@ -11,14 +11,4 @@
 #![tactic(auto)]
 
 #[cfg(test)]
-mod chunked;
-#[cfg(test)]
-mod devices;
-#[cfg(test)]
-mod large;
-#[cfg(test)]
-mod pipes;
-#[cfg(test)]
-mod requests;
-#[cfg(test)]
-mod turns;
+mod tests;

@@ -12,22 +12,4 @@
 #![tactic(auto)]
 
 #[cfg(test)]
-mod collisions;
-#[cfg(test)]
-mod entries;
-#[cfg(test)]
-mod journals;
-#[cfg(test)]
-mod large;
-#[cfg(test)]
-mod limits;
-#[cfg(test)]
-mod names;
-#[cfg(test)]
-mod rings;
-#[cfg(test)]
-mod shown;
-#[cfg(test)]
-mod stores;
-#[cfg(test)]
-mod tables;
+mod tests;

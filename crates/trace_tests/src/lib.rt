@@ -10,12 +10,4 @@
 #![tactic(auto)]
 
 #[cfg(test)]
-mod adjusters;
-#[cfg(test)]
-mod calls;
-#[cfg(test)]
-mod histories;
-#[cfg(test)]
-mod lending;
-#[cfg(test)]
-mod searches;
+mod tests;

@@ -7,8 +7,4 @@
 #![tactic(auto)]
 
 #[cfg(test)]
-mod answers;
-#[cfg(test)]
-mod responses;
-#[cfg(test)]
-mod targets;
+mod tests;

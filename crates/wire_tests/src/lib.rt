@@ -10,12 +10,4 @@
 #![tactic(auto)]
 
 #[cfg(test)]
-mod apache;
-#[cfg(test)]
-mod batch_bytes;
-#[cfg(test)]
-mod large;
-#[cfg(test)]
-mod thrift_values;
-#[cfg(test)]
-mod trace_values;
+mod tests;

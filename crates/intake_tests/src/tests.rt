@@ -1,0 +1,7 @@
+//! The tests, by their subject, and what they share.
+
+mod ending;
+mod fixture;
+mod limits;
+mod resent;
+mod rows;

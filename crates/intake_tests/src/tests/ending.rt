@@ -1,0 +1,561 @@
+//! Closing the books: four seats submit while a fifth thread closes the desk, once each of them has a job in, or
+//! the clerk leaves while jobs wait. Nothing is lost.
+
+ghost use Rattle.std.specs.Prelude.{◌≡◌, true, map, All, IfSome};
+ghost use Rattle.std.specs.Arc.{arc_value};
+ghost use Rattle.intake.specs.Books.{Balances};
+ghost use Rattle.intake.specs.Seats.{IsNewSeat};
+ghost use Rattle.intake_tests.specs.Seats.{AllMayHandIn, Stays};
+
+use crate::tests::fixture::batch;
+use intake::{Books, BooksAlone, Clerk, Desk, Seat, Ticket, Turn, desk};
+use read_side::{Keeper, Opened, StoreName, open};
+use std::alloc::Global;
+use std::hash::RandomState;
+use std::marker::Brand;
+use std::process::Abort;
+use std::random::RandomSource;
+use std::sync::Wait;
+use std::sync::atomic::{AtomicU64, Ordering};
+use std::test::*;
+use std::thread::{Threads, join_mut, yield_now};
+use trace_model::{Limits, Refusal};
+
+/// How often a seat tries to hand a batch in, from the first one that is in on.
+const MOST: u64 = 200;
+
+/// How many jobs the queue has room for.
+const ROOM: usize = 8;
+
+/// How often one who waits, for room or for the seats, lets others go on.
+const PATIENCE: u64 = 10_000_000;
+
+/// A seat, and a ticket for each job that it handed in, the first one for number 1.
+#[derive(Drop)]
+struct Handed<N: StoreName> {
+    seat: Seat<N>,
+    tickets: Vec<Ticket<N>>,
+}
+
+/// Tries so many times to hand a batch in, without waiting for an answer, the first time until there is room for it;
+/// fewer where the desk is closed before. The first one that is in is counted.
+fn hand_in<N: StoreName, R: Wait>(
+    rt: &R,
+    alloc: Global,
+    handed: &mut Handed<N>,
+    most: u64,
+    begun: &AtomicU64,
+)
+    ensures { Stays handed.old.seat handed.new.seat }
+{
+    let mut tries = 0u64;
+    for id in 0..PATIENCE {
+        if tries >= most {
+            break;
+        }
+        if handed.tickets.reserve(1).is_err() {
+            break;
+        }
+        let Ok(batch) = batch(alloc, id) else {
+            break;
+        };
+        match handed.seat.submit(rt, alloc, batch) {
+            Ok(ticket) => {
+                if handed.tickets.is_empty() {
+                    begun.fetch_add(1, Ordering::SeqCst);
+                }
+                handed.tickets.push_reserved(ticket);
+            }
+            Err((why, _batch)) => {
+                if why == Refusal::Closed {
+                    break;
+                }
+                yield_now();
+            }
+        }
+        if !handed.tickets.is_empty() {
+            tries = tries.saturating_add(1);
+        }
+    }
+}
+
+/// Closes the desk a while after each of the four seats has a job in.
+fn close_soon<N: StoreName, R: Wait>(rt: &R, desk: &Desk<N>, turns: u64, begun: &AtomicU64) {
+    for _ in 0..PATIENCE {
+        if begun.load(Ordering::SeqCst) == 4 {
+            break;
+        }
+        yield_now();
+    }
+    for _ in 0..turns {
+        yield_now();
+    }
+    desk.close(rt);
+}
+
+/// Two seats, each in its thread.
+fn two_hand_in<N: StoreName + Send + Sync, R: Threads + Wait + Sync>(
+    rt: &R,
+    alloc: Global,
+    a: &mut Handed<N>,
+    b: &mut Handed<N>,
+    begun: &AtomicU64,
+)
+    ensures a { Stays a.old.seat a.new.seat }
+    ensures b { Stays b.old.seat b.new.seat }
+{
+    join_mut(
+        rt,
+        &mut || hand_in(rt, alloc, a, MOST, begun),
+        &mut || hand_in(rt, alloc, b, MOST, begun),
+    );
+}
+
+/// The four seats of a desk.
+#[derive(Drop)]
+struct Four<N: StoreName> {
+    a: Handed<N>,
+    b: Handed<N>,
+    c: Handed<N>,
+    d: Handed<N>,
+}
+
+/// The next seat of the clerk's desk.
+fn next_seat<N: StoreName>(clerk: &Clerk<N>, seats: &mut Vec<Seat<N>>) -> Option<Seat<N>>
+    requires { All (IsNewSeat clerk.now.desk 8) seats.old.items }
+    ensures rest { All (IsNewSeat clerk.now.desk 8) seats.new.items }
+    ensures seat { IfSome result (IsNewSeat clerk.now.desk 8) }
+{
+    seats.pop()
+}
+
+/// The seat, which has handed in nothing yet.
+fn unused_seat<N: StoreName>(alloc: Global, seat: Seat<N>) -> Handed<N>
+    ensures { result.seat ≡ seat }
+{
+    let tickets = Vec::new(alloc);
+    Handed { seat, tickets }
+}
+
+/// The four seats of the clerk's desk.
+fn four_of<N: StoreName>(alloc: Global, clerk: &Clerk<N>, seats: Vec<Seat<N>>) -> Option<Four<N>>
+    requires { All (IsNewSeat clerk.now.desk 8) seats.items }
+    ensures { IfSome result (λ f.
+        AllMayHandIn clerk.now.desk f.a.seat f.b.seat f.c.seat f.d.seat) }
+{
+    let mut seats = seats;
+    let d = next_seat(clerk, &mut seats)?;
+    let c = next_seat(clerk, &mut seats)?;
+    let b = next_seat(clerk, &mut seats)?;
+    let a = next_seat(clerk, &mut seats)?;
+    Some(Four {
+        a: unused_seat(alloc, a),
+        b: unused_seat(alloc, b),
+        c: unused_seat(alloc, c),
+        d: unused_seat(alloc, d),
+    })
+}
+
+/// Four seats, each in its thread.
+fn four_hand_in<N: StoreName + Send + Sync, R: Threads + Wait + Sync>(
+    rt: &R,
+    alloc: Global,
+    four: &mut Four<N>,
+    begun: &AtomicU64,
+)
+    ensures a { Stays four.old.a.seat four.new.a.seat }
+    ensures b { Stays four.old.b.seat four.new.b.seat }
+    ensures c { Stays four.old.c.seat four.new.c.seat }
+    ensures d { Stays four.old.d.seat four.new.d.seat }
+{
+    let Four { a, b, c, d } = four;
+    join_mut(
+        rt,
+        &mut || two_hand_in(rt, alloc, a, b, begun),
+        &mut || two_hand_in(rt, alloc, c, d, begun),
+    );
+}
+
+/// The seats, and the desk, which is closed so many turns after all of them have begun.
+#[derive(Drop)]
+struct Floor<N: StoreName> {
+    four: Four<N>,
+    desk: Desk<N>,
+    turns: u64,
+    /// How many seats have a job in.
+    begun: AtomicU64,
+}
+
+/// A desk that has just been opened: its clerk, the clerk's keeper, and the seats.
+struct OpenDesk<N: StoreName> {
+    clerk: Clerk<N>,
+    keeper: Keeper<N>,
+    floor: Floor<N>,
+}
+
+/// The seats hand in, while one more thread closes the desk.
+fn all_hand_in<N: StoreName + Send + Sync, R: Threads + Wait + Sync>(
+    rt: &R,
+    alloc: Global,
+    floor: &mut Floor<N>,
+)
+    ensures a { Stays floor.old.four.a.seat floor.new.four.a.seat }
+    ensures b { Stays floor.old.four.b.seat floor.new.four.b.seat }
+    ensures c { Stays floor.old.four.c.seat floor.new.four.c.seat }
+    ensures d { Stays floor.old.four.d.seat floor.new.four.d.seat }
+{
+    let Floor {
+        four,
+        desk,
+        turns,
+        begun,
+    } = floor;
+    let begun: &AtomicU64 = begun;
+    join_mut(
+        rt,
+        &mut || four_hand_in(rt, alloc, four, begun),
+        &mut || close_soon(rt, desk, *turns, begun),
+    );
+}
+
+/// The clerk and its keeper, and what the clerk left once it has served.
+struct Office<N: StoreName> {
+    clerk: Option<Clerk<N>>,
+    keeper: Option<Keeper<N>>,
+    books_alone: Option<BooksAlone<N>>,
+}
+
+/// Has the clerk serve until the desk is closed.
+fn keep<N: StoreName, R: Wait>(rt: &R, office: &mut Office<N>)
+    ensures desk { IfSome office.old.clerk (λ k.
+        IfSome office.new.books_alone (λ l. l.inbox.desk ≡ k.desk)) }
+    ensures books { IfSome office.new.books_alone (λ l.
+        Balances l.inbox.taken l.accounts (map arc_value l.left.items)) }
+{
+    office.books_alone = None;
+    let Some(clerk) = office.clerk.take() else {
+        return;
+    };
+    let Some(keeper) = office.keeper.take() else {
+        return;
+    };
+    let (keeper, books_alone) = clerk.run(rt, keeper).split();
+    if let Some(other) = office.keeper.replace(keeper) {
+        other.close(rt);
+    }
+    office.books_alone = Some(books_alone);
+}
+
+/// The clerk serves, the seats hand in, and the desk is closed.
+fn all_day<N: StoreName + Send + Sync, R: Threads + Wait + Sync>(
+    rt: &R,
+    alloc: Global,
+    office: &mut Office<N>,
+    floor: &mut Floor<N>,
+)
+    ensures desk { IfSome office.old.clerk (λ k.
+        IfSome office.new.books_alone (λ l. l.inbox.desk ≡ k.desk)) }
+    ensures books { IfSome office.new.books_alone (λ l.
+        Balances l.inbox.taken l.accounts (map arc_value l.left.items)) }
+    ensures a { Stays floor.old.four.a.seat floor.new.four.a.seat }
+    ensures b { Stays floor.old.four.b.seat floor.new.four.b.seat }
+    ensures c { Stays floor.old.four.c.seat floor.new.four.c.seat }
+    ensures d { Stays floor.old.four.d.seat floor.new.four.d.seat }
+{
+    join_mut(
+        rt,
+        &mut || keep(rt, office),
+        &mut || all_hand_in(rt, alloc, floor),
+    );
+}
+
+/// Takes a seat in, once more where memory ran out.
+fn take_in<N: StoreName, R: Wait>(rt: &R, books: &mut Books<N>, seat: &mut Seat<N>)
+    requires desk { books.old.inbox.desk ≡ seat.old.desk }
+    requires books { Balances books.old.inbox.taken books.old.accounts
+        (map arc_value books.old.left.items) }
+    requires seat { seat.old.hands_in ≡ true }
+    ensures desk { books.new.inbox.desk ≡ books.old.inbox.desk }
+    ensures books { Balances books.new.inbox.taken books.new.accounts
+        (map arc_value books.new.left.items) }
+{
+    for _ in rt.forever() {
+        if books.take_in(rt, seat).is_ok() {
+            break;
+        }
+    }
+}
+
+/// Whether the seat's job with this number is left.
+fn is_left<N: StoreName>(books: &Books<N>, seat: u16, number: u64) -> bool {
+    books
+        .left
+        .iter()
+        .any(|job| job.seat == seat && job.number == number)
+}
+
+/// How many tickets were answered by the store, and how.
+#[derive(Clone, Copy)]
+struct Answers {
+    acknowledged: u64,
+    refused: u64,
+}
+
+/// Whether the ticket says that the desk was closed just where its job is left. Another answer is counted.
+fn is_answered<N: StoreName, R: Wait>(
+    rt: &R,
+    books: &Books<N>,
+    ticket: Ticket<N>,
+    seat: u16,
+    number: u64,
+    answers: &mut Answers,
+) -> bool {
+    let is_left = is_left(books, seat, number);
+    match ticket.wait(rt) {
+        Err(Refusal::Closed) => return is_left,
+        Ok(_) => answers.acknowledged = answers.acknowledged.saturating_add(1),
+        Err(_) => answers.refused = answers.refused.saturating_add(1),
+    }
+    !is_left
+}
+
+/// Whether each ticket is answered by the books, and a further batch is turned away. The store's answers are
+/// counted.
+fn is_whole<N: StoreName, R: Wait>(
+    rt: &R,
+    alloc: Global,
+    books: &Books<N>,
+    handed: Handed<N>,
+    answers: &mut Answers,
+) -> bool {
+    let Handed { mut seat, tickets } = handed;
+    let mut number = 0u64;
+    for ticket in tickets {
+        number = number.saturating_add(1);
+        if !is_answered(rt, books, ticket, seat.number(), number, answers) {
+            return false;
+        }
+    }
+    let Ok(late) = batch(alloc, 1) else {
+        return true;
+    };
+    seat.handed() == number && matches!(seat.submit(rt, alloc, late), Err((Refusal::Closed, _)))
+}
+
+/// Closes the store.
+fn close_books<N: StoreName, R: Wait>(rt: &R, books: Books<N>) {
+    let Books {
+        keeper,
+        accounts: _,
+        acknowledged: _,
+        refused: _,
+        left: _,
+        inbox: _,
+    } = books;
+    keeper.close(rt);
+}
+
+/// Takes all seats in, and says how many jobs are left. None where some job that was handed in isn't in the
+/// books once, with its own answer, or the counts of jobs, accounts and entries don't agree.
+fn left_over<N: StoreName, R: Wait>(
+    rt: &R,
+    alloc: Global,
+    books: Books<N>,
+    handed: Four<N>,
+) -> Option<u64>
+    requires books { Balances books.inbox.taken books.accounts
+        (map arc_value books.left.items) }
+    requires seats { AllMayHandIn books.inbox.desk handed.a.seat handed.b.seat
+        handed.c.seat handed.d.seat }
+{
+    let mut books = books;
+    let Four {
+        mut a,
+        mut b,
+        mut c,
+        mut d,
+    } = handed;
+    take_in(rt, &mut books, &mut a.seat);
+    take_in(rt, &mut books, &mut b.seat);
+    take_in(rt, &mut books, &mut c.seat);
+    take_in(rt, &mut books, &mut d.seat);
+    let mut all = 0u64;
+    for handed in [&a, &b, &c, &d] {
+        all = all.saturating_add(handed.tickets.len() as u64);
+    }
+    let left = books.left.len() as u64;
+    let answered = books.acknowledged.saturating_add(books.refused);
+    let counted = all == answered.saturating_add(left)
+        && books.keeper.receipt().front() == books.acknowledged;
+    let mut answers = Answers {
+        acknowledged: 0,
+        refused: 0,
+    };
+    let whole = is_whole(rt, alloc, &books, a, &mut answers)
+        && is_whole(rt, alloc, &books, b, &mut answers)
+        && is_whole(rt, alloc, &books, c, &mut answers)
+        && is_whole(rt, alloc, &books, d, &mut answers);
+    let booked = (answers.acknowledged, answers.refused) == (books.acknowledged, books.refused);
+    close_books(rt, books);
+    if counted && whole && booked {
+        Some(left)
+    } else {
+        None
+    }
+}
+
+/// Two seats hand in five jobs, of which the clerk serves one; the desk is closed, and the clerk leaves: four
+/// are left. Where memory ran out it may be fewer jobs.
+fn leaves<N: StoreName, R: Wait>(rt: &R, alloc: Global, opened: OpenDesk<N>) -> bool
+    requires seats { AllMayHandIn opened.clerk.desk opened.floor.four.a.seat
+        opened.floor.four.b.seat opened.floor.four.c.seat opened.floor.four.d.seat }
+{
+    let OpenDesk {
+        mut clerk,
+        mut keeper,
+        floor,
+    } = opened;
+    let Floor {
+        mut four,
+        desk,
+        turns: _,
+        begun,
+    } = floor;
+    hand_in(rt, alloc, &mut four.a, 3, &begun);
+    hand_in(rt, alloc, &mut four.b, 2, &begun);
+    let handed = (four.a.tickets.len() as u64).saturating_add(four.b.tickets.len() as u64);
+    let served = matches!(clerk.turn(rt, &mut keeper), Ok(Turn::Served { .. }));
+    desk.close(rt);
+    let books = clerk.leave(keeper);
+    left_over(rt, alloc, books, four) == Some(handed.saturating_sub(served as u64))
+}
+
+/// Whether each seat has handed something in.
+fn have_begun<N: StoreName>(four: &Four<N>) -> bool {
+    [&four.a, &four.b, &four.c, &four.d]
+        .iter()
+        .all(|one| !one.tickets.is_empty())
+}
+
+/// The clerk serves while the seats hand in and the desk is closed: whether each seat had a job in, and nothing is
+/// lost.
+fn races<N: StoreName + Send + Sync, R: Threads + Wait + Sync>(
+    rt: &R,
+    alloc: Global,
+    opened: OpenDesk<N>,
+) -> bool
+    requires seats { AllMayHandIn opened.clerk.desk opened.floor.four.a.seat
+        opened.floor.four.b.seat opened.floor.four.c.seat opened.floor.four.d.seat }
+{
+    let OpenDesk {
+        clerk,
+        keeper,
+        mut floor,
+    } = opened;
+    let mut office = Office {
+        clerk: Some(clerk),
+        keeper: Some(keeper),
+        books_alone: None,
+    };
+    all_day(rt, alloc, &mut office, &mut floor);
+    let Office {
+        clerk: _clerk,
+        keeper,
+        books_alone,
+    } = office;
+    match (keeper, books_alone) {
+        (Some(keeper), Some(books_alone)) => {
+            let begun = have_begun(&floor.four);
+            left_over(rt, alloc, books_alone.with(keeper), floor.four).is_some() && begun
+        }
+        (Some(keeper), None) => {
+            keeper.close(rt);
+            false
+        }
+        (None, _) => false,
+    }
+}
+
+/// How a desk ends.
+#[derive(Clone, Copy)]
+enum Ending {
+    /// It is closed so many turns after each of four seats has a job in, while they hand in and the clerk serves.
+    Race(u64),
+    /// The clerk leaves while jobs wait.
+    Leaves,
+}
+
+impl Ending {
+    /// So many turns after each seat has a job in the desk is closed.
+    fn turns(self) -> u64 {
+        match self {
+            Ending::Race(turns) => turns,
+            Ending::Leaves => 0,
+        }
+    }
+}
+
+/// Opens a store with a desk of four seats, and ends it so.
+fn round<N: StoreName + Send + Sync, R: Threads + Wait + Abort + RandomSource + Sync>(
+    rt: &R,
+    alloc: Global,
+    name: Opened,
+    limits: Limits,
+    ending: Ending,
+) -> Result<bool, Fail>
+    requires { (name.seen.book ≡ N.book) × (limits ≡ N.limits) }
+{
+    let (mut keeper, _passes) = open::<N, _>(rt, alloc, RandomState::new(rt)?, name, limits, 1)?;
+    let first = keeper.receipt();
+    let (desk, seats, clerk) = match desk(alloc, first, ROOM, 4) {
+        Ok(opened) => opened,
+        Err(why) => {
+            keeper.close(rt);
+            return Err(Fail::from(why));
+        }
+    };
+    let Some(four) = four_of(alloc, &clerk, seats) else {
+        keeper.close(rt);
+        return Ok(false);
+    };
+    let floor = Floor {
+        four,
+        desk,
+        turns: ending.turns(),
+        begun: AtomicU64::new(0),
+    };
+    let opened = OpenDesk {
+        clerk,
+        keeper,
+        floor,
+    };
+    match ending {
+        Ending::Race(_) => Ok(races(rt, alloc, opened)),
+        Ending::Leaves => Ok(leaves(rt, alloc, opened)),
+    }
+}
+
+/// A store with room for 40 batches.
+fn plays<R: Threads + Wait + Abort + RandomSource + Sync>(
+    rt: &R,
+    alloc: Global,
+    ending: Ending,
+) -> Result<bool, Fail> {
+    let limits = Limits::new(40, 1000, 0, 0).expect(rt, "limits");
+    round::<Brand, _>(rt, alloc, Opened::new(), limits, ending)
+}
+
+#[test]
+fn nothing_lost(rt: HostRuntime) -> Result<(), Fail> {
+    for turns in 0..100 {
+        assert!(rt; plays(&rt, rt.alloc(), Ending::Race(turns))?);
+    }
+    Ok(())
+}
+
+/// Wherever memory runs out while the seats are taken in (`rt try --test --fail-alloc 1..`).
+#[test]
+fn waiting_jobs_handed_back(rt: HostRuntime) -> Result<(), Fail> {
+    assert!(rt; plays(&rt, rt.alloc(), Ending::Leaves)?);
+    Ok(())
+}

@@ -1,0 +1,83 @@
+//! A store with a desk of four seats, whose queue has room for one job.
+
+ghost use Rattle.std.specs.Prelude.{◌≡◌, ◌≤◌};
+
+use crate::tests::rows::Row;
+use intake::{Clerk, Desk, Seat, desk};
+use jaeger_model::Batch;
+use read_side::{Keeper, Opened, Pass, StoreName, open};
+use std::alloc::{AllocError, Global};
+use std::hash::RandomState;
+use std::mem::drop;
+use std::random::RandomSource;
+use std::sync::Wait;
+use std::test::*;
+use std::thread::Threads;
+use trace_model::Limits;
+use trace_samples::{list_of, span};
+
+/// All that belongs to one store.
+pub struct Fixture<N: StoreName> {
+    pub keeper: Keeper<N>,
+    pub passes: Vec<Pass<N>>,
+    pub desk: Desk<N>,
+    pub seats: Vec<Seat<N>>,
+    pub clerk: Clerk<N>,
+}
+
+impl<N: StoreName> Fixture<N> {
+    /// Closes the store, and gives up all that is over it.
+    pub(crate) fn close<R: Wait>(self, rt: &R) {
+        let Fixture {
+            keeper,
+            passes,
+            desk,
+            seats,
+            clerk,
+        } = self;
+        keeper.close(rt);
+        drop(passes);
+        drop(desk);
+        drop(seats);
+        drop(clerk);
+    }
+}
+
+/// A batch of one span, which has the id, and whose trace has it too.
+pub fn batch(alloc: Global, id: u64) -> Result<Batch, AllocError> {
+    let spans = list_of(alloc, span(alloc, id, id)?)?;
+    trace_samples::batch(alloc, "a", spans.into_vec())
+}
+
+/// Opens a store and its desk, and plays the row with them.
+pub fn played<N: StoreName + Send + Sync, R: Threads + Wait + RandomSource + Sync>(
+    rt: &R,
+    alloc: Global,
+    name: Opened,
+    limits: Limits,
+    capacity: usize,
+    row: Row,
+) -> Result<bool, Fail>
+    requires store { (name.seen.book ≡ N.book) × (limits ≡ N.limits) }
+    requires queue { (1 ≤ capacity) × (capacity ≤ 4096) }
+{
+    let (mut keeper, passes) = open::<N, _>(rt, alloc, RandomState::new(rt)?, name, limits, 2)?;
+    let first = keeper.receipt();
+    match desk(alloc, first, capacity, 4) {
+        Err(_) => {
+            drop(passes);
+            keeper.close(rt);
+            Ok(false)
+        }
+        Ok((desk, seats, clerk)) => {
+            let fixture = Fixture {
+                keeper,
+                passes,
+                desk,
+                seats,
+                clerk,
+            };
+            Ok(row.play(rt, alloc, fixture))
+        }
+    }
+}

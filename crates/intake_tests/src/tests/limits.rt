@@ -1,0 +1,108 @@
+//! A trace limit that a seat hands in.
+
+use crate::tests::fixture::Fixture;
+use crate::tests::rows::hands_in;
+use intake::{Clerk, Seat, Ticket, Turn};
+use jaeger_model::TraceId;
+use read_side::{Keeper, Pass, StoreName};
+use std::alloc::Global;
+use std::mem::drop;
+use std::sync::Wait;
+use trace_model::{Answer, Query, Refusal};
+
+/// Turns three times. Each turn served a job.
+fn serves_three<N: StoreName, R: Wait>(
+    rt: &R,
+    clerk: &mut Clerk<N>,
+    keeper: &mut Keeper<N>,
+) -> bool {
+    for _ in 0..3u8 {
+        if !matches!(clerk.turn(rt, keeper), Ok(Turn::Served { .. })) {
+            return false;
+        }
+    }
+    true
+}
+
+/// The pass finds the trace.
+fn is_found<N: StoreName>(pass: &mut Pass<N>, low: u64) -> bool {
+    let id = TraceId { high: 0, low };
+    let reading = pass.read(&Query::Trace { id, raw: true });
+    let found = match &reading {
+        Ok(reading) => matches!(&reading.answer, Answer::Trace(Some(_))),
+        Err(_) => false,
+    };
+    drop(reading);
+    found
+}
+
+/// The limit stands at place 3, and a pass that learns of it finds trace 2 and not trace 1.
+fn is_in_force<N: StoreName, R: Wait>(
+    rt: &R,
+    pass: &mut Pass<N>,
+    answer: Result<Ticket<N>, Refusal>,
+) -> bool {
+    is_learnt(rt, pass, answer) == Ok(3) && is_found(pass, 2) && !is_found(pass, 1)
+}
+
+/// The place of the limit, of which the pass learns.
+fn is_learnt<N: StoreName, R: Wait>(
+    rt: &R,
+    pass: &mut Pass<N>,
+    answer: Result<Ticket<N>, Refusal>,
+) -> Result<u64, Refusal> {
+    let ack = answer?.wait(rt)?;
+    pass.learn(&ack.receipt);
+    let place = ack.place;
+    drop(ack);
+    Ok(place)
+}
+
+/// A seat hands in a span each of traces 1 and 2, and a limit of one trace. Once the desk is closed, a
+/// limit is refused.
+pub(crate) fn a_limit_is_in_force<N: StoreName + Send + Sync, R: Wait>(
+    rt: &R,
+    alloc: Global,
+    mut fixture: Fixture<N>,
+) -> bool {
+    let said = is_served_and_in_force(rt, alloc, &mut fixture);
+    fixture.close(rt);
+    said
+}
+
+/// The limit is served behind two batches and is in force, and one that comes once the desk is closed is refused.
+fn is_served_and_in_force<N: StoreName + Send + Sync, R: Wait>(
+    rt: &R,
+    alloc: Global,
+    fixture: &mut Fixture<N>,
+) -> bool {
+    match (fixture.seats.last_mut(), fixture.passes.last_mut()) {
+        (Some(seat), Some(pass)) => {
+            let limit = limit_behind_two(rt, alloc, seat);
+            let served = serves_three(rt, &mut fixture.clerk, &mut fixture.keeper);
+            let in_force = is_in_force(rt, pass, limit);
+            fixture.desk.close(rt);
+            served && in_force && is_turned_away(rt, alloc, seat)
+        }
+        _ => false,
+    }
+}
+
+/// Hands in a span each of traces 1 and 2, and a limit of one trace.
+fn limit_behind_two<N: StoreName, R: Wait>(
+    rt: &R,
+    alloc: Global,
+    seat: &mut Seat<N>,
+) -> Result<Ticket<N>, Refusal> {
+    drop(hands_in(rt, alloc, seat, 1));
+    drop(hands_in(rt, alloc, seat, 2));
+    seat.submit_limit(rt, alloc, 1)
+}
+
+/// A limit is refused since the desk is closed.
+fn is_turned_away<N: StoreName, R: Wait>(rt: &R, alloc: Global, seat: &mut Seat<N>) -> bool {
+    let answer = seat.submit_limit(rt, alloc, 0);
+    let said = matches!(&answer, Err(Refusal::Closed));
+    drop(answer);
+    said
+}

@@ -1,0 +1,136 @@
+//! A batch that a seat hands in once more.
+
+use crate::tests::fixture::{Fixture, batch};
+use crate::tests::rows::{closed_books, place_and_front};
+use intake::{Books, Clerk, Seat, Turn};
+use read_side::{Keeper, StoreName};
+use std::alloc::Global;
+use std::mem::drop;
+use std::sync::Wait;
+use trace_model::Refusal;
+
+/// What a seat hands in, and what its ticket returns.
+struct Job {
+    /// The id of the batch's span.
+    id: u64,
+    /// The batch's number.
+    number: Option<i64>,
+    /// The place and the receipt's front, or the refusal.
+    wanted: Result<(u64, u64), Refusal>,
+}
+
+/// The jobs over a store with room for three batches. The numbers 0 and -1 count.
+const JOBS: [Job; 7] = [
+    Job {
+        id: 1,
+        number: Some(0),
+        wanted: Ok((1, 1)),
+    },
+    Job {
+        id: 2,
+        number: Some(-1),
+        wanted: Ok((2, 2)),
+    },
+    Job {
+        id: 1,
+        number: None,
+        wanted: Ok((3, 3)),
+    },
+    Job {
+        id: 1,
+        number: Some(0),
+        wanted: Ok((1, 3)),
+    },
+    Job {
+        id: 2,
+        number: Some(-1),
+        wanted: Ok((2, 3)),
+    },
+    Job {
+        id: 3,
+        number: Some(-1),
+        wanted: Err(Refusal::Conflict { place: 2 }),
+    },
+    Job {
+        id: 1,
+        number: None,
+        wanted: Err(Refusal::JournalFull {
+            batches: 3,
+            spans: 3,
+        }),
+    },
+];
+
+/// Hands the batch in and has it served.
+fn answered<N: StoreName, R: Wait>(
+    rt: &R,
+    alloc: Global,
+    seat: &mut Seat<N>,
+    clerk: &mut Clerk<N>,
+    keeper: &mut Keeper<N>,
+    job: &Job,
+) -> Result<(u64, u64), Refusal> {
+    let mut batch = batch(alloc, job.id)?;
+    batch.seq_no = job.number;
+    let answer = seat.submit(rt, alloc, batch);
+    let served = matches!(clerk.turn(rt, keeper), Ok(Turn::Served { .. }));
+    let said = place_and_front(rt, answer);
+    if served { said } else { Err(Refusal::Stranger) }
+}
+
+/// There is an account of each job, and as many of them as are wanted to be were acknowledged.
+fn are_booked<N: StoreName>(books: &Books<N>) -> bool {
+    let (mut jobs, mut acknowledged) = (0u64, 0u64);
+    for job in JOBS.iter() {
+        jobs = jobs.saturating_add(1);
+        if job.wanted.is_ok() {
+            acknowledged = acknowledged.saturating_add(1);
+        }
+    }
+    books.accounts.count() == jobs && books.accounts.acknowledged() == acknowledged
+}
+
+/// A batch that was sent before is acknowledged at its old place, where the store is full too, and counts as
+/// acknowledged. Another one with its number is refused, and adds nothing.
+pub(crate) fn a_resent_job_is_acknowledged<N: StoreName + Send + Sync, R: Wait>(
+    rt: &R,
+    alloc: Global,
+    fixture: Fixture<N>,
+) -> bool {
+    let Fixture {
+        mut keeper,
+        passes,
+        desk,
+        mut seats,
+        mut clerk,
+    } = fixture;
+    drop(passes);
+    let as_wanted = match seats.last_mut() {
+        Some(seat) => all_answered(rt, alloc, seat, &mut clerk, &mut keeper),
+        None => false,
+    };
+    desk.close(rt);
+    drop(desk);
+    drop(seats);
+    let books = clerk.run(rt, keeper);
+    let booked = are_booked(&books)
+        && (books.acknowledged, books.refused, books.left.len()) == (5, 2, 0);
+    closed_books(rt, books);
+    as_wanted && booked
+}
+
+/// Whether each of the jobs is answered as it wants, and the seat handed in as many.
+fn all_answered<N: StoreName, R: Wait>(
+    rt: &R,
+    alloc: Global,
+    seat: &mut Seat<N>,
+    clerk: &mut Clerk<N>,
+    keeper: &mut Keeper<N>,
+) -> bool {
+    let mut as_wanted = true;
+    for job in &JOBS {
+        let answer = answered(rt, alloc, seat, clerk, keeper, job);
+        as_wanted = as_wanted && answer == job.wanted;
+    }
+    as_wanted && seat.handed() == 7
+}

@@ -1,0 +1,3 @@
+//! The tests, by their subject, and what they share.
+
+mod script_lines;

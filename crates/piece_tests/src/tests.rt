@@ -1,0 +1,5 @@
+//! The tests, by their subject, and what they share.
+
+mod cuts;
+mod faults;
+mod samples;

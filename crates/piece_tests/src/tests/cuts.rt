@@ -1,0 +1,247 @@
+//! However the bytes of a batch are cut, each piece is answered by the bytes so far, and the end by the whole bytes.
+
+use crate::tests::samples::{CASES, SAMPLES};
+use batch_codec::{DecodeError, decode, encode};
+use batch_feeder::{Feeder, decode_pieces};
+use jaeger_model::{Batch, Span};
+use std::alloc::{AllocError, Global};
+use std::mem::drop;
+use std::test::*;
+use thrift_binary::WireError;
+use trace_samples::{batch, span};
+
+/// What is answered of the pieces is what decoding the joined bytes answers.
+fn is_same(got: Result<Batch, DecodeError>, whole: &Result<Batch, DecodeError>) -> bool {
+    let same = match (&got, whole) {
+        (Ok(got), Ok(whole)) => got.is_same(whole),
+        (Err(got), Err(whole)) => *got == *whole,
+        _ => false,
+    };
+    drop(got);
+    same
+}
+
+/// What a call has to answer by which these bytes have come: their first fault, unless they may be too few.
+fn said_of(alloc: Global, bytes: &[u8]) -> Result<(), DecodeError> {
+    match decode(alloc, bytes) {
+        Ok(batch) => {
+            drop(batch);
+            Ok(())
+        }
+        Err(DecodeError::Wire(WireError::Truncated)) => Ok(()),
+        Err(fault) => Err(fault),
+    }
+}
+
+/// The same of each beginning, by how many bytes it has.
+fn said_of_each(alloc: Global, bytes: &[u8]) -> Result<Vec<Result<(), DecodeError>>, AllocError> {
+    let mut said = Vec::new(alloc);
+    for place in 0..bytes.len() {
+        let Some((front, _)) = bytes.split_at_checked(place) else {
+            break;
+        };
+        said.push(said_of(alloc, front))?;
+    }
+    said.push(said_of(alloc, bytes))?;
+    Ok(said)
+}
+
+/// Feeds a piece that ends at the place, and compares the answer.
+fn is_fed(
+    alloc: Global,
+    feeder: &mut Feeder,
+    piece: &[u8],
+    said: &[Result<(), DecodeError>],
+    place: usize,
+) -> bool {
+    let answer = feeder.feed(alloc, piece);
+    match said.get(place) {
+        Some(wanted) => answer == *wanted,
+        None => false,
+    }
+}
+
+/// Bytes, what is said of each beginning of them, and what decoding them answers.
+#[derive(Clone, Copy)]
+struct Case<'a> {
+    bytes: &'a [u8],
+    said: &'a [Result<(), DecodeError>],
+    whole: &'a Result<Batch, DecodeError>,
+}
+
+/// Three pieces, the first with the bytes before one place and the last with those behind another: each call
+/// answers what it has to, and the end what decoding answers.
+fn is_same_cut_at(alloc: Global, case: &Case<'_>, place: usize, other: usize) -> bool {
+    let Some((front, last)) = case.bytes.split_at_checked(other) else {
+        return false;
+    };
+    let Some((first, middle)) = front.split_at_checked(place) else {
+        return false;
+    };
+    let mut feeder = Feeder::new(alloc);
+    let fed = is_fed(alloc, &mut feeder, first, case.said, place)
+        && is_fed(alloc, &mut feeder, middle, case.said, other)
+        && is_fed(alloc, &mut feeder, last, case.said, case.bytes.len());
+    let same = is_same(feeder.finish(), case.whole);
+    fed && same
+}
+
+/// Each byte alone.
+fn is_same_by_bytes(alloc: Global, case: &Case<'_>) -> bool {
+    let mut feeder = Feeder::new(alloc);
+    let mut fed = true;
+    for (place, byte) in case.bytes.iter().enumerate() {
+        let place = place.saturating_add(1);
+        fed = is_fed(alloc, &mut feeder, &[*byte], case.said, place) && fed;
+    }
+    let same = is_same(feeder.finish(), case.whole);
+    fed && same
+}
+
+/// Bytes up to so many are cut at any two places, and longer ones at one.
+const SHORT: usize = 64;
+
+/// Cut at each such pair of places, before the first byte and behind the last one too, and each byte alone.
+fn is_same_however_cut(alloc: Global, case: &Case<'_>) -> bool {
+    let count = case.bytes.len();
+    for other in 0..count.saturating_add(1) {
+        let first = if count > SHORT { other } else { 0 };
+        for place in first..other.saturating_add(1) {
+            if !is_same_cut_at(alloc, case, place, other) {
+                return false;
+            }
+        }
+    }
+    is_same_by_bytes(alloc, case)
+}
+
+/// How many lines of bytes there are before one that is answered otherwise in pieces.
+fn same_lines(alloc: Global, lines: &str) -> Result<u64, Fail> {
+    let mut count = 0u64;
+    for line in lines.lines() {
+        if !is_same_line(alloc, line)? {
+            break;
+        }
+        count = count.saturating_add(1);
+    }
+    Ok(count)
+}
+
+/// Whether the line is bytes that are answered in pieces as they are whole.
+fn is_same_line(alloc: Global, line: &str) -> Result<bool, AllocError> {
+    match hex::decode(alloc, line) {
+        Ok(bytes) => are_same_bytes(alloc, &bytes),
+        Err(_) => Ok(false),
+    }
+}
+
+/// Whether these bytes are.
+fn are_same_bytes(alloc: Global, bytes: &[u8]) -> Result<bool, AllocError> {
+    let said = said_of_each(alloc, bytes)?;
+    let whole = decode(alloc, bytes);
+    let case = Case {
+        bytes,
+        said: &said,
+        whole: &whole,
+    };
+    let same = is_same_however_cut(alloc, &case);
+    drop(whole);
+    Ok(same)
+}
+
+#[test]
+fn any_cut(rt: HostRuntime) -> Result<(), Fail> {
+    assert_eq!(rt; same_lines(rt.alloc(), CASES)?, 28);
+    Ok(())
+}
+
+#[test]
+fn any_cut_of_each_sample(rt: HostRuntime) -> Result<(), Fail> {
+    assert_eq!(rt; same_lines(rt.alloc(), SAMPLES)?, 6);
+    Ok(())
+}
+
+/// The bytes of a batch of so many spans.
+fn bytes_of(alloc: Global, count: u64) -> Result<Vec<u8>, Fail> {
+    let batch = batch_of(alloc, count)?;
+    let bytes = encode(alloc, &batch);
+    drop(batch);
+    Ok(bytes?)
+}
+
+/// Adds so many spans.
+fn add_spans(alloc: Global, spans: &mut Vec<Span>, count: u64) -> Result<(), AllocError> {
+    for number in 0..count {
+        spans.push(span(alloc, number, 7)?)?;
+    }
+    Ok(())
+}
+
+/// A batch of so many spans.
+fn batch_of(alloc: Global, count: u64) -> Result<Batch, AllocError> {
+    let mut spans = Vec::new(alloc);
+    match add_spans(alloc, &mut spans, count) {
+        Ok(()) => batch(alloc, "orders", spans),
+        Err(why) => {
+            drop(spans);
+            Err(why)
+        }
+    }
+}
+
+/// A piece of these bytes.
+fn piece_of(alloc: Global, bytes: &[u8]) -> Result<Vec<u8>, AllocError> {
+    let mut piece = Vec::new(alloc);
+    piece.extend_from_slice(bytes)?;
+    Ok(piece)
+}
+
+/// Adds the bytes in pieces of 1, 4, 13 and so on bytes, and from 1 again where they would be large.
+fn add_odd_pieces(
+    alloc: Global,
+    pieces: &mut Vec<Vec<u8>>,
+    bytes: &[u8],
+) -> Result<(), AllocError> {
+    let mut left = bytes;
+    let mut size = 1usize;
+    for _ in 0..bytes.len() {
+        if left.is_empty() {
+            break;
+        }
+        let (front, rest) = left.split_at(size.min(left.len()));
+        pieces.push(piece_of(alloc, front)?)?;
+        left = rest;
+        size = if size > 10_000 { 1 } else { size * 3 + 1 };
+    }
+    Ok(())
+}
+
+/// These pieces.
+fn odd_pieces(alloc: Global, bytes: &[u8]) -> Result<Vec<Vec<u8>>, AllocError> {
+    let mut pieces = Vec::new(alloc);
+    match add_odd_pieces(alloc, &mut pieces, bytes) {
+        Ok(()) => Ok(pieces),
+        Err(why) => {
+            drop(pieces);
+            Err(why)
+        }
+    }
+}
+
+/// Whether these bytes are answered in those pieces as they are whole.
+fn is_same_in_odd_pieces(alloc: Global, bytes: &[u8]) -> Result<bool, AllocError> {
+    let pieces = odd_pieces(alloc, bytes)?;
+    let whole = decode(alloc, bytes);
+    let same = is_same(decode_pieces(alloc, &pieces), &whole);
+    drop(whole);
+    Ok(same)
+}
+
+/// About a megabyte.
+#[test]
+fn a_large_batch_in_odd_pieces(rt: HostRuntime) -> Result<(), Fail> {
+    let alloc = rt.alloc();
+    let bytes = bytes_of(alloc, 8000)?;
+    assert!(rt; is_same_in_odd_pieces(alloc, &bytes)?);
+    Ok(())
+}

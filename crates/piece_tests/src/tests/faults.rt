@@ -1,0 +1,337 @@
+//! Where the faults of pieces stand: in the piece that holds their last byte, and from then on.
+
+use crate::tests::samples::{FIRST, SAMPLES};
+use batch_codec::{DecodeError, Part, decode};
+use batch_feeder::Feeder;
+use jaeger_model::Batch;
+use std::alloc::{AllocError, Global};
+use std::mem::drop;
+use std::test::*;
+use thrift_binary::{WireError, types};
+
+/// A batch without spans.
+const WHOLE: &[u8] =
+    b"\x0c\x00\x01\x0b\x00\x01\x00\x00\x00\x01\x61\x00\x0f\x00\x02\x0c\x00\x00\x00\x00\x00";
+
+/// What is answered of the first piece, of the second, of an empty one behind them, and at the end.
+fn answers(alloc: Global, first: &[u8], second: &[u8]) -> [Result<(), DecodeError>; 4] {
+    let mut feeder = Feeder::new(alloc);
+    let one = feeder.feed(alloc, first);
+    let two = feeder.feed(alloc, second);
+    let three = feeder.feed(alloc, &[]);
+    [one, two, three, ended(feeder)]
+}
+
+/// What is answered at the end.
+fn ended(feeder: Feeder) -> Result<(), DecodeError> {
+    match feeder.finish() {
+        Ok(batch) => {
+            drop(batch);
+            Ok(())
+        }
+        Err(error) => Err(error),
+    }
+}
+
+#[test]
+fn a_refusal_stays(rt: HostRuntime) {
+    let alloc = rt.alloc();
+    let trailing = Err(DecodeError::Trailing);
+    let missing = Err(DecodeError::Missing(Part::Batch, 1));
+    assert!(rt; answers(alloc, WHOLE, &[]) == [Ok(()); 4]);
+    assert!(rt; answers(alloc, WHOLE, &[0]) == [Ok(()), trailing, trailing, trailing]);
+    assert!(rt; answers(alloc, &[0], WHOLE) == [missing; 4]);
+}
+
+/// The fault that decoding answers, asked once more where memory ran out.
+fn fault_of(alloc: Global, bytes: &[u8]) -> Option<DecodeError> {
+    match fault_once(alloc, bytes) {
+        Some(DecodeError::Memory) => fault_once(alloc, bytes),
+        fault => fault,
+    }
+}
+
+/// The fault that decoding answers.
+fn fault_once(alloc: Global, bytes: &[u8]) -> Option<DecodeError> {
+    match decode(alloc, bytes) {
+        Ok(batch) => {
+            drop(batch);
+            None
+        }
+        Err(fault) => Some(fault),
+    }
+}
+
+/// What is answered of the bytes in one piece, asked once more where memory ran out.
+fn answers_of(alloc: Global, bytes: &[u8]) -> [Result<(), DecodeError>; 4] {
+    let said = answers(alloc, bytes, &[]);
+    if said[3] == Err(DecodeError::Memory) {
+        return answers(alloc, bytes, &[]);
+    }
+    said
+}
+
+/// The bytes are fed, which is not refused, and are too few; decoding says so too.
+fn is_short(alloc: Global, bytes: &[u8]) -> bool {
+    let truncated = DecodeError::Wire(WireError::Truncated);
+    answers_of(alloc, bytes) == [Ok(()), Ok(()), Ok(()), Err(truncated)]
+        && fault_of(alloc, bytes) == Some(truncated)
+}
+
+/// How many beginnings of the bytes, from the empty one on, are fed and too few, before one that isn't.
+fn short_beginnings(alloc: Global, bytes: &[u8]) -> usize {
+    for size in 0..bytes.len() {
+        let Some((front, _)) = bytes.split_at_checked(size) else {
+            return size;
+        };
+        if !is_short(alloc, front) {
+            return size;
+        }
+    }
+    bytes.len()
+}
+
+#[test]
+fn each_beginning_is_truncated(rt: HostRuntime) -> Result<(), Fail> {
+    let alloc = rt.alloc();
+    let bytes = hex::decode(alloc, FIRST)?;
+    assert_eq!(rt; bytes.len(), 104);
+    assert_eq!(rt; short_beginnings(alloc, &bytes), 104);
+    assert!(rt; answers_of(alloc, &bytes) == [Ok(()); 4]);
+    assert!(rt; fault_of(alloc, &bytes).is_none());
+    Ok(())
+}
+
+/// Bytes that end with a size of 2,147,483,647 and nothing behind it: of a text, of lists and of a binary that are
+/// read, and of a string, a list, a set and maps that are skipped.
+const CLAIMS: [&[u8]; 9] = [
+    b"\x0c\x00\x01\x0b\x00\x01\x7f\xff\xff\xff",
+    b"\x0c\x00\x01\x0f\x00\x02\x0c\x7f\xff\xff\xff",
+    b"\x0f\x00\x02\x0c\x7f\xff\xff\xff",
+    b"\x0c\x00\x01\x0f\x00\x02\x0c\x00\x00\x00\x01\x0b\x00\x07\x7f\xff\xff\xff",
+    b"\x0b\x00\x09\x7f\xff\xff\xff",
+    b"\x0f\x00\x09\x08\x7f\xff\xff\xff",
+    b"\x0e\x00\x09\x0b\x7f\xff\xff\xff",
+    b"\x0d\x00\x09\x0b\x0b\x7f\xff\xff\xff",
+    b"\x0d\x00\x09\x0f\x0c\x7f\xff\xff\xff\x08\x7f\xff\xff\xff",
+];
+
+/// How many of them are fed and too few, before one that isn't.
+fn short_claims(alloc: Global) -> usize {
+    let mut count = 0usize;
+    for bytes in &CLAIMS {
+        if !is_short(alloc, *bytes) {
+            break;
+        }
+        count = count.saturating_add(1);
+    }
+    count
+}
+
+/// However little memory there is: the check of allocations sees that all of it takes four, one for each list, set
+/// or map that is skipped, and refuses each.
+#[test]
+fn sizes_beyond_the_bytes(rt: HostRuntime) {
+    assert_eq!(rt; short_claims(rt.alloc()), CLAIMS.len());
+}
+
+/// The bytes before the last four.
+fn before_the_size(bytes: &[u8]) -> &[u8] {
+    match bytes.split_at_checked(bytes.len().saturating_sub(4)) {
+        Some((front, _)) => front,
+        None => bytes,
+    }
+}
+
+/// How many of them are too few before their size too, before one that isn't.
+fn short_before_a_size(alloc: Global) -> usize {
+    let mut count = 0usize;
+    for bytes in &CLAIMS {
+        if !is_short(alloc, before_the_size(*bytes)) {
+            break;
+        }
+        count = count.saturating_add(1);
+    }
+    count
+}
+
+#[test]
+fn bytes_before_a_size(rt: HostRuntime) {
+    assert_eq!(rt; short_before_a_size(rt.alloc()), CLAIMS.len());
+}
+
+/// The bytes with a size below 0 in the place of theirs are too few before its last byte, and refused with it.
+fn is_refused_below_0(alloc: Global, claim: &[u8]) -> Result<bool, AllocError> {
+    let fault = DecodeError::Wire(WireError::BadLength);
+    let mut bytes = Vec::new(alloc);
+    bytes.extend_from_slice(before_the_size(claim))?;
+    bytes.extend_from_slice(b"\x80\x00\x00")?;
+    let short = is_short(alloc, &bytes);
+    bytes.push(0)?;
+    let fed = answers_of(alloc, &bytes) == [Err(fault); 4];
+    Ok(short && fed && fault_of(alloc, &bytes) == Some(fault))
+}
+
+/// How many of them are, before one that isn't.
+fn refused_below_0(alloc: Global) -> Result<usize, AllocError> {
+    let mut count = 0usize;
+    for claim in &CLAIMS {
+        if !is_refused_below_0(alloc, *claim)? {
+            break;
+        }
+        count = count.saturating_add(1);
+    }
+    Ok(count)
+}
+
+/// A size that is refused is so by the piece that has its last byte, and by decoding.
+#[test]
+fn sizes_below_0(rt: HostRuntime) -> Result<(), Fail> {
+    assert_eq!(rt; refused_below_0(rt.alloc())?, CLAIMS.len());
+    Ok(())
+}
+
+/// The type of the container at a level: structs, maps, sets and lists in turn.
+fn code_at(level: usize) -> u8 {
+    match level % 4 {
+        0 => types::STRUCT,
+        1 => types::MAP,
+        2 => types::SET,
+        _ => types::LIST,
+    }
+}
+
+/// What stands in a container of the type before the one that it holds.
+fn begin(bytes: &mut Vec<u8>, code: u8, within: u8) -> Result<(), AllocError> {
+    match code {
+        types::STRUCT => bytes.extend_from_slice(&[within, 0, 1]),
+        types::MAP => bytes.extend_from_slice(&[types::BOOL, within, 0, 0, 0, 1, 0]),
+        _ => bytes.extend_from_slice(&[within, 0, 0, 0, 1]),
+    }
+}
+
+/// A container of the type that holds none.
+fn hold_none(bytes: &mut Vec<u8>, code: u8) -> Result<(), AllocError> {
+    match code {
+        types::STRUCT => bytes.extend_from_slice(&[0]),
+        types::MAP => bytes.extend_from_slice(&[types::BOOL, types::BOOL, 0, 0, 0, 0]),
+        _ => bytes.extend_from_slice(&[types::BOOL, 0, 0, 0, 0]),
+    }
+}
+
+/// A batch behind a field that nobody knows: containers in one another from the one of this level on, one more than
+/// so many.
+fn nested(alloc: Global, first: usize, below: usize) -> Result<Vec<u8>, AllocError> {
+    let mut bytes = Vec::new(alloc);
+    bytes.extend_from_slice(&[code_at(first), 0, 9])?;
+    let last = first.saturating_add(below);
+    for level in first..last {
+        begin(&mut bytes, code_at(level), code_at(level.saturating_add(1)))?;
+    }
+    hold_none(&mut bytes, code_at(last))?;
+    for level in first..last {
+        if code_at(level) == types::STRUCT {
+            bytes.push(0)?;
+        }
+    }
+    bytes.extend_from_slice(WHOLE)?;
+    Ok(bytes)
+}
+
+/// What is answered at the end where each byte comes alone.
+fn ended_by_bytes(alloc: Global, bytes: &[u8]) -> Option<DecodeError> {
+    let mut feeder = Feeder::new(alloc);
+    for byte in bytes {
+        let _ = feeder.feed(alloc, &[*byte]);
+    }
+    ended(feeder).err()
+}
+
+/// Decoding answers this, and a Feeder at its end, however the bytes come.
+fn all_answer(alloc: Global, bytes: &[u8], fault: Option<DecodeError>) -> bool {
+    let by_bytes = ended_by_bytes(alloc, bytes);
+    let whole = answers(alloc, bytes, &[])[3].err();
+    fault_of(alloc, bytes) == fault && whole == fault && by_bytes == fault
+}
+
+/// 1 and 64 levels from this one on are read past, and 65 are too deep.
+fn are_levels(alloc: Global, first: usize) -> Result<bool, AllocError> {
+    let too_deep = Some(DecodeError::Wire(WireError::TooDeep));
+    Ok(
+        all_answer(alloc, &nested(alloc, first, 0)?, None)
+            && all_answer(alloc, &nested(alloc, first, 63)?, None)
+            && all_answer(alloc, &nested(alloc, first, 64)?, too_deep),
+    )
+}
+
+/// 64 levels are read past, and one more is too deep, whichever container it is.
+#[test]
+fn levels_of_skipped_values(rt: HostRuntime) -> Result<(), Fail> {
+    for first in 0..4 {
+        assert!(rt; are_levels(rt.alloc(), first)?, "{first}");
+    }
+    Ok(())
+}
+
+/// What came of a batch in pieces.
+#[derive(Clone, Copy, PartialEq, Eq)]
+enum Taken {
+    /// It is the batch.
+    Same,
+    /// Memory ran out in a piece or at the end, and each call behind it said so.
+    NoMemory,
+    Other,
+}
+
+/// The bytes of a batch in pieces of a few bytes.
+fn came_of(alloc: Global, bytes: &[u8], whole: &Batch) -> Taken {
+    let mut feeder = Feeder::new(alloc);
+    let had_memory = fed_in_pieces(alloc, &mut feeder, bytes);
+    let end = feeder.finish();
+    let taken = match (&end, had_memory) {
+        (Ok(batch), Some(true)) if batch.is_same(whole) => Taken::Same,
+        (Err(DecodeError::Memory), Some(_)) => Taken::NoMemory,
+        _ => Taken::Other,
+    };
+    drop(end);
+    taken
+}
+
+/// Whether there was memory for each of the pieces. None where something else was refused, or something was taken
+/// behind a refusal.
+fn fed_in_pieces(alloc: Global, feeder: &mut Feeder, bytes: &[u8]) -> Option<bool> {
+    let mut has_memory = true;
+    for piece in bytes.chunks(11) {
+        let answer = feeder.feed(alloc, piece);
+        if answer == Err(DecodeError::Memory) {
+            has_memory = false;
+        } else if answer.is_err() || !has_memory {
+            return None;
+        }
+    }
+    Some(has_memory)
+}
+
+/// What came of a batch in pieces, once more where memory ran out.
+fn came_at_last(alloc: Global, bytes: &[u8]) -> Result<Taken, DecodeError> {
+    let whole = decode(alloc, bytes)?;
+    let mut said = came_of(alloc, bytes, &whole);
+    if said == Taken::NoMemory {
+        said = came_of(alloc, bytes, &whole);
+    }
+    drop(whole);
+    Ok(said)
+}
+
+/// Where memory runs out once, whatever comes behind is refused for that, and a Feeder behind it takes the batch: the
+/// check of allocations refuses each in turn.
+#[test]
+fn memory_for_pieces(rt: HostRuntime) -> Result<(), Fail> {
+    let alloc = rt.alloc();
+    let Some(line) = SAMPLES.lines().next() else {
+        return Err("no sample".into());
+    };
+    let bytes = hex::decode(alloc, line)?;
+    assert!(rt; came_at_last(alloc, &bytes)? == Taken::Same);
+    Ok(())
+}

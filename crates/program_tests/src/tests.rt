@@ -1,0 +1,10 @@
+//! The tests, by their subject, and what they share.
+
+mod devices;
+mod getting;
+mod host;
+mod piping;
+mod playing;
+mod runs;
+mod serving;
+mod words;

@@ -1,0 +1,119 @@
+//! Devices that fail.
+use crate::tests::host::Host;
+use crate::tests::runs::{HEAD, SPAN, TAIL, joined};
+use program_run::run;
+use session_devices::Watched;
+use std::alloc::Global;
+use std::io;
+use std::io::{Error, ErrorKind, Read, Write};
+use std::net::{Net, TcpListener, TcpStream};
+use std::test::Fail;
+
+/// A reader of a text, some bytes a call, whose one call fails.
+#[derive(Drop)]
+struct Breaking<'a> {
+    text: &'a [u8],
+    calls: u64,
+    fails_at: u64,
+}
+
+impl Read for Breaking<'_> {
+    fn read(&mut self, buf: &mut [u8]) -> io::Result<usize> {
+        self.calls = self.calls.saturating_add(1);
+        if self.calls == self.fails_at {
+            return Err(Error::from(ErrorKind::Other));
+        }
+        let count = buf.len().min(16).min(self.text.len());
+        buf[..count].copy_from_slice(&self.text[..count]);
+        self.text = &self.text[count..];
+        Ok(count)
+    }
+}
+
+/// A writer with room for so many bytes.
+#[derive(Drop)]
+struct Full {
+    taken: usize,
+    room: usize,
+}
+
+impl Write for Full {
+    fn write(&mut self, buf: &[u8]) -> io::Result<usize> {
+        let count = buf.len().min(self.room);
+        self.room -= count;
+        self.taken = self.taken.saturating_add(count);
+        Ok(count)
+    }
+
+    fn flush(&mut self) -> io::Result<()> {
+        Ok(())
+    }
+}
+
+/// Runs the words over the input with a reader that fails at each of its calls, and with a writer of each
+/// room below the output's size: each run ends with 4 after a beginning of the output.
+fn check_failures<H: Host + Net<Stream = TcpStream, Listener = TcpListener>>(
+    rt: &H,
+    alloc: Global,
+    words: &[&str],
+    input: &[u8],
+    status: u8,
+    output: &[u8],
+) -> Result<(), Fail> {
+    let calls = input.len() as u64 / 16 + 2;
+    for fails_at in 1..calls + 2 {
+        let mut reader = Breaking {
+            text: input,
+            calls: 0,
+            fails_at,
+        };
+        let mut written = Vec::new(alloc);
+        let got = run(
+            rt,
+            alloc,
+            words,
+            &mut Watched::new(&mut reader),
+            &mut Watched::new(&mut written),
+        );
+        assert_eq!(rt; got, if fails_at <= calls { 4 } else { status });
+        assert!(rt; output.starts_with(written.as_slice()));
+    }
+    for room in 0..output.len() {
+        let mut writer = Full { taken: 0, room };
+        let got = run(
+            rt,
+            alloc,
+            words,
+            &mut Watched::new(input),
+            &mut Watched::new(&mut writer),
+        );
+        assert_eq!(rt; got, 4);
+        assert_eq!(rt; writer.taken, room);
+    }
+    Ok(())
+}
+
+#[test]
+fn of_get(rt: HostRuntime) -> Result<(), Fail> {
+    let alloc = rt.alloc();
+    let input = joined(alloc, &["zz\n", HEAD, TAIL])?;
+    let wanted = joined(alloc, &["line 1: bad hex\n", SPAN])?;
+    let words = ["jaeger_one", "get", "1"];
+    check_failures(&rt, alloc, &words, input.as_bytes(), 3, wanted.as_bytes())
+}
+
+#[test]
+fn of_play(rt: HostRuntime) -> Result<(), Fail> {
+    let input = "take\nbad\n\nenter 1\nread 1 /api/services\nleave 1";
+    let wanted =
+        "idle\nline 2: bad step\nentered 0\nread 0 {\"data\":[],\"errors\":null,\"limit\":0,\"offset\":0,\"total\":0}\nleft\n";
+    let words = ["jaeger_one", "play"];
+    check_failures(
+        &rt,
+        rt.alloc(),
+        &words,
+        input.as_bytes(),
+        3,
+        wanted.as_bytes(),
+    )
+}

@@ -1,0 +1,61 @@
+//! Runs of the program over memory.
+use crate::tests::host::Host;
+use program_run::run;
+use session_devices::Watched;
+use std::alloc::Global;
+use std::net::{Net, TcpListener, TcpStream};
+use std::test::Fail;
+
+/// A batch of service `a` with one span of trace 1, up to and from the end of the operation.
+pub(crate) const HEAD: &str =
+    "0c00010b00010000000161000f00020c000000010a000100000000000000010a000200000000000000000a000300000000000000020a000400000000000000000b0005000000026f70";
+
+pub(crate) const TAIL: &str = "080007000000010a000800000000000003e80a000900000000000000320000";
+
+/// The rest of that batch where it has the number 1.
+pub(crate) const NUMBERED: &str =
+    "080007000000010a000800000000000003e80a00090000000000000032000a0003000000000000000100";
+
+/// The same where its span takes 51 and not 50 microseconds.
+pub(crate) const LONGER: &str =
+    "080007000000010a000800000000000003e80a00090000000000000033000a0003000000000000000100";
+
+/// A batch of service `a` without spans, but for its stop byte.
+pub(crate) const OPEN: &str = "0c00010b00010000000161000f00020c00000000";
+
+pub(crate) const SPAN: &str = "0000000000000001 0000000000000002 1000 50 a op\n";
+
+pub(crate) const NONE: &str = "trace not found\n";
+
+/// The pieces of a text, joined.
+pub(crate) fn joined(alloc: Global, pieces: &[&str]) -> Result<String, Fail> {
+    let mut text = String::new(alloc);
+    for piece in pieces {
+        text.push_str(piece)?;
+    }
+    Ok(text)
+}
+
+/// Runs the words over the input, and looks at the status and the output.
+pub(crate) fn check<H: Host + Net<Stream = TcpStream, Listener = TcpListener>>(
+    rt: &H,
+    alloc: Global,
+    words: &[&str],
+    input: &[&str],
+    status: u8,
+    output: &[&str],
+) -> Result<(), Fail> {
+    let input = joined(alloc, input)?;
+    let wanted = joined(alloc, output)?;
+    let mut written = Vec::new(alloc);
+    let got = run(
+        rt,
+        alloc,
+        words,
+        &mut Watched::new(input.as_bytes()),
+        &mut Watched::new(&mut written),
+    );
+    assert_eq!(rt; written.as_slice(), wanted.as_bytes());
+    assert_eq!(rt; got, status);
+    Ok(())
+}

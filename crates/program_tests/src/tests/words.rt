@@ -1,0 +1,277 @@
+//! Words that can't be used, or that ask for help, and what is said to them: by `clap`'s rules, whose texts these are.
+use crate::tests::runs::check;
+use std::test::Fail;
+
+/// What stands behind each fault of the words.
+const MORE: &str = "\n\nFor more information, try '--help'.\n";
+
+/// The options of each subcommand, as help lists them.
+const OPTIONS: &str = "
+Options:
+      --batches <N>   How many batches are kept, 1 to 1000000 [default: 1000]
+      --spans <N>     How many spans are kept, 1 to 10000000 [default: 100000]
+      --traces <N>    How many of the newest traces are shown, up to 1000000; 0 for all [default: 0]
+      --max-skew <N>  By how many microseconds a span may be moved to mend clock skew [default: 0]
+  -h, --help          Print help
+";
+
+/// Words behind the program's name, and the pieces of what is said to them.
+type Row = (&'static [&'static str], &'static [&'static str]);
+
+const ROWS: [Row; 34] = [
+    (
+        &[],
+        &[
+            "error: 'jaeger_one' requires a subcommand but one was not provided\n  [subcommands: get, pipe, play, serve, help]\n\nUsage: jaeger_one <COMMAND>",
+            MORE,
+        ],
+    ),
+    (
+        &["get"],
+        &[
+            "error: the following required arguments were not provided:\n  <TRACE>\n\nUsage: jaeger_one get <TRACE>",
+            MORE,
+        ],
+    ),
+    (
+        &["get", "1", "2"],
+        &[
+            "error: unexpected argument '2' found\n\nUsage: jaeger_one get [OPTIONS] <TRACE>",
+            MORE,
+        ],
+    ),
+    (
+        &["get", "--spans=0", "1"],
+        &[
+            "error: invalid value '0' for '--spans <N>': 0 is not in 1..=10000000",
+            MORE,
+        ],
+    ),
+    (
+        &["get", "1", "--spans", "0"],
+        &[
+            "error: invalid value '0' for '--spans <N>': 0 is not in 1..=10000000",
+            MORE,
+        ],
+    ),
+    (
+        &["get", "1", "--spans", "10000001"],
+        &[
+            "error: invalid value '10000001' for '--spans <N>': 10000001 is not in 1..=10000000",
+            MORE,
+        ],
+    ),
+    (
+        &["get", "1", "--batches", "0"],
+        &[
+            "error: invalid value '0' for '--batches <N>': 0 is not in 1..=1000000",
+            MORE,
+        ],
+    ),
+    (
+        &["get", "1", "--batches", "1000001"],
+        &[
+            "error: invalid value '1000001' for '--batches <N>': 1000001 is not in 1..=1000000",
+            MORE,
+        ],
+    ),
+    (
+        &["get", "1", "--batches="],
+        &[
+            "error: invalid value '' for '--batches <N>': cannot parse integer from empty string",
+            MORE,
+        ],
+    ),
+    (
+        &["get", "1", "--batches", "1", "--batches", "2"],
+        &[
+            "error: the argument '--batches <N>' cannot be used multiple times\n\nUsage: jaeger_one get [OPTIONS] <TRACE>",
+            MORE,
+        ],
+    ),
+    (
+        &["--batches", "1", "get", "1"],
+        &[
+            "error: unexpected argument '--batches' found\n\n  tip: 'get --batches' exists\n\nUsage: jaeger_one <COMMAND>",
+            MORE,
+        ],
+    ),
+    (
+        &["get", "1", "--traces"],
+        &[
+            "error: a value is required for '--traces <N>' but none was supplied",
+            MORE,
+        ],
+    ),
+    (
+        &["get", "1", "--traces", "-1"],
+        &[
+            "error: unexpected argument '-1' found\n\n  tip: to pass '-1' as a value, use '-- -1'\n\nUsage: jaeger_one get [OPTIONS] <TRACE>",
+            MORE,
+        ],
+    ),
+    (
+        &["get", "1", "--traces", "x"],
+        &[
+            "error: invalid value 'x' for '--traces <N>': invalid digit found in string",
+            MORE,
+        ],
+    ),
+    (
+        &["get", "1", "--traces", "1000001"],
+        &[
+            "error: invalid value '1000001' for '--traces <N>': 1000001 is not in 0..=1000000",
+            MORE,
+        ],
+    ),
+    (
+        &["get", "1", "--max-skew", "9223372036854775808"],
+        &[
+            "error: invalid value '9223372036854775808' for '--max-skew <N>': 9223372036854775808 is not in 0..=9223372036854775807",
+            MORE,
+        ],
+    ),
+    (
+        &["get", "1", "--nope", "1"],
+        &[
+            "error: unexpected argument '--nope' found\n\n  tip: to pass '--nope' as a value, use '-- --nope'\n\nUsage: jaeger_one get <TRACE>",
+            MORE,
+        ],
+    ),
+    (
+        &["get", "1", "--workers", "4"],
+        &[
+            "error: unexpected argument '--workers' found\n\n  tip: to pass '--workers' as a value, use '-- --workers'\n\nUsage: jaeger_one get <TRACE>",
+            MORE,
+        ],
+    ),
+    (
+        &["get", "1", "-x"],
+        &[
+            "error: unexpected argument '-x' found\n\n  tip: to pass '-x' as a value, use '-- -x'\n\nUsage: jaeger_one get [OPTIONS] <TRACE>",
+            MORE,
+        ],
+    ),
+    (
+        &["get", "--help"],
+        &[
+            "Reads batches from standard input, a line of hexadecimal text each, and prints the spans of a trace\n\nUsage: jaeger_one get [OPTIONS] <TRACE>\n\nArguments:\n  <TRACE>  The trace's id, 1 to 32 hexadecimal digits\n",
+            OPTIONS,
+        ],
+    ),
+    (&["help"], &[HELP]),
+    (&["--help"], &[HELP]),
+    (
+        &["nope"],
+        &[
+            "error: unrecognized subcommand 'nope'\n\nUsage: jaeger_one <COMMAND>",
+            MORE,
+        ],
+    ),
+    (
+        &["pipe", "extra"],
+        &[
+            "error: unexpected argument 'extra' found\n\nUsage: jaeger_one pipe [OPTIONS]",
+            MORE,
+        ],
+    ),
+    (
+        &["pipe", "--batches", "0"],
+        &[
+            "error: invalid value '0' for '--batches <N>': 0 is not in 1..=1000000",
+            MORE,
+        ],
+    ),
+    (
+        &["pipe", "--help"],
+        &[
+            "Answers the HTTP requests of standard input on standard output\n\nUsage: jaeger_one pipe [OPTIONS]\n",
+            OPTIONS,
+        ],
+    ),
+    (
+        &["play", "extra"],
+        &[
+            "error: unexpected argument 'extra' found\n\nUsage: jaeger_one play [OPTIONS]",
+            MORE,
+        ],
+    ),
+    (
+        &["play", "--traces", "1000001"],
+        &[
+            "error: invalid value '1000001' for '--traces <N>': 1000001 is not in 0..=1000000",
+            MORE,
+        ],
+    ),
+    (
+        &["serve", "--port", "65536"],
+        &[
+            "error: invalid value '65536' for '--port <N>': 65536 is not in 0..=65535",
+            MORE,
+        ],
+    ),
+    (
+        &["serve", "--queue", "0"],
+        &[
+            "error: invalid value '0' for '--queue <N>': 0 is not in 1..=4096",
+            MORE,
+        ],
+    ),
+    (
+        &["serve", "--queue", "4097"],
+        &[
+            "error: invalid value '4097' for '--queue <N>': 4097 is not in 1..=4096",
+            MORE,
+        ],
+    ),
+    (
+        &["serve", "--sessions", "4294967296"],
+        &[
+            "error: invalid value '4294967296' for '--sessions <N>': 4294967296 is not in 0..=4294967295",
+            MORE,
+        ],
+    ),
+    (
+        &["serve", "--workers", "0"],
+        &[
+            "error: invalid value '0' for '--workers <N>': 0 is not in 1..=64",
+            MORE,
+        ],
+    ),
+    (
+        &["serve", "--workers", "65"],
+        &[
+            "error: invalid value '65' for '--workers <N>': 65 is not in 1..=64",
+            MORE,
+        ],
+    ),
+];
+
+/// The program's own help.
+const HELP: &str = "\
+Collects traces of Jaeger clients and answers queries on them
+
+Usage: jaeger_one <COMMAND>
+
+Commands:
+  get    Reads batches from standard input, a line of hexadecimal text each, and prints the spans of a trace
+  pipe   Answers the HTTP requests of standard input on standard output
+  play   Plays the steps of standard input, a line each, and prints what came of each
+  serve  Takes batches and answers queries over HTTP on 127.0.0.1
+  help   Print this message or the help of the given subcommand(s)
+
+Options:
+  -h, --help  Print help
+";
+
+/// Nothing is read, and the status is 2.
+#[test]
+fn unusable_words(rt: HostRuntime) -> Result<(), Fail> {
+    let alloc = rt.alloc();
+    for (words, said) in ROWS {
+        let mut all = vec![in alloc; "jaeger_one"]?;
+        all.extend_from_slice(words)?;
+        check(&rt, alloc, all.as_slice(), &["zz"], 2, said)?;
+    }
+    Ok(())
+}

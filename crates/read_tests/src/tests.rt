@@ -1,0 +1,9 @@
+//! The tests, by their subject, and what they share.
+
+mod entries;
+mod fixture;
+mod holding;
+mod machine;
+mod rows;
+mod sent_again;
+mod threads;

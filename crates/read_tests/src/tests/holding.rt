@@ -1,0 +1,176 @@
+use crate::tests::entries::{entries_to, entry_of};
+use crate::tests::fixture::{Row, plays};
+use crate::tests::rows::answer_to;
+use read_side::{Keeper, Pass, Reading, Receipt, StoreName};
+use std::alloc::Global;
+use std::mem::drop;
+use std::sync::{Arc, Wait};
+use std::test::*;
+use std::thread::{Threads, join};
+use trace_model::{Entry, Query, Refusal};
+
+/// The front of a list that is held, and those of two readings of it.
+type Fronts = (u64, u64, u64);
+
+/// The front of a reading.
+fn front_of(reading: Result<Reading, Refusal>) -> Result<u64, Refusal> {
+    let reading = reading?;
+    let front = reading.front;
+    drop(reading);
+    Ok(front)
+}
+
+/// Holds, asks twice and comes out again. It needs no handle, so it can't wait.
+fn held_fronts<N: StoreName>(pass: &mut Pass<N>) -> Result<Fronts, Refusal> {
+    let held = pass.hold()?;
+    let front = held.front();
+    let first = front_of(held.read(&Query::Services));
+    let second = front_of(held.read(&Query::Services));
+    held.leave();
+    Ok((front, first?, second?))
+}
+
+/// Admits the entries, and says how many were taken.
+pub fn count_admitted<N: StoreName, R: Wait>(
+    rt: &R,
+    keeper: &mut Keeper<N>,
+    entries: Vec<Arc<Entry>>,
+) -> u64 {
+    let mut taken = 0u64;
+    for entry in entries {
+        if answer_to(rt, keeper, entry).is_ok() {
+            taken = taken.saturating_add(1);
+        }
+    }
+    taken
+}
+
+/// Whether all three are the same.
+fn is_one(fronts: &Fronts) -> bool {
+    fronts.0 == fronts.1 && fronts.1 == fronts.2
+}
+
+#[test]
+fn held_point(rt: HostRuntime) -> Result<(), Fail> {
+    assert!(rt; plays(&rt, rt.alloc(), 10, 1, Row::HeldBeside)?.as_wanted);
+    Ok(())
+}
+
+/// One thread holds and reads twice while another admits two entries. Then the pass settles on the last receipt.
+pub fn held_beside<N: StoreName + Send + Sync, R: Threads + Wait + Sync>(
+    rt: &R,
+    alloc: Global,
+    keeper: &mut Keeper<N>,
+    passes: &mut Vec<Pass<N>>,
+) -> Result<bool, Fail> {
+    let entries = entries_to(alloc, 2)?;
+    let Some(pass) = passes.first_mut() else {
+        drop(entries);
+        return Ok(false);
+    };
+    let (taken, fronts) = beside(rt, keeper, pass, entries);
+    let last = keeper.receipt();
+    let settles = pass.settle(&last) == Ok(()) && last.front() == 2;
+    drop(last);
+    Ok(taken == 2 && settles && fronts.is_ok_and(|fronts| is_one(&fronts)))
+}
+
+/// How many entries were taken, and what is held meanwhile.
+fn beside<N: StoreName + Send + Sync, R: Threads + Wait + Sync>(
+    rt: &R,
+    keeper: &mut Keeper<N>,
+    pass: &mut Pass<N>,
+    entries: Vec<Arc<Entry>>,
+) -> (u64, Result<Fronts, Refusal>) {
+    join(
+        rt,
+        || -> u64 { count_admitted(rt, keeper, entries) },
+        || -> Result<Fronts, Refusal> { held_fronts(pass) },
+    )
+}
+
+#[test]
+fn held_through_a_publish(rt: HostRuntime) -> Result<(), Fail> {
+    assert!(rt; plays(&rt, rt.alloc(), 10, 1, Row::HeldBefore)?.as_wanted);
+    Ok(())
+}
+
+/// The row of `held_through_a_publish`: two readings of one hold, around an entry that is admitted meanwhile, and one behind it.
+pub fn held_before<N: StoreName, R: Wait>(
+    rt: &R,
+    alloc: Global,
+    keeper: &mut Keeper<N>,
+    passes: &mut Vec<Pass<N>>,
+) -> Result<bool, Fail> {
+    let first = answer_to(rt, keeper, entry_of(alloc, 1)?);
+    let second = entry_of(alloc, 2)?;
+    let Some(pass) = passes.first_mut() else {
+        drop(second);
+        return Ok(false);
+    };
+    let held = read_around(rt, keeper, pass, second);
+    let later = front_of(pass.read(&Query::Services));
+    Ok(first.is_ok() && held == Ok((1, 2, 1)) && later == Ok(2))
+}
+
+/// The front of a reading that is held, the receipt's of an entry admitted then, and the front of a second reading
+/// that is held.
+fn read_around<N: StoreName, R: Wait>(
+    rt: &R,
+    keeper: &mut Keeper<N>,
+    pass: &mut Pass<N>,
+    second: Arc<Entry>,
+) -> Result<(u64, u64, u64), Refusal> {
+    let held = pass.hold()?;
+    let before = front_of(held.read(&Query::Services));
+    let answer = answer_to(rt, keeper, second);
+    let after = front_of(held.read(&Query::Services));
+    drop(held);
+    Ok((before?, answer?.0, after?))
+}
+
+#[test]
+fn an_old_receipt_is_learnt(rt: HostRuntime) -> Result<(), Fail> {
+    assert!(rt; plays(&rt, rt.alloc(), 10, 1, Row::LearntLate)?.as_wanted);
+    Ok(())
+}
+
+/// A pass at front 3 that learns a receipt of front 1 stays there, and reads there.
+pub fn learnt_late<N: StoreName, R: Wait>(
+    rt: &R,
+    alloc: Global,
+    keeper: &mut Keeper<N>,
+    passes: &mut Vec<Pass<N>>,
+) -> Result<bool, Fail> {
+    let old = keeper.admit(rt, entry_of(alloc, 1)?)?;
+    let both = two_more(rt, alloc, keeper);
+    let seen = match passes.first_mut() {
+        Some(pass) => learn_late(pass, &old),
+        None => Err(Refusal::Gone),
+    };
+    drop(old);
+    Ok(both? && seen == Ok((3, 1, 3, 3)))
+}
+
+/// Whether a second and a third entry are taken.
+fn two_more<N: StoreName, R: Wait>(
+    rt: &R,
+    alloc: Global,
+    keeper: &mut Keeper<N>,
+) -> Result<bool, Fail> {
+    let second = answer_to(rt, keeper, entry_of(alloc, 2)?);
+    let third = answer_to(rt, keeper, entry_of(alloc, 3)?);
+    Ok(second.is_ok() && third.is_ok())
+}
+
+/// The front of a reading, the old receipt's, the pass's once it has learnt it, and the next reading's.
+fn learn_late<N: StoreName>(
+    pass: &mut Pass<N>,
+    old: &Receipt<N>,
+) -> Result<(u64, u64, u64, u64), Refusal> {
+    let before = front_of(pass.read(&Query::Services))?;
+    pass.learn(old);
+    let learnt = pass.front();
+    let after = front_of(pass.read(&Query::Services))?;
+    Ok((before, old.front(), learnt, after))
+}

@@ -1,0 +1,342 @@
+use crate::tests::entries::{batch_under, kept, limit_under, works_to};
+use crate::tests::fixture::{Row, plays};
+use jaeger_model::TraceId;
+use read_side::{Keeper, Pass, Reading, StoreName};
+use schedule_core::{Outcome, Step, play};
+use std::alloc::Global;
+use std::hash::RandomState;
+use std::mem::drop;
+use std::sync::{Arc, Wait};
+use std::test::*;
+use trace_model::{Answer, Entry, Limits, Query, Refusal};
+
+/// What is seen of a store, one line of text after another.
+type Lines = Vec<String>;
+
+/// How many entries are handed in.
+const LAST: u64 = 20;
+
+fn question(before: u64) -> Query {
+    if before % 2 == 0 {
+        Query::Services
+    } else {
+        let id = TraceId {
+            high: 0,
+            low: before.saturating_sub(before % 5),
+        };
+        Query::Trace { id, raw: false }
+    }
+}
+
+/// The step by which a seat hands in what stands under the number.
+fn hand_in(alloc: Global, number: u64) -> Result<Step, Fail> {
+    let seat = 0;
+    match limit_under(number) {
+        Some(limit) => Ok(Step::Limit { seat, limit }),
+        None => {
+            let batch = batch_under(alloc, number)?;
+            Ok(Step::Put { seat, batch })
+        }
+    }
+}
+
+/// The steps by which a reader enters, asks and leaves.
+fn visit(steps: &mut Vec<Step>, reader: u32, before: u64) -> Result<(), Fail> {
+    steps.push(Step::Enter { reader })?;
+    ask(steps, reader, before)?;
+    steps.push(Step::Leave { reader })?;
+    Ok(())
+}
+
+/// The step by which it asks.
+fn ask(steps: &mut Vec<Step>, reader: u32, before: u64) -> Result<(), Fail> {
+    let query = question(before);
+    steps.push(Step::Read { reader, query })?;
+    Ok(())
+}
+
+/// Adds the steps by which a machine is handed one more entry. Reader 6 is inside before it is taken, while it is
+/// pending and until it is published; reader 5 comes while it is pending and behind that; reader 7 learns of the
+/// publish and comes then.
+fn add_steps(alloc: Global, steps: &mut Vec<Step>, before: u64) -> Result<(), Fail> {
+    let number = before.saturating_add(1);
+    steps.push(Step::Enter { reader: 6 })?;
+    steps.push(hand_in(alloc, number)?)?;
+    steps.push(Step::Take)?;
+    ask(steps, 6, before)?;
+    visit(steps, 5, before)?;
+    steps.push(Step::Publish)?;
+    visit(steps, 5, before)?;
+    ask(steps, 6, before)?;
+    steps.push(Step::Leave { reader: 6 })?;
+    let publish = u32::try_from(number).unwrap_or(0);
+    steps.push(Step::Learn { reader: 7, publish })?;
+    visit(steps, 7, before)
+}
+
+/// Adds those of so many entries.
+fn add_all_steps(alloc: Global, steps: &mut Vec<Step>, last: u64) -> Result<(), Fail> {
+    for before in 0..last {
+        add_steps(alloc, steps, before)?;
+    }
+    Ok(())
+}
+
+/// What is seen of a machine that is handed so many entries.
+fn machine_lines(
+    alloc: Global,
+    keys: RandomState,
+    limits: Limits,
+    last: u64,
+) -> Result<Lines, Fail> {
+    let mut steps = Vec::new(alloc);
+    let added = add_all_steps(alloc, &mut steps, last);
+    lines_of(alloc, play(alloc, keys, kept(steps, added)?, limits)?)
+}
+
+/// What an answer shows.
+fn answered(alloc: Global, front: u64, answer: &Answer) -> Result<String, Fail> {
+    Ok(format!(in alloc; "{front}: {answer:?}")?)
+}
+
+/// How what was handed in was judged: its place, or why it was refused.
+fn judged_line(alloc: Global, judged: Result<u64, Refusal>) -> Result<String, Fail> {
+    Ok(format!(in alloc; "judged {judged:?}")?)
+}
+
+/// How many entries a reader knows that has learnt.
+fn learnt(alloc: Global, front: u64) -> Result<String, Fail> {
+    Ok(format!(in alloc; "learnt {front}")?)
+}
+
+/// Adds what is judged, answered or learnt by this outcome. A job that is taken and not refused is published next, as
+/// the last one.
+fn add_line(
+    alloc: Global,
+    lines: &mut Lines,
+    judged: &mut Option<Result<u64, Refusal>>,
+    outcome: &Outcome,
+) -> Result<(), Fail> {
+    match outcome {
+        Outcome::Again { place, .. } => *judged = Some(Ok(*place)),
+        Outcome::Refused(why) => *judged = Some(Err(*why)),
+        Outcome::Published { front } => {
+            let said = judged.take().unwrap_or(Ok(*front));
+            lines.push(judged_line(alloc, said)?)?
+        }
+        Outcome::Answered { front, answer } => lines.push(answered(alloc, *front, answer)?)?,
+        Outcome::Learnt { front } => lines.push(learnt(alloc, *front)?)?,
+        Outcome::Held { .. } | Outcome::Inside | Outcome::Outside | Outcome::Unknown => {
+            return Err("a step that was not made".into());
+        }
+        _ => {}
+    }
+    Ok(())
+}
+
+/// Adds the same of all of these outcomes.
+fn add_lines(alloc: Global, lines: &mut Lines, outcomes: &[Outcome]) -> Result<(), Fail> {
+    let mut judged = None;
+    for outcome in outcomes {
+        add_line(alloc, lines, &mut judged, outcome)?;
+    }
+    Ok(())
+}
+
+/// What is judged, answered and learnt by these outcomes.
+fn lines_of(alloc: Global, outcomes: Vec<Outcome>) -> Result<Lines, Fail> {
+    let mut lines = Vec::new(alloc);
+    let added = add_lines(alloc, &mut lines, &outcomes);
+    drop(outcomes);
+    kept(lines, added)
+}
+
+/// What is seen around one entry more: two readings before it, how it was judged, and two behind it.
+#[derive(Drop)]
+struct Around {
+    first: Result<Reading, Refusal>,
+    second: Result<Reading, Refusal>,
+    judged: Result<u64, Refusal>,
+    third: Result<Reading, Refusal>,
+    fourth: Result<Reading, Refusal>,
+}
+
+/// Hands two copies one more entry while the second pass stays inside. What is pending on the machine is not handed
+/// in here yet.
+fn round<N: StoreName, R: Wait>(
+    rt: &R,
+    keeper: &mut Keeper<N>,
+    five: &mut Pass<N>,
+    six: &mut Pass<N>,
+    entry: Arc<Entry>,
+    before: u64,
+) -> Result<Around, Refusal> {
+    let query = question(before);
+    let around = round_asked(rt, keeper, five, six, entry, &query);
+    drop(query);
+    around
+}
+
+/// The place of an entry that is admitted, or why it is refused.
+fn place_of<N: StoreName, R: Wait>(
+    rt: &R,
+    keeper: &mut Keeper<N>,
+    entry: Arc<Entry>,
+) -> Result<u64, Refusal> {
+    let receipt = keeper.admit(rt, entry)?;
+    let place = receipt.place().unwrap_or(0);
+    drop(receipt);
+    Ok(place)
+}
+
+/// The same with this question.
+fn round_asked<N: StoreName, R: Wait>(
+    rt: &R,
+    keeper: &mut Keeper<N>,
+    five: &mut Pass<N>,
+    six: &mut Pass<N>,
+    entry: Arc<Entry>,
+    query: &Query,
+) -> Result<Around, Refusal> {
+    let held = six.hold()?;
+    let first = held.read(query);
+    let second = five.read(query);
+    let judged = place_of(rt, keeper, entry);
+    let third = five.read(query);
+    let fourth = held.read(query);
+    held.leave();
+    Ok(Around {
+        first,
+        second,
+        judged,
+        third,
+        fourth,
+    })
+}
+
+/// Says what a reading shows.
+fn say(alloc: Global, lines: &mut Lines, reading: &Result<Reading, Refusal>) -> Result<(), Fail> {
+    match reading {
+        Ok(reading) => {
+            lines.push(answered(alloc, reading.front, &reading.answer)?)?;
+            Ok(())
+        }
+        Err(why) => Err((*why).into()),
+    }
+}
+
+/// Says what was seen around an entry.
+fn say_round(alloc: Global, lines: &mut Lines, around: &Around) -> Result<(), Fail> {
+    say(alloc, lines, &around.first)?;
+    say(alloc, lines, &around.second)?;
+    lines.push(judged_line(alloc, around.judged)?)?;
+    say(alloc, lines, &around.third)?;
+    say(alloc, lines, &around.fourth)
+}
+
+/// Hands two copies one more entry. The three passes ask as the machine's readers do.
+fn hand_on<N: StoreName, R: Wait>(
+    rt: &R,
+    alloc: Global,
+    keeper: &mut Keeper<N>,
+    passes: &mut Vec<Pass<N>>,
+    entry: Arc<Entry>,
+    before: u64,
+    lines: &mut Lines,
+) -> Result<(), Fail> {
+    let [five, six, seven] = passes.as_mut_slice() else {
+        drop(entry);
+        return Err("three passes were asked for".into());
+    };
+    let around = round(rt, keeper, five, six, entry, before)?;
+    let said = say_round(alloc, lines, &around);
+    drop(around);
+    said?;
+    let published = keeper.receipt();
+    seven.learn(&published);
+    drop(published);
+    lines.push(learnt(alloc, seven.front())?)?;
+    let reading = asked(seven, before);
+    let said = say(alloc, lines, &reading);
+    drop(reading);
+    said
+}
+
+/// What a pass reads when it is asked what the machine's readers are.
+fn asked<N: StoreName>(pass: &mut Pass<N>, before: u64) -> Result<Reading, Refusal> {
+    let query = question(before);
+    let reading = pass.read(&query);
+    drop(query);
+    reading
+}
+
+/// What is seen of two copies that are handed these entries.
+fn copies_lines<N: StoreName, R: Wait>(
+    rt: &R,
+    alloc: Global,
+    keeper: &mut Keeper<N>,
+    passes: &mut Vec<Pass<N>>,
+    entries: Vec<Arc<Entry>>,
+) -> Result<Lines, Fail> {
+    let mut lines = Vec::new(alloc);
+    let mut before = 0;
+    for entry in entries {
+        hand_on(rt, alloc, keeper, passes, entry, before, &mut lines)?;
+        before = before.saturating_add(1);
+    }
+    Ok(lines)
+}
+
+/// How many lines are seen of each entry, and the place of the one that says how it was judged.
+const PER_ENTRY: usize = 7;
+
+const JUDGING: usize = 2;
+
+/// Whether what was handed in under the number was judged so.
+fn has_judged_line(
+    alloc: Global,
+    lines: &[String],
+    number: usize,
+    said: Result<u64, Refusal>,
+) -> Result<bool, Fail> {
+    let wanted = judged_line(alloc, said)?;
+    let place = number
+        .saturating_sub(1)
+        .saturating_mul(PER_ENTRY)
+        .saturating_add(JUDGING);
+    match lines.get(place) {
+        Some(line) => Ok(*line == wanted),
+        None => Ok(false),
+    }
+}
+
+#[test]
+fn copies_follow_the_machine(rt: HostRuntime) -> Result<(), Fail> {
+    assert!(rt; plays(&rt, rt.alloc(), 20, 3, Row::Followed)?.as_wanted);
+    Ok(())
+}
+
+/// Whether these lines say how the fifth, the sixth and the nineteenth entry were judged, which are sent again, and
+/// as much of each entry.
+fn are_judging(alloc: Global, lines: &[String]) -> Result<bool, Fail> {
+    let conflict = Refusal::Conflict { place: 3 };
+    Ok(
+        lines.len() as u64 == LAST.saturating_mul(PER_ENTRY as u64)
+            && has_judged_line(alloc, lines, 5, Ok(3))?
+            && has_judged_line(alloc, lines, 19, Ok(14))?
+            && has_judged_line(alloc, lines, 6, Err(conflict))?,
+    )
+}
+
+/// Whether two copies show the same as the machine, line by line.
+pub fn followed<N: StoreName, R: Wait>(
+    rt: &R,
+    alloc: Global,
+    keeper: &mut Keeper<N>,
+    passes: &mut Vec<Pass<N>>,
+    (keys, limits): (RandomState, Limits),
+) -> Result<bool, Fail> {
+    let wanted = machine_lines(alloc, keys, limits, LAST)?;
+    let seen = copies_lines(rt, alloc, keeper, passes, works_to(alloc, LAST)?)?;
+    Ok(are_judging(alloc, &wanted)? && seen.as_slice() == wanted.as_slice())
+}

@@ -1,0 +1,135 @@
+use crate::tests::entries::sent_entry;
+use crate::tests::fixture::{Row, plays};
+use crate::tests::rows::answer_to;
+use read_side::{Keeper, Receipt, StoreName};
+use std::alloc::Global;
+use std::mem::drop;
+use std::sync::Wait;
+use std::test::*;
+use trace_model::Refusal;
+
+/// How many entries the receipt vouches for and its place, 0 where it has none; or why there is no receipt.
+pub type AdmitAnswer = Result<(u64, u64), Refusal>;
+
+/// The number of an entry of seat 0, its batch's number of the sender's own, the trace of the batch's span, and
+/// what is answered to it.
+type Sent = (u64, u64, u64, AdmitAnswer);
+
+/// In a store for four batches, one after another.
+const ROWS: [Sent; 12] = [
+    (1, 1, 1, Ok((1, 1))),
+    (1, 1, 1, Ok((1, 1))),
+    (1, 1, 9, Err(Refusal::Conflict { place: 1 })),
+    (1, 9, 9, Err(Refusal::Stale { last: 1 })),
+    (2, 2, 2, Ok((2, 2))),
+    (3, 3, 3, Ok((3, 3))),
+    (4, 1, 1, Ok((3, 1))),
+    (4, 2, 9, Err(Refusal::Conflict { place: 2 })),
+    (4, 4, 4, Ok((4, 4))),
+    (5, 2, 2, Ok((4, 2))),
+    (5, 3, 9, Err(Refusal::Conflict { place: 3 })),
+    (
+        5,
+        9,
+        9,
+        Err(Refusal::JournalFull {
+            batches: 4,
+            spans: 4,
+        }),
+    ),
+];
+
+/// What this receipt answers, or what is answered without one.
+pub fn answer_of<N: StoreName>(admitted: &Result<Receipt<N>, Refusal>) -> AdmitAnswer {
+    match admitted {
+        Ok(receipt) => Ok((receipt.front(), receipt.place().unwrap_or(0))),
+        Err(why) => Err(*why),
+    }
+}
+
+/// How many of the rows are answered as they say, each behind the ones before.
+fn answered_in_order<N: StoreName, R: Wait>(
+    rt: &R,
+    alloc: Global,
+    keeper: &mut Keeper<N>,
+) -> Result<usize, Fail> {
+    let mut count = 0usize;
+    for (number, sent, trace, wanted) in ROWS {
+        if answer_to(rt, keeper, sent_entry(alloc, number, sent, trace)?) != wanted {
+            break;
+        }
+        count = count.saturating_add(1);
+    }
+    Ok(count)
+}
+
+#[test]
+fn batches_sent_again(rt: HostRuntime) -> Result<(), Fail> {
+    assert!(rt; plays(&rt, rt.alloc(), 4, 1, Row::RowsAreAnswered)?.as_wanted);
+    Ok(())
+}
+
+/// The row of `batches_sent_again`: whether each of [`ROWS`] is answered as it says.
+pub fn rows_are_answered<N: StoreName, R: Wait>(
+    rt: &R,
+    alloc: Global,
+    keeper: &mut Keeper<N>,
+) -> Result<bool, Fail> {
+    Ok(answered_in_order(rt, alloc, keeper)? == ROWS.len())
+}
+
+/// The number of the entry that a receipt is for.
+fn number_of<N: StoreName>(receipt: &Receipt<N>) -> Option<u64> {
+    receipt.entry().map(|entry| entry.number)
+}
+
+#[test]
+fn the_first_of_three_sent_again(rt: HostRuntime) -> Result<(), Fail> {
+    assert!(rt; plays(&rt, rt.alloc(), 4, 1, Row::FirstIsHeld)?.as_wanted);
+    Ok(())
+}
+
+/// The receipt is for the entry that stands there, which has another number.
+pub fn first_is_held<N: StoreName, R: Wait>(
+    rt: &R,
+    alloc: Global,
+    keeper: &mut Keeper<N>,
+) -> Result<bool, Fail> {
+    for number in 1..4u64 {
+        let _answer = answer_to(rt, keeper, sent_entry(alloc, number, number, number)?);
+    }
+    let last = keeper.admit(rt, sent_entry(alloc, 4, 1, 1)?)?;
+    let seen = (last.front(), last.place(), number_of(&last));
+    drop(last);
+    Ok(seen == (3, Some(1), Some(1)))
+}
+
+#[test]
+fn the_one_batch_sent_again(rt: HostRuntime) -> Result<(), Fail> {
+    assert!(rt; plays(&rt, rt.alloc(), 1, 1, Row::SentTwice)?.as_wanted);
+    Ok(())
+}
+
+/// In a store for one batch, a batch that was published is found when it is sent again, at its place, and the
+/// receipt is for the first entry. Where memory ran out for that one, it is not pending, and the second one is
+/// added.
+pub fn sent_twice<N: StoreName, R: Wait>(
+    rt: &R,
+    alloc: Global,
+    keeper: &mut Keeper<N>,
+) -> Result<bool, Fail> {
+    let first = answer_to(rt, keeper, sent_entry(alloc, 1, 7, 1)?);
+    let again = keeper.admit(rt, sent_entry(alloc, 2, 7, 1)?);
+    let answers = answer_of(&again);
+    let held = match &again {
+        Ok(receipt) => number_of(receipt),
+        Err(_) => None,
+    };
+    drop(again);
+    let wanted = match first {
+        Ok((1, 1)) => 1,
+        Err(Refusal::NoMemory) => 2,
+        _ => return Ok(false),
+    };
+    Ok(answers == Ok((1, 1)) && held == Some(wanted))
+}

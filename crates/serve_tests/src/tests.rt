@@ -1,0 +1,8 @@
+//! The tests, by their subject, and what they share.
+
+mod clients;
+mod gates;
+mod guests;
+mod over_live;
+mod requests;
+mod sockets;

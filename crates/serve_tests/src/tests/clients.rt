@@ -1,0 +1,147 @@
+//! A server in a thread of its own, and what clients do meanwhile.
+
+ghost use Rattle.std.specs.Prelude.{◌≡◌, ◌≤◌};
+
+use crate::tests::guests::Guests;
+use session_devices::MemoryOutput;
+use std::alloc::Global;
+use std::hash::RandomState;
+use std::io;
+use std::io::{Read, Write};
+use std::net::{
+    Ipv4Addr, Net, OpenStream, Shutdown, SocketAddr, SocketAddrV4, TcpListener, TcpStream,
+};
+use std::process::Abort;
+use std::random::RandomSource;
+use std::sync::Wait;
+use std::test::*;
+use std::thread::{Threads, join};
+use std::time::Clock;
+use trace_model::Limits;
+use trace_server::{Gate, ServerConfig, serve_with};
+
+/// So many workers and sessions, over a store with room for so many batches.
+pub fn config<R: Abort + RandomSource>(
+    rt: &R,
+    workers: u16,
+    sessions: u32,
+    idle: u32,
+    batches: u32,
+) -> ServerConfig
+    requires { (1 ≤ workers) × (workers ≤ 64) }
+    ensures workers { result.workers ≡ workers }
+    ensures queue { result.queue ≡ 4 }
+{
+    let limits = Limits::new(batches, 1000, 0, 0).expect(rt, "limits");
+    ServerConfig {
+        limits,
+        keys: RandomState::new(rt).expect(rt, "keys"),
+        workers,
+        queue: 4,
+        sessions,
+        idle,
+    }
+}
+
+/// What came of a server and its clients.
+#[derive(Drop)]
+pub struct Outcome {
+    pub status: u8,
+    /// What the server wrote.
+    pub output: MemoryOutput,
+    /// Whether the clients met what they wanted, and the first line was the right one.
+    pub pleased: bool,
+}
+
+impl Outcome {
+    /// Whether all was well, and these were the server's last lines.
+    pub fn is_well(&self, last_lines: &[u8]) -> bool {
+        self.status == 0 && self.pleased && self.output.as_slice().ends_with(last_lines)
+    }
+}
+
+/// Serves until all sessions are over, and gives the status and what was written.
+fn serve<G: Gate + Sync, R: Threads + Wait + Clock + Eprint + Sync>(
+    rt: &R,
+    alloc: Global,
+    listener: &TcpListener,
+    config: &ServerConfig,
+    gate: &G,
+) -> (u8, MemoryOutput)
+    requires workers { (1 ≤ config.now.workers) × (config.now.workers ≤ 64) }
+    requires queue { (1 ≤ config.now.queue) × (config.now.queue ≤ 4096) }
+{
+    let mut output = MemoryOutput::new(alloc, 1000, 1000);
+    let status = serve_with(rt, alloc, listener, config, gate, &mut output);
+    (status, output)
+}
+
+/// Whether the server's first line names the port that it listens on.
+fn names_port(alloc: Global, output: &MemoryOutput, port: u16) -> bool {
+    let mut line = Vec::new(alloc);
+    writeln!(line, "listening 127.0.0.1:{port}").is_ok()
+        && output.as_slice().starts_with(line.as_slice())
+}
+
+/// Runs a server on a port of its own beside its clients.
+pub fn visited<
+    G: Gate + Sync,
+    R: Threads
+        + Wait
+        + Clock
+        + Eprint
+        + Net<Stream = TcpStream, Listener = TcpListener>
+        + Abort
+        + Sync,
+>(rt: &R, alloc: Global, config: &ServerConfig, gate: &G, guests: Guests) -> Result<Outcome, Fail>
+    requires workers { (1 ≤ config.now.workers) × (config.now.workers ≤ 64) }
+    requires queue { (1 ≤ config.now.queue) × (config.now.queue ≤ 4096) }
+{
+    let any = SocketAddr::V4(SocketAddrV4::new(Ipv4Addr::LOCALHOST, 0));
+    let listener = TcpListener::bind(rt, any).expect(rt, "bind");
+    let address = listener.local_addr().expect(rt, "address");
+    let ((status, output), pleased) = join(
+        rt,
+        || -> (u8, MemoryOutput)
+            requires { (1 ≤ config.now.workers) × (config.now.workers ≤ 64)
+                × (1 ≤ config.now.queue) × (config.now.queue ≤ 4096) }
+        { serve(rt, alloc, &listener, config, gate) },
+        || guests.visit(rt, alloc, address),
+    );
+    let pleased = matches!(pleased, Ok(true)) && names_port(alloc, &output, address.port());
+    Ok(Outcome {
+        status,
+        output,
+        pleased,
+    })
+}
+
+/// Sends the bytes and reads so many of the answer as `wanted` has; true where they are these.
+pub fn ask<S: Read + Write>(
+    alloc: Global,
+    stream: &mut S,
+    sent: &[u8],
+    wanted: &[u8],
+) -> io::Result<bool> {
+    stream.write_all(sent)?;
+    hears(alloc, stream, wanted)
+}
+
+/// Reads so many bytes as `wanted` has; true where they are these.
+pub fn hears<S: Read>(alloc: Global, stream: &mut S, wanted: &[u8]) -> io::Result<bool> {
+    let mut heard = Vec::new(alloc);
+    stream.take(wanted.len() as u64).read_to_end(&mut heard)?;
+    Ok(heard.as_slice() == wanted)
+}
+
+/// Says that no more comes, and reads to the end; true where that was `wanted`.
+pub fn parts<S: OpenStream + Read>(
+    alloc: Global,
+    stream: &mut S,
+    wanted: &[u8],
+) -> io::Result<bool> {
+    stream.shutdown(Shutdown::Write)?;
+    let mut heard = Vec::new(alloc);
+    stream.read_to_end(&mut heard)?;
+    Ok(heard.as_slice() == wanted)
+}

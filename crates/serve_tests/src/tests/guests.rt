@@ -1,0 +1,246 @@
+//! What clients do of a server.
+
+use crate::tests::clients::{ask, hears, parts};
+use crate::tests::requests::{
+    ACCEPTED, BATCH, CONFLICT, FULL, HUGE, NO_SERVICES, NUMBERED, ONE_SERVICE, ONE_SPAN, POST,
+    POST_NUMBERED, RENUMBERED, SERVICES, TOO_LARGE, TRACE, joined,
+};
+use std::alloc::Global;
+use std::io;
+use std::io::{Read, Write};
+use std::mem::drop;
+use std::net::{Net, SocketAddr, TcpListener, TcpStream};
+use std::thread::{Threads, join, map_indices};
+
+/// Which clients come.
+#[derive(Clone, Copy)]
+pub enum Guests {
+    /// One hands a batch in and finds it.
+    One,
+    /// One hands a batch in, and when it has gone another does.
+    TwoSessions,
+    /// One hands two batches in, and there is room for one.
+    OneTooMany,
+    /// One hands the same numbered batch in twice.
+    Repeats,
+    /// Two hand the same numbered batch in at the same time.
+    RepeatAtOnce,
+    /// One hands a numbered batch in, another one with its number, and the first again.
+    Conflicts,
+    /// What one connection hands in the other finds, which had looked and found nothing before.
+    TwoConnections,
+    /// Two ask at the same time.
+    TwoAtOnce,
+    /// Eight hand batches in and look, all at the same time.
+    Eight,
+    /// One stalls in a head and another goes away in a body, beside one that is served.
+    BadNeighbours,
+    /// One sends on behind a response that closes the connection, and reads the response, whole and alone.
+    SendsOn,
+}
+
+/// What is sent, a head and the body behind it, and what has to be answered.
+type Exchange = (&'static [u8], &'static [u8], &'static [u8]);
+
+/// No body follows.
+const NOTHING: &[u8] = b"";
+
+/// A batch is handed in.
+const HANDS_IN: [Exchange; 1] = [(POST, BATCH, ACCEPTED)];
+
+/// A second batch has no room.
+const ONE_TOO_MANY: [Exchange; 2] = [(POST, BATCH, ACCEPTED), (POST, BATCH, FULL)];
+
+/// The same numbered batch twice.
+const REPEATS: [Exchange; 3] = [
+    (POST_NUMBERED, NUMBERED, ACCEPTED),
+    (POST_NUMBERED, NUMBERED, ACCEPTED),
+    (TRACE, NOTHING, ONE_SPAN),
+];
+
+/// A numbered batch, which is found.
+const NUMBERED_IS_FOUND: [Exchange; 2] = [
+    (POST_NUMBERED, NUMBERED, ACCEPTED),
+    (TRACE, NOTHING, ONE_SPAN),
+];
+
+/// A numbered batch, another one with its number, and the first again.
+const CONFLICTS: [Exchange; 5] = [
+    (POST_NUMBERED, NUMBERED, ACCEPTED),
+    (POST_NUMBERED, RENUMBERED, CONFLICT),
+    (TRACE, NOTHING, ONE_SPAN),
+    (POST_NUMBERED, NUMBERED, ACCEPTED),
+    (TRACE, NOTHING, ONE_SPAN),
+];
+
+/// Nothing is there.
+const LOOKS: [Exchange; 1] = [(SERVICES, NOTHING, NO_SERVICES)];
+
+/// A batch is handed in, and its service is there.
+const HANDS_IN_AND_LOOKS: [Exchange; 2] = [
+    (POST, BATCH, ACCEPTED),
+    (SERVICES, NOTHING, ONE_SERVICE),
+];
+
+impl Guests {
+    /// True where all was as wanted.
+    pub fn visit<R: Threads + Net<Stream = TcpStream, Listener = TcpListener> + Sync>(
+        self,
+        rt: &R,
+        alloc: Global,
+        address: SocketAddr,
+    ) -> io::Result<bool> {
+        match self {
+            Guests::One => one(rt, alloc, address),
+            Guests::TwoSessions => Ok(
+                asks(rt, alloc, address, &HANDS_IN)? && asks(rt, alloc, address, &HANDS_IN)?,
+            ),
+            Guests::OneTooMany => asks(rt, alloc, address, &ONE_TOO_MANY),
+            Guests::Repeats => asks(rt, alloc, address, &REPEATS),
+            Guests::RepeatAtOnce => repeat_at_once(rt, alloc, address),
+            Guests::Conflicts => asks(rt, alloc, address, &CONFLICTS),
+            Guests::TwoConnections => two_connections(rt, alloc, address),
+            Guests::TwoAtOnce => two_at_once(rt, alloc, address),
+            Guests::Eight => eight(rt, alloc, address),
+            Guests::BadNeighbours => bad_neighbours(rt, alloc, address),
+            Guests::SendsOn => sends_on(rt, alloc, address),
+        }
+    }
+}
+
+/// One asks each of these, over a stream: true where each was answered as wanted.
+fn ask_all<S: Read + Write>(
+    alloc: Global,
+    stream: &mut S,
+    exchanges: &[Exchange],
+) -> io::Result<bool> {
+    for (head, body, wanted) in exchanges {
+        let sent = joined(alloc, &[*head, *body])?;
+        if !ask(alloc, stream, sent.as_slice(), wanted)? {
+            return Ok(false);
+        }
+    }
+    Ok(true)
+}
+
+/// The same over a connection of its own.
+fn asks<R: Net<Stream = TcpStream, Listener = TcpListener>>(
+    rt: &R,
+    alloc: Global,
+    address: SocketAddr,
+    exchanges: &[Exchange],
+) -> io::Result<bool> {
+    let mut stream = TcpStream::connect(rt, address)?;
+    ask_all(alloc, &mut stream, exchanges)
+}
+
+fn one<R: Net<Stream = TcpStream, Listener = TcpListener>>(
+    rt: &R,
+    alloc: Global,
+    address: SocketAddr,
+) -> io::Result<bool> {
+    let mut stream = TcpStream::connect(rt, address)?;
+    Ok(ask_all(alloc, &mut stream, &HANDS_IN_AND_LOOKS)? && parts(alloc, &mut stream, b"")?)
+}
+
+fn repeat_at_once<R: Threads + Net<Stream = TcpStream, Listener = TcpListener> + Sync>(
+    rt: &R,
+    alloc: Global,
+    address: SocketAddr,
+) -> io::Result<bool> {
+    let (one, other) = join(
+        rt,
+        || matches!(asks(rt, alloc, address, &NUMBERED_IS_FOUND), Ok(true)),
+        || matches!(asks(rt, alloc, address, &NUMBERED_IS_FOUND), Ok(true)),
+    );
+    Ok(one && other)
+}
+
+fn two_connections<R: Net<Stream = TcpStream, Listener = TcpListener>>(
+    rt: &R,
+    alloc: Global,
+    address: SocketAddr,
+) -> io::Result<bool> {
+    let mut one = TcpStream::connect(rt, address)?;
+    let mut other = TcpStream::connect(rt, address)?;
+    Ok(
+        ask_all(alloc, &mut other, &LOOKS)?
+            && ask_all(alloc, &mut one, &HANDS_IN)?
+            && ask(alloc, &mut other, SERVICES, ONE_SERVICE)?,
+    )
+}
+
+fn two_at_once<R: Threads + Net<Stream = TcpStream, Listener = TcpListener> + Sync>(
+    rt: &R,
+    alloc: Global,
+    address: SocketAddr,
+) -> io::Result<bool> {
+    let (one, other) = join(
+        rt,
+        || matches!(asks(rt, alloc, address, &LOOKS), Ok(true)),
+        || matches!(asks(rt, alloc, address, &LOOKS), Ok(true)),
+    );
+    Ok(one && other)
+}
+
+fn hands_in_and_looks<R: Net<Stream = TcpStream, Listener = TcpListener>>(
+    rt: &R,
+    alloc: Global,
+    address: SocketAddr,
+) -> io::Result<bool> {
+    let mut stream = TcpStream::connect(rt, address)?;
+    for _ in 0..5 {
+        if !ask_all(alloc, &mut stream, &HANDS_IN_AND_LOOKS)? {
+            return Ok(false);
+        }
+    }
+    Ok(true)
+}
+
+fn eight<R: Threads + Net<Stream = TcpStream, Listener = TcpListener> + Sync>(
+    rt: &R,
+    alloc: Global,
+    address: SocketAddr,
+) -> io::Result<bool> {
+    let pleased = map_indices(
+        rt,
+        alloc,
+        8,
+        &|_| -> bool { matches!(hands_in_and_looks(rt, alloc, address), Ok(true)) },
+    )?;
+    Ok(pleased.iter().all(|it| *it))
+}
+
+fn bad_neighbours<R: Net<Stream = TcpStream, Listener = TcpListener>>(
+    rt: &R,
+    alloc: Global,
+    address: SocketAddr,
+) -> io::Result<bool> {
+    let mut stalled = TcpStream::connect(rt, address)?;
+    stalled.write_all(b"GET /api/ser")?;
+    let mut gone = TcpStream::connect(rt, address)?;
+    let half = joined(alloc, &[POST, b"\x0c\x00\x01"])?;
+    gone.write_all(half.as_slice())?;
+    drop(gone);
+    let served = hands_in_and_looks(rt, alloc, address)?;
+    let mut rest = Vec::new(alloc);
+    let ended = stalled.read_to_end(&mut rest).is_ok() && rest.is_empty();
+    Ok(served && ended)
+}
+
+fn sends_on<R: Net<Stream = TcpStream, Listener = TcpListener>>(
+    rt: &R,
+    alloc: Global,
+    address: SocketAddr,
+) -> io::Result<bool> {
+    let mut stream = TcpStream::connect(rt, address)?;
+    stream.write_all(HUGE)?;
+    let piece = [7u8; 4096];
+    for _ in 0..200 {
+        stream.write_all(&piece)?;
+    }
+    let reported = hears(alloc, &mut stream, TOO_LARGE)?;
+    let mut rest = Vec::new(alloc);
+    stream.read_to_end(&mut rest)?;
+    Ok(reported && rest.is_empty())
+}

@@ -1,0 +1,152 @@
+//! Sessions over a shared store give the bytes that they give over a store that one owner has.
+
+ghost use Rattle.std.specs.Prelude.{◌≡◌};
+
+use crate::tests::requests::{
+    BATCH, CUT, DELETE, NOWHERE, NUMBERED, POST, POST_NUMBERED, RENUMBERED, SERVICES, TRACE,
+    UNTYPED, joined,
+};
+use direct_store::Direct;
+use http_session::session;
+use intake::{Books, Clerk, Desk, desk};
+use live_store::Live;
+use pipe_session::pipe;
+use read_side::{Keeper, Opened, StoreName, open};
+use session_devices::{MemoryInput, MemoryOutput};
+use span_store::SpanStore;
+use std::alloc::{AllocError, Global};
+use std::hash::RandomState;
+use std::marker::Brand;
+use std::process::Abort;
+use std::random::RandomSource;
+use std::sync::Wait;
+use std::test::*;
+use std::thread::{Threads, join};
+use trace_model::Limits;
+
+/// What a session over a store that one owner has writes.
+fn direct_bytes(
+    alloc: Global,
+    keys: RandomState,
+    limits: Limits,
+    sent: &[u8],
+) -> Result<MemoryOutput, AllocError> {
+    let mut input = MemoryInput::new(sent, 1000, 0);
+    let mut output = MemoryOutput::new(alloc, 100_000, 1000);
+    let mut store = Direct::new(SpanStore::open(alloc, keys, limits)?);
+    let _ended = pipe(alloc, &mut input, &mut output, &mut store);
+    Ok(output)
+}
+
+/// Has the clerk serve until the desk is closed, and gives the keeper back.
+fn keep<N: StoreName, R: Wait>(rt: &R, clerk: Clerk<N>, slot: &mut Option<Keeper<N>>) {
+    if let Some(keeper) = slot.take() {
+        let Books {
+            keeper,
+            accounts: _,
+            acknowledged: _,
+            refused: _,
+            left: _,
+            inbox: _,
+        } = clerk.run(rt, keeper);
+        if let Some(other) = slot.replace(keeper) {
+            other.close(rt);
+        }
+    }
+}
+
+/// What a session over a seat and a pass writes, beside a clerk.
+fn session_bytes<N: StoreName, R: Wait>(
+    rt: &R,
+    alloc: Global,
+    desk: &Desk<N>,
+    live: Option<Live<N>>,
+    sent: &[u8],
+) -> MemoryOutput {
+    let mut input = MemoryInput::new(sent, 1000, 0);
+    let mut output = MemoryOutput::new(alloc, 100_000, 1000);
+    if let Some(mut live) = live {
+        let _ended = session(rt, alloc, &mut input, &mut output, &mut live);
+    }
+    desk.close(rt);
+    output
+}
+
+/// A session over a store that is opened for it.
+fn live_bytes<N: StoreName + Send + Sync, R: Threads + Wait + Abort + Sync>(
+    rt: &R,
+    alloc: Global,
+    keys: RandomState,
+    name: Opened,
+    limits: Limits,
+    sent: &[u8],
+) -> Result<MemoryOutput, Fail>
+    requires book { name.seen.book ≡ N.book }
+    requires limits { limits ≡ N.limits }
+{
+    let (mut keeper, mut passes) = open::<N, _>(rt, alloc, keys, name, limits, 1)?;
+    let first = keeper.receipt();
+    match desk(alloc, first, 1, 1) {
+        Err(why) => {
+            keeper.close(rt);
+            Err(Fail::from(why))
+        }
+        Ok((desk, mut seats, clerk)) => {
+            let live = match (seats.pop(), passes.pop()) {
+                (Some(seat), Some(pass)) => Some(Live::new(seat, pass)),
+                _ => None,
+            };
+            let mut slot = Some(keeper);
+            let (_, output) = join(
+                rt,
+                || keep(rt, clerk, &mut slot),
+                || session_bytes(rt, alloc, &desk, live, sent),
+            );
+            if let Some(keeper) = slot {
+                keeper.close(rt);
+            }
+            Ok(output)
+        }
+    }
+}
+
+/// Whether both sessions write the same, and something.
+fn is_same<R: Threads + Wait + Abort + RandomSource + Sync>(
+    rt: &R,
+    alloc: Global,
+    limits: Limits,
+    requests: &[&[u8]],
+) -> Result<bool, Fail> {
+    let sent = joined(alloc, requests)?;
+    let keys = RandomState::new(rt)?;
+    let live = live_bytes::<Brand, _>(rt, alloc, keys, Opened::new(), limits, sent.as_slice())?;
+    let direct = direct_bytes(alloc, keys, limits, sent.as_slice())?;
+    Ok(!live.as_slice().is_empty() && live.as_slice() == direct.as_slice())
+}
+
+#[test]
+fn pipe_through_live(rt: HostRuntime) -> Result<(), Fail> {
+    let alloc = rt.alloc();
+    let many = Limits::new(1000, 100_000, 0, 0).expect(&rt, "limits");
+    let one = Limits::new(1, 100_000, 0, 0).expect(&rt, "limits");
+    assert!(rt; is_same(&rt, alloc, many, &[UNTYPED, BATCH])?);
+    assert!(rt; is_same(&rt, alloc, many, &[NOWHERE])?);
+    assert!(rt; is_same(&rt, alloc, many, &[DELETE, SERVICES])?);
+    assert!(rt; is_same(&rt, alloc, many, &[CUT, SERVICES])?);
+    assert!(rt; is_same(&rt, alloc, one, &[POST, BATCH, POST, BATCH, SERVICES])?);
+    assert!(rt; is_same(&rt, alloc, many, &[POST, BATCH, TRACE, SERVICES])?);
+    Ok(())
+}
+
+#[test]
+fn resent_through_live(rt: HostRuntime) -> Result<(), Fail> {
+    let alloc = rt.alloc();
+    let many = Limits::new(1000, 100_000, 0, 0).expect(&rt, "limits");
+    let one = Limits::new(1, 100_000, 0, 0).expect(&rt, "limits");
+    let first = joined(alloc, &[POST_NUMBERED, NUMBERED])?;
+    let other = joined(alloc, &[POST_NUMBERED, RENUMBERED])?;
+    let (first, other) = (first.as_slice(), other.as_slice());
+    assert!(rt; is_same(&rt, alloc, many, &[first, first, other, TRACE])?);
+    assert!(rt; is_same(&rt, alloc, one, &[first, first, POST, BATCH, TRACE])?);
+    Ok(())
+}

@@ -1,0 +1,464 @@
+use crate::tests::pipes::{ANSWERS, BATCH, SERVICES, Seen, played};
+use crate::tests::requests::{LookOutcome, has_end, look};
+use http_requests::{Breach, ReadError};
+use http_session::{Ended, SessionError, SessionErrorKind};
+use session_devices::MemoryOutput;
+use std::alloc::Global;
+use std::hash::RandomState;
+use std::mem::drop;
+use std::test::*;
+
+const HEAD: &[u8] = b"POST /api/traces HTTP/1.1\r\nTransfer-Encoding: chunked\r\n\r\n";
+
+const POST: &[u8] =
+    b"POST /api/traces HTTP/1.1\r\nContent-Type: application/x-thrift\r\nTransfer-Encoding: chunked\r\n\r\n";
+
+const TRUNCATED: &[u8] =
+    b"HTTP/1.1 400 Bad Request\r\nContent-Type: application/json\r\nContent-Length: 103\r\n\r\n{\"data\":null,\"errors\":[{\"code\":400,\"msg\":\"batch refused: 1 Truncated\"}],\"limit\":0,\"offset\":0,\"total\":0}";
+
+const NO_SERVICES: &[u8] =
+    b"HTTP/1.1 200 OK\r\nContent-Type: application/json\r\nContent-Length: 56\r\n\r\n{\"data\":[],\"errors\":null,\"limit\":0,\"offset\":0,\"total\":0}";
+
+const TOO_LARGE: &[u8] =
+    b"HTTP/1.1 413 Content Too Large\r\nContent-Type: application/json\r\nContent-Length: 91\r\nConnection: close\r\n\r\n{\"data\":null,\"errors\":[{\"code\":413,\"msg\":\"body too large\"}],\"limit\":0,\"offset\":0,\"total\":0}";
+
+fn joined(alloc: Global, parts: &[&[u8]]) -> Result<Vec<u8>, Fail> {
+    let mut bytes = Vec::new(alloc);
+    for part in parts {
+        bytes.extend_from_slice(part)?;
+    }
+    Ok(bytes)
+}
+
+/// The same bytes so many times.
+fn repeated(alloc: Global, bytes: &[u8], count: usize) -> Result<Vec<u8>, Fail> {
+    let mut all = Vec::new(alloc);
+    for _ in 0..count {
+        all.extend_from_slice(bytes)?;
+    }
+    Ok(all)
+}
+
+/// Whether a request with these bytes behind its head is one with this body and this rest, read so many
+/// bytes at a time.
+fn has_body(
+    alloc: Global,
+    bytes: &[u8],
+    step: usize,
+    body: &[u8],
+    rest: &[u8],
+) -> Result<bool, Fail> {
+    let whole = joined(alloc, &[HEAD, bytes])?;
+    let front = look(alloc, whole.as_slice(), step);
+    let said = is_taken(&front, body, rest);
+    drop(front);
+    Ok(said)
+}
+
+/// Whether it is a request with that head, this body and this rest.
+fn is_taken(front: &Result<LookOutcome, ReadError>, body: &[u8], rest: &[u8]) -> bool {
+    match front {
+        Ok(LookOutcome::One(taken)) => {
+            taken.head.as_slice() == HEAD
+                && taken.body.as_slice() == body
+                && rest.starts_with(taken.behind.as_slice())
+        }
+        _ => false,
+    }
+}
+
+/// Whether there is no such request, for this reason.
+fn has_none(
+    alloc: Global,
+    head: &[u8],
+    bytes: &[u8],
+    step: usize,
+    breach: Breach,
+) -> Result<bool, Fail> {
+    let whole = joined(alloc, &[head, bytes])?;
+    Ok(has_end(alloc, whole.as_slice(), step, Some(breach)))
+}
+
+/// What stands behind the head, the body, and the rest.
+const BODIES: [(&[u8], &[u8], &[u8]); 6] = [
+    (b"0\r\n\r\n", b"", b""),
+    (b"3\r\nabc\r\n0\r\n\r\n", b"abc", b""),
+    (
+        b"A\r\n0123456789\r\n1\r\n\n\r\n0\r\n\r\n0\r\n\r\n",
+        b"0123456789\n",
+        b"0\r\n\r\n",
+    ),
+    (
+        b"003 \t;x=\"y;z\"\r\nabc\r\n2\r\nde\r\n000;end\r\n\r\nGET /",
+        b"abcde",
+        b"GET /",
+    ),
+    (
+        b"2\r\n\r\n\r\n0\r\nA: b\r\nC:\r\n\r\nGET /",
+        b"\r\n",
+        b"GET /",
+    ),
+    (b"5\r\n0\r\n\r\n\r\n0\r\n\r\n", b"0\r\n\r\n", b""),
+];
+
+#[test]
+fn bodies_in_chunks(rt: HostRuntime) -> Result<(), Fail> {
+    let alloc = rt.alloc();
+    for (bytes, body, rest) in &BODIES {
+        for step in [1, 2, 3, 10_000] {
+            assert!(rt; has_body(alloc, bytes, step, body, rest)?, "{bytes:?}");
+        }
+    }
+    Ok(())
+}
+
+/// What stands behind the head, and the reason.
+const BREACHES: [(&[u8], Breach); 21] = [
+    (b"", Breach::Body),
+    (b"g\r\n", Breach::Body),
+    (b"\r\n", Breach::Body),
+    (b";x\r\n\r\n", Breach::Body),
+    (b"-1\r\n", Breach::Body),
+    (b" 1\r\nx\r\n0\r\n\r\n", Breach::Body),
+    (b"1\nx\r\n0\r\n\r\n", Breach::Body),
+    (b"1;a\nb\r\nx\r\n0\r\n\r\n", Breach::Body),
+    (b"3\r\nab", Breach::Body),
+    (b"3\r\nabc", Breach::Body),
+    (b"3\r\nabc\r", Breach::Body),
+    (b"3\r\nabcd\r\n0\r\n\r\n", Breach::Body),
+    (b"3\r\nabc\n0\r\n\r\n", Breach::Body),
+    (b"3\r\nabc\r\n", Breach::Body),
+    (b"0\r\n", Breach::Body),
+    (b"0\r\nA: b\r\n", Breach::Body),
+    (b"0\r\nA b\r\n\r\n", Breach::Body),
+    (b"400001\r\n", Breach::TooLarge),
+    (b"1\r\nx\r\n400000\r\n", Breach::TooLarge),
+    (b"ffffffffffffffff\r\n", Breach::TooLarge),
+    (b"10000000000000000\r\n", Breach::Body),
+];
+
+#[test]
+fn each_breach_of_chunks(rt: HostRuntime) -> Result<(), Fail> {
+    let alloc = rt.alloc();
+    for (bytes, breach) in &BREACHES {
+        for step in [1, 10_000] {
+            assert!(rt; has_none(alloc, HEAD, bytes, step, *breach)?, "{bytes:?}");
+        }
+    }
+    Ok(())
+}
+
+#[test]
+fn sums_do_not_pass_a_word(rt: HostRuntime) -> Result<(), Fail> {
+    let alloc = rt.alloc();
+    let bytes = b"2\r\nab\r\nfffffffffffffffe\r\ncd\r\n0\r\n\r\n";
+    for step in [1, 10_000] {
+        assert!(rt; has_none(alloc, HEAD, bytes, step, Breach::TooLarge)?);
+    }
+    Ok(())
+}
+
+/// A head, and whether its body is read.
+const HEADS: [(&[u8], bool); 9] = [
+    (
+        b"POST /x HTTP/1.0\r\nTransfer-Encoding: chunked\r\n\r\n",
+        true,
+    ),
+    (
+        b"POST /x HTTP/1.1\r\ntransfer-encoding: \tCHUNKED \r\n\r\n",
+        true,
+    ),
+    (
+        b"POST /x HTTP/1.1\r\nTransfer-Encoding: gzip\r\n\r\n",
+        false,
+    ),
+    (b"POST /x HTTP/1.1\r\nTransfer-Encoding:\r\n\r\n", false),
+    (
+        b"POST /x HTTP/1.1\r\nTransfer-Encoding: chunked, chunked\r\n\r\n",
+        false,
+    ),
+    (
+        b"POST /x HTTP/1.1\r\nTransfer-Encoding: identity\r\n\r\n",
+        false,
+    ),
+    (
+        b"POST /x HTTP/1.1\r\nTransfer-Encoding: chunked\r\nTransfer-Encoding: chunked\r\n\r\n",
+        false,
+    ),
+    (
+        b"POST /x HTTP/1.1\r\nTransfer-Encoding: chunked\r\nContent-Length: 5\r\n\r\n",
+        false,
+    ),
+    (
+        b"POST /x HTTP/1.1\r\nContent-Length: 0\r\nTransfer-Encoding: chunked\r\n\r\n",
+        false,
+    ),
+];
+
+#[test]
+fn heads_of_chunked_bodies(rt: HostRuntime) -> Result<(), Fail> {
+    let alloc = rt.alloc();
+    for (head, is_read) in &HEADS {
+        let none = has_none(alloc, head, b"0\r\n\r\n", 10_000, Breach::Body)?;
+        assert!(rt; none != *is_read, "{head:?}");
+    }
+    Ok(())
+}
+
+/// A size line of a chunk of one byte, of so many bytes with its end, and the rest of a body.
+fn long_line(alloc: Global, length: usize) -> Result<Vec<u8>, Fail> {
+    let filler = repeated(alloc, b"e", length.saturating_sub(4))?;
+    joined(alloc, &[b"1;", filler.as_slice(), b"\r\nx\r\n0\r\n\r\n"])
+}
+
+/// A body of no bytes with a trailer of so many fields, the first of so many bytes.
+fn long_trailer(alloc: Global, fields: usize, first: usize) -> Result<Vec<u8>, Fail> {
+    let filler = repeated(alloc, b"e", first.saturating_sub(4))?;
+    let others = repeated(alloc, b"a:b\r\n", fields.saturating_sub(1))?;
+    joined(
+        alloc,
+        &[
+            b"0\r\na:",
+            filler.as_slice(),
+            b"\r\n",
+            others.as_slice(),
+            b"\r\n",
+        ],
+    )
+}
+
+/// Whether a size line of so many bytes is read, and whether it is refused.
+fn line_seen(alloc: Global, length: usize, step: usize) -> Result<(bool, bool), Fail> {
+    let line = long_line(alloc, length)?;
+    let read = has_body(alloc, line.as_slice(), step, b"x", b"")?;
+    let refused = has_none(alloc, HEAD, line.as_slice(), step, Breach::Body)?;
+    Ok((read, refused))
+}
+
+/// Whether a trailer of so many fields, the first of so many bytes, is read, and whether it is refused.
+fn trailer_seen(
+    alloc: Global,
+    (fields, first): (usize, usize),
+    step: usize,
+) -> Result<(bool, bool), Fail> {
+    let trailer = long_trailer(alloc, fields, first)?;
+    let read = has_body(alloc, trailer.as_slice(), step, b"", b"")?;
+    let refused = has_none(alloc, HEAD, trailer.as_slice(), step, Breach::Body)?;
+    Ok((read, refused))
+}
+
+#[test]
+fn lines_and_trailers_at_their_limits(rt: HostRuntime) -> Result<(), Fail> {
+    let alloc = rt.alloc();
+    for step in [1, 10_000] {
+        assert_eq!(rt; line_seen(alloc, 256, step)?, (true, false));
+        assert_eq!(rt; line_seen(alloc, 257, step)?, (false, true));
+        assert_eq!(rt; trailer_seen(alloc, (64, 5), step)?, (true, false));
+        assert_eq!(rt; trailer_seen(alloc, (65, 5), step)?, (false, true));
+        assert_eq!(rt; trailer_seen(alloc, (1, 8190), step)?, (true, false));
+        assert_eq!(rt; trailer_seen(alloc, (1, 8191), step)?, (false, true));
+    }
+    Ok(())
+}
+
+/// The largest piece of a body of 100,000 bytes in one chunk that is put into a sink, where so many bytes are
+/// read at a time.
+fn largest_piece(alloc: Global, step: usize) -> Result<usize, Fail> {
+    let body = repeated(alloc, b"0123456789", 10_000)?;
+    let whole = joined(
+        alloc,
+        &[HEAD, b"186a0\r\n", body.as_slice(), b"\r\n0\r\n\r\n"],
+    )?;
+    let front = look(alloc, whole.as_slice(), step);
+    let largest = match &front {
+        Ok(LookOutcome::One(taken)) => taken.largest_piece,
+        _ => 0,
+    };
+    drop(front);
+    Ok(largest)
+}
+
+#[test]
+fn a_body_is_put_as_it_comes(rt: HostRuntime) -> Result<(), Fail> {
+    let alloc = rt.alloc();
+    assert_eq!(rt; largest_piece(alloc, 7)?, 7);
+    assert_eq!(rt; largest_piece(alloc, 100_000)?, 16_384);
+    Ok(())
+}
+
+/// Whether a session ended so and wrote this.
+fn is_written(
+    ended: Result<Ended, SessionError>,
+    output: &MemoryOutput,
+    wanted: (Ended, &[u8]),
+) -> bool {
+    ended == Ok(wanted.0) && output.as_slice() == wanted.1
+}
+
+/// A session over a store that was empty, and what it wrote: whether it ended with so many responses, so, and
+/// wrote these.
+fn says(
+    alloc: Global,
+    keys: RandomState,
+    parts: &[&[u8]],
+    step: usize,
+    ended: Ended,
+    responses: &[&[u8]],
+) -> Result<bool, Fail> {
+    let bytes = joined(alloc, parts)?;
+    let wanted = joined(alloc, responses)?;
+    let played = played(alloc, keys, bytes.as_slice(), (step, 0), (10_000, 10_000))?;
+    Ok(is_written(played.ended, &played.output, (ended, wanted.as_slice())))
+}
+
+/// So many responses, and the session goes on to the end of its input.
+const fn open(answered: u64) -> Ended {
+    Ended {
+        answered,
+        clean: true,
+    }
+}
+
+/// One response, behind which the session ends.
+const CLOSED: Ended = Ended {
+    answered: 1,
+    clean: false,
+};
+
+/// Whether a batch in two chunks is answered, and then a look at the services.
+fn says_two_chunks(alloc: Global, keys: RandomState, step: usize) -> Result<bool, Fail> {
+    let (front, back) = BATCH.split_at(96);
+    let parts: &[&[u8]] = &[
+        POST,
+        b"60\r\n",
+        front,
+        b"\r\n8\r\n",
+        back,
+        b"\r\n0\r\n\r\n",
+        SERVICES,
+    ];
+    says(alloc, keys, parts, step, open(2), &[ANSWERS])
+}
+
+const NO_CHUNKS: &[&[u8]] = &[POST, b"0\r\n\r\n", SERVICES];
+
+const TOO_LARGE_CHUNK: &[&[u8]] = &[POST, b"400001\r\n", SERVICES];
+
+#[test]
+fn three_posts_in_chunks(rt: HostRuntime) -> Result<(), Fail> {
+    let alloc = rt.alloc();
+    let keys = RandomState::new(&rt)?;
+    for step in [1, 10_000] {
+        assert!(rt; says_two_chunks(alloc, keys, step)?);
+        assert!(rt;
+            says(
+                alloc,
+                keys,
+                NO_CHUNKS,
+                step,
+                open(2),
+                &[TRUNCATED, NO_SERVICES]
+            )?
+        );
+        assert!(rt; says(alloc, keys, TOO_LARGE_CHUNK, step, CLOSED, &[TOO_LARGE])?);
+    }
+    Ok(())
+}
+
+/// A batch that is handed in, each byte a chunk, with an extension and a trailer, and then a look at the services.
+fn batch_in_chunks(alloc: Global) -> Result<Vec<u8>, Fail> {
+    let mut bytes = joined(alloc, &[POST])?;
+    for byte in BATCH {
+        bytes.extend_from_slice(b"1;name=value\r\n")?;
+        bytes.push(*byte)?;
+        bytes.extend_from_slice(b"\r\n")?;
+    }
+    bytes.extend_from_slice(b"0\r\nA: b\r\nContent-Length: 3\r\n\r\n")?;
+    bytes.extend_from_slice(SERVICES)?;
+    Ok(bytes)
+}
+
+/// Whether that is answered as a whole body, and one entry is kept, where so many bytes are read and written at a
+/// time.
+fn is_whole(alloc: Global, keys: RandomState, step: usize) -> Result<bool, Fail> {
+    let bytes = batch_in_chunks(alloc)?;
+    let played = played(alloc, keys, bytes.as_slice(), (step, 0), (10_000, step))?;
+    Ok(is_written(played.ended, &played.output, (open(2), ANSWERS)) && played.entries == 1)
+}
+
+#[test]
+fn chunks_are_answered_as_a_whole_body(rt: HostRuntime) -> Result<(), Fail> {
+    let keys = RandomState::new(&rt)?;
+    for step in [1, 2, 7, 10_000] {
+        assert!(rt; is_whole(rt.alloc(), keys, step)?);
+    }
+    Ok(())
+}
+
+/// Whether the session ended because it could not read, within no response, and wrote a beginning of the answers.
+fn is_cut_off(played: &Seen) -> bool {
+    match played.ended {
+        Err(error) => {
+            error.cause == SessionErrorKind::Reading
+                && error.written == 0
+                && ANSWERS.starts_with(played.output.as_slice())
+        }
+        Ok(_) => false,
+    }
+}
+
+/// Whether a session with that batch ends so, where the input fails at this call.
+fn fails_inside(alloc: Global, keys: RandomState, fails_at: u64) -> Result<bool, Fail> {
+    let bytes = batch_in_chunks(alloc)?;
+    let played = played(
+        alloc,
+        keys,
+        bytes.as_slice(),
+        (32, fails_at),
+        (10_000, 10_000),
+    )?;
+    Ok(is_cut_off(&played))
+}
+
+#[test]
+fn a_reader_that_fails_inside_chunks(rt: HostRuntime) -> Result<(), Fail> {
+    let keys = RandomState::new(&rt)?;
+    for fails_at in 1..60 {
+        assert!(rt; fails_inside(rt.alloc(), keys, fails_at)?);
+    }
+    Ok(())
+}
+
+/// A request with a body of 4,194,304 bytes in one chunk, these bytes behind the data, and another request.
+fn largest_and(alloc: Global, behind: &[u8]) -> Result<Vec<u8>, Fail> {
+    let body = repeated(alloc, b"abcdefgh", 524_288)?;
+    let head = b"GET /api/services HTTP/1.1\r\nTransfer-Encoding: chunked\r\n\r\n400000\r\n";
+    joined(alloc, &[head, body.as_slice(), behind, SERVICES])
+}
+
+/// Whether such a session ends so, and writes these.
+fn says_of_largest(
+    alloc: Global,
+    keys: RandomState,
+    behind: &[u8],
+    ended: Ended,
+    responses: &[&[u8]],
+) -> Result<bool, Fail> {
+    let bytes = largest_and(alloc, behind)?;
+    says(alloc, keys, &[bytes.as_slice()], 10_000, ended, responses)
+}
+
+#[test]
+fn the_largest_body_in_chunks(rt: HostRuntime) -> Result<(), Fail> {
+    let keys = RandomState::new(&rt)?;
+    let both: &[&[u8]] = &[NO_SERVICES, NO_SERVICES];
+    assert!(rt; says_of_largest(rt.alloc(), keys, b"\r\n0\r\n\r\n", open(2), both)?);
+    Ok(())
+}
+
+#[test]
+fn one_byte_more_than_the_largest_body(rt: HostRuntime) -> Result<(), Fail> {
+    let keys = RandomState::new(&rt)?;
+    assert!(rt; says_of_largest(rt.alloc(), keys, b"\r\n1\r\n", CLOSED, &[TOO_LARGE])?);
+    Ok(())
+}

@@ -1,0 +1,77 @@
+use crate::tests::pipes::{BATCH, played};
+use http_session::{Ended, SessionError, SessionErrorKind};
+use std::alloc::Global;
+use std::hash::RandomState;
+use std::test::*;
+
+/// How many letters the name of the one service has, so that the answer that lists it is sent in several parts.
+const LETTERS: usize = 40_000;
+
+/// The head of a batch of that service, and what stands in the batch in front of the name.
+const POST: &[u8] =
+    b"POST /api/traces HTTP/1.1\r\nContent-Type: application/x-thrift\r\nContent-Length: 40103\r\n\r\n\x0c\x00\x01\x0b\x00\x01\x00\x00\x9c\x40";
+
+const SERVICES: &[u8] = b"GET /api/services HTTP/1.1\r\n\r\n";
+
+const ACCEPTED: &[u8] = b"HTTP/1.1 202 Accepted\r\nContent-Length: 0\r\n\r\n";
+
+/// What stands in front of the name in the response that lists it, and behind it.
+const HEAD: &[u8] =
+    b"HTTP/1.1 200 OK\r\nContent-Type: application/json\r\nContent-Length: 40058\r\n\r\n{\"data\":[\"";
+
+const TAIL: &[u8] = b"\"],\"errors\":null,\"limit\":0,\"offset\":0,\"total\":1}";
+
+/// Bytes with the letters between them.
+fn round_letters(alloc: Global, front: &[&[u8]], back: &[&[u8]]) -> Result<Vec<u8>, Fail> {
+    let mut bytes = Vec::new(alloc);
+    for piece in front {
+        bytes.extend_from_slice(piece)?;
+    }
+    for _ in 0..LETTERS {
+        bytes.push(b'a')?;
+    }
+    for piece in back {
+        bytes.extend_from_slice(piece)?;
+    }
+    Ok(bytes)
+}
+
+/// How a session ends whose output has room for so many bytes of two responses, which have so many in all.
+fn ended_at(room: usize, all: usize) -> Result<Ended, SessionError> {
+    if room >= all {
+        return Ok(Ended {
+            answered: 2,
+            clean: true,
+        });
+    }
+    Err(SessionError {
+        answered: 1,
+        written: room.saturating_sub(ACCEPTED.len()) as u64,
+        cause: SessionErrorKind::Writing,
+    })
+}
+
+/// Whether a session with both requests writes the two responses as far as there is room, and says how far that was.
+fn is_written_up_to(alloc: Global, keys: RandomState, room: usize) -> Result<bool, Fail> {
+    let bytes = round_letters(alloc, &[POST], &[&BATCH[11..], SERVICES])?;
+    let wanted = round_letters(alloc, &[ACCEPTED, HEAD], &[TAIL])?;
+    let played = played(alloc, keys, bytes.as_slice(), (10_000, 0), (room, 10_000))?;
+    let written = wanted.len().min(room);
+    Ok(
+        played.ended == ended_at(room, wanted.len())
+            && played.output.as_slice() == &wanted[..written],
+    )
+}
+
+/// Before the head, inside it and behind it, at the end of a part of 16,384 bytes and inside others, and before the
+/// last byte; with room for all, it is all written.
+#[test]
+fn a_writer_that_fails_inside_a_large_answer(rt: HostRuntime) -> Result<(), Fail> {
+    let keys = RandomState::new(&rt)?;
+    for room in [
+        44, 45, 74, 118, 119, 10_118, 16_502, 16_503, 30_000, 40_175, 40_176, 50_000,
+    ] {
+        assert!(rt; is_written_up_to(rt.alloc(), keys, room)?, "{room}");
+    }
+    Ok(())
+}

@@ -1,0 +1,12 @@
+//! The tests, by their subject, and what they share.
+
+mod collisions;
+mod entries;
+mod journals;
+mod large;
+mod limits;
+mod names;
+mod rings;
+mod shown;
+mod stores;
+mod tables;

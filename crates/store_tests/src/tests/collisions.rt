@@ -1,0 +1,239 @@
+use crate::tests::entries::{entry, kept};
+use crate::tests::shown::shown;
+use id_table::IdTable;
+use jaeger_model::{Text, TraceId};
+use plain_store::plain_answer;
+use span_store::replayed_answer;
+use std::alloc::{AllocError, Global};
+use std::hash::{BuildHasher, Hash, Hasher, RandomState};
+use std::mem::drop;
+use std::sync::Arc;
+use std::test::*;
+use trace_model::{Entry, Limits, Query};
+use trace_samples::{list_of, span};
+
+/// What there is room for.
+const ROOM: u32 = 40;
+
+/// The places of a table that is full.
+const FULL: u64 = 81;
+
+/// The places of a table with eight rows, times those that it has before it spreads them.
+const EIGHT: u64 = 29 * 13;
+
+/// The walk to the id begins at the first of so many places.
+fn is_first(keys: &RandomState, id: TraceId, places: u64) -> bool {
+    let mut state = keys.build_hasher();
+    state.write_u64(id.high);
+    state.write_u64(id.low);
+    state.finish().checked_rem(places) == Some(0)
+}
+
+/// So many ids with one walk over the places, as one would choose them who knows the key.
+fn colliding_ids(
+    alloc: Global,
+    keys: &RandomState,
+    places: u64,
+    count: usize,
+) -> Result<Vec<TraceId>, AllocError> {
+    let mut ids = Vec::new(alloc);
+    for low in 0..20_000 {
+        let id = TraceId { high: 1, low };
+        if ids.len() < count && is_first(keys, id, places) {
+            ids.push(id)?;
+        }
+    }
+    Ok(ids)
+}
+
+/// The walk to the service's operation `op` without a kind begins at the first place.
+fn is_first_name(keys: &RandomState, service: &str) -> bool {
+    let mut state = keys.build_hasher();
+    service.hash(&mut state);
+    "op".hash(&mut state);
+    "".hash(&mut state);
+    state.finish() % EIGHT == 0
+}
+
+/// So many services, named by numbers, the walks to whose operations are one.
+fn colliding_names(
+    alloc: Global,
+    keys: &RandomState,
+    count: usize,
+) -> Result<Vec<u64>, AllocError> {
+    let mut names = Vec::new(alloc);
+    for number in 0..20_000 {
+        let name = number.to_string(alloc)?;
+        if names.len() < count && is_first_name(keys, name.as_str()) {
+            names.push(number)?;
+        }
+    }
+    Ok(names)
+}
+
+/// Adds the ids that the table has not, as long as there is room.
+fn add_all(table: &mut IdTable, ids: &[TraceId]) {
+    for id in ids {
+        if table.has_room() && table.find(*id).is_none() {
+            table.add(*id);
+        }
+    }
+}
+
+/// How many of the ids stand in the row of their place among them.
+fn found_in_order(table: &IdTable, ids: &[TraceId]) -> usize {
+    let mut found = 0;
+    for (row, id) in ids.iter().enumerate() {
+        if let Some(at) = table.find(*id) {
+            if at as usize == row {
+                found = row + 1;
+            }
+        }
+    }
+    found
+}
+
+/// How many of the ids with one walk a table finds again, and where it finds one more.
+fn found_again(alloc: Global, keys: RandomState) -> Result<(usize, Option<u32>), AllocError> {
+    let mut ids = colliding_ids(alloc, &keys, FULL, 41)?;
+    let other = ids.pop().unwrap_or(TraceId { high: 0, low: 0 });
+    let mut table = IdTable::with_room(alloc, keys, ROOM)?;
+    add_all(&mut table, &ids);
+    Ok((found_in_order(&table, &ids), table.find(other)))
+}
+
+#[test]
+fn colliding_ids_have_rows_of_their_own(rt: HostRuntime) -> Result<(), Fail> {
+    let found = found_again(rt.alloc(), RandomState::new(&rt)?)?;
+    assert_eq!(rt; found, (40, None));
+    Ok(())
+}
+
+/// An entry of one span, of the trace and of the service with this number for a name.
+fn entry_of(alloc: Global, id: TraceId, name: u64, number: u64) -> Result<Arc<Entry>, AllocError> {
+    let name = name.to_string(alloc)?;
+    let mut one = span(alloc, 1, 1)?;
+    one.trace = id;
+    let spans = list_of(alloc, one)?.into_vec();
+    entry(alloc, 0, number, name.as_str(), spans)
+}
+
+/// Adds an entry for each of the ids, from the service of its place.
+fn add_entries(
+    alloc: Global,
+    entries: &mut Vec<Arc<Entry>>,
+    ids: &[TraceId],
+    names: &[u64],
+) -> Result<(), AllocError> {
+    for (place, (id, name)) in ids.iter().zip(names).enumerate() {
+        entries.push(entry_of(alloc, *id, *name, place as u64 + 1)?)?;
+    }
+    Ok(())
+}
+
+/// These entries.
+fn entries_of(
+    alloc: Global,
+    ids: &[TraceId],
+    names: &[u64],
+) -> Result<Vec<Arc<Entry>>, AllocError> {
+    let mut entries = Vec::new(alloc);
+    let added = add_entries(alloc, &mut entries, ids, names);
+    kept(entries, added)
+}
+
+/// Limits by which three traces are shown.
+fn three_traces() -> Result<Limits, Fail> {
+    Ok(Limits::new(ROOM, ROOM, 3, 0).ok_or("limits")?)
+}
+
+/// What the plain store of the entries answers, as text.
+fn plainly(alloc: Global, entries: &[Arc<Entry>], query: &Query) -> Result<String, Fail> {
+    let answer = plain_answer(alloc, entries, three_traces()?, query)?;
+    Ok(shown(alloc, answer)?)
+}
+
+/// What the store of the entries answers, as text.
+fn quickly(
+    alloc: Global,
+    keys: RandomState,
+    entries: &[Arc<Entry>],
+    query: &Query,
+) -> Result<String, Fail> {
+    let answer = replayed_answer(alloc, keys, three_traces()?, entries, query);
+    Ok(shown(alloc, answer.ok().ok_or("refused")?)?)
+}
+
+/// The store of the entries answers the question as the plain store.
+fn is_same(
+    alloc: Global,
+    keys: RandomState,
+    entries: &[Arc<Entry>],
+    query: &Query,
+) -> Result<bool, Fail> {
+    let quick = quickly(alloc, keys, entries, query)?;
+    let plain = plainly(alloc, entries, query)?;
+    Ok(quick == plain)
+}
+
+/// The same of a question that is given up behind that.
+fn same_answer(
+    alloc: Global,
+    keys: RandomState,
+    entries: &[Arc<Entry>],
+    query: Query,
+) -> Result<bool, Fail> {
+    let said = is_same(alloc, keys, entries, &query);
+    drop(query);
+    said
+}
+
+/// What is answered of the service's operations is the same.
+fn same_operations(
+    alloc: Global,
+    keys: RandomState,
+    entries: &[Arc<Entry>],
+    name: u64,
+) -> Result<bool, Fail> {
+    let service = Text::from_string(name.to_string(alloc)?);
+    same_answer(alloc, keys, entries, Query::OperationNames { service })
+}
+
+/// Each of the traces and of the services is answered as in the plain store.
+fn same_each(
+    alloc: Global,
+    keys: RandomState,
+    entries: &[Arc<Entry>],
+    ids: &[TraceId],
+    names: &[u64],
+) -> Result<bool, Fail> {
+    let mut same = same_answer(alloc, keys, entries, Query::Services)?;
+    for id in ids {
+        let query = Query::Trace { id: *id, raw: true };
+        same = same && same_answer(alloc, keys, entries, query)?;
+    }
+    for name in names {
+        same = same && same_operations(alloc, keys, entries, *name)?;
+    }
+    Ok(same)
+}
+
+/// The same of an entry for each of them.
+fn same_of(alloc: Global, keys: RandomState, ids: &[TraceId], names: &[u64]) -> Result<bool, Fail> {
+    let entries = entries_of(alloc, ids, names)?;
+    let same = same_each(alloc, keys, &entries, ids, names);
+    drop(entries);
+    same
+}
+
+/// Ring, traces and names by ids and names with one walk.
+#[test]
+fn collisions_as_the_plain_store(rt: HostRuntime) -> Result<(), Fail> {
+    let alloc = rt.alloc();
+    let keys = RandomState::new(&rt)?;
+    let ids = colliding_ids(alloc, &keys, EIGHT, 8)?;
+    let names = colliding_names(alloc, &keys, 8)?;
+    assert_eq!(rt; (ids.len(), names.len()), (8, 8));
+    assert!(rt; same_of(alloc, keys, &ids, &names)?);
+    Ok(())
+}

@@ -1,0 +1,192 @@
+use crate::tests::entries::{entry, id, kept};
+use jaeger_model::{Placed, Seq, Text};
+use plain_store::get_trace;
+use span_store::replayed_answer;
+use std::alloc::{AllocError, Global};
+use std::hash::RandomState;
+use std::mem::drop;
+use std::sync::Arc;
+use std::test::*;
+use trace_model::{Answer, AnsweredTrace, Entry, Find, Limits, Query, TraceForm};
+use trace_samples::{list_of, span};
+
+const MANY: u32 = 10_000;
+
+/// An entry of service `a` with one span, the first of the trace of its number.
+fn numbered(alloc: Global, number: u64) -> Result<Arc<Entry>, AllocError> {
+    let spans = list_of(alloc, span(alloc, number, 1)?)?.into_vec();
+    entry(alloc, 0, number, "a", spans)
+}
+
+/// Adds so many of these entries.
+fn add_entries(alloc: Global, entries: &mut Vec<Arc<Entry>>, many: u32) -> Result<(), AllocError> {
+    for number in 1..u64::from(many) + 1 {
+        entries.push(numbered(alloc, number)?)?;
+    }
+    Ok(())
+}
+
+/// So many of these entries.
+fn entries_of(alloc: Global, many: u32) -> Result<Vec<Arc<Entry>>, AllocError> {
+    let mut entries = Vec::new(alloc);
+    let added = add_entries(alloc, &mut entries, many);
+    kept(entries, added)
+}
+
+/// How many spans a trace of an answer has.
+fn span_count(trace: &AnsweredTrace) -> usize {
+    match trace.form() {
+        TraceForm::Ready(made) => made.len(),
+        TraceForm::Kept(kept) => kept.spans.len(),
+    }
+}
+
+/// How many spans, names, operations, traces, ids or links were answered.
+fn count_in(answer: &Answer) -> usize {
+    match answer {
+        Answer::Trace(Some(trace)) => span_count(trace),
+        Answer::Trace(None) => 0,
+        Answer::Names(names) => names.len(),
+        Answer::Operations(operations) => operations.len(),
+        Answer::Traces(traces) => traces.len(),
+        Answer::Ids(ids) => ids.len(),
+        Answer::Links(links) => links.len(),
+    }
+}
+
+/// How much a store of the entries answers.
+fn answered(
+    alloc: Global,
+    keys: RandomState,
+    entries: &[Arc<Entry>],
+    query: Query,
+) -> Result<usize, Fail> {
+    let answer = answer_of(alloc, keys, entries, &query);
+    drop(query);
+    let answer = answer?;
+    let count = count_in(&answer);
+    drop(answer);
+    Ok(count)
+}
+
+/// What a store of the entries answers.
+fn answer_of(
+    alloc: Global,
+    keys: RandomState,
+    entries: &[Arc<Entry>],
+    query: &Query,
+) -> Result<Answer, Fail> {
+    let limits = Limits::new(MANY, MANY, 0, 0).ok_or("limits")?;
+    let answer = replayed_answer(alloc, keys, limits, entries, query);
+    Ok(answer.ok().ok_or("refused")?)
+}
+
+fn all_of_a(alloc: Global) -> Result<Find, AllocError> {
+    Ok(Find {
+        service: Text::from_str(alloc, "a")?,
+        operation: Text::new(alloc),
+        tags: Seq::new(alloc),
+        start_min: None,
+        start_max: None,
+        duration_min: 0,
+        duration_max: 0,
+        limit: 0,
+    })
+}
+
+fn operation_names(alloc: Global) -> Result<Query, AllocError> {
+    let service = Text::from_str(alloc, "a")?;
+    Ok(Query::OperationNames { service })
+}
+
+fn operations(alloc: Global) -> Result<Query, AllocError> {
+    let service = Text::from_str(alloc, "a")?;
+    let kind = Text::new(alloc);
+    Ok(Query::Operations { service, kind })
+}
+
+/// The trace of the last entry.
+fn last_trace() -> Query {
+    Query::Trace {
+        id: id(u64::from(MANY)),
+        raw: false,
+    }
+}
+
+/// How many names are answered of the entries, and how many spans of the last trace.
+fn name_counts(
+    alloc: Global,
+    keys: RandomState,
+    entries: &[Arc<Entry>],
+) -> Result<[usize; 4], Fail> {
+    let services = answered(alloc, keys, entries, Query::Services)?;
+    let names = answered(alloc, keys, entries, operation_names(alloc)?)?;
+    let operations = answered(alloc, keys, entries, operations(alloc)?)?;
+    let last = answered(alloc, keys, entries, last_trace())?;
+    Ok([services, names, operations, last])
+}
+
+/// How many traces and ids are found among the entries.
+fn found_counts(
+    alloc: Global,
+    keys: RandomState,
+    entries: &[Arc<Entry>],
+) -> Result<[usize; 2], Fail> {
+    let traces = answered(alloc, keys, entries, Query::Find(all_of_a(alloc)?))?;
+    let ids = answered(alloc, keys, entries, Query::FindIds(all_of_a(alloc)?))?;
+    Ok([traces, ids])
+}
+
+/// How many of each.
+type Counts = ([usize; 4], [usize; 2]);
+
+/// Both among the entries.
+fn counts_among(alloc: Global, keys: RandomState, entries: &[Arc<Entry>]) -> Result<Counts, Fail> {
+    let names = name_counts(alloc, keys, entries)?;
+    Ok((names, found_counts(alloc, keys, entries)?))
+}
+
+/// Both among many entries.
+fn counts(alloc: Global, keys: RandomState) -> Result<Counts, Fail> {
+    let entries = entries_of(alloc, MANY)?;
+    let counts = counts_among(alloc, keys, &entries);
+    drop(entries);
+    counts
+}
+
+/// No answer gives up past a size.
+#[test]
+fn store_of_many_entries(rt: HostRuntime) -> Result<(), Fail> {
+    let counts = counts(rt.alloc(), RandomState::new(&rt)?)?;
+    assert_eq!(rt; counts, ([1, 1, 1, 1], [10_000, 10_000]));
+    Ok(())
+}
+
+/// How many spans there are.
+fn counted(spans: Vec<Placed>) -> usize {
+    let count = spans.len();
+    drop(spans);
+    count
+}
+
+/// How many spans of the trace of this number the plain store shows, if it shows the trace.
+fn shown_plainly(alloc: Global, limit: u32, number: u64) -> Result<Option<usize>, Fail> {
+    let limits = Limits::new(3, 3, limit, 0).ok_or("limits")?;
+    let entries = entries_of(alloc, 3)?;
+    let found = get_trace(alloc, &entries, limits, id(number));
+    drop(entries);
+    match found? {
+        Some(spans) => Ok(Some(counted(spans))),
+        None => Ok(None),
+    }
+}
+
+#[test]
+fn traces_plainly(rt: HostRuntime) -> Result<(), Fail> {
+    let alloc = rt.alloc();
+    assert_eq!(rt; shown_plainly(alloc, 0, 1)?, Some(1));
+    assert_eq!(rt; shown_plainly(alloc, 1, 1)?, None);
+    assert_eq!(rt; shown_plainly(alloc, 1, 3)?, Some(1));
+    assert_eq!(rt; shown_plainly(alloc, 0, 4)?, None);
+    Ok(())
+}

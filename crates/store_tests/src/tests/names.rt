@@ -1,0 +1,518 @@
+ghost use Rattle.std.specs.Prelude.{◌<◌};
+
+use crate::tests::entries::{entry, kept};
+use jaeger_model::{Placed, Span, Text};
+use plain_store::{operation_names, operations, plain_answer, services};
+use span_store::replayed_answer;
+use std::alloc::{AllocError, Global};
+use std::hash::RandomState;
+use std::mem::drop;
+use std::sync::Arc;
+use std::test::*;
+use trace_model::{Answer, Entry, Limits, Operation, Query};
+use trace_samples::{list_of, placed, span, text_tag};
+
+/// Service, operation and kind, as they are added.
+const ADDED: [(&str, &str, &str); 5] = [
+    ("c", "get", "server"),
+    ("b", "get", ""),
+    ("c", "get", "client"),
+    ("c", "get", "server"),
+    ("c", "add", ""),
+];
+
+/// A span of the operation, with a tag for its kind.
+fn named_span(alloc: Global, id: u64, operation: &str, kind: &str) -> Result<Span, AllocError> {
+    let operation = Text::from_str(alloc, operation)?;
+    let mut span = span(alloc, 1, id)?;
+    span.operation = operation;
+    let tagged = tag_kind(alloc, &mut span, kind);
+    kept(span, tagged)
+}
+
+/// Gives the span a tag for its kind alone.
+fn tag_kind(alloc: Global, span: &mut Span, kind: &str) -> Result<(), AllocError> {
+    span.tags = list_of(alloc, text_tag(alloc, "span.kind", kind)?)?;
+    Ok(())
+}
+
+/// An entry of one span: service, operation and kind.
+fn named_entry(
+    alloc: Global,
+    number: u64,
+    (service, operation, kind): (&str, &str, &str),
+) -> Result<Arc<Entry>, AllocError> {
+    let spans = list_of(alloc, named_span(alloc, number, operation, kind)?)?;
+    entry(alloc, 0, number, service, spans.into_vec())
+}
+
+/// Adds an entry for each of these: service, operation and kind.
+fn add_told(
+    alloc: Global,
+    entries: &mut Vec<Arc<Entry>>,
+    added: &[(&str, &str, &str)],
+) -> Result<(), AllocError> {
+    for (place, row) in added.iter().enumerate() {
+        entries.push(named_entry(alloc, place as u64 + 1, *row)?)?;
+    }
+    Ok(())
+}
+
+/// A history of one entry for each of these.
+fn history_of(alloc: Global, added: &[(&str, &str, &str)]) -> Result<Vec<Arc<Entry>>, AllocError> {
+    let mut entries = Vec::new(alloc);
+    let added = add_told(alloc, &mut entries, added);
+    kept(entries, added)
+}
+
+/// What the store of these entries answers, to a question that is given up behind that.
+fn answer_to(
+    alloc: Global,
+    keys: RandomState,
+    entries: &[Arc<Entry>],
+    query: Query,
+) -> Result<Answer, Fail> {
+    let answer = store_answer(alloc, keys, entries, &query);
+    drop(query);
+    answer
+}
+
+fn operation_names_of(alloc: Global, service: &str) -> Result<Query, AllocError> {
+    let service = Text::from_str(alloc, service)?;
+    Ok(Query::OperationNames { service })
+}
+
+fn operations_query(alloc: Global, service: &str, kind: &str) -> Result<Query, AllocError> {
+    let service = Text::from_str(alloc, service)?;
+    let kind = Text::from_str(alloc, kind)?;
+    Ok(Query::Operations { service, kind })
+}
+
+/// The services that the store of these entries names.
+fn services_of(
+    alloc: Global,
+    keys: RandomState,
+    entries: &[Arc<Entry>],
+) -> Result<Vec<Text>, Fail> {
+    names_in(answer_to(alloc, keys, entries, Query::Services)?)
+}
+
+/// The operations of a service that the store of these entries names.
+fn names_of(
+    alloc: Global,
+    keys: RandomState,
+    entries: &[Arc<Entry>],
+    service: &str,
+) -> Result<Vec<Text>, Fail> {
+    let query = operation_names_of(alloc, service)?;
+    names_in(answer_to(alloc, keys, entries, query)?)
+}
+
+/// The operations of a service with a kind that the store of these entries lists.
+fn operations_of(
+    alloc: Global,
+    keys: RandomState,
+    entries: &[Arc<Entry>],
+    service: &str,
+    kind: &str,
+) -> Result<Vec<Operation>, Fail> {
+    let query = operations_query(alloc, service, kind)?;
+    operations_in(answer_to(alloc, keys, entries, query)?)
+}
+
+/// Whether these are the services that are named.
+fn has_services(
+    alloc: Global,
+    keys: RandomState,
+    entries: &[Arc<Entry>],
+    wanted: &[&str],
+) -> Result<bool, Fail> {
+    Ok(is_named(&services_of(alloc, keys, entries)?, wanted))
+}
+
+/// Whether these are the operations of the service that are named.
+fn has_names(
+    alloc: Global,
+    keys: RandomState,
+    entries: &[Arc<Entry>],
+    service: &str,
+    wanted: &[&str],
+) -> Result<bool, Fail> {
+    Ok(is_named(&names_of(alloc, keys, entries, service)?, wanted))
+}
+
+/// Whether these are the names.
+fn is_named(names: &[Text], wanted: &[&str]) -> bool {
+    names.len() == wanted.len()
+        && names
+            .iter()
+            .zip(wanted)
+            .all(|(name, word)| name.as_str() == *word)
+}
+
+/// What the entries of `ADDED` are named by.
+fn names_added(
+    alloc: Global,
+    keys: RandomState,
+    entries: &[Arc<Entry>],
+) -> Result<[bool; 3], Fail> {
+    Ok([
+        has_services(alloc, keys, entries, &["b", "c"])?,
+        has_names(alloc, keys, entries, "c", &["add", "get"])?,
+        has_names(alloc, keys, entries, "get", &[])?,
+    ])
+}
+
+/// The same of a history of them.
+fn names_once(alloc: Global, keys: RandomState) -> Result<[bool; 3], Fail> {
+    let entries = history_of(alloc, &ADDED)?;
+    let names = names_added(alloc, keys, &entries);
+    drop(entries);
+    names
+}
+
+#[test]
+fn names_once_in_order(rt: HostRuntime) -> Result<(), Fail> {
+    let alloc = rt.alloc();
+    let keys = RandomState::new(&rt)?;
+    assert!(rt; has_services(alloc, keys, &[], &[])?);
+    assert_eq!(rt; names_once(alloc, keys)?, [true; 3]);
+    Ok(())
+}
+
+/// Adds entries without spans, of service `a`, before and behind one of service `b`.
+fn add_without_spans(alloc: Global, entries: &mut Vec<Arc<Entry>>) -> Result<(), AllocError> {
+    entries.push(entry(alloc, 0, 1, "a", Vec::new(alloc))?)?;
+    entries.push(named_entry(alloc, 2, ("b", "get", "client"))?)?;
+    entries.push(entry(alloc, 0, 3, "a", Vec::new(alloc))?)?;
+    Ok(())
+}
+
+/// What these are named by.
+fn names_without_spans(
+    alloc: Global,
+    keys: RandomState,
+    entries: &[Arc<Entry>],
+) -> Result<[bool; 4], Fail> {
+    Ok([
+        has_services(alloc, keys, entries, &["b"])?,
+        has_names(alloc, keys, entries, "a", &[])?,
+        has_names(alloc, keys, entries, "b", &["get"])?,
+        operations_of(alloc, keys, entries, "a", "")?.is_empty(),
+    ])
+}
+
+/// The same of a history of them.
+fn named_without_spans(alloc: Global, keys: RandomState) -> Result<[bool; 4], Fail> {
+    let mut entries = Vec::new(alloc);
+    let added = add_without_spans(alloc, &mut entries);
+    let entries = kept(entries, added)?;
+    let names = names_without_spans(alloc, keys, &entries);
+    drop(entries);
+    names
+}
+
+/// A batch without spans has a service, but no arrival has it: it is named nowhere.
+#[test]
+fn service_without_spans(rt: HostRuntime) -> Result<(), Fail> {
+    let named = named_without_spans(rt.alloc(), RandomState::new(&rt)?)?;
+    assert_eq!(rt; named, [true; 4]);
+    Ok(())
+}
+
+/// The kind that is asked for, and the operations of `c` with it.
+const ASKED: [(&str, &[(&str, &str)]); 3] = [
+    ("", &[("add", ""), ("get", "client"), ("get", "server")]),
+    ("client", &[("get", "client")]),
+    ("internal", &[]),
+];
+
+/// Whether these are the operations.
+fn is_listed(found: &[Operation], wanted: &[(&str, &str)]) -> bool {
+    found.len() == wanted.len()
+        && found.iter().zip(wanted).all(|(one, (name, kind))| one.name.as_str() == *name
+            && one.kind.as_str() == *kind)
+}
+
+/// Whether these are the operations of `c` with the kind.
+fn has_operations(
+    alloc: Global,
+    keys: RandomState,
+    entries: &[Arc<Entry>],
+    kind: &str,
+    wanted: &[(&str, &str)],
+) -> Result<bool, Fail> {
+    Ok(is_listed(&operations_of(alloc, keys, entries, "c", kind)?, wanted))
+}
+
+/// How many of the rows the store of these entries lists as they say, each behind the ones before.
+fn listed(alloc: Global, keys: RandomState, entries: &[Arc<Entry>]) -> Result<usize, Fail> {
+    let mut listed = 0usize;
+    for (kind, wanted) in ASKED {
+        if !has_operations(alloc, keys, entries, kind, wanted)? {
+            break;
+        }
+        listed = listed.saturating_add(1);
+    }
+    Ok(listed)
+}
+
+/// The same of the history of `ADDED`.
+fn listed_by_kind(alloc: Global, keys: RandomState) -> Result<usize, Fail> {
+    let entries = history_of(alloc, &ADDED)?;
+    let listed = listed(alloc, keys, &entries);
+    drop(entries);
+    listed
+}
+
+#[test]
+fn operations_by_kind(rt: HostRuntime) -> Result<(), Fail> {
+    let listed = listed_by_kind(rt.alloc(), RandomState::new(&rt)?)?;
+    assert_eq!(rt; listed, ASKED.len());
+    Ok(())
+}
+
+/// Numbers that look random, the same in each run.
+#[derive(Drop)]
+struct Dice {
+    state: u64,
+}
+
+impl Dice {
+    /// A number below `sides`.
+    fn roll(&mut self, sides: u64) -> u64
+        requires { 0 < sides }
+        ensures { result < sides }
+    {
+        let next = self.state.wrapping_mul(6_364_136_223_846_793_005);
+        self.state = next.wrapping_add(1_442_695_040_888_963_407);
+        (self.state >> 33) % sides
+    }
+}
+
+const WORDS: [&str; 4] = ["", "a", "ab", "b"];
+
+const KINDS: [&str; 4] = ["client", "server", "unheard of", ""];
+
+/// The store lists the same operations of the service with the kind as the plain store.
+fn same_operations(
+    alloc: Global,
+    keys: RandomState,
+    (entries, spans): (&[Arc<Entry>], &[Placed]),
+    (word, kind): (&str, &str),
+) -> Result<bool, Fail> {
+    let (service, asked) = (Text::from_str(alloc, word)?, Text::from_str(alloc, kind)?);
+    let plain = operations(alloc, spans, &service, &asked)?;
+    Ok(operations_of(alloc, keys, entries, word, kind)? == plain)
+}
+
+/// The store names the same operations of the service as the plain store.
+fn same_names(
+    alloc: Global,
+    keys: RandomState,
+    (entries, spans): (&[Arc<Entry>], &[Placed]),
+    word: &str,
+) -> Result<bool, Fail> {
+    let service = Text::from_str(alloc, word)?;
+    let plain = operation_names(alloc, spans, &service)?;
+    Ok(names_of(alloc, keys, entries, word)? == plain)
+}
+
+/// The store names the same services as the plain store.
+fn same_services(
+    alloc: Global,
+    keys: RandomState,
+    (entries, spans): (&[Arc<Entry>], &[Placed]),
+) -> Result<bool, Fail> {
+    let plain = services(alloc, spans)?;
+    Ok(services_of(alloc, keys, entries)? == plain)
+}
+
+/// The same questions to the store of the entries and to the plain store of their spans.
+fn same_named(
+    alloc: Global,
+    keys: RandomState,
+    entries: &[Arc<Entry>],
+    spans: &[Placed],
+) -> Result<bool, Fail> {
+    let both = (entries, spans);
+    let mut same = same_services(alloc, keys, both)?;
+    for word in WORDS {
+        same = same && same_names(alloc, keys, both, word)?;
+        for kind in KINDS {
+            same = same && same_operations(alloc, keys, both, (word, kind))?;
+        }
+    }
+    Ok(same)
+}
+
+/// Adds a span of the service to what is handed in, and as it stands then.
+fn add_any(
+    alloc: Global,
+    dice: &mut Dice,
+    service: &str,
+    brought: &mut Vec<Span>,
+    spans: &mut Vec<Placed>,
+) -> Result<(), AllocError> {
+    let operation = WORDS[dice.roll(4) as usize];
+    let kind = KINDS[dice.roll(4) as usize];
+    spans.push(placed(alloc, service, named_span(alloc, 1, operation, kind)?)?)?;
+    brought.push(named_span(alloc, 1, operation, kind)?)?;
+    Ok(())
+}
+
+/// Adds so many spans of the service.
+fn add_many(
+    alloc: Global,
+    dice: &mut Dice,
+    service: &str,
+    brought: &mut Vec<Span>,
+    spans: &mut Vec<Placed>,
+) -> Result<(), AllocError> {
+    for _ in 0..dice.roll(3) {
+        add_any(alloc, dice, service, brought, spans)?;
+    }
+    Ok(())
+}
+
+/// An entry of up to two spans, which are added.
+fn any_entry(
+    alloc: Global,
+    dice: &mut Dice,
+    number: u64,
+    spans: &mut Vec<Placed>,
+) -> Result<Arc<Entry>, AllocError> {
+    let service = WORDS[dice.roll(4) as usize];
+    let mut brought = Vec::new(alloc);
+    let added = add_many(alloc, dice, service, &mut brought, spans);
+    entry(alloc, 0, number, service, kept(brought, added)?)
+}
+
+/// Adds up to eight entries of up to two spans each, and these spans.
+fn add_reported(
+    alloc: Global,
+    dice: &mut Dice,
+    entries: &mut Vec<Arc<Entry>>,
+    spans: &mut Vec<Placed>,
+) -> Result<(), AllocError> {
+    for number in 0..dice.roll(9) {
+        entries.push(any_entry(alloc, dice, number + 1, spans)?)?;
+    }
+    Ok(())
+}
+
+/// Some entries are answered as by the plain store of their spans.
+fn agrees(alloc: Global, keys: RandomState, dice: &mut Dice) -> Result<bool, Fail> {
+    let mut entries = Vec::new(alloc);
+    let mut spans = Vec::new(alloc);
+    let same = match add_reported(alloc, dice, &mut entries, &mut spans) {
+        Ok(()) => same_named(alloc, keys, &entries, &spans),
+        Err(why) => Err(Fail::from(why)),
+    };
+    drop(entries);
+    drop(spans);
+    same
+}
+
+#[test]
+fn plain_store_agrees(rt: HostRuntime) -> Result<(), Fail> {
+    let keys = RandomState::new(&rt)?;
+    let mut dice = Dice { state: 5 };
+    for _ in 0..100 {
+        assert!(rt; agrees(rt.alloc(), keys, &mut dice)?);
+    }
+    Ok(())
+}
+
+/// Adds an entry from each of the services.
+fn add_served(alloc: Global, entries: &mut Vec<Arc<Entry>>) -> Result<(), AllocError> {
+    for (number, service) in [(1, "c"), (2, "b"), (3, "c")] {
+        let spans = list_of(alloc, span(alloc, number, 1)?)?;
+        entries.push(entry(alloc, 0, number, service, spans.into_vec())?)?;
+    }
+    Ok(())
+}
+
+/// A history of these.
+fn served(alloc: Global) -> Result<Vec<Arc<Entry>>, AllocError> {
+    let mut entries = Vec::new(alloc);
+    let added = add_served(alloc, &mut entries);
+    kept(entries, added)
+}
+
+/// Limits by which one trace is shown, so that the first two of that history have left.
+fn one_trace() -> Result<Limits, Fail> {
+    Ok(Limits::new(20, 20, 1, 0).ok_or("limits")?)
+}
+
+/// What the store of these entries answers.
+fn store_answer(
+    alloc: Global,
+    keys: RandomState,
+    entries: &[Arc<Entry>],
+    query: &Query,
+) -> Result<Answer, Fail> {
+    let answer = replayed_answer(alloc, keys, one_trace()?, entries, query);
+    Ok(answer.ok().ok_or("refused")?)
+}
+
+/// The names of an answer that is made of names.
+fn names_in(answer: Answer) -> Result<Vec<Text>, Fail> {
+    match answer {
+        Answer::Names(names) => Ok(names.into_vec()),
+        other => {
+            drop(other);
+            Err("another answer".into())
+        }
+    }
+}
+
+/// The operations of an answer that is made of operations.
+fn operations_in(answer: Answer) -> Result<Vec<Operation>, Fail> {
+    match answer {
+        Answer::Operations(found) => Ok(found.into_vec()),
+        other => {
+            drop(other);
+            Err("another answer".into())
+        }
+    }
+}
+
+/// What the plain store answers of that history, to a question that is given up behind that.
+fn answer_of(alloc: Global, query: Query) -> Result<Answer, Fail> {
+    let limits = one_trace()?;
+    let entries = served(alloc);
+    let answer = match &entries {
+        Ok(entries) => plain_answer(alloc, entries, limits, &query),
+        Err(_) => Err(AllocError),
+    };
+    drop(entries);
+    drop(query);
+    Ok(answer?)
+}
+
+/// Whether the plain store names these, of that history.
+fn has_plainly(alloc: Global, query: Query, wanted: &[&str]) -> Result<bool, Fail> {
+    Ok(is_named(&names_in(answer_of(alloc, query)?)?, wanted))
+}
+
+#[test]
+fn names_plainly(rt: HostRuntime) -> Result<(), Fail> {
+    let alloc = rt.alloc();
+    assert!(rt; has_plainly(alloc, Query::Services, &["b", "c"])?);
+    assert!(rt; has_plainly(alloc, operation_names_of(alloc, "b")?, &["op"])?);
+    Ok(())
+}
+
+/// Whether the plain store lists these operations of `b` of that history.
+fn lists_plainly(alloc: Global, wanted: &[(&str, &str)]) -> Result<bool, Fail> {
+    let query = operations_query(alloc, "b", "")?;
+    Ok(is_listed(&operations_in(answer_of(alloc, query)?)?, wanted))
+}
+
+/// The operation `op` without a kind, and no other.
+#[test]
+fn one_operation_plainly(rt: HostRuntime) -> Result<(), Fail> {
+    assert!(rt; lists_plainly(rt.alloc(), &[("op", "")])?);
+    Ok(())
+}

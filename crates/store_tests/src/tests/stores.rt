@@ -1,0 +1,713 @@
+use crate::tests::entries::{entry, id, kept, limit};
+use crate::tests::shown::shown;
+use jaeger_model::{Seq, Span, SpanId, Tag, Text};
+use plain_store::plain_answer;
+use span_store::{SpanStore, replay, replayed_answer};
+use std::alloc::{AllocError, Global};
+use std::hash::RandomState;
+use std::mem::drop;
+use std::sync::Arc;
+use std::test::*;
+use trace_model::{Entry, Find, Limits, Query, Refusal};
+use trace_samples::{list_of, span, text_tag};
+
+/// A number that looks random and is the same in every run.
+fn after(seed: u64) -> u64 {
+    seed.wrapping_mul(6_364_136_223_846_793_005)
+        .wrapping_add(1_442_695_040_888_963_407)
+}
+
+fn service(number: u64) -> &'static str {
+    match number % 3 {
+        0 => "a",
+        1 => "b",
+        _ => "ab",
+    }
+}
+
+fn add_tags(alloc: Global, tags: &mut Vec<Tag>, seed: u64) -> Result<(), AllocError> {
+    if seed % 2 == 0 {
+        tags.push(text_tag(alloc, "k", "v")?)?;
+    }
+    if seed % 3 == 0 {
+        tags.push(text_tag(alloc, "span.kind", "client")?)?;
+    }
+    Ok(())
+}
+
+fn tags_by(alloc: Global, seed: u64) -> Result<Seq<Tag>, AllocError> {
+    let mut tags = Vec::new(alloc);
+    let added = add_tags(alloc, &mut tags, seed);
+    Ok(Seq::from_vec(kept(tags, added)?))
+}
+
+/// Sets what the span has by the seed.
+fn set_by(alloc: Global, span: &mut Span, seed: u64) -> Result<(), AllocError> {
+    let operation = if seed % 7 < 3 { "get" } else { "put" };
+    span.parent = SpanId(seed / 5 % 5);
+    span.operation = Text::from_str(alloc, operation)?;
+    span.start = if seed % 11 < 5 { 1000 } else { 1500 };
+    span.tags = tags_by(alloc, seed)?;
+    Ok(())
+}
+
+/// A span of the trace, and what else it has by the seed.
+fn span_by(alloc: Global, trace: u64, seed: u64) -> Result<Span, AllocError> {
+    let seed = after(seed) >> 20;
+    let mut span = span(alloc, trace, seed % 5)?;
+    let set = set_by(alloc, &mut span, seed);
+    kept(span, set)
+}
+
+/// Adds a span of each of these traces, and gives the seed behind them.
+fn add_spans(
+    alloc: Global,
+    spans: &mut Vec<Span>,
+    traces: &[u64],
+    seed: u64,
+) -> Result<u64, AllocError> {
+    let mut seed = seed;
+    for trace in traces {
+        seed = after(seed);
+        spans.push(span_by(alloc, *trace, seed)?)?;
+    }
+    Ok(seed)
+}
+
+/// An entry of seat 0 with a span of each of these traces.
+fn entry_of(alloc: Global, number: u64, traces: &[u64]) -> Result<Arc<Entry>, AllocError> {
+    let mut spans = Vec::new(alloc);
+    match add_spans(alloc, &mut spans, traces, after(number)) {
+        Ok(seed) => entry(alloc, 0, number, service(seed >> 40), spans),
+        Err(why) => {
+            drop(spans);
+            Err(why)
+        }
+    }
+}
+
+/// The pairs of a tag that a search asks for.
+fn asked_tags(alloc: Global, seed: u64) -> Result<Seq<(Text, Text)>, AllocError> {
+    if seed % 5 != 0 {
+        return Ok(Seq::new(alloc));
+    }
+    let key = Text::from_str(alloc, "k")?;
+    list_of(alloc, (key, Text::from_str(alloc, "v")?))
+}
+
+fn find(alloc: Global, seed: u64) -> Result<Find, AllocError> {
+    let seed = seed >> 24;
+    Ok(Find {
+        service: Text::from_str(alloc, service(seed))?,
+        operation: Text::from_str(alloc, if seed % 7 < 5 { "" } else { "put" })?,
+        tags: asked_tags(alloc, seed)?,
+        start_min: if seed % 11 < 7 { None } else { Some(1001) },
+        start_max: None,
+        duration_min: 0,
+        duration_max: 60,
+        limit: seed % 4,
+    })
+}
+
+/// What the plain store of the store's entries answers, as text.
+fn plainly(alloc: Global, store: &SpanStore, query: &Query) -> Result<String, AllocError> {
+    shown(
+        alloc,
+        plain_answer(alloc, store.entries(), store.limits(), query)?,
+    )
+}
+
+/// What the store answers, as text.
+fn quickly(alloc: Global, store: &SpanStore, query: &Query) -> Result<String, AllocError> {
+    shown(alloc, store.answer(query).ok().ok_or(AllocError)?)
+}
+
+/// The store answers the question as the plain store of its entries.
+fn is_same(alloc: Global, store: &SpanStore, query: &Query) -> Result<bool, AllocError> {
+    let quick = quickly(alloc, store, query)?;
+    let plain = plainly(alloc, store, query)?;
+    Ok(quick == plain)
+}
+
+/// The same of a question that is given up behind that.
+fn same_answer(alloc: Global, store: &SpanStore, query: Query) -> Result<bool, AllocError> {
+    let said = is_same(alloc, store, &query);
+    drop(query);
+    said
+}
+
+fn operation_names(alloc: Global, seed: u64) -> Result<Query, AllocError> {
+    let service = Text::from_str(alloc, service(seed >> 30))?;
+    Ok(Query::OperationNames { service })
+}
+
+fn operations(alloc: Global, seed: u64) -> Result<Query, AllocError> {
+    let service = Text::from_str(alloc, service(seed >> 32))?;
+    let kind = Text::from_str(alloc, if seed >> 34 & 1 == 0 { "" } else { "client" })?;
+    Ok(Query::Operations { service, kind })
+}
+
+fn links(seed: u64) -> Query {
+    Query::Links {
+        end_ms: 2,
+        lookback_ms: if seed >> 50 & 1 == 0 { 1 } else { 2 },
+    }
+}
+
+fn same_names(alloc: Global, store: &SpanStore, seed: u64) -> Result<bool, AllocError> {
+    Ok(
+        same_answer(alloc, store, Query::Services)?
+            && same_answer(alloc, store, operation_names(alloc, seed)?)?
+            && same_answer(alloc, store, operations(alloc, seed)?)?,
+    )
+}
+
+fn same_searches(alloc: Global, store: &SpanStore, seed: u64) -> Result<bool, AllocError> {
+    Ok(
+        same_answer(alloc, store, Query::Find(find(alloc, seed)?))?
+            && same_answer(alloc, store, Query::FindIds(find(alloc, after(seed))?))?
+            && same_answer(alloc, store, links(seed))?,
+    )
+}
+
+fn same_trace(alloc: Global, store: &SpanStore, trace: u64, raw: bool) -> Result<bool, AllocError> {
+    same_answer(alloc, store, Query::Trace { id: id(trace), raw })
+}
+
+/// Four traces are answered as in the plain store, as they came and adjusted.
+fn same_four_traces(alloc: Global, store: &SpanStore) -> Result<bool, AllocError> {
+    let mut same = true;
+    for trace in 0..4 {
+        same = same
+            && same_trace(alloc, store, trace, true)?
+            && same_trace(alloc, store, trace, false)?;
+    }
+    Ok(same)
+}
+
+/// The store answers every question as the plain store of its entries.
+fn same_answers(alloc: Global, store: &SpanStore, seed: u64) -> Result<bool, AllocError> {
+    Ok(
+        same_four_traces(alloc, store)?
+            && same_names(alloc, store, seed)?
+            && same_searches(alloc, store, seed)?
+            && same_searches(alloc, store, after(after(seed)))?,
+    )
+}
+
+/// Three traces, and the seed behind them.
+fn three_traces(seed: u64) -> ([u64; 3], u64) {
+    let first = after(seed);
+    let second = after(first);
+    let third = after(second);
+    (
+        [(first >> 60) % 4, (second >> 60) % 4, (third >> 60) % 4],
+        third,
+    )
+}
+
+/// Applies an entry, which has to be taken, and asks the store everything.
+fn grow(
+    alloc: Global,
+    store: &mut SpanStore,
+    entry: Arc<Entry>,
+    seed: u64,
+) -> Result<bool, AllocError> {
+    let place = store.apply(entry);
+    Ok(place == Ok(store.len()) && same_answers(alloc, store, seed)?)
+}
+
+/// An entry by the seed, and the seed behind it.
+type Next = Result<(Arc<Entry>, u64), AllocError>;
+
+/// An entry with spans of three traces.
+fn next_batch(alloc: Global, number: u64, seed: u64) -> Next {
+    let (traces, seed) = three_traces(seed);
+    Ok((entry_of(alloc, number, &traces)?, seed))
+}
+
+/// One in three is a limit of at most three traces, the others hold spans of three.
+fn any_entry(alloc: Global, number: u64, seed: u64) -> Next {
+    let seed = after(seed);
+    if (seed >> 32) % 3 == 0 {
+        let traces = ((seed >> 40) % 4) as u32;
+        return Ok((limit(alloc, number, traces)?, seed));
+    }
+    next_batch(alloc, number, seed)
+}
+
+/// What a history is made of.
+#[derive(Clone, Copy)]
+enum History {
+    /// Eight batches.
+    Batches,
+    /// Twelve entries, limits among them.
+    Limits,
+}
+
+impl History {
+    fn len(self) -> u64 {
+        match self {
+            History::Batches => 8,
+            History::Limits => 12,
+        }
+    }
+
+    fn next(self, alloc: Global, number: u64, seed: u64) -> Next {
+        match self {
+            History::Batches => next_batch(alloc, number, seed),
+            History::Limits => any_entry(alloc, number, seed),
+        }
+    }
+}
+
+/// Applies the history, and says whether the store answered as the plain one behind each entry, and the seed
+/// behind the last.
+fn grown(
+    alloc: Global,
+    store: &mut SpanStore,
+    history: History,
+    seed: u64,
+) -> Result<(bool, u64), AllocError> {
+    let mut seed = seed;
+    let mut same = true;
+    for before in 0..history.len() {
+        let (entry, next) = history.next(alloc, before.saturating_add(1), seed)?;
+        seed = next;
+        same = same && grow(alloc, store, entry, seed)?;
+    }
+    Ok((same, seed))
+}
+
+/// Opens a store with this limit of traces, and applies the history. It answers as the plain store, before too.
+fn same_history(
+    alloc: Global,
+    keys: RandomState,
+    traces: u32,
+    history: History,
+    seed: u64,
+) -> Result<(bool, u64), Fail> {
+    let limits = Limits::new(20, 40, traces, 300).ok_or("limits")?;
+    let mut store = SpanStore::open(alloc, keys, limits)?;
+    let is_empty = store.is_empty();
+    let before = same_answers(alloc, &store, seed);
+    let said = grown(alloc, &mut store, history, seed);
+    drop(store);
+    let (same, seed) = said?;
+    Ok((is_empty && before? && same, seed))
+}
+
+/// The history in stores with these limits of traces, each behind the one before.
+fn same_histories(
+    alloc: Global,
+    keys: RandomState,
+    limits: [u32; 4],
+    history: History,
+    seed: u64,
+) -> Result<bool, Fail> {
+    let mut seed = seed;
+    let mut all = true;
+    for traces in limits {
+        let (same, next) = same_history(alloc, keys, traces, history, seed)?;
+        seed = next;
+        all = all && same;
+    }
+    Ok(all)
+}
+
+#[test]
+fn as_the_plain_store(rt: HostRuntime) -> Result<(), Fail> {
+    let keys = RandomState::new(&rt)?;
+    assert!(rt; same_histories(rt.alloc(), keys, [0, 1, 2, 3], History::Batches, 1)?);
+    Ok(())
+}
+
+/// Limits among the batches, in stores that open with a limit and without one.
+#[test]
+fn limits_as_the_plain_store(rt: HostRuntime) -> Result<(), Fail> {
+    let keys = RandomState::new(&rt)?;
+    assert!(rt; same_histories(rt.alloc(), keys, [0, 2, 0, 3], History::Limits, 2)?);
+    Ok(())
+}
+
+/// Applies 30 entries with spans of three traces each, of which most come again. Each is taken.
+fn takes_traces(alloc: Global, store: &mut SpanStore) -> Result<bool, AllocError> {
+    let mut taken = true;
+    for number in 1..31 {
+        let traces = [number << 32, number, number / 2];
+        taken = taken && store.apply(entry_of(alloc, number, &traces)?) == Ok(number);
+    }
+    Ok(taken)
+}
+
+/// Asks the store for each of these traces, and for others by searches.
+fn same_traces(alloc: Global, store: &SpanStore) -> Result<bool, AllocError> {
+    let mut same = true;
+    for number in 1..31 {
+        same = same
+            && same_trace(alloc, store, number << 32, true)?
+            && same_trace(alloc, store, number, true)?
+            && (number % 6 != 0 || same_searches(alloc, store, after(number))?);
+    }
+    Ok(same)
+}
+
+/// Applies the entries under a limit of traces, and asks for their traces.
+fn same_many_traces(alloc: Global, keys: RandomState, limit: u32) -> Result<bool, Fail> {
+    let limits = Limits::new(30, 90, limit, 0).ok_or("limits")?;
+    let mut store = SpanStore::open(alloc, keys, limits)?;
+    let taken = takes_traces(alloc, &mut store);
+    let same = same_traces(alloc, &store);
+    drop(store);
+    Ok(taken? && same?)
+}
+
+/// Many traces, of which most come again, under a limit of traces too: their ids stand in few places.
+#[test]
+fn many_traces_as_the_plain_store(rt: HostRuntime) -> Result<(), Fail> {
+    let keys = RandomState::new(&rt)?;
+    assert!(rt; same_many_traces(rt.alloc(), keys, 0)?);
+    assert!(rt; same_many_traces(rt.alloc(), RandomState::new(&rt)?, 7)?);
+    Ok(())
+}
+
+/// A name that few numbers share.
+fn name_of(alloc: Global, number: u64) -> Result<Text, AllocError> {
+    Text::from_str(alloc, format!(in alloc; "{}", number / 2)?.as_str())
+}
+
+/// A span whose operation has a name that few share.
+fn named_span(alloc: Global, number: u64) -> Result<Span, AllocError> {
+    let operation = name_of(alloc, number)?;
+    let mut span = span(alloc, number, number)?;
+    span.operation = operation;
+    Ok(span)
+}
+
+/// An entry with one span: its service and its operation have names that few entries share.
+fn named_entry(alloc: Global, number: u64) -> Result<Arc<Entry>, AllocError> {
+    let spans = list_of(alloc, named_span(alloc, number)?)?.into_vec();
+    let name = name_of(alloc, number.saturating_sub(1));
+    entry(alloc, 0, number, name?.as_str(), spans)
+}
+
+/// Applies 30 entries with new names. Each is taken.
+fn takes_names(alloc: Global, store: &mut SpanStore) -> Result<bool, AllocError> {
+    let mut taken = true;
+    for number in 1..31 {
+        taken = taken && store.apply(named_entry(alloc, number)?) == Ok(number);
+    }
+    Ok(taken)
+}
+
+/// The operations of the service with this number's name are answered as in the plain store.
+fn same_names_of(alloc: Global, store: &SpanStore, number: u64) -> Result<bool, AllocError> {
+    let service = name_of(alloc, number)?;
+    same_answer(alloc, store, Query::OperationNames { service })
+}
+
+/// Asks the store for the services, and for the operations of each and of some more.
+fn same_many_names(alloc: Global, store: &SpanStore) -> Result<bool, AllocError> {
+    let mut same = same_answer(alloc, store, Query::Services)?;
+    for number in 0..34 {
+        same = same && same_names_of(alloc, store, number)?;
+    }
+    Ok(same)
+}
+
+/// Applies the entries with new names, and asks for them.
+fn same_filled_names(alloc: Global, keys: RandomState) -> Result<bool, Fail> {
+    let limits = Limits::new(30, 30, 0, 0).ok_or("limits")?;
+    let mut store = SpanStore::open(alloc, keys, limits)?;
+    let taken = takes_names(alloc, &mut store);
+    let same = same_many_names(alloc, &store);
+    drop(store);
+    Ok(taken? && same?)
+}
+
+/// As many names as there is room for: some of them stand where the hashes of others point.
+#[test]
+fn many_names_as_the_plain_store(rt: HostRuntime) -> Result<(), Fail> {
+    assert!(rt; same_filled_names(rt.alloc(), RandomState::new(&rt)?)?);
+    Ok(())
+}
+
+/// Adds 51 entries, each with spans of four traces.
+fn add_entries(alloc: Global, entries: &mut Vec<Arc<Entry>>) -> Result<(), AllocError> {
+    for number in 1..52 {
+        entries.push(entry_of(alloc, number, &[number, number << 32, 7, number / 2])?)?;
+    }
+    Ok(())
+}
+
+/// These entries.
+fn entries_of(alloc: Global) -> Result<Vec<Arc<Entry>>, AllocError> {
+    let mut entries = Vec::new(alloc);
+    let added = add_entries(alloc, &mut entries);
+    kept(entries, added)
+}
+
+/// Opens a store for 50 of them, once more where memory ran out.
+fn opened(alloc: Global, keys: RandomState) -> Result<SpanStore, Fail> {
+    let limits = Limits::new(50, 200, 3, 0).ok_or("limits")?;
+    match SpanStore::open(alloc, keys, limits) {
+        Ok(store) => Ok(store),
+        Err(_) => Ok(SpanStore::open(alloc, keys, limits)?),
+    }
+}
+
+/// Hands the entries to the store. It gives how many are taken, and why the next one isn't.
+fn taken(store: &mut SpanStore, entries: Vec<Arc<Entry>>) -> (u64, Option<Refusal>) {
+    for entry in entries {
+        if let Err(refusal) = store.apply(entry) {
+            return (store.len(), Some(refusal));
+        }
+    }
+    (store.len(), None)
+}
+
+/// The same of all entries.
+fn taken_of_all(
+    alloc: Global,
+    store: &mut SpanStore,
+) -> Result<(u64, Option<Refusal>), AllocError> {
+    let entries = entries_of(alloc)?;
+    Ok(taken(store, entries))
+}
+
+/// How many of the entries a store that is opened for 50 takes, and why it doesn't take the next one.
+fn filled(alloc: Global, keys: RandomState) -> Result<(u64, Option<Refusal>), Fail> {
+    let mut store = opened(alloc, keys)?;
+    let got = taken_of_all(alloc, &mut store);
+    drop(store);
+    Ok(got?)
+}
+
+/// 50 entries are taken, and the next one is refused since the store is full, not for memory. The check of allocations
+/// sees that a store which is filled so takes as many as one that is only opened, and refuses each.
+#[test]
+fn apply_without_memory(rt: HostRuntime) -> Result<(), Fail> {
+    let got = filled(rt.alloc(), RandomState::new(&rt)?)?;
+    let (batches, spans) = (50, 200);
+    assert!(rt; got == (50, Some(Refusal::JournalFull { batches, spans })));
+    Ok(())
+}
+
+/// How many entries there are.
+fn count_of_all(alloc: Global) -> Result<usize, AllocError> {
+    let entries = entries_of(alloc)?;
+    let count = entries.len();
+    drop(entries);
+    Ok(count)
+}
+
+/// How many entries there are beside a store, and whether it is empty.
+fn beside_a_store(alloc: Global, keys: RandomState) -> Result<(usize, bool), Fail> {
+    let store = opened(alloc, keys)?;
+    let count = count_of_all(alloc);
+    let is_empty = store.is_empty();
+    drop(store);
+    Ok((count?, is_empty))
+}
+
+#[test]
+fn a_store_is_opened(rt: HostRuntime) -> Result<(), Fail> {
+    let beside = beside_a_store(rt.alloc(), RandomState::new(&rt)?)?;
+    assert_eq!(rt; beside, (51, true));
+    Ok(())
+}
+
+const FIRST: &[u64] = &[1, 2, 3];
+
+const SECOND: &[u64] = &[1, 1];
+
+/// An entry's number and the traces of its spans, and what the store says to it.
+type Row = (u64, &'static [u64], Result<u64, Refusal>);
+
+/// In a store for three batches and five spans.
+const ROWS: [Row; 6] = [
+    (0, SECOND, Err(Refusal::Stale { last: 0 })),
+    (2, FIRST, Ok(1)),
+    (2, FIRST, Err(Refusal::Stale { last: 2 })),
+    (
+        3,
+        FIRST,
+        Err(Refusal::JournalFull {
+            batches: 1,
+            spans: 3,
+        }),
+    ),
+    (3, SECOND, Ok(2)),
+    (
+        4,
+        SECOND,
+        Err(Refusal::JournalFull {
+            batches: 2,
+            spans: 5,
+        }),
+    ),
+];
+
+/// The store answers an entry as the row says, and then answers queries as the plain store.
+fn is_as_said(alloc: Global, store: &mut SpanStore, row: &Row) -> Result<bool, AllocError> {
+    let (number, traces, want) = *row;
+    let got = store.apply(entry_of(alloc, number, traces)?);
+    Ok(got == want && same_answers(alloc, store, number)?)
+}
+
+/// How many of the rows are answered as they say, each behind the ones before.
+fn history_of(alloc: Global, store: &mut SpanStore) -> Result<usize, AllocError> {
+    let mut history_of = 0usize;
+    for row in &ROWS {
+        if !is_as_said(alloc, store, row)? {
+            break;
+        }
+        history_of = history_of.saturating_add(1);
+    }
+    Ok(history_of)
+}
+
+/// The same in a store that is opened for them.
+fn as_said_by_one(alloc: Global, keys: RandomState) -> Result<usize, Fail> {
+    let limits = Limits::new(3, 5, 2, 0).ok_or("limits")?;
+    let mut store = SpanStore::open(alloc, keys, limits)?;
+    let history_of = history_of(alloc, &mut store);
+    drop(store);
+    Ok(history_of?)
+}
+
+#[test]
+fn refused_entries_change_nothing(rt: HostRuntime) -> Result<(), Fail> {
+    let history_of = as_said_by_one(rt.alloc(), RandomState::new(&rt)?)?;
+    assert_eq!(rt; history_of, ROWS.len());
+    Ok(())
+}
+
+/// Adds an entry for each of these numbers.
+fn add_numbered(
+    alloc: Global,
+    entries: &mut Vec<Arc<Entry>>,
+    numbers: &[u64],
+) -> Result<(), AllocError> {
+    for number in numbers {
+        entries.push(entry_of(alloc, *number, &[*number, 7])?)?;
+    }
+    Ok(())
+}
+
+/// An entry for each of these numbers.
+fn numbered(alloc: Global, numbers: &[u64]) -> Result<Vec<Arc<Entry>>, AllocError> {
+    let mut entries = Vec::new(alloc);
+    let added = add_numbered(alloc, &mut entries, numbers);
+    kept(entries, added)
+}
+
+/// The first is handed in twice, and the last has no room.
+const HANDED_IN: &[u64] = &[1, 1, 2, 3];
+
+/// Those that are accepted.
+const ACCEPTED: &[u64] = &[1, 2];
+
+/// Limits by which two of them are accepted.
+fn for_two() -> Result<Limits, Fail> {
+    Ok(Limits::new(3, 5, 2, 0).ok_or("limits")?)
+}
+
+/// A store of the entries.
+fn replayed(alloc: Global, keys: RandomState, entries: &[Arc<Entry>]) -> Result<SpanStore, Fail> {
+    match replay(alloc, keys, for_two()?, entries) {
+        Ok(store) => Ok(store),
+        Err(_) => Err("refused".into()),
+    }
+}
+
+/// Whether the entry is among these, whole.
+fn is_among(entries: &[Arc<Entry>], held: &Entry) -> bool {
+    entries.iter().any(|one| one.number == held.number && one.work.is_same(&held.work))
+}
+
+/// The numbers of those that a store holds whole, in its order.
+fn numbers_held(
+    alloc: Global,
+    held: &[Arc<Entry>],
+    entries: &[Arc<Entry>],
+) -> Result<Vec<u64>, AllocError> {
+    let mut numbers = Vec::new(alloc);
+    for held in held {
+        if is_among(entries, held) {
+            numbers.push(held.number)?;
+        }
+    }
+    Ok(numbers)
+}
+
+/// The numbers of those that a store of the entries accepts, in its order, where it holds them whole.
+fn accepted_of(alloc: Global, keys: RandomState, entries: &[Arc<Entry>]) -> Result<Vec<u64>, Fail> {
+    let store = replayed(alloc, keys, entries)?;
+    let numbers = numbers_held(alloc, store.entries(), entries);
+    drop(store);
+    Ok(numbers?)
+}
+
+/// The same of those that are handed in.
+fn accepted(alloc: Global, keys: RandomState) -> Result<Vec<u64>, Fail> {
+    let entries = numbered(alloc, HANDED_IN)?;
+    let numbers = accepted_of(alloc, keys, &entries);
+    drop(entries);
+    numbers
+}
+
+/// A store of the entries answers as the plain store.
+fn same_replayed_of(
+    alloc: Global,
+    keys: RandomState,
+    entries: &[Arc<Entry>],
+) -> Result<bool, Fail> {
+    let store = replayed(alloc, keys, entries)?;
+    let same = same_answers(alloc, &store, 5);
+    drop(store);
+    Ok(same?)
+}
+
+/// The same of those that are handed in.
+fn same_replayed(alloc: Global, keys: RandomState) -> Result<bool, Fail> {
+    let entries = numbered(alloc, HANDED_IN)?;
+    let same = same_replayed_of(alloc, keys, &entries);
+    drop(entries);
+    same
+}
+
+/// What a replay of those that are handed in answers of the services, as text.
+fn services_replayed(alloc: Global, keys: RandomState) -> Result<String, Fail> {
+    let limits = for_two()?;
+    let entries = numbered(alloc, HANDED_IN)?;
+    let answer = replayed_answer(alloc, keys, limits, &entries, &Query::Services);
+    drop(entries);
+    Ok(shown(alloc, answer.ok().ok_or("refused")?)?)
+}
+
+/// What the plain store of the accepted ones answers of the services, as text.
+fn services_plainly(alloc: Global) -> Result<String, Fail> {
+    let limits = for_two()?;
+    let entries = numbered(alloc, ACCEPTED)?;
+    let answer = plain_answer(alloc, &entries, limits, &Query::Services);
+    drop(entries);
+    Ok(shown(alloc, answer?)?)
+}
+
+/// Both answer the same of the services.
+fn same_services(alloc: Global, keys: RandomState) -> Result<bool, Fail> {
+    let quick = services_replayed(alloc, keys)?;
+    let plain = services_plainly(alloc)?;
+    Ok(quick == plain)
+}
+
+#[test]
+fn replays_what_is_accepted(rt: HostRuntime) -> Result<(), Fail> {
+    let alloc = rt.alloc();
+    let keys = RandomState::new(&rt)?;
+    assert_eq!(rt; accepted(alloc, keys)?.as_slice(), ACCEPTED);
+    assert!(rt; same_replayed(alloc, keys)?);
+    assert!(rt; same_services(alloc, keys)?);
+    Ok(())
+}

@@ -1,0 +1,189 @@
+//! Traces that are lent by the entries of their spans, beside the same ones copied from them.
+
+use crate::tests::adjusters::{PAIRS, placed, trace_of};
+use crate::tests::histories::{history_of, kept};
+use jaeger_model::{Placed, RefKind, SpanId, SpanRef, TraceId};
+use std::alloc::{AllocError, Global};
+use std::mem::drop;
+use std::sync::Arc;
+use std::test::*;
+use trace_adjust::{LentSpan, Warning, lend, show};
+use trace_model::{Entry, KeptSpan, KeptTrace, Limits, Shown};
+
+/// Adds the first span of each entry.
+fn add_kept(spans: &mut Vec<KeptSpan>, entries: &[Arc<Entry>]) -> Result<(), AllocError> {
+    for entry in entries {
+        spans.push(KeptSpan::new(entry, 0)?)?;
+    }
+    Ok(())
+}
+
+/// The spans, each kept by an entry of its own.
+fn kept_by_entries(alloc: Global, trace: Vec<Placed>) -> Result<Vec<KeptSpan>, AllocError> {
+    let entries = history_of(alloc, trace)?;
+    let mut spans = Vec::new(alloc);
+    let added = add_kept(&mut spans, &entries);
+    kept(spans, added)
+}
+
+/// The logs have the times of those of the span, and as many fields.
+fn are_same_logs(lent: &LentSpan, shown: &Shown) -> bool {
+    let logs = lent.logs();
+    let wanted = shown.placed.span.logs.as_slice();
+    if logs.len() != wanted.len() {
+        return false;
+    }
+    for index in 0..logs.len() {
+        let log = logs.log(index);
+        if log.at != wanted[index].at || log.fields.len() != wanted[index].fields.len() {
+            return false;
+        }
+    }
+    true
+}
+
+fn are_same_references(lent: &LentSpan, shown: &Shown) -> bool {
+    let wanted = shown.placed.span.references.as_slice();
+    if lent.reference_count() != wanted.len() {
+        return false;
+    }
+    for index in 0..lent.reference_count() {
+        if lent.reference(index) != wanted[index] {
+            return false;
+        }
+    }
+    true
+}
+
+/// What is said of the span, or nothing.
+fn warning_of(alloc: Global, lent: &LentSpan) -> Result<Vec<u8>, AllocError> {
+    let mut text = Vec::with_capacity(alloc, Warning::LONGEST)?;
+    match lent.warning() {
+        Some(warning) => {
+            let written = warning.write_into(&mut text);
+            kept(text, written)
+        }
+        None => Ok(text),
+    }
+}
+
+/// The same is said of both.
+fn are_same_warnings(alloc: Global, lent: &LentSpan, shown: &Shown) -> Result<bool, AllocError> {
+    let text = warning_of(alloc, lent)?;
+    let same = match shown.warnings.as_slice() {
+        [] => text.is_empty(),
+        [warning] => warning.as_str().as_bytes() == text.as_slice(),
+        _ => false,
+    };
+    drop(text);
+    Ok(same)
+}
+
+/// The lent span is the one that is shown.
+fn is_shown_so(alloc: Global, lent: &LentSpan, shown: &Shown) -> Result<bool, AllocError> {
+    let span = &shown.placed.span;
+    let same = lent.span().id == span.id
+        && lent.span().operation == span.operation
+        && lent.process().is_same(shown.placed.process.get())
+        && lent.start() == span.start
+        && are_same_logs(lent, shown)
+        && are_same_references(lent, shown);
+    Ok(are_same_warnings(alloc, lent, shown)? && same)
+}
+
+/// Each lent span is the one that is shown at its place.
+fn are_shown_so(alloc: Global, lent: &[LentSpan], shown: &[Shown]) -> Result<bool, AllocError> {
+    let mut same = lent.len() == shown.len();
+    for (lent, shown) in lent.iter().zip(shown) {
+        same = is_shown_so(alloc, lent, shown)? && same;
+    }
+    Ok(same)
+}
+
+/// The spans are lent as they are shown under this limit.
+fn are_lent(
+    alloc: Global,
+    trace: Vec<Placed>,
+    limits: Limits,
+    raw: bool,
+) -> Result<bool, AllocError> {
+    let spans = kept_by_entries(alloc, trace)?;
+    let places = Vec::new(alloc);
+    let trace = KeptTrace {
+        spans,
+        places,
+        limits,
+        raw,
+    };
+    let shown = show(alloc, &trace)?;
+    let lent = lend(alloc, &trace)?;
+    let same = are_shown_so(alloc, &lent, shown.as_slice());
+    drop(lent);
+    drop(shown);
+    drop(trace);
+    same
+}
+
+/// A parent and its child on another host are lent as they are shown, where the limit is one that a store has.
+fn are_lent_moved(
+    alloc: Global,
+    [start, long, child, short]: [i64; 4],
+    max_skew: u64,
+) -> Result<bool, AllocError> {
+    let rows = [("h1", 1, 0, start, long), ("h2", 2, 1, child, short)];
+    match Limits::new(1, 1, 0, max_skew) {
+        Some(limits) => are_lent(alloc, trace_of(alloc, &rows)?, limits, false),
+        None => Ok(true),
+    }
+}
+
+#[test]
+fn child_on_another_host_is_lent(rt: HostRuntime) -> Result<(), Fail> {
+    for (times, limit, _, warning) in PAIRS {
+        assert!(rt; are_lent_moved(rt.alloc(), times, limit)?, "{warning}");
+    }
+    Ok(())
+}
+
+fn reference(kind: RefKind, trace: u64, id: u64) -> SpanRef {
+    SpanRef {
+        kind,
+        trace: TraceId {
+            high: 0,
+            low: trace,
+        },
+        id: SpanId(id),
+    }
+}
+
+/// References to another trace, to a span that caused it, and to its parent or to another one.
+fn add_references(placed: &mut Placed, parent: u64) -> Result<(), AllocError> {
+    let references = &mut placed.span.references;
+    references.push(reference(RefKind::ChildOf, 2, 9))?;
+    references.push(reference(RefKind::FollowsFrom, 1, 8))?;
+    references.push(reference(RefKind::ChildOf, 1, parent))?;
+    Ok(())
+}
+
+/// A root and its child, which has references, and has its parent among them or not.
+fn referring(alloc: Global, parent: u64) -> Result<Vec<Placed>, AllocError> {
+    let mut trace = trace_of(alloc, &[("h1", 1, 0, 1000, 101)])?;
+    let mut child = placed(alloc, ("h2", 2, 1, 900, 50))?;
+    let referred = add_references(&mut child, parent);
+    let child = kept(child, referred)?;
+    trace.push(child)?;
+    Ok(trace)
+}
+
+/// The reference to the parent is made or goes to the front, and where spans are lent as they came it stays.
+#[test]
+fn references_are_lent(rt: HostRuntime) -> Result<(), Fail> {
+    let limits = Limits::new(1, 1, 0, 200).ok_or("limits")?;
+    for parent in [1, 7] {
+        for raw in [false, true] {
+            let trace = referring(rt.alloc(), parent)?;
+            assert!(rt; are_lent(rt.alloc(), trace, limits, raw)?, "{parent} {raw}");
+        }
+    }
+    Ok(())
+}

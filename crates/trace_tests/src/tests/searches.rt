@@ -1,0 +1,589 @@
+use crate::tests::histories::{Row, answer_of, kept, store_answer_of, store_answer_to};
+use find_traces::{JudgedProcess, Wanted};
+use jaeger_model::{Log, Placed, Process, Seq, SharedProcess, Tag, TagValue, Text, TraceId, Value};
+use std::alloc::{AllocError, Global};
+use std::hash::RandomState;
+use std::mem::drop;
+use std::test::*;
+use trace_adjust::show;
+use trace_model::{Answer, AnsweredTrace, Find, Query, Shown, TraceForm};
+use trace_samples::{list_of, placed, process, span};
+
+/// A span of service `a` of this trace.
+fn begun_once(alloc: Global, trace: u64, start: i64, duration: i64) -> Result<Placed, AllocError> {
+    let mut span = span(alloc, trace, 1)?;
+    span.start = start;
+    span.duration = duration;
+    placed(alloc, "a", span)
+}
+
+/// A search by service `a` alone.
+fn by_service(alloc: Global) -> Result<Find, AllocError> {
+    let service = Text::from_str(alloc, "a")?;
+    Ok(Find {
+        service,
+        operation: Text::new(alloc),
+        tags: Seq::new(alloc),
+        start_min: None,
+        start_max: None,
+        duration_min: 0,
+        duration_max: 0,
+        limit: 0,
+    })
+}
+
+/// The same within bounds of durations and of starts.
+fn within(
+    alloc: Global,
+    durations: [i64; 2],
+    starts: [Option<i64>; 2],
+) -> Result<Find, AllocError> {
+    let mut find = by_service(alloc)?;
+    find.duration_min = durations[0];
+    find.duration_max = durations[1];
+    find.start_min = starts[0];
+    find.start_max = starts[1];
+    Ok(find)
+}
+
+/// The same for no more traces than the limit.
+fn limited(alloc: Global, limit: u64) -> Result<Find, AllocError> {
+    let mut find = by_service(alloc)?;
+    find.limit = limit;
+    Ok(find)
+}
+
+/// Whether the span meets every condition of what is wanted.
+fn is_match(alloc: Global, placed: &Placed, wanted: &Wanted<'_>) -> Result<bool, AllocError> {
+    let judged = JudgedProcess::new(alloc, wanted, placed.process.get())?;
+    let met = judged.is_match(alloc, &placed.span);
+    drop(judged);
+    met
+}
+
+/// Whether the span meets every condition of the search.
+fn is_met(alloc: Global, placed: &Placed, query: &Find) -> Result<bool, AllocError> {
+    let wanted = Wanted::new(alloc, query)?;
+    let met = is_match(alloc, placed, &wanted);
+    drop(wanted);
+    met
+}
+
+/// The same of a search that is given up behind that.
+fn is_found(
+    alloc: Global,
+    placed: &Placed,
+    query: Result<Find, AllocError>,
+) -> Result<bool, AllocError> {
+    let query = query?;
+    let met = is_met(alloc, placed, &query);
+    drop(query);
+    met
+}
+
+/// A span's start and duration, the bounds of durations, those of starts, and whether it is found.
+const BOUNDS: [([i64; 2], [i64; 2], [Option<i64>; 2], bool); 17] = [
+    ([1000, 50], [0, 0], [None, None], true),
+    ([1000, 50], [50, 0], [Some(1000), None], true),
+    ([1000, 50], [51, 0], [None, None], false),
+    ([1000, 50], [0, 50], [None, None], true),
+    ([1000, 50], [0, 49], [None, None], false),
+    ([1000, 50], [0, 0], [Some(1001), None], false),
+    ([1000, 50], [0, 0], [None, Some(1000)], true),
+    ([1000, 50], [0, 0], [None, Some(999)], false),
+    ([0, 0], [1, 0], [None, None], false),
+    ([0, 0], [0, -1], [None, None], false),
+    ([0, -5], [-5, -5], [Some(0), Some(0)], true),
+    ([0, -5], [-4, 0], [None, None], false),
+    ([0, -5], [0, -6], [None, None], false),
+    (
+        [i64::MIN, i64::MIN],
+        [i64::MIN, i64::MIN],
+        [Some(i64::MIN), Some(i64::MIN)],
+        true,
+    ),
+    (
+        [i64::MAX, i64::MAX],
+        [i64::MAX, i64::MAX],
+        [Some(i64::MAX), Some(i64::MAX)],
+        true,
+    ),
+    ([i64::MIN, 0], [0, 0], [Some(i64::MIN + 1), None], false),
+    ([i64::MAX, 0], [0, 0], [None, Some(i64::MAX - 1)], false),
+];
+
+/// Whether a trace of one span that starts then and lasts so long is found within the bounds.
+fn is_within(
+    alloc: Global,
+    [start, duration]: [i64; 2],
+    durations: [i64; 2],
+    starts: [Option<i64>; 2],
+) -> Result<bool, AllocError> {
+    let one = begun_once(alloc, 1, start, duration)?;
+    let found = is_found(alloc, &one, within(alloc, durations, starts));
+    drop(one);
+    found
+}
+
+#[test]
+fn bounds(rt: HostRuntime) -> Result<(), Fail> {
+    for (span, durations, starts, wanted) in &BOUNDS {
+        let found = is_within(rt.alloc(), *span, *durations, *starts)?;
+        assert_eq!(rt; found, *wanted, "{span:?} {durations:?}");
+    }
+    Ok(())
+}
+
+/// A span of service `a` of the trace at a place, the first one's id being 1.
+fn row_at(place: usize, id: u64, start: i64) -> Row {
+    (["a", ""], [place as u64 % 1000 + 1, id, 0], [start, 50])
+}
+
+/// Traces of the starts of their two spans.
+fn begun(alloc: Global, starts: &[[i64; 2]]) -> Result<Vec<Row>, AllocError> {
+    let mut rows = Vec::new(alloc);
+    for (place, [first, second]) in starts.iter().enumerate() {
+        rows.push(row_at(place, 1, *first))?;
+        rows.push(row_at(place, 2, *second))?;
+    }
+    Ok(rows)
+}
+
+/// The starts of traces, the limit, and the places of those found.
+const ORDERS: [(&[[i64; 2]], u64, &[usize]); 9] = [
+    (&[[3000, 0], [1000, 0], [2000, 0]], 0, &[0, 2, 1]),
+    (&[[3000, 0], [1000, 0], [2000, 0]], 1, &[0]),
+    (&[[3000, 0], [1000, 0], [2000, 0]], 2, &[0, 2]),
+    (&[[3000, 0], [1000, 0], [2000, 0]], 3, &[0, 2, 1]),
+    (&[[1000, 9000], [2000, 0]], 0, &[1, 0]),
+    (&[[1000, 9000], [2000, 0]], 1, &[1]),
+    (&[[1000, 0], [1000, 0]], 1, &[1]),
+    (&[[1000, 0], [1000, 0], [1000, 0]], 0, &[2, 1, 0]),
+    (&[[i64::MIN, 0], [i64::MAX, 0]], 9, &[1, 0]),
+];
+
+/// The trace at this place.
+fn is_at(id: u64, place: usize) -> bool {
+    id == place as u64 % 1000 + 1
+}
+
+/// The ids are those of the traces at these places.
+fn are_ids_at(ids: &[TraceId], places: &[usize]) -> bool {
+    ids.len() == places.len()
+        && ids
+            .iter()
+            .zip(places)
+            .all(|(id, place)| is_at(id.low, *place))
+}
+
+/// The low half of the id of the trace of these spans.
+fn low_of(trace: &[Shown]) -> u64 {
+    match trace.first() {
+        Some(shown) => shown.placed.span.trace.low,
+        None => 0,
+    }
+}
+
+/// The same of a trace of an answer, whether it is made already or not.
+fn low_of_trace(alloc: Global, trace: &AnsweredTrace) -> Result<u64, AllocError> {
+    match trace.form() {
+        TraceForm::Ready(made) => Ok(low_of(made.as_slice())),
+        TraceForm::Kept(kept) => {
+            let shown = show(alloc, kept)?;
+            let low = low_of(shown.as_slice());
+            drop(shown);
+            Ok(low)
+        }
+    }
+}
+
+/// The traces are those at these places.
+fn are_traces_at(
+    alloc: Global,
+    traces: &[AnsweredTrace],
+    places: &[usize],
+) -> Result<bool, AllocError> {
+    let mut same = traces.len() == places.len();
+    for (trace, place) in traces.iter().zip(places) {
+        let low = low_of_trace(alloc, trace)?;
+        same = same && is_at(low, *place);
+    }
+    Ok(same)
+}
+
+/// The ids that are found.
+fn ids_in(answer: &Answer) -> &[TraceId] {
+    match answer {
+        Answer::Ids(ids) => ids.as_slice(),
+        _ => &[],
+    }
+}
+
+/// The traces that are found.
+fn traces_in(answer: &Answer) -> &[AnsweredTrace] {
+    match answer {
+        Answer::Traces(traces) => traces.as_slice(),
+        _ => &[],
+    }
+}
+
+/// A search for ids among the spans with the limit finds those of the traces at these places.
+fn finds_ids_at(
+    alloc: Global,
+    keys: RandomState,
+    rows: &[Row],
+    limit: u64,
+    places: &[usize],
+) -> Result<bool, Fail> {
+    let find = limited(alloc, limit)?;
+    let answer = store_answer_of(alloc, keys, rows, 0, Query::FindIds(find))?;
+    let same = are_ids_at(ids_in(&answer), places);
+    drop(answer);
+    Ok(same)
+}
+
+/// A search for traces finds those themselves.
+fn finds_traces_at(
+    alloc: Global,
+    keys: RandomState,
+    rows: &[Row],
+    limit: u64,
+    places: &[usize],
+) -> Result<bool, Fail> {
+    let find = limited(alloc, limit)?;
+    let answer = store_answer_of(alloc, keys, rows, 0, Query::Find(find))?;
+    let same = are_traces_at(alloc, traces_in(&answer), places);
+    drop(answer);
+    Ok(same?)
+}
+
+#[test]
+fn latest_first(rt: HostRuntime) -> Result<(), Fail> {
+    let alloc = rt.alloc();
+    let keys = RandomState::new(&rt)?;
+    for (starts, limit, wanted) in &ORDERS {
+        let rows = begun(alloc, *starts)?;
+        assert!(rt; finds_ids_at(alloc, keys, &rows, *limit, *wanted)?);
+        assert!(rt; finds_traces_at(alloc, keys, &rows, *limit, *wanted)?);
+    }
+    Ok(())
+}
+
+/// The flag `true` under this key.
+fn flag(alloc: Global, key: &str) -> Result<Seq<Tag>, AllocError> {
+    let key = Text::from_str(alloc, key)?;
+    let value = TagValue::new(Value::Bool(true));
+    list_of(alloc, Tag { key, value })
+}
+
+/// Gives the process the tag `p`.
+fn set_flag(alloc: Global, process: &mut Process) -> Result<(), AllocError> {
+    process.tags = flag(alloc, "p")?;
+    Ok(())
+}
+
+/// A process with the tag `p`.
+fn flagged_process(alloc: Global) -> Result<Process, AllocError> {
+    let mut process = process(alloc, "a")?;
+    let set = set_flag(alloc, &mut process);
+    kept(process, set)
+}
+
+/// Gives the span a process with the tag `p`.
+fn set_process(alloc: Global, placed: &mut Placed) -> Result<(), AllocError> {
+    placed.process = SharedProcess::new(alloc, flagged_process(alloc)?)?;
+    Ok(())
+}
+
+/// A log with the tag `l`.
+fn flagged_log(alloc: Global) -> Result<Seq<Log>, AllocError> {
+    let fields = flag(alloc, "l")?;
+    list_of(alloc, Log { at: 1000, fields })
+}
+
+/// Gives the span the tag `s`, a log with `l` and a process with `p`.
+fn set_flags(alloc: Global, placed: &mut Placed) -> Result<(), AllocError> {
+    placed.span.tags = flag(alloc, "s")?;
+    placed.span.logs = flagged_log(alloc)?;
+    set_process(alloc, placed)
+}
+
+/// A span with the tag `s`, with `l` in its log and `p` in its process.
+fn flagged(alloc: Global) -> Result<Placed, AllocError> {
+    let mut flagged = begun_once(alloc, 1, 1000, 50)?;
+    let set = set_flags(alloc, &mut flagged);
+    kept(flagged, set)
+}
+
+/// The flag `true` under this key, as it is asked.
+fn asked_flag(alloc: Global, key: &str) -> Result<(Text, Text), AllocError> {
+    let key = Text::from_str(alloc, key)?;
+    Ok((key, Text::from_str(alloc, "true")?))
+}
+
+/// Adds the flag under each of these keys.
+fn add_flags(
+    alloc: Global,
+    pairs: &mut Vec<(Text, Text)>,
+    asked: &[&str],
+) -> Result<(), AllocError> {
+    for key in asked {
+        pairs.push(asked_flag(alloc, *key)?)?;
+    }
+    Ok(())
+}
+
+/// These flags.
+fn flags(alloc: Global, asked: &[&str]) -> Result<Seq<(Text, Text)>, AllocError> {
+    let mut pairs = Vec::new(alloc);
+    let added = add_flags(alloc, &mut pairs, asked);
+    Ok(Seq::from_vec(kept(pairs, added)?))
+}
+
+/// Asks the search for these flags.
+fn set_asked(alloc: Global, find: &mut Find, asked: &[&str]) -> Result<(), AllocError> {
+    find.tags = flags(alloc, asked)?;
+    Ok(())
+}
+
+/// A search by service `a` and the flag under each of these keys.
+fn by_flags(alloc: Global, asked: &[&str]) -> Result<Find, AllocError> {
+    let mut find = by_service(alloc)?;
+    let set = set_asked(alloc, &mut find, asked);
+    kept(find, set)
+}
+
+/// The keys that are asked, and whether a span with `s`, `l` and `p` is found by them.
+const ASKED: [(&[&str], bool); 12] = [
+    (&[], true),
+    (&["p"], true),
+    (&["s"], true),
+    (&["l"], true),
+    (&["p", "s", "l"], true),
+    (&["l", "s", "p"], true),
+    (&["p", "p", "s", "s", "l"], true),
+    (&["x"], false),
+    (&["p", "x"], false),
+    (&["a", "p", "s", "l"], false),
+    (&["p", "s", "l", "x"], false),
+    (&["p", "p", "s", "x"], false),
+];
+
+/// How many of the rows are answered as they say, each behind the ones before.
+fn matched(alloc: Global, flagged: &Placed) -> Result<usize, AllocError> {
+    let mut count = 0usize;
+    for (asked, wanted) in &ASKED {
+        if is_found(alloc, flagged, by_flags(alloc, *asked))? != *wanted {
+            break;
+        }
+        count = count.saturating_add(1);
+    }
+    Ok(count)
+}
+
+/// The same of a span that is given up behind that.
+fn matched_together(alloc: Global) -> Result<usize, AllocError> {
+    let flagged = flagged(alloc)?;
+    let count = matched(alloc, &flagged);
+    drop(flagged);
+    count
+}
+
+/// Each asked tag has to be one of the span, its log or its process, however often it is asked.
+#[test]
+fn tags_matched_together(rt: HostRuntime) -> Result<(), Fail> {
+    assert_eq!(rt; matched_together(rt.alloc())?, ASKED.len());
+    Ok(())
+}
+
+/// A span of this trace and its start, whose process has the tag `p` if this is so.
+fn with_process(alloc: Global, trace: u64, is_flagged: bool) -> Result<Placed, AllocError> {
+    let mut placed = begun_once(alloc, trace, 1000, 50)?;
+    let set = if is_flagged {
+        set_process(alloc, &mut placed)
+    } else {
+        Ok(())
+    };
+    kept(placed, set)
+}
+
+/// Adds spans of three traces, of which the process of one has the tag `p`.
+fn add_three(alloc: Global, spans: &mut Vec<Placed>, flagged: u64) -> Result<(), AllocError> {
+    for trace in 1..4u64 {
+        spans.push(with_process(alloc, trace, trace == flagged)?)?;
+    }
+    Ok(())
+}
+
+/// These spans.
+fn three_with(alloc: Global, flagged: u64) -> Result<Vec<Placed>, AllocError> {
+    let mut spans = Vec::new(alloc);
+    let added = add_three(alloc, &mut spans, flagged);
+    kept(spans, added)
+}
+
+/// What the store answers of a history of these spans to a search for the ids of those with the tag `p`.
+fn answer_by_flag(alloc: Global, keys: RandomState, spans: Vec<Placed>) -> Result<Answer, Fail> {
+    match by_flags(alloc, &["p"]) {
+        Ok(find) => store_answer_to(alloc, keys, spans, Query::FindIds(find)),
+        Err(why) => {
+            drop(spans);
+            Err(why.into())
+        }
+    }
+}
+
+/// That search finds this trace alone, where it has the tag alone.
+fn is_found_alone(alloc: Global, keys: RandomState, flagged: u64) -> Result<bool, Fail> {
+    let answer = answer_by_flag(alloc, keys, three_with(alloc, flagged)?)?;
+    let same = are_ids(&answer, &[flagged]);
+    drop(answer);
+    Ok(same)
+}
+
+/// A process's tags count for the spans of its own entry alone, wherever it comes.
+#[test]
+fn a_process_matches_in_its_own_entry(rt: HostRuntime) -> Result<(), Fail> {
+    let keys = RandomState::new(&rt)?;
+    for flagged in 1..4u64 {
+        assert!(rt; is_found_alone(rt.alloc(), keys, flagged)?);
+    }
+    Ok(())
+}
+
+/// The answer has these ids, and no others.
+fn are_ids(answer: &Answer, wanted: &[u64]) -> bool {
+    are_lows(ids_in(answer), wanted)
+}
+
+/// The ids have these low halves.
+fn are_lows(ids: &[TraceId], wanted: &[u64]) -> bool {
+    ids.len() == wanted.len() && ids.iter().zip(wanted).all(|(id, low)| id.low == *low)
+}
+
+/// Spans, the limit of the search, and the ids of the traces that are found.
+const PLAIN_ORDERS: [(&[Row], u64, &[u64]); 5] = [
+    (
+        &[
+            (["a", ""], [1, 1, 0], [3000, 50]),
+            (["a", ""], [2, 1, 0], [1000, 50]),
+            (["a", ""], [3, 1, 0], [2000, 50]),
+        ],
+        0,
+        &[1, 3, 2],
+    ),
+    (
+        &[
+            (["a", ""], [1, 1, 0], [3000, 50]),
+            (["a", ""], [2, 1, 0], [1000, 50]),
+            (["a", ""], [3, 1, 0], [2000, 50]),
+        ],
+        2,
+        &[1, 3],
+    ),
+    (
+        &[
+            (["a", ""], [1, 1, 0], [1000, 50]),
+            (["a", ""], [1, 1, 0], [9000, 50]),
+            (["a", ""], [2, 1, 0], [2000, 50]),
+        ],
+        0,
+        &[2, 1],
+    ),
+    (
+        &[
+            (["a", ""], [1, 1, 0], [1000, 50]),
+            (["a", ""], [2, 1, 0], [1000, 50]),
+        ],
+        1,
+        &[2],
+    ),
+    (
+        &[
+            (["b", ""], [1, 1, 0], [1000, 50]),
+            (["a", ""], [2, 1, 0], [1000, 50]),
+        ],
+        0,
+        &[2],
+    ),
+];
+
+/// A search among the spans with the limit finds these ids, in the plain store.
+fn finds_plainly(alloc: Global, rows: &[Row], limit: u64, wanted: &[u64]) -> Result<bool, Fail> {
+    let find = limited(alloc, limit)?;
+    let answer = answer_of(alloc, rows, 0, Query::FindIds(find))?;
+    let same = are_ids(&answer, wanted);
+    drop(answer);
+    Ok(same)
+}
+
+#[test]
+fn latest_first_plainly(rt: HostRuntime) -> Result<(), Fail> {
+    for (rows, limit, wanted) in &PLAIN_ORDERS {
+        assert!(rt; finds_plainly(rt.alloc(), *rows, *limit, *wanted)?);
+    }
+    Ok(())
+}
+
+/// How many traces are found.
+fn found_in(answer: &Answer) -> usize {
+    match answer {
+        Answer::Traces(traces) => traces.len(),
+        _ => 9,
+    }
+}
+
+const ONE: [Row; 1] = [(["a", ""], [1, 1, 0], [1000, 50])];
+
+/// The lower and upper bounds of durations and of starts, and how many traces are found.
+const PLAIN_BOUNDS: [([i64; 2], [Option<i64>; 2], usize); 4] = [
+    ([50, 50], [Some(1000), Some(1000)], 1),
+    ([51, 0], [None, None], 0),
+    ([0, 49], [None, None], 0),
+    ([0, 0], [None, Some(999)], 0),
+];
+
+/// How many traces the plain store finds of one span within the bounds.
+fn found_plainly(
+    alloc: Global,
+    durations: [i64; 2],
+    starts: [Option<i64>; 2],
+) -> Result<usize, Fail> {
+    let find = within(alloc, durations, starts)?;
+    let answer = answer_of(alloc, &ONE, 0, Query::Find(find))?;
+    let found = found_in(&answer);
+    drop(answer);
+    Ok(found)
+}
+
+#[test]
+fn bounds_plainly(rt: HostRuntime) -> Result<(), Fail> {
+    for (durations, starts, wanted) in &PLAIN_BOUNDS {
+        assert_eq!(rt; found_plainly(rt.alloc(), *durations, *starts)?, *wanted);
+    }
+    Ok(())
+}
+
+/// The same as in the plain store, in the other one.
+fn finds_in_the_store(
+    alloc: Global,
+    keys: RandomState,
+    rows: &[Row],
+    limit: u64,
+    wanted: &[u64],
+) -> Result<bool, Fail> {
+    let find = limited(alloc, limit)?;
+    let answer = store_answer_of(alloc, keys, rows, 0, Query::FindIds(find))?;
+    let same = are_ids(&answer, wanted);
+    drop(answer);
+    Ok(same)
+}
+
+#[test]
+fn latest_first_in_the_store(rt: HostRuntime) -> Result<(), Fail> {
+    let keys = RandomState::new(&rt)?;
+    for (rows, limit, wanted) in &PLAIN_ORDERS {
+        assert!(rt; finds_in_the_store(rt.alloc(), keys, *rows, *limit, *wanted)?);
+    }
+    Ok(())
+}

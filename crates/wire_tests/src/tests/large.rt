@@ -1,0 +1,123 @@
+use crate::tests::trace_values::{kept, tag, with_tag};
+use batch_codec::{decode, encode};
+use jaeger_model::{Batch, Log, Seq, Span, Tag, Text, Value};
+use std::alloc::{AllocError, Global};
+use std::mem::drop;
+use std::test::*;
+use trace_samples::{batch, list_of, span};
+
+const MEGABYTE: usize = 1_000_000;
+
+const MANY: u64 = 5_000;
+
+/// A text and a binary of a megabyte each.
+fn long_values(alloc: Global) -> Result<Vec<Tag>, Fail> {
+    let text = Value::Text(Text::from_string(long_text(alloc)?));
+    let tags = with_tag(alloc, Vec::new(alloc), "text", text)?;
+    with_long_bytes(alloc, tags)
+}
+
+/// A binary of a megabyte behind these tags.
+fn with_long_bytes(alloc: Global, tags: Vec<Tag>) -> Result<Vec<Tag>, Fail> {
+    match vec![in alloc; 0x61; MEGABYTE] {
+        Ok(bytes) => with_tag(alloc, tags, "bytes", Value::Bytes(Seq::from_vec(bytes))),
+        Err(why) => {
+            drop(tags);
+            Err(why.into())
+        }
+    }
+}
+
+/// The text, so many times in a row.
+fn repeated(alloc: Global, text: &str, times: usize) -> Result<String, AllocError> {
+    let mut word = String::new(alloc);
+    for _ in 0..times {
+        word.push_str(text)?;
+    }
+    Ok(word)
+}
+
+/// A text of a megabyte.
+fn long_text(alloc: Global) -> Result<String, AllocError> {
+    let part = repeated(alloc, "a", 1_000)?;
+    repeated(alloc, &part, MEGABYTE / 1_000)
+}
+
+/// Adds many tags.
+fn add_tags(alloc: Global, tags: &mut Vec<Tag>) -> Result<(), Fail> {
+    for number in 0..MANY {
+        tags.push(tag(alloc, "n", Value::Long(number as i64))?)?;
+    }
+    Ok(())
+}
+
+/// Many tags behind these.
+fn with_many_tags(alloc: Global, tags: Vec<Tag>) -> Result<Seq<Tag>, Fail> {
+    let mut tags = tags;
+    let added = add_tags(alloc, &mut tags);
+    Ok(Seq::from_vec(kept(tags, added)?))
+}
+
+/// Gives the span long values, many tags and a log with many fields.
+fn lengthen(alloc: Global, span: &mut Span) -> Result<(), Fail> {
+    span.tags = with_many_tags(alloc, long_values(alloc)?)?;
+    let fields = with_many_tags(alloc, Vec::new(alloc))?;
+    span.logs = list_of(alloc, Log { at: 0, fields })?;
+    Ok(())
+}
+
+/// A span with them.
+fn long_span(alloc: Global) -> Result<Span, Fail> {
+    let mut span = span(alloc, 1, 1)?;
+    let lengthened = lengthen(alloc, &mut span);
+    kept(span, lengthened)
+}
+
+/// Adds that span in front of many others.
+fn add_spans(alloc: Global, spans: &mut Vec<Span>) -> Result<(), Fail> {
+    spans.push(long_span(alloc)?)?;
+    for number in 0..MANY {
+        spans.push(span(alloc, number, number)?)?;
+    }
+    Ok(())
+}
+
+/// A batch of these.
+fn large_batch(alloc: Global) -> Result<Batch, Fail> {
+    let mut spans = Vec::new(alloc);
+    let added = add_spans(alloc, &mut spans);
+    Ok(batch(alloc, "a", kept(spans, added)?)?)
+}
+
+/// The copy of the batch is the batch.
+fn is_copied(batch: &Batch) -> Result<bool, AllocError> {
+    let copy = batch.clone()?;
+    let same = batch.is_same(&copy);
+    drop(copy);
+    Ok(same)
+}
+
+/// What the batch's bytes are decoded to is the batch.
+fn is_read(alloc: Global, batch: &Batch) -> Result<bool, Fail> {
+    let bytes = encode(alloc, batch).ok().ok_or("not written")?;
+    let read = decode(alloc, &bytes).ok().ok_or("not read")?;
+    let same = batch.is_same(&read);
+    drop(read);
+    Ok(same && bytes.len() > 2 * MEGABYTE)
+}
+
+/// Both of a large batch.
+fn is_kept(alloc: Global) -> Result<bool, Fail> {
+    let batch = large_batch(alloc)?;
+    let copied = is_copied(&batch);
+    let read = is_read(alloc, &batch);
+    drop(batch);
+    Ok(read? && copied?)
+}
+
+/// Nothing gives up past a size: a body of more than two megabytes is written, read and copied.
+#[test]
+fn large_batches(rt: HostRuntime) -> Result<(), Fail> {
+    assert!(rt; is_kept(rt.alloc())?);
+    Ok(())
+}
