@@ -25,7 +25,7 @@ returns-in_default g c =
         written = Appends-nil (g.W.Output.contents c.args.output.now);
         count = refl;
         made = 0;
-        cause = (c.requires.input_works, c.requires.output_works);
+        cause = c.requires;
         unwritten = λ e. refl;
         spared = λ e. absurd (cc e);
       };
