@@ -195,24 +195,31 @@ struct Asked {
     most: u64,
 }
 
-/// Batches of new traces, until the time or the number is up; returns how many were accepted.
-fn write(asked: &Asked, sent: &AtomicU64, from: u64, end: Instant) -> u64 {
+/// Batches of new traces, until the time or the number is up; returns the nanoseconds of each, all of which were accepted.
+fn write(asked: &Asked, sent: &AtomicU64, from: u64, end: Instant) -> Vec<u64> {
     let mut client = Client::new(asked.port);
     let mut request = Request::new("orders");
     let begin = Instant::now();
-    let mut count = 0;
+    let mut times = Vec::new();
     while sent.fetch_add(1, Ordering::Relaxed) < asked.most {
+        let count = times.len() as u64;
         if asked.pace > 0.0 {
             let due = begin + Duration::from_secs_f64(count as f64 / asked.pace);
             thread::sleep(due.min(end).saturating_duration_since(Instant::now()));
         }
-        if Instant::now() >= end {
+        let began = Instant::now();
+        if began >= end {
             break;
         }
         client.ask(request.of(trace(from + count)), "202");
-        count += 1;
+        times.push(began.elapsed().as_nanos() as u64);
     }
-    count
+    times
+}
+
+/// The milliseconds within which this part of the sorted times stays.
+fn within(times: &[u64], part: f64) -> f64 {
+    times.get((times.len() as f64 * part) as usize).map_or(0.0, |ns| *ns as f64 / 1e6)
 }
 
 /// The nanoseconds of each read, and the bytes of the last body.
@@ -279,14 +286,14 @@ fn main() {
     let start = Barrier::new((asked.writers + asked.readers) as usize);
     let sent = AtomicU64::new(0);
     let begin = Instant::now();
-    let (written, mut times, length) = thread::scope(|scope| {
+    let (mut posts, last, mut times, length) = thread::scope(|scope| {
         let (asked, start, sent) = (&asked, &start, &sent);
         let writers: Vec<_> = (0..asked.writers)
             .map(|n| {
                 scope.spawn(move || {
                     start.wait();
-                    let count = write(asked, sent, (n + 1) << 40, Instant::now() + asked.seconds);
-                    (count, Instant::now())
+                    let times = write(asked, sent, (n + 1) << 40, Instant::now() + asked.seconds);
+                    (times, Instant::now())
                 })
             })
             .collect();
@@ -298,10 +305,11 @@ fn main() {
                 })
             })
             .collect();
-        let mut written = (0, begin);
+        let (mut posts, mut last) = (Vec::new(), begin);
         for writer in writers {
-            let (count, end) = writer.join().expect("a writer ends");
-            written = (written.0 + count, end.max(written.1));
+            let (more, end) = writer.join().expect("a writer ends");
+            posts.extend(more);
+            last = end.max(last);
         }
         let (mut times, mut length) = (Vec::new(), 0);
         for reader in readers {
@@ -309,18 +317,20 @@ fn main() {
             times.extend(more);
             length = last;
         }
-        (written, times, length)
+        (posts, last, times, length)
     });
     times.sort_unstable();
-    let at = |part: f64| times.get((times.len() as f64 * part) as usize).map_or(0.0, |ns| *ns as f64 / 1e6);
-    let seconds = (written.1 - begin).as_secs_f64().max(1e-9);
-    let spans = written.0 * IN_BATCH;
+    posts.sort_unstable();
+    let seconds = (last - begin).as_secs_f64().max(1e-9);
+    let spans = posts.len() as u64 * IN_BATCH;
     println!(
-        "fill_seconds {filled:.4} spans {spans} seconds {seconds:.4} rate {:.0} reads {} p50 {:.4} p99 {:.4} worst {:.4} bytes {length}",
+        "fill_seconds {filled:.4} spans {spans} seconds {seconds:.4} rate {:.0} reads {} p50 {:.4} p99 {:.4} worst {:.4} bytes {length} posts_p50 {:.4} posts_p99 {:.4}",
         spans as f64 / seconds,
         times.len(),
-        at(0.5),
-        at(0.99),
+        within(&times, 0.5),
+        within(&times, 0.99),
         times.last().map_or(0.0, |ns| *ns as f64 / 1e6),
+        within(&posts, 0.5),
+        within(&posts, 0.99),
     );
 }

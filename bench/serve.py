@@ -6,6 +6,7 @@ without proofs. The clients are bench/load.rs. Both are built by `rustc` in a te
 each server is started anew for each measurement, filled, measured and killed, the two in turn, in some rounds:
 
   spans a second    1, 2, 4 and 8 writers at full speed, each of which waits for the 202 of a batch of 10 spans
+  beside readers    the same beside two readers of traces by their ids at full speed, and how long a POST takes then
   reads, paced      one reader that asks for random traces by their ids, one after the other, beside 4 writers of 25 batches
                     a second each, so that the number of spans held stays about the same
   reads, full speed the same beside 4 writers at full speed; the rows say how many spans were held at the end
@@ -18,7 +19,7 @@ each server is started anew for each measurement, filled, measured and killed, t
 A figure is the median of the rounds. A ratio is that of the two medians, and behind it stand the least and the most of the
 rounds' own ratios. How far equal servers seem to differ is seen by giving the plain server as `--bin` (build it as its head
 says): what is within that says nothing. Clients and server share the machine's cores, so the figures are those of both
-together. It ends by itself after three minutes at most; what was not measured by then is `-`.
+together. It ends by itself after five minutes at most; what was not measured by then is `-`.
 """
 import argparse
 import os
@@ -35,7 +36,7 @@ ROOT = os.path.dirname(HERE)
 LIMITS = ["--queue", "256", "--batches", "1000000", "--spans", "10000000"]
 TICK = os.sysconf("SC_CLK_TCK")
 SEARCH = "/api/traces?service=orders&limit=20"
-AT_MOST = 170
+AT_MOST = 290
 SERVERS = ["ours", "plain"]
 NAMES = {"ours": "jaeger_one", "plain": "plain server"}
 
@@ -160,6 +161,10 @@ def table(bench, sizes):
             found = bench.both(size, writers)
             row(f"spans a second, writers: {writers}", found, "rate", ",.0f")
             row("   processor time a span, us", found, "processor", ".2f")
+        for writers in (1, 2, 4, 8):
+            found = bench.both(size, writers, readers=2)
+            row(f"spans a second beside two readers of traces, writers: {writers}", found, "rate", ",.0f")
+            row("   a POST: p99, ms", found, "posts_p99", ".3f")
         for title, target in (("a trace by its id", None), ("20 traces of the service", SEARCH)):
             found = bench.both(size, 0, readers=1, target=target, seconds=bench.seconds)
             row(f"{title}, nobody writing: processor time, us", found, "processor", ",.0f")
