@@ -34,7 +34,7 @@ mod text;
 pub use batch::{Batch, Process};
 pub use ids::{SpanId, TraceId, parse_trace, span_text, trace_text};
 pub use kind::kind_of;
-pub use parent::parent_of;
+pub use parent::{needs_no_reference, parent_of};
 pub use placed::{Placed, Seen, domain, place_span, refer_to_parent};
 pub use seq::Seq;
 pub use shared_process::SharedProcess;

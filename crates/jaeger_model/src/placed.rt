@@ -5,7 +5,7 @@ ghost use Rattle.jaeger_model.specs.SameLaws.{same_placed-decides};
 ghost use Rattle.jaeger_model.specs.Parents.{with_parent, parent_reference, domain};
 
 use crate::batch::{Batch, Process};
-use crate::parent::is_referred;
+use crate::parent::needs_no_reference;
 use crate::seq::Seq;
 use crate::shared_process::SharedProcess;
 use crate::span::{RefKind, Span, SpanRef};
@@ -75,7 +75,7 @@ pub fn refer_to_parent(alloc: Global, span: &mut Span) -> Result<(), AllocError>
     ensures ok { OnOk result (span.new ≡ with_parent span.old) }
     ensures err { OnErr result (span.new ≡ span.old) }
 {
-    if !is_referred(span) {
+    if !needs_no_reference(span) {
         span.references = with_one_in_front(alloc, span)?;
     }
     Ok(())

@@ -6,12 +6,12 @@ use Rattle.std.specs.List.{list_any}
 use Rattle.jaeger_model.specs.declared.ids.SpanId.{SpanId}
 use Rattle.jaeger_model.specs.declared.span.Span.{Span}
 use Rattle.jaeger_model.specs.declared.placed.Placed.{Placed}
-use Rattle.jaeger_model.specs.Parents.{with_parent, needs_no_reference, parent_reference, parent, parent_by_references}
+use Rattle.jaeger_model.specs.Parents.{needs_no_reference, parent_reference, parent}
 use Rattle.trace_model.specs.declared.query.Find.{Find}
 use Rattle.trace_model.specs.Searching.{matches}
 use Rattle.trace_model.specs.Linking.{has_id, parent_in, call_from, calls_of, in_window, calls_within, counted, links}
 use Rattle.trace_model.proofs.NameLaws.{any_map}
-use Rattle.trace_model.proofs.Parents.{with_parent-twice, with_parent-trace}
+use Rattle.jaeger_model.proofs.Referred.{same_parent}
 use Rattle.call_links.specs.declared.numbered.NumberedSpan.{NumberedSpan}
 use Rattle.call_links.specs.Seen.{span_of, seen_traces}
 use Rattle.journal_traces.specs.Given.{adopted, given_traces}
@@ -53,15 +53,12 @@ pub start-adopted : (p : Placed) → (adopted p).span.start ≡ p.span.start
 start-adopted p = elim (needs_no_reference p.span) as (λ b. (placed_if b p).span.start ≡ p.span.start) [ true ↦ refl | false ↦ refl ]
 
 -- ---- calls
-parent-adopted : (s : Span) → parent (with_parent s) ≡ parent s
-parent-adopted s = λ i. parent_by_references (with_parent-trace s i) (with_parent-twice s i).references
-
 has_id-adopted : (id : SpanId) (p : Placed) → has_id id (adopted p) ≡ has_id id p
 has_id-adopted id p = elim (needs_no_reference p.span) as (λ b. has_id id (placed_if b p) ≡ has_id id p) [ true ↦ refl | false ↦ refl ]
 
 parent_in-adopted : (t : List Placed) (p : Placed) → parent_in (map adopted t) (adopted p) ≡ option_map adopted (parent_in t p)
 parent_in-adopted t p =
-    ap (λ (id : SpanId). if id.0 == 0 then None else find (has_id id) (map adopted t)) (parent-adopted p.span)
+    ap (λ (id : SpanId). if id.0 == 0 then None else find (has_id id) (map adopted t)) (same_parent p.span)
     ∙ elim ((parent p.span).0 == 0) as (λ b. (if b then None else find (has_id (parent p.span)) (map adopted t)) ≡ option_map adopted (if b then None else find (has_id (parent p.span)) t)) [
       | true ↦ refl
       | false ↦ find_same (has_id (parent p.span)) (has_id (parent p.span)) adopted (has_id-adopted (parent p.span)) t

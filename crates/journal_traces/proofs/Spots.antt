@@ -21,7 +21,7 @@ use Rattle.trace_model.specs.Linking.{in_window, calls_of, calls_within, counted
 use Rattle.trace_model.specs.Searching.{first_start, first_id}
 use Rattle.trace_model.specs.Seeing.{seen}
 use Rattle.arrival_journal.proofs.Places.{lent_item}
-use Rattle.trace_model.proofs.Parents.{with_parent-trace}
+use Rattle.jaeger_model.proofs.Referred.{trace_stays}
 use Rattle.trace_assembly.specs.declared.spot.Spot.{Spot}
 use Rattle.trace_assembly.specs.Located.{span_at}
 use Rattle.journal_traces.specs.Given.{given_span}
@@ -115,7 +115,7 @@ no_start (p ∷ ps) e = absurd cc
 
 pub first_trace : (ps : List Placed) (s : Seen) → Some (given_span s) ≡ slice_get ps 0 → Some s.span.now.trace ≡ first_id ps
 first_trace [] s e = absurd cc
-first_trace (p ∷ ps) s e = let same : given_span s ≡ p = cc e in ap Some (sym (with_parent-trace s.span.now) ∙ ap (λ (x : Placed). x.span.trace) same)
+first_trace (p ∷ ps) s e = let same : given_span s ≡ p = cc e in ap Some (sym (trace_stays s.span.now) ∙ ap (λ (x : Placed). x.span.trace) same)
 
 pub no_trace : (ps : List Placed) → ◌≡◌ {A = Option Placed} None (slice_get ps 0) → ◌≡◌ {A = Option TraceId} None (first_id ps)
 no_trace [] e = refl

@@ -1,6 +1,6 @@
 //! Single steps over one span, which the plain store and the store with indexes both take.
 //!
-//! * `references`: which reference of a span names its parent, or that one is to be made.
+//! * `references`: which reference of a span names its parent.
 //! * `window`: whether a span starts in a window of time.
 //! * `clock`: the clock of a span, by that of its parent, and the span moved by it.
 //! * `conditions`: whether a span meets what a search asks of its service, operation, duration and start.
@@ -18,6 +18,6 @@ pub use clock::{
     start_at, unadjusted,
 };
 pub use conditions::{duration_bound, is_at_least, is_at_most, is_named, is_timed};
-pub use references::{needs_no_reference, parent_place};
+pub use references::parent_place;
 pub use skew::{delta_between, is_within, moved_by};
 pub use window::{is_in_window, may_be_in_window};

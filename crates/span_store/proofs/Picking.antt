@@ -27,7 +27,7 @@ use Rattle.trace_model.proofs.Arriving.{came_of}
 use Rattle.trace_model.specs.Searching.{matches, matching, found_in, ranked_by_start, first_start, cut, is_named, is_timed, has_tag, traces}
 use Rattle.trace_model.specs.Showing.{ring, shown, spans_of_trace, lasting_after, longer_beginnings, stands, trace_of}
 use Rattle.trace_model.proofs.NameLaws.{any_filter}
-use Rattle.trace_model.proofs.Parents.{with_parent-trace}
+use Rattle.jaeger_model.proofs.Referred.{trace_stays}
 use Rattle.trace_model.specs.Places.{entry_at}
 use Rattle.trace_assembly.specs.declared.spot.Spot.{Spot}
 use Rattle.trace_assembly.specs.Located.{span_at}
@@ -107,7 +107,7 @@ own_spans q t b (x ∷ xs) h =
     elim (is_hit q t (placed b x)) as (λ c. is_hit q t (placed b x) ≡ c → (c || list_any (is_hit q t) (map (placed b) xs)) ≡ true → rest) [
       | true ↦ λ e _.
           let w = and_true (same_trace t (trace_of (placed b x))) (matches q (placed b x)) e in
-          let own : is_of t x ≡ true = ap (same_trace t) (sym (with_parent-trace x)) ∙ w.0 in (
+          let own : is_of t x ≡ true = ap (same_trace t) (sym (trace_stays x)) ∙ w.0 in (
             match_reported q (placed b x) w.1,
             ap (λ c. list_any (is_of t) (cond c (x ∷ met q b.process xs) (met q b.process xs))) (sym same ∙ w.1) ∙ ap (λ c. c || list_any (is_of t) (met q b.process xs)) own,
           )

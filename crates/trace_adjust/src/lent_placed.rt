@@ -6,8 +6,10 @@ ghost use Rattle.trace_model.specs.Adjusting.{all_fit, host_of, parent_first, st
 ghost use Rattle.trace_model.specs.Seeing.{placed_by_its_entry};
 ghost use Rattle.trace_adjust.specs.Lent.{referred, IsLent, IsReferred};
 
-use jaeger_model::{Log, Placed, Process, RefKind, Seen, Span, SpanId, SpanRef, Text, parent_of};
-use span_steps::{all_fit, host_named, needs_no_reference, parent_place, start_at};
+use jaeger_model::{
+    Log, Placed, Process, RefKind, Seen, Span, SpanId, SpanRef, Text, needs_no_reference, parent_of,
+};
+use span_steps::{all_fit, host_named, parent_place, start_at};
 use std::alloc::{AllocError, Global};
 use std::marker::Model;
 

@@ -8,7 +8,7 @@ use Rattle.jaeger_model.specs.declared.ids.TraceId.{TraceId}
 use Rattle.jaeger_model.specs.declared.batch.Batch.{Batch}
 use Rattle.jaeger_model.specs.declared.span.Span.{Span}
 use Rattle.jaeger_model.specs.Parents.{domain, placed}
-use Rattle.trace_model.proofs.Parents.{with_parent-trace}
+use Rattle.jaeger_model.proofs.Referred.{trace_stays}
 use Rattle.trace_model.specs.declared.entry.Entry.{Entry}
 use Rattle.trace_model.specs.declared.entry.Work.{Work}
 use Rattle.trace_model.specs.declared.entry.Work.TheVariants as brings
@@ -112,7 +112,7 @@ shown-lies h n t =
 
 -- ---- one more batch, span by span
 pub trace_of-placed : (b : Batch) (s : Span) → trace_of (placed b s) ≡ s.trace
-trace_of-placed b s = with_parent-trace s
+trace_of-placed b s = trace_stays s
 
 pub upto_none : (h : List Entry) (b : Batch) → located_upto h b 0 ≡ located_events h
 upto_none h b = append-nil (located_events h)

@@ -2,7 +2,7 @@ use Rattle.std.proofs.Common.{rules, refl, ◌≡◌, ◌+◌, ◌<◌, ◌≤�
 use Rattle.jaeger_model.specs.declared.span.Span.{Span}
 use Rattle.jaeger_model.specs.Parents.{placed}
 use Rattle.trace_model.specs.Events.{came}
-use Rattle.trace_model.proofs.Parents.{with_parent-trace}
+use Rattle.jaeger_model.proofs.Referred.{trace_stays}
 use Rattle.trace_assembly.specs.Rows.{spots_of}
 use Rattle.trace_assembly.specs.Located.{located_upto}
 use Rattle.trace_assembly.proofs.Places.{upto_more}
@@ -41,7 +41,7 @@ loop-span-preserved c =
       follows = λ n h at f.
           subst (λ es. Follows n es c.let_in-row.new.ring (spots_of c.let_in-row.new.assembly))
           ((λ j. located_upto h b i ++ came (record { place = at j; index = c.loop-span.invariant.index j }, placed b s) ∷ []) ∙ sym (upto_more h b i s le (sym is)))
-          (c.let_in-row.ensures.follows n (located_upto h b i) (placed b s) (c.loop-span.invariant.follows n h at f) (with_parent-trace s));
+          (c.let_in-row.ensures.follows n (located_upto h b i) (placed b s) (c.loop-span.invariant.follows n h at f) (trace_stays s));
       ring_room = c.let_in-row.ensures.ring_room ∙ c.loop-span.invariant.ring_room;
       seen = let now = c.let_in-row.ensures.seen in let then = c.loop-span.invariant.seen in omega arith;
       assembly_room = c.let_in-row.ensures.assembly_room ∙ c.loop-span.invariant.assembly_room;
