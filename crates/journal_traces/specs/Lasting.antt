@@ -7,4 +7,4 @@ use Rattle.journal_traces.specs.Standing.{process_at}
 
 -- it is that of the entry at its place, judged by the search
 abbrev pub IsLast : Find → List Entry → Option LastJudged → Type 0
-IsLast q h last = IfSome last (λ (l : LastJudged). (l.judged.query ≡ q) × (Some l.judged.process ≡ process_at h l.place))
+IsLast q h last = IfSome last (λ (l : LastJudged). (l.process.query ≡ q) × (Some l.process.process ≡ process_at h l.place))

@@ -15,11 +15,11 @@ use std::alloc::{AllocError, Global};
 use std::marker::Model;
 use trace_assembly::Spot;
 
-/// The process of the entry at a place, judged.
+/// The process that was judged last, and the place of its entry.
 #[derive(Drop)]
 struct LastJudged<'a> {
     place: u64,
-    judged: JudgedProcess<'a>,
+    process: JudgedProcess<'a>,
 }
 
 /// A search, and the entries whose spans it judges. The process of an entry is judged once for those of its spans
@@ -63,13 +63,13 @@ impl<'a> Judging<'a> {
         process: &'a Process,
     ) -> Result<JudgedProcess<'a>, AllocError>
         requires { Some process.now ≡ process_at self.old.1 place }
-        ensures judged { IfOk result (λ j. j ≡
+        ensures process { IfOk result (λ j. j ≡
             record { query = self.old.0; process = process.now }) }
         ensures same { self.new ≡ self.old }
     {
         if let Some(last) = self.last.take() {
             if last.place == place {
-                return Ok(last.judged);
+                return Ok(last.process);
             }
         }
         JudgedProcess::new(alloc, self.wanted, process)
@@ -86,9 +86,9 @@ impl<'a> Judging<'a> {
         if !is_named(at, query) || !is_timed(at, query) {
             return Ok(false);
         }
-        let judged = self.judged_at(alloc, place, at.process)?;
-        let is_match = judged.is_match(alloc, at.span)?;
-        self.last = Some(LastJudged { place, judged });
+        let process = self.judged_at(alloc, place, at.process)?;
+        let is_match = process.is_match(alloc, at.span)?;
+        self.last = Some(LastJudged { place, process });
         Ok(is_match)
     }
 
