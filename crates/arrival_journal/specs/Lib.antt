@@ -2,4 +2,5 @@ pub mod Journals
 pub mod Invariants
 pub mod Times
 pub mod Tagging
+pub mod Kinds
 pub mod Outlines

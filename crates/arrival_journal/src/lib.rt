@@ -7,24 +7,28 @@
 //! never fails because memory ran out.
 //!
 //! * `journal`: the [`Journal`].
-//! * `outline`: what is known of an entry without a look at its spans, its [`Outline`]. `outlined`, `prepared`: an entry with
-//!   its outline, and with its hash too.
+//! * `outline`: what is known of an entry without a look at its spans, its [`Outline`]. `kind`, `span_kinds`: the kinds of its
+//!   first spans. `outlined`, `prepared`: an entry with both, and with its hash too.
 //! * `times`: bounds of the starts and durations of an entry's spans.
 //! * `tagging`: bits that tell which tags an entry can't have.
 //! * `seats`: the last numbers of seats.
 #![tactic(auto)]
 
 mod journal;
+mod kind;
 mod outline;
 mod outlined;
 mod prepared;
 mod seats;
+mod span_kinds;
 mod tagging;
 mod times;
 
 pub use journal::Journal;
+pub use kind::Kind;
 pub use outline::Outline;
 pub use outlined::OutlinedEntry;
 pub use prepared::PreparedEntry;
+pub use span_kinds::SpanKinds;
 pub use tagging::tag_place;
 pub use times::Times;

@@ -1,6 +1,6 @@
 -- The kinds of arrivals, kept in a byte each.
-use Rattle.std.proofs.Common.{◌≡◌, ℕ, ◌<◌, List, [], ◌∷◌, ◌++◌, map, length, get_or, refl, sym, ap, ◌∙◌, arith}
-use Rattle.std.proofs.lemmas.List.{length-map, get_or-map, map-append}
+use Rattle.std.proofs.Common.{◌≡◌, ℕ, ◌<◌, ◌≤◌, List, [], ◌∷◌, ◌++◌, map, length, take, drop, min, get_or, refl, sym, ap, ◌∙◌, arith}
+use Rattle.std.proofs.lemmas.List.{length-map, length-take, get_or-map, map-append, append_assoc, take_min, take-append-drop}
 use Rattle.jaeger_model.specs.declared.batch.Batch.{Batch}
 use Rattle.jaeger_model.specs.declared.span.Span.{Span}
 use Rattle.jaeger_model.specs.Parents.{placed}
@@ -12,8 +12,8 @@ use Rattle.trace_model.specs.Works.{spans_brought, placed_brought}
 use Rattle.trace_model.specs.Histories.{arrivals}
 use Rattle.service_index.specs.Listing.{Listed, listed}
 use Rattle.service_index.specs.Naming.{service_alone}
-use Rattle.arrival_names.specs.declared.kind.Kind.{Kind}
-use Rattle.arrival_names.specs.Kinds.{kind_text}
+use Rattle.arrival_journal.specs.declared.kind.Kind.{Kind}
+use Rattle.arrival_journal.specs.Kinds.{kind_text}
 use Rattle.arrival_names.specs.Kept.{reports, AreKinds}
 use Rattle.arrival_names.proofs.Naming.{listed-placed, reports_push}
 
@@ -42,3 +42,17 @@ kind_is h kinds n k are below =
     let all = length-map (arrivals h) listed in
     sym (get_or-map kind_text kinds n k [] below) ∙ ap (λ (ts : List (List ℕ)). get_or ts n []) are
     ∙ get_or-map (λ (l : Listed). l.operation.kind) (reports h) n (service_alone []) [] (omega arith)
+
+-- ---- the kinds of the first spans are given, and those of the others are found
+pub fewer_kinds : (known : List Kind) (ss : List Span) → map kind_text known ≡ map kind_of (take 32 ss) → length known ≤ length ss
+fewer_kinds known ss are =
+    let many : length known ≡ length (take 32 ss) = sym (length-map known kind_text) ∙ ap (λ (ts : List (List ℕ)). length ts) are ∙ length-map (take 32 ss) kind_of in
+    omega (arith, length-take 32 ss)
+
+pub first_and_rest : (old known : List Kind) (ss : List Span) → map kind_text known ≡ map kind_of (take 32 ss)
+    → (map kind_text old ++ map kind_text known) ++ map kind_of (drop (length known) ss) ≡ map kind_text old ++ map kind_of ss
+first_and_rest old known ss are =
+    let many : length known ≡ min 32 (length ss) = sym (length-map known kind_text) ∙ ap (λ (ts : List (List ℕ)). length ts) are ∙ length-map (take 32 ss) kind_of ∙ length-take 32 ss in
+    let first : map kind_text known ≡ map kind_of (take (length known) ss) = are ∙ ap (map kind_of) (sym (take_min 32 ss) ∙ ap (λ n. take n ss) (sym many)) in
+    append_assoc (map kind_text old) (map kind_text known) (map kind_of (drop (length known) ss))
+    ∙ ap (λ ts. map kind_text old ++ ts) (ap (λ ts. ts ++ map kind_of (drop (length known) ss)) first ∙ sym (map-append kind_of (take (length known) ss) (drop (length known) ss)) ∙ ap (map kind_of) (take-append-drop (length known) ss))

@@ -9,8 +9,8 @@ use Rattle.service_index.specs.Listing.{Listed, listed, listed_in}
 use Rattle.service_index.specs.Naming.{Names, service_alone}
 use Rattle.service_index.specs.Indexes.{Index, IsIndexed, listing_by}
 use Rattle.service_places.specs.Reported.{group_in}
-use Rattle.arrival_names.specs.declared.kind.Kind.{Kind}
-use Rattle.arrival_names.specs.Kinds.{kind_text}
+use Rattle.arrival_journal.specs.declared.kind.Kind.{Kind}
+use Rattle.arrival_journal.specs.Kinds.{kind_text}
 use Rattle.arrival_names.specs.Numbers.{Numbered, AreOf}
 
 -- what the arrivals report, one after the other

@@ -1,4 +1,3 @@
-pub mod Kinds
 pub mod Numbers
 pub mod Kept
 pub mod Grouping

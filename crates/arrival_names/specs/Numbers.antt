@@ -2,7 +2,7 @@
 use Rattle.std.specs.Prelude.{◌≡◌, ℕ, ◌-◌, ◌<◌, ◌≤◌, List, length, get_or}
 use Rattle.jaeger_model.specs.declared.placed.Placed.{Placed}
 use Rattle.trace_model.specs.declared.entry.Entry.{Entry}
-use Rattle.arrival_names.specs.declared.kind.Kind.{Kind}
+use Rattle.arrival_journal.specs.declared.kind.Kind.{Kind}
 use Rattle.trace_model.specs.Works.{spans_brought, placed_brought}
 use Rattle.trace_model.specs.Histories.{arrivals}
 

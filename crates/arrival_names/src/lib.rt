@@ -14,11 +14,9 @@
 //! * `laws`: facts about the definitions of `specs/`.
 #![tactic(auto)]
 
-mod kind;
 pub mod laws;
 mod names;
 mod numbers;
 
-pub use kind::Kind;
 pub use names::ArrivalNames;
 pub use numbers::{ArrivalNumbers, Arrivals};

@@ -1,15 +1,16 @@
-ghost use Rattle.std.specs.Prelude.{◌≡◌, ◌<◌, ◌≤◌, ◌+◌, ◌++◌, [], map, length, get_or, IfOk, vec_capacity};
+ghost use Rattle.std.specs.Prelude.{◌≡◌, ◌<◌, ◌≤◌, ◌+◌, ◌++◌, [], ◌∷◌, map, length, get_or, IfOk, vec_capacity};
 ghost use Rattle.std.specs.Arc.{arc_value};
 ghost use Rattle.jaeger_model.specs.declared.placed.Placed.{Placed};
+ghost use Rattle.trace_model.specs.declared.entry.Entry.{Entry as EntryValue};
 ghost use Rattle.trace_model.specs.Histories.{arrivals, before_last};
 ghost use Rattle.trace_model.specs.Seeing.{seen};
 ghost use Rattle.jaeger_model.specs.Tags.{kind_of};
 ghost use Rattle.service_places.specs.Reported.{IsKept as PlacesKept};
 ghost use Rattle.arrival_names.specs.Numbers.{AreOf, IsAt};
-ghost use Rattle.arrival_names.specs.Kinds.{kind_text};
+ghost use Rattle.arrival_journal.specs.Kinds.{kind_text, first_kinds, kinds_in};
 ghost use Rattle.arrival_names.specs.Kept.{AreKinds};
 
-use crate::kind::Kind;
+use arrival_journal::{Kind, SpanKinds};
 use jaeger_model::Span;
 use service_index::Texts;
 use service_places::ServicePlaces;
@@ -145,14 +146,17 @@ impl ArrivalNumbers {
         &self.firsts
     }
 
-    /// The spans of the last entry get numbers. It takes no memory.
-    pub fn add(&mut self, entries: &[Arc<Entry>])
+    /// The spans of the last entry get numbers. Its first kinds are given. It takes no memory.
+    pub fn add(&mut self, entries: &[Arc<Entry>], first: &SpanKinds)
         requires some { 0 < length entries.now }
         requires numbers { AreOf (before_last (map arc_value entries.now)) self.old.entry_of
             self.old.firsts }
         requires kinds { AreKinds (before_last (map arc_value entries.now)) self.old.kinds }
         requires batches { length entries.now ≤ self.old.batches }
         requires spans { length (arrivals (map arc_value entries.now)) ≤ self.old.spans }
+        requires first { (e : EntryValue) →
+            map arc_value entries.now ≡ before_last (map arc_value entries.now) ++ e ∷ [] →
+            first.now ≡ kinds_in e }
         ensures numbers { AreOf (map arc_value entries.now) self.new.entry_of self.new.firsts }
         ensures kinds { AreKinds (map arc_value entries.now) self.new.kinds }
         ensures batches { self.new.batches ≡ self.old.batches }
@@ -163,7 +167,7 @@ impl ArrivalNumbers {
         for _span in entries[before].work.spans() {
             self.entry_of.push_reserved(before as u32);
         }
-        add_kinds(&mut self.kinds, entries[before].work.spans());
+        add_kinds(&mut self.kinds, first, entries[before].work.spans());
     }
 
     /// The arrivals of these entries under their numbers, with the numbers of the services of these
@@ -188,8 +192,19 @@ impl ArrivalNumbers {
     }
 }
 
-/// Puts the kinds of the spans behind the others.
-fn add_kinds(kinds: &mut Vec<Kind>, spans: &[Span])
+/// Puts kinds that are known behind the others.
+fn add_known(kinds: &mut Vec<Kind>, known: &[Kind])
+    requires { length kinds.old.items + length known.now ≤ vec_capacity kinds.old }
+    ensures kinds { kinds.new.items ≡ kinds.old.items ++ known.now }
+    ensures capacity { vec_capacity kinds.new ≡ vec_capacity kinds.old }
+{
+    for kind in known {
+        kinds.push_reserved(*kind);
+    }
+}
+
+/// Finds the kinds of the spans and puts them behind the others.
+fn find_kinds(kinds: &mut Vec<Kind>, spans: &[Span])
     requires { length kinds.old.items + length spans.now ≤ vec_capacity kinds.old }
     ensures kinds { map kind_text kinds.new.items ≡
         map kind_text kinds.old.items ++ map kind_of spans.now }
@@ -198,4 +213,17 @@ fn add_kinds(kinds: &mut Vec<Kind>, spans: &[Span])
     for span in spans {
         kinds.push_reserved(Kind::of(span));
     }
+}
+
+/// Puts the kinds of the spans behind the others. Those of the first spans are given: no tag of these is looked at.
+fn add_kinds(kinds: &mut Vec<Kind>, first: &SpanKinds, spans: &[Span])
+    requires room { length kinds.old.items + length spans.now ≤ vec_capacity kinds.old }
+    requires first { first.now ≡ first_kinds spans.now }
+    ensures kinds { map kind_text kinds.new.items ≡
+        map kind_text kinds.old.items ++ map kind_of spans.now }
+    ensures capacity { vec_capacity kinds.new ≡ vec_capacity kinds.old }
+{
+    let known = first.as_slice();
+    add_known(kinds, known);
+    find_kinds(kinds, &spans[known.len()..]);
 }

@@ -198,10 +198,11 @@ impl SpanStore {
     {
         let place = self.journal.len() + 1;
         follow(entry.entry(), place, &mut self.ring, &mut self.assembly);
+        let kinds = entry.kinds().again();
         self.journal.append_prepared(entry);
         let entries = self.journal.entries();
         self.reported.add(entries);
-        self.names.add(entries, &self.reported);
+        self.names.add(entries, &self.reported, &kinds);
         place
     }
 

@@ -7,8 +7,8 @@ use Rattle.jaeger_model.specs.declared.span.Span.{Span}
 use Rattle.trace_model.specs.declared.entry.Entry.{Entry}
 use Rattle.jaeger_model.specs.Tags.{kind_of}
 use Rattle.trace_model.specs.Works.{spans_brought}
-use Rattle.arrival_names.specs.declared.kind.Kind.{Kind}
-use Rattle.arrival_names.specs.Kinds.{kind_text}
+use Rattle.arrival_journal.specs.declared.kind.Kind.{Kind}
+use Rattle.arrival_journal.specs.Kinds.{kind_text, first_kinds}
 use Rattle.arrival_names.specs.Kept.{AreKinds}
 use Rattle.trace_model.specs.Histories.{before_last}
 use Rattle.trace_model.proofs.LastEntries.{entry_is, last_is}
@@ -62,3 +62,15 @@ returns-clause-kinds c =
     let now = c.add_kinds.new.kinds.items in
     let all : map kind_text now ≡ map kind_text old.kinds.items ++ map kind_of (spans_brought e.work) = c.add_kinds.ensures.kinds ∙ (λ i. same i ++ ap (λ (ss : List Span). map kind_of ss) spans i) in
     subst (λ (x : List Entry). AreKinds x now) whole (kinds_more before e old.kinds.items now kinds all)
+
+pub add_kinds-requires-clause-first : goal.add_kinds-requires-clause-first
+add_kinds-requires-clause-first c =
+    let entries = c.args.entries.now in
+    let h : List Entry = map (arc_value {X = Entry} {Z = Global}) entries in
+    let a = c.index-entries-before-2.result in
+    let e = arc_value a in
+    let l : length h ≡ length entries = length-map entries (arc_value {X = Entry} {Z = Global}) in
+    let there = entry_is entries (length entries - 1) a (omega arith) c.index-entries-before-2.is in
+    let whole : before_last h ++ e ∷ [] ≡ h = last_is h e (omega arith) (there ∙ ap (λ n. get_or h (n - 1) e) (sym l)) in
+    let spans : c.spans.result.now ≡ spans_brought e.work = c.spans.ensures ∙ ap (λ (x : Entry). spans_brought x.work) c.deref-2.ensures in
+    c.requires.first e (sym whole) ∙ ap first_kinds (sym spans)

@@ -1,0 +1,80 @@
+//! The kinds of the first spans of an entry.
+
+ghost use Rattle.std.specs.Prelude.{◌≡◌, ◌<◌, [], ◌∷◌, ◌++◌, length, map};
+ghost use Rattle.arrival_journal.specs.Kinds.{kind_text, first_kinds};
+
+use crate::kind::Kind;
+use jaeger_model::Span;
+use std::marker::Model;
+
+/// The kinds of the first spans of an entry, which are found once and go along with it, so that none of the spans' tags is
+/// looked at where the entry is applied. Contracts see the kinds as texts.
+#[derive(Drop)]
+pub struct SpanKinds {
+    kinds: [Kind; SpanKinds::MOST],
+    len: u8,
+}
+
+impl Model for SpanKinds {
+    ghost use Rattle.std.specs.Prelude.{List, ℕ, ◌≤◌, map, take};
+    ghost use Rattle.arrival_journal.specs.Kinds.{kind_text};
+
+    ghost Value = { List (List ℕ) };
+
+    ghost view = { λ s. map kind_text (take s.len s.kinds) };
+
+    ghost invariant = { λ s. s.len ≤ 32 };
+}
+
+impl SpanKinds {
+    /// The most spans of an entry whose kinds go along.
+    const MOST: usize = 32;
+
+    /// The kinds of no span.
+    fn none() -> Self
+        ensures { result ≡ [] }
+    {
+        SpanKinds {
+            kinds: [Kind::Unset; SpanKinds::MOST],
+            len: 0,
+        }
+    }
+
+    /// One more kind.
+    fn push(&mut self, kind: Kind)
+        requires { length self.old < 32 }
+        ensures { self.new ≡ self.old ++ kind_text kind ∷ [] }
+    {
+        self.kinds[self.len as usize] = kind;
+        self.len += 1;
+    }
+
+    /// The kinds of the first spans of these.
+    pub(crate) fn of(spans: &[Span]) -> Self
+        ensures { result ≡ first_kinds spans.now }
+    {
+        let mut kinds = SpanKinds::none();
+        let first = &spans[..SpanKinds::MOST.min(spans.len())];
+        for span in first {
+            kinds.push(Kind::of(span));
+        }
+        kinds
+    }
+
+    /// The same kinds once more.
+    pub fn again(&self) -> Self
+        ensures { result ≡ self.now }
+    {
+        SpanKinds {
+            kinds: self.kinds,
+            len: self.len,
+        }
+    }
+
+    /// The kinds, in the order of the spans.
+    pub fn as_slice(&self) -> &[Kind]
+        ensures { map kind_text result.now ≡ self.now }
+    {
+        &self.kinds[..usize::from(self.len)]
+    }
+}
