@@ -12,4 +12,4 @@
 mod sought;
 mod table;
 
-pub use table::IdTable;
+pub use table::{Entered, IdTable};

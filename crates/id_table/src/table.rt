@@ -1,7 +1,7 @@
 ghost use Rattle.std.specs.Prelude.{◌≡◌, ◌<◌, ◌≤◌, [], ◌∷◌, ◌++◌, None, Some, IsTrue, ◌↔◌, length, IfOk, position};
 ghost use Rattle.std.specs.Bool.{OnTrue};
 ghost use Rattle.jaeger_model.specs.Parents.{same_trace};
-ghost use Rattle.id_table.specs.Rows.{id_at};
+ghost use Rattle.id_table.specs.Rows.{id_at, IsEntered};
 
 use crate::sought::{SoughtId, id_hash};
 use jaeger_model::TraceId;
@@ -9,6 +9,15 @@ use row_places::RowPlaces;
 use std::alloc::{AllocError, Global};
 use std::hash::RandomState;
 use std::marker::Model;
+
+/// The row of an id that was entered.
+#[derive(Clone, Copy, Debug, PartialEq, Eq)]
+pub enum Entered {
+    /// It was in the table.
+    Known(u32),
+    /// It was added.
+    Added(u32),
+}
 
 /// Ids in the order of adding.
 #[derive(Drop)]
@@ -100,22 +109,28 @@ impl IdTable {
         }
     }
 
-    /// Adds an id that isn't in the table, and gives its row. No memory is taken.
-    pub fn add(&mut self, id: TraceId) -> u32
-        requires absent { position (same_trace id) self.old.ids ≡ None }
-        requires room { length self.old.ids < self.old.room }
-        ensures row { result ≡ length self.old.ids }
-        ensures ids { self.new.ids ≡ self.old.ids ++ id ∷ [] }
+    /// Adds an id unless it is in the table. No memory is taken. The row that is given is a guess: where it is right, the
+    /// id isn't looked up. Its hash is taken once at most.
+    pub fn enter_near(&mut self, row: u32, id: TraceId) -> Entered
+        requires { length self.old.ids < self.old.room }
+        ensures entered { IsEntered self.old.ids id result self.new.ids }
         ensures room { self.new.room ≡ self.old.room }
     {
-        let row = self.used();
+        if self.has_row(row, id) {
+            return Entered::Known(row);
+        }
+        let behind = self.used();
+        let hash = id_hash(self.keys, id);
         let rows = SoughtId {
             keys: self.keys,
             ids: &self.ids,
             id,
         };
-        self.places.mark(id_hash(self.keys, id), &rows);
+        match self.places.find(hash, &rows) {
+            Some(row) => return Entered::Known(row),
+            None => self.places.mark(hash, &rows),
+        }
         self.ids.push_reserved(id);
-        row
+        Entered::Added(behind)
     }
 }

@@ -71,11 +71,11 @@ fn colliding_names(
     Ok(names)
 }
 
-/// Adds the ids that the table has not, as long as there is room.
-fn add_all(table: &mut IdTable, ids: &[TraceId]) {
+/// Enters the ids, as long as there is room.
+fn enter_all(table: &mut IdTable, ids: &[TraceId]) {
     for id in ids {
-        if table.has_room() && table.find(*id).is_none() {
-            table.add(*id);
+        if table.has_room() {
+            table.enter_near(0, *id);
         }
     }
 }
@@ -98,7 +98,7 @@ fn found_again(alloc: Global, keys: RandomState) -> Result<(usize, Option<u32>),
     let mut ids = colliding_ids(alloc, &keys, FULL, 41)?;
     let other = ids.pop().unwrap_or(TraceId { high: 0, low: 0 });
     let mut table = IdTable::with_room(alloc, keys, ROOM)?;
-    add_all(&mut table, &ids);
+    enter_all(&mut table, &ids);
     Ok((found_in_order(&table, &ids), table.find(other)))
 }
 

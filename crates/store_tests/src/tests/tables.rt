@@ -1,4 +1,4 @@
-use id_table::IdTable;
+use id_table::{Entered, IdTable};
 use jaeger_model::TraceId;
 use std::hash::RandomState;
 use std::test::*;
@@ -20,7 +20,7 @@ fn each_id_has_its_row(rt: HostRuntime) -> Result<(), Fail> {
         for row in 0..room {
             let id = nth(row);
             assert!(rt; table.has_room() && table.find(id).is_none());
-            assert_eq!(rt; table.add(id), row);
+            assert_eq!(rt; table.enter_near(row, id), Entered::Added(row));
         }
         assert!(rt; !table.has_room());
         assert_eq!(rt; table.used(), room);
