@@ -1,6 +1,7 @@
 //! Labels, and where the labels of numbers stand.
 
 ghost use Rattle.std.specs.Prelude.{◌≡◌, ◌<◌};
+ghost use Rattle.jaeger_model.specs.Texts.{same_text};
 ghost use Rattle.service_index.specs.Naming.{label_value, same_label};
 
 /// A name in a group, with a kind. An operation stands in the group of its service, which is the number
@@ -25,11 +26,18 @@ pub trait Labels {
         ensures { label_value result ≡ (labels self.now).at n };
 }
 
+/// Whether two texts are the same. Names are short: byte by byte they are compared sooner than by words, as `==` does it.
+fn is_same(one: &str, other: &str) -> bool
+    ensures { result ≡ same_text one.now other.now }
+{
+    one.as_bytes() == other.as_bytes()
+}
+
 /// Whether the number has this label.
 pub(crate) fn is_label<L: Labels>(labels: &L, n: u32, label: Label<'_>) -> bool
     requires { n < (L.labels labels.now).count }
     ensures { result ≡ same_label ((L.labels labels.now).at n) (label_value label.entry) }
 {
     let found = labels.label_at(n);
-    found.group == label.group && found.name == label.name && found.kind == label.kind
+    found.group == label.group && is_same(found.name, label.name) && is_same(found.kind, label.kind)
 }
