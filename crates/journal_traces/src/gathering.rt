@@ -32,7 +32,17 @@ pub struct GatheredSpans {
     pub places: Vec<u64>,
 }
 
-/// The spans that the spots name, in their order.
+/// How many spots there are, for the room that is taken.
+fn spot_count(spots: Spots<'_>) -> usize {
+    let mut count = 0usize;
+    for _spot in spots {
+        count = count.saturating_add(1);
+    }
+    count
+}
+
+/// The spans that the spots name, in their order. The spots are gone through twice, so that no more memory is taken
+/// than they need.
 ///
 /// # Errors
 ///
@@ -47,8 +57,9 @@ pub fn gather(
     ensures places { IfOk result (λ g.
         AreAt journal.now.held.entries (spans_there g.spans.items) g.places.items) }
 {
-    let mut spans = Vec::new(alloc);
-    let mut places = Vec::new(alloc);
+    let count = spot_count(spots.again());
+    let mut spans = Vec::with_capacity(alloc, count)?;
+    let mut places = Vec::with_capacity(alloc, count)?;
     for spot in spots {
         if let Some(kept) = kept_at(journal, spot)? {
             spans.push(kept)?;

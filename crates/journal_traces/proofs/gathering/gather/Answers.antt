@@ -19,8 +19,8 @@ loop-spot-preserved c =
       places = c.loop-spot.invariant.places;
     }
 
-pub loop-spot-preserved-in-Continue-branch-4 : goal.loop-spot-preserved-in-Continue-branch-4
-loop-spot-preserved-in-Continue-branch-4 c =
+pub loop-spot-preserved-in-Continue-branch-6 : goal.loop-spot-preserved-in-Continue-branch-6
+loop-spot-preserved-in-Continue-branch-6 c =
     let h = c.args.journal.now.held.entries in
     let done = spans_there c.loop-spot.spans.items in
     let spot = c.in-Some.spot in
