@@ -107,7 +107,7 @@ fn spread<S: Sought>(slots: &mut Vec<u32>, rows: &S, places: usize)
 }
 
 /// Sees to it that more than half of the places are free once one more row has its place. Where they
-/// wouldn't be, the rows are spread over about twice as many.
+/// wouldn't be, the rows are spread over about four times as many.
 pub(crate) fn make_place<S: Sought>(slots: &mut Vec<u32>, rows: &S, room: u32)
     requires can_read { S.can_read rows.now }
     requires more { length (S.hashes rows.now) < room }
@@ -119,6 +119,6 @@ pub(crate) fn make_place<S: Sought>(slots: &mut Vec<u32>, rows: &S, room: u32)
 {
     let needed = rows.rows() + 1;
     if slots.len() <= 2 * needed {
-        spread(slots, rows, 2 * (2 * needed).min(room as usize) + 1);
+        spread(slots, rows, 2 * (4 * needed).min(room as usize) + 1);
     }
 }

@@ -11,7 +11,7 @@
 //! Adding a number takes no memory. Its label is compared with one that was found lately; where that is
 //! another, the label is hashed under keys drawn at the start, and sought in the few places of a table at
 //! most half full that the hash leads to. Where a new label would take half of the
-//! places, the labels are spread over about twice as many, in the room that was taken. That it leads to
+//! places, the labels are spread over about four times as many, in the room that was taken. That it leads to
 //! its numbers by the names is a clause of each call (`IsIndexed`), which every call keeps and which
 //! stays true when more spans arrive (`laws::more_names`).
 //!
