@@ -5,11 +5,14 @@ Batches of 10 spans are handed in until so many spans are held; then so many mor
 read by the ids of held ones. Four kinds of measurement, each a process of its own, one after the other, in some rounds:
 
   one      the store of one thread: `SpanStore::apply` of the timed batches, then `SpanStore::answer` of 2,000 traces
-  copies   two copies: `Keeper::admit` of the timed batches, and nobody reads
+  copies   two copies: `Keeper::admit_outlined` of the timed batches, and nobody reads
   beside   the same while three threads read, each by its own `Pass::read`, as fast as they can
   still    three threads read for 20 ms, and nobody writes
 
     bench/copies.py [--bin PATH | --folder PATH] [--sizes 1000,10000,100000] [--timed 100] [--rounds 9]
+
+Outlines of the batches for two copies are made before the timing, since workers make them and not the one that writes; the store of
+one thread makes them within it.
 
 The program is proved and built by `rt run` in a copy of the crates that it stands on: some five minutes where their `out/` has the
 proofs, and about an hour from a plain clone. The copy is temporary, or stays in the folder that `--folder` names; `--bin` names a program that
@@ -46,6 +49,7 @@ MAIN = """//! Times the store of one thread, or two copies of a store, over the 
 ghost use Rattle.std.specs.Prelude.{◌≡◌};
 
 use anyhow::{Result, bail};
+use arrival_journal::OutlinedEntry;
 use batch_codec::decode;
 use jaeger_model::TraceId;
 use read_side::{Keeper, Opened, Pass, StoreName, open};
@@ -249,17 +253,26 @@ fn read_on<N: StoreName, R: Clock>(
     Ok(Reads { each, took })
 }
 
+/// The entries with their outlines.
+fn outlined(alloc: Global, entries: Vec<Arc<Entry>>) -> Result<Vec<OutlinedEntry>, Refusal> {
+    let mut outlined = Vec::with_capacity(alloc, entries.len())?;
+    for entry in entries {
+        outlined.push(OutlinedEntry::new(entry))?;
+    }
+    Ok(outlined)
+}
+
 /// Admits entries and times each.
 fn admit_timed<N: StoreName, R: Wait + Clock>(
     rt: &R,
     alloc: Global,
     keeper: &mut Keeper<N>,
-    entries: Vec<Arc<Entry>>,
+    entries: Vec<OutlinedEntry>,
 ) -> Result<Vec<u64>, Refusal> {
-    let mut times = Vec::new(alloc);
+    let mut times = Vec::with_capacity(alloc, entries.len())?;
     for entry in entries {
         let begin = now(rt);
-        let _receipt = keeper.admit(rt, entry)?;
+        let _receipt = keeper.admit_outlined(rt, entry)?;
         times.push(now(rt).saturating_sub(begin))?;
     }
     Ok(times)
@@ -270,7 +283,7 @@ fn write_beside<N: StoreName, R: Wait + Clock>(
     rt: &R,
     alloc: Global,
     keeper: &mut Keeper<N>,
-    entries: Vec<Arc<Entry>>,
+    entries: Vec<OutlinedEntry>,
     readers: u64,
     phases: &Phases,
 ) -> Result<Vec<u64>, Refusal> {
@@ -298,6 +311,8 @@ fn write_and_read<N: StoreName + Send + Sync, R: Threads + Wait + Clock + Sync>(
     load: Load,
 ) -> Result<Times, Refusal> {
     let Load { first, timed, ids } = load;
+    let first = outlined(alloc, first)?;
+    let timed = outlined(alloc, timed)?;
     admit_timed(rt, alloc, keeper, first)?;
     let phases = Phases {
         reading: AtomicU64::new(0),
@@ -406,7 +421,7 @@ abbrev pub ghosts-timed_named : goal.ghosts-timed_named
 ghosts-timed_named g a = record { book = a.name.seen.book; limits = a.limits }
 """
 
-DEPS = "read_side span_store batch_codec jaeger_model trace_model anyhow left_right crossbeam_utils atomic_table logbook"
+DEPS = "read_side arrival_journal span_store batch_codec jaeger_model trace_model anyhow left_right crossbeam_utils atomic_table logbook"
 
 
 def below(names, lists):

@@ -1,16 +1,19 @@
 -- Digits stand for themselves in a string.
-use Rattle.std.proofs.Common.{◌≡◌, ◌<◌, ◌≤◌, ◌+◌, ◌/◌, ◌%◌, ℕ, zero, suc, Bool, true, false, List, [], ◌∷◌, ◌++◌, length, take, drop, get_or, refl, sym, ap, ap₂, ◌∙◌, append-nil, append_assoc, ℤ, pos, negsuc, arith, slice_index, ◌-◌}
+use Rattle.std.proofs.Common.{◌≡◌, ◌<◌, ◌≤◌, ◌+◌, ◌/◌, ◌%◌, ℕ, zero, suc, Bool, true, false, List, [], ◌∷◌, ◌++◌, length, take, drop, get_or, refl, sym, ap, ap₂, ◌∙◌, append-nil, append_assoc, subst, ℤ, pos, negsuc, arith, slice_index, ◌-◌}
 use Rattle.std.specs.Prelude.{◌==◌, if◌then◌else◌}
 use Rattle.std.specs.Fmt.{decimal, digit_glyph, digits, digits_onto, signed_decimal}
-use Rattle.std.specs.Str.{IsAscii}
+use Rattle.std.specs.Str.{IsAscii, IsUtf8}
 use Rattle.std.specs.List.{prefix_len}
 use Rattle.std.proofs.lemmas.List.{drop_more}
 use Rattle.std.proofs.lemmas.Bool.Decides.{nat_tests}
 use Rattle.std.proofs.lemmas.Grind.{flat_map-append}
+use Rattle.std.proofs.lemmas.Str.{IsUtf8-drop, IsUtf8-take, IsCharBoundary-after_ascii, IsCharBoundary-at_seam}
 use Rattle.std.proofs.lemmas.Str.Ascii.{IsAscii-cons, IsAscii-nil}
+use Rattle.std.proofs.Math.Seq.{take-append_seam}
 use Rattle.json.specs.Print.{escape, escape_byte, quoted}
 use Rattle.json.specs.Run.{is_plain}
 use Rattle.json.proofs.Printed.Strings.{escape_byte_plain, escape_to_stop}
+use Rattle.json.proofs.Printed.Utf8.{IsUtf8-are_ascii, IsUtf8-quoted}
 use Rattle.jaeger_model.specs.declared.ids.TraceId.{TraceId}
 use Rattle.jaeger_model.specs.Ids.{hex_digit, low_digits, trace_text}
 use Rattle.jaeger_model.specs.Tags.{hex_text}
@@ -125,3 +128,12 @@ escape_next d i within = ap escape (drop_more d i 0 within)
 
 pub hex_text_next : (d : List ℕ) (i : ℕ) → i < length d → hex_text (drop i d) ≡ hex_text (get_or d i 0 ∷ []) ++ hex_text (drop (i + 1) d)
 hex_text_next d i within = ap hex_text (drop_more d i 0 within)
+
+-- ---- a text inside quotes
+
+pub IsUtf8-escape : (s : List ℕ) → IsUtf8 s → IsUtf8 (escape s)
+IsUtf8-escape s text =
+    let quotes : IsUtf8 (quoted s) = IsUtf8-quoted s text in
+    let inside : IsUtf8 (escape s ++ 34 ∷ []) = IsUtf8-drop (quoted s) 1 quotes (IsCharBoundary-after_ascii (quoted s) 0 quotes (omega arith) (omega arith)) in
+    let before = IsCharBoundary-at_seam (escape s ++ 34 ∷ []) (escape s) (34 ∷ []) refl (IsUtf8-are_ascii (34 ∷ []) refl) in
+    subst IsUtf8 (take-append_seam (escape s) (34 ∷ [])) (IsUtf8-take (escape s ++ 34 ∷ []) (length (escape s)) inside before)

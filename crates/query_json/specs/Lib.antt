@@ -9,5 +9,6 @@ pub mod Page
 pub mod Paging
 pub mod Parts
 pub mod Pieces
+pub mod Tags
 pub mod Trees
 pub mod Writing

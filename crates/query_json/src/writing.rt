@@ -1,6 +1,7 @@
 //! Trees written as text, without the trees.
 //!
 //! * `page`: a text that grows piece by piece.
+//! * `plain`: whether a text stands for itself in a string.
 //! * `values`: tags, references, operations and links.
 //! * `ids`: the ids of traces and spans.
 //! * `processes`: the processes of a trace, and their names.
@@ -16,6 +17,7 @@ ghost use Rattle.query_json.specs.Trees.{list};
 mod answer;
 mod ids;
 mod page;
+mod plain;
 mod processes;
 mod span;
 mod trace;

@@ -8,6 +8,7 @@ ghost use Rattle.json.specs.Run.{is_plain};
 ghost use Rattle.jaeger_model.specs.Ids.{low_digits};
 ghost use Rattle.jaeger_model.specs.Tags.{flag_text, hex_text};
 
+use super::plain::is_plain;
 use std::alloc::AllocError;
 use std::str;
 
@@ -95,7 +96,25 @@ impl Page {
         self.add(b"\"");
     }
 
+    /// The text inside a JSON string, without the quotes around it.
+    pub(crate) fn in_string(&mut self, text: &str)
+        ensures { Puts self.old self.new (escape text.now) }
+    {
+        self.escaped(text.as_bytes());
+    }
+
     fn escaped(&mut self, text: &[u8])
+        ensures { Adds self.old self.new (escape text.now) }
+    {
+        if is_plain(text) {
+            self.add(text);
+        } else {
+            self.with_escapes(text);
+        }
+    }
+
+    /// The same, run by run and escape by escape.
+    fn with_escapes(&mut self, text: &[u8])
         ensures { Adds self.old self.new (escape text.now) }
     {
         let mut at = 0;

@@ -1,40 +1,42 @@
-ghost use Rattle.serde_json.specs.Data.{string};
 ghost use Rattle.serde_json.specs.Written.{compact_text};
-ghost use Rattle.jaeger_model.specs.Tags.{hex_text};
 ghost use Rattle.query_json.specs.Page.{Puts};
-ghost use Rattle.query_json.specs.Trees.{link_tree, operation_tree, reference_tree, tag_tree, value_tree};
+ghost use Rattle.query_json.specs.Tags.{behind_key};
+ghost use Rattle.query_json.specs.Trees.{link_tree, operation_tree, reference_tree, tag_tree};
 
 use super::{Page, WriteJson};
-use crate::values::{kind_name, type_name};
+use crate::values::kind_name;
 use jaeger_model::{SpanRef, Tag, TagValue, ValueRef};
 use trace_model::{Link, Operation};
 
-fn write_double(out: &mut Page, bytes: &[u8; 8])
-    ensures { Puts out.old out.new (compact_text (string (hex_text bytes.now))) }
+/// A tag behind its key: the quote after it, the type and the value.
+fn write_typed(out: &mut Page, value: &TagValue)
+    ensures { Puts out.old out.new (behind_key value.now) }
 {
-    out.put("\"");
-    out.digits_of_eight(bytes);
-    out.put("\"");
-}
-
-fn write_bytes(out: &mut Page, bytes: &[u8])
-    ensures { Puts out.old out.new (compact_text (string (hex_text bytes.now))) }
-{
-    out.put("\"");
-    out.digits(bytes);
-    out.put("\"");
-}
-
-impl WriteJson for TagValue {
-    ghost tree = { value_tree };
-
-    fn write(&self, out: &mut Page) {
-        match self.get() {
-            ValueRef::Text(text) => out.string(text),
-            ValueRef::Bool(flag) => out.flag(flag),
-            ValueRef::Long(number) => out.integer(number),
-            ValueRef::Double(bytes) => write_double(out, bytes),
-            ValueRef::Bytes(bytes) => write_bytes(out, bytes),
+    match value.get() {
+        ValueRef::Text(text) => {
+            out.put(r#"","type":"string","value":""#);
+            out.in_string(text);
+            out.put("\"}");
+        }
+        ValueRef::Double(bytes) => {
+            out.put(r#"","type":"float64","value":""#);
+            out.digits_of_eight(bytes);
+            out.put("\"}");
+        }
+        ValueRef::Bool(flag) => {
+            out.put(r#"","type":"bool","value":"#);
+            out.flag(flag);
+            out.put("}");
+        }
+        ValueRef::Long(number) => {
+            out.put(r#"","type":"int64","value":"#);
+            out.integer(number);
+            out.put("}");
+        }
+        ValueRef::Bytes(bytes) => {
+            out.put(r#"","type":"binary","value":""#);
+            out.digits(bytes);
+            out.put("\"}");
         }
     }
 }
@@ -43,13 +45,9 @@ impl WriteJson for Tag {
     ghost tree = { tag_tree };
 
     fn write(&self, out: &mut Page) {
-        out.put(r#"{"key":"#);
-        out.string(self.key.as_str());
-        out.put(r#","type":"#);
-        out.string(type_name(&self.value));
-        out.put(r#","value":"#);
-        self.value.write(out);
-        out.put("}");
+        out.put(r#"{"key":""#);
+        out.in_string(self.key.as_str());
+        write_typed(out, &self.value);
     }
 }
 

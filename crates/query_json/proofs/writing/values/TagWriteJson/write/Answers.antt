@@ -1,10 +1,10 @@
 use Rattle.json.specs.Print.{escape_byte}
-use Rattle.query_json.specs.Trees.{tag_tree}
-use Rattle.query_json.proofs.Pages.{◌▸◌, Puts-is, put_tree-text}
+use Rattle.query_json.proofs.Pages.{◌▸◌, Puts-is}
+use Rattle.query_json.proofs.TagTexts.{tag_text}
 use Rattle.query_json.proofs.writing.values.TagWriteJson.write.Goals as goal
 
 pub returns : goal.returns
 unfolding escape_byte
 returns c =
-    Puts-is (c.put.ensures ▸ c.string.ensures ▸ c.put-2.ensures ▸ c.string-2.ensures ▸ c.put-3.ensures ▸ c.write.ensures ▸ c.put-4.ensures)
-    (rw (c.as_str.ensures.value, c.type_name.ensures) (put_tree-text (tag_tree c.args.self.now)))
+    Puts-is (c.put.ensures ▸ c.in_string.ensures ▸ c.write_typed.ensures)
+    (rw (c.as_str.ensures.value) (tag_text c.args.self.now))

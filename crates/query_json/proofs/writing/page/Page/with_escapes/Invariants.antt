@@ -1,7 +1,7 @@
 use Rattle.std.proofs.Common.{◌≡◌, ◌++◌, ◌-◌, ◌≤◌, List, ℕ, length, drop}
 use Rattle.json.specs.Print.{escape}
 use Rattle.query_json.specs.Page.{Adds}
-use Rattle.query_json.proofs.writing.page.Page.escaped.Given as goal
+use Rattle.query_json.proofs.writing.page.Page.with_escapes.Given as goal
 
 abbrev pub invariant-loop-at : goal.invariant-loop-at
 invariant-loop-at l =

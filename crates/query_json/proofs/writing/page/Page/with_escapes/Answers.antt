@@ -3,7 +3,7 @@ use Rattle.std.proofs.lemmas.List.{drop_all}
 use Rattle.json.specs.Print.{escape}
 use Rattle.query_json.proofs.Escapes.{escape_next, escape_run}
 use Rattle.query_json.proofs.Pages.{Adds-is, Adds-then}
-use Rattle.query_json.proofs.writing.page.Page.escaped.Goals as goal
+use Rattle.query_json.proofs.writing.page.Page.with_escapes.Goals as goal
 
 pub returns-then-stop-text : goal.returns-then-stop-text
 returns-then-stop-text c =

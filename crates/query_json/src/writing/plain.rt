@@ -1,0 +1,81 @@
+//! Whether a text stands for itself in a JSON string, looked at sixteen bytes at a time.
+ghost use Rattle.std.specs.Prelude.{◌≡◌, ◌+◌, ◌≤◌, length};
+ghost use Rattle.std.specs.Bool.{OnTrue};
+ghost use Rattle.json.specs.Print.{escape};
+ghost use Rattle.json.specs.Written.{PlainBetween};
+
+use std::simd::prelude::*;
+
+/// Whether none of the sixteen bytes from `at` on needs an escape.
+fn are_plain_16(text: &[u8], at: usize) -> bool
+    requires { at + 16 ≤ length text.now }
+    ensures { OnTrue result (PlainBetween text.now at (at + 16)) }
+{
+    let bytes = u8x16::from_slice(&text[at..]);
+    (bytes.simd_eq(u8x16::splat(b'"'))
+        | bytes.simd_eq(u8x16::splat(b'\\'))
+        | bytes.simd_lt(u8x16::splat(0x20))).to_bitmask()
+        == 0
+}
+
+/// Whether none of the eight bytes from `at` on needs an escape.
+fn are_plain_8(text: &[u8], at: usize) -> bool
+    requires { at + 8 ≤ length text.now }
+    ensures { OnTrue result (PlainBetween text.now at (at + 8)) }
+{
+    let bytes = u8x8::from_slice(&text[at..]);
+    (bytes.simd_eq(u8x8::splat(b'"'))
+        | bytes.simd_eq(u8x8::splat(b'\\'))
+        | bytes.simd_lt(u8x8::splat(0x20))).to_bitmask()
+        == 0
+}
+
+/// Whether no byte needs an escape, one by one.
+fn are_plain_few(text: &[u8]) -> bool
+    ensures { OnTrue result (PlainBetween text.now 0 (length text.now)) }
+{
+    for &byte in text {
+        if byte == b'"' || byte == b'\\' || byte < 0x20 {
+            return false;
+        }
+    }
+    true
+}
+
+/// Whether no byte needs an escape, where there are at least sixteen. The last sixteen may overlap those before them.
+fn are_plain_many(text: &[u8]) -> bool
+    requires { 16 ≤ length text.now }
+    ensures { OnTrue result (PlainBetween text.now 0 (length text.now)) }
+{
+    let mut at = 0;
+    while text.len() - at > 16 {
+        if !are_plain_16(text, at) {
+            return false;
+        }
+        at += 16;
+    }
+    are_plain_16(text, text.len() - 16)
+}
+
+/// Whether no byte needs an escape, where there are fewer than sixteen.
+fn are_plain(text: &[u8]) -> bool
+    requires { length text.now ≤ 16 }
+    ensures { OnTrue result (PlainBetween text.now 0 (length text.now)) }
+{
+    if text.len() >= 8 {
+        are_plain_8(text, 0) && are_plain_8(text, text.len() - 8)
+    } else {
+        are_plain_few(text)
+    }
+}
+
+/// Whether the text stands for itself in a JSON string.
+pub(super) fn is_plain(text: &[u8]) -> bool
+    ensures { OnTrue result (escape text.now ≡ text.now) }
+{
+    if text.len() < 16 {
+        are_plain(text)
+    } else {
+        are_plain_many(text)
+    }
+}
