@@ -2,7 +2,6 @@
 use Rattle.std.proofs.Common.{◌≡◌, ◌<◌, ◌+◌, ℕ, List, [], ◌∷◌, ◌++◌, map, take, drop, length, get_or, String, Global, string_bytes, ap, sym, subst, ◌∙◌, arith}
 use Rattle.std.proofs.lemmas.List.{get_or-map, length-map, take_more, take-append-drop}
 use Rattle.std.proofs.lemmas.List.FromFn.{get_or-map-range_with_len, length-map-range_with_len}
-use Rattle.std.proofs.Math.Numerals.{add-one}
 use Rattle.trace_model.specs.declared.answer.Shown.{Shown}
 use Rattle.query_json.specs.Naming.{process_name}
 use Rattle.query_json.specs.Trees.{processes_of}
@@ -21,10 +20,6 @@ pub place_at : (spans : List Shown) (places : List ℕ) (i : ℕ) (s : Shown) �
 place_at spans places i s e below is =
     let place_of = process_place (processes_of spans) in
     ap (λ l. get_or l i 0) e ∙ get_or-map place_of spans i s 0 below ∙ ap place_of (sym is)
-
--- what stands behind the first
-pub rest_at : (spans rest : List Shown) (first s : Shown) (i : ℕ) → spans ≡ first ∷ rest → s ≡ get_or rest i s → s ≡ get_or spans (i + 1) s
-rest_at spans rest first s i e is = is ∙ ap (λ k. get_or (first ∷ rest) k s) (sym (add-one i)) ∙ ap (λ l. get_or l (i + 1) s) (sym e)
 
 pub place_below_all : (spans : List Shown) (i : ℕ) (s : Shown) → i < length spans → s ≡ get_or spans i s → process_place (processes_of spans) s < length (processes_of spans)
 place_below_all spans i s below is =

@@ -8,10 +8,10 @@ use Rattle.query_json.specs.Around.{head_text, tail_text}
 use Rattle.query_json.specs.Trees.{trace_tree}
 
 abbrev pub spans_lent : LentTrace → List Shown
-spans_lent t = t.spans.items
+spans_lent t = t.spans
 
 abbrev pub lent_tree : LentTrace → Data
-lent_tree t = trace_tree t.spans.items
+lent_tree t = trace_tree t.spans
 
 abbrev pub lent_text : LentTrace → List ℕ
 lent_text t = compact_text (lent_tree t)

@@ -1,3 +1,4 @@
+pub mod Deltas
 pub mod Hosting
 pub mod Lent
 pub mod Places

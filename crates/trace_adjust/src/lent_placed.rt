@@ -141,17 +141,6 @@ impl<'a> LentPlaced<'a> {
         }
     }
 
-    /// The same once more.
-    pub(crate) fn again(&self) -> LentPlaced<'a>
-        ensures { result ≡ self.now }
-    {
-        LentPlaced {
-            process: self.process,
-            span: self.span,
-            parent: self.parent,
-        }
-    }
-
     pub(crate) fn id(&self) -> SpanId
         ensures { result ≡ self.now.span.id }
     {

@@ -1,9 +1,9 @@
 //! A span of an answer, lent by the entry that keeps it.
 
 ghost use Rattle.std.specs.Prelude.{◌≡◌, ◌<◌, length, slice_get, Some};
-ghost use Rattle.trace_model.specs.Adjusting.{shifted, unadjusted};
+ghost use Rattle.trace_model.specs.Adjusting.{shifted};
 ghost use Rattle.trace_adjust.specs.Lent.{IsLent};
-ghost use Rattle.trace_adjust.specs.Lending.{shift_of, shown_by, warning_texts, CanMove};
+ghost use Rattle.trace_adjust.specs.Lending.{correction_of, shown_by, warning_texts, CanMove};
 
 use crate::lent_logs::LentLogs;
 use crate::lent_placed::LentPlaced;
@@ -14,7 +14,7 @@ use std::marker::Model;
 
 /// What comes of the delta of a span's clock.
 #[derive(Clone, Copy)]
-pub(crate) enum Shift {
+pub(crate) enum Correction {
     /// The delta is 0, or the span has no clock.
     Unmoved,
     /// The delta is above the limit.
@@ -30,7 +30,7 @@ pub(crate) enum Shift {
 struct Skew {
     delta: i128,
     max_skew: u64,
-    shift: Shift,
+    correction: Correction,
 }
 
 /// A span of an answer where its entry keeps it, with what is shown otherwise than it is kept. Contracts see the
@@ -47,56 +47,38 @@ impl<'a> Model for LentSpan<'a> {
 
     ghost Value = { Shown };
 
-    ghost view = { λ l. shown_by l.skew.shift l.skew.delta l.skew.max_skew l.placed };
+    ghost view = { λ l. shown_by l.skew.correction l.skew.delta l.skew.max_skew l.placed };
 
-    ghost invariant = { λ l. CanMove l.skew.shift l.skew.delta l.placed.span };
+    ghost invariant = { λ l. CanMove l.skew.correction l.skew.delta l.placed.span };
 }
 
 /// What comes of the delta at this span.
-fn shift_of(max_skew: u64, delta: i128, placed: &LentPlaced) -> Shift
-    ensures shift { result ≡ shift_of max_skew delta placed.now.span }
+fn correction_of(max_skew: u64, delta: i128, placed: &LentPlaced) -> Correction
+    ensures correction { result ≡ correction_of max_skew delta placed.now.span }
     ensures can_move { CanMove result delta placed.now.span }
 {
     if delta == 0 {
-        Shift::Unmoved
+        Correction::Unmoved
     } else if !is_within(delta, max_skew) {
-        Shift::PastLimit
+        Correction::PastLimit
     } else if !placed.all_fit(delta) {
-        Shift::PastTimes
+        Correction::PastTimes
     } else {
-        Shift::Moved
+        Correction::Moved
     }
 }
 
 impl<'a> LentSpan<'a> {
-    /// The span as it came.
-    pub(crate) fn unadjusted(placed: &LentPlaced<'a>) -> LentSpan<'a>
-        ensures { result ≡ unadjusted placed.now }
-    {
-        let skew = Skew {
-            delta: 0,
-            max_skew: 0,
-            shift: Shift::Unmoved,
-        };
-        LentSpan {
-            placed: placed.again(),
-            skew,
-        }
-    }
-
-    /// The span moved by the delta of its host, or left with a warning.
-    pub(crate) fn shifted(placed: &LentPlaced<'a>, delta: i128, max_skew: u64) -> LentSpan<'a>
-        ensures { result ≡ shifted max_skew delta placed.now }
+    /// The span moved by the delta of its host, or left with a warning; as it came where the delta is 0.
+    pub(crate) fn shifted(placed: LentPlaced<'a>, delta: i128, max_skew: u64) -> LentSpan<'a>
+        ensures { result ≡ shifted max_skew delta placed.entry }
     {
         let skew = Skew {
             delta,
             max_skew,
-            shift: shift_of(max_skew, delta, placed),
+            correction: correction_of(max_skew, delta, &placed),
         };
-        LentSpan {
-            placed: placed.again(),
-            skew,
-        }
+        LentSpan { placed, skew }
     }
 
     /// The span where it is kept, with its own references and times.
@@ -118,9 +100,9 @@ impl<'a> LentSpan<'a> {
         ensures { result ≡ self.now.placed.span.start }
     {
         let start = self.placed.start();
-        match self.skew.shift {
-            Shift::Moved => moved_by(start, self.skew.delta),
-            Shift::Unmoved | Shift::PastLimit | Shift::PastTimes => start,
+        match self.skew.correction {
+            Correction::Moved => moved_by(start, self.skew.delta),
+            Correction::Unmoved | Correction::PastLimit | Correction::PastTimes => start,
         }
     }
 
@@ -129,9 +111,11 @@ impl<'a> LentSpan<'a> {
         ensures { result ≡ self.now.placed.span.logs }
     {
         let logs = self.placed.logs();
-        match self.skew.shift {
-            Shift::Moved => LentLogs::new(logs, Some(self.skew.delta)),
-            Shift::Unmoved | Shift::PastLimit | Shift::PastTimes => LentLogs::new(logs, None),
+        match self.skew.correction {
+            Correction::Moved => LentLogs::new(logs, Some(self.skew.delta)),
+            Correction::Unmoved | Correction::PastLimit | Correction::PastTimes => LentLogs::new(
+                logs, None,
+            ),
         }
     }
 
@@ -157,13 +141,13 @@ impl<'a> LentSpan<'a> {
         let Skew {
             delta,
             max_skew,
-            shift,
+            correction,
         } = self.skew;
-        match shift {
-            Shift::Unmoved => None,
-            Shift::PastLimit => Some(Warning::PastLimit { delta, max_skew }),
-            Shift::PastTimes => Some(Warning::PastTimes(delta)),
-            Shift::Moved => Some(Warning::Adjusted(delta)),
+        match correction {
+            Correction::Unmoved => None,
+            Correction::PastLimit => Some(Warning::PastLimit { delta, max_skew }),
+            Correction::PastTimes => Some(Warning::PastTimes(delta)),
+            Correction::Moved => Some(Warning::Adjusted(delta)),
         }
     }
 }

@@ -11,7 +11,8 @@
 //! * `skew`: the spans moved by their clocks.
 //! * `showing`: traces of an answer, whose spans are copied from their entries.
 //! * `lent_span`, `lent_logs`, `warning`: a span of an answer where its entry keeps it, with what is shown otherwise.
-//! * `lending`: traces of an answer, whose spans are lent by their entries.
+//! * `lent_spans`: the spans of a trace of an answer, lent one by one.
+//! * `lending`: what is held for that: the deltas of their clocks.
 #![tactic(auto)]
 
 mod clock;
@@ -21,6 +22,7 @@ mod lending;
 mod lent_logs;
 mod lent_placed;
 mod lent_span;
+mod lent_spans;
 mod parents;
 mod showing;
 mod skew;
@@ -29,6 +31,7 @@ mod warning;
 pub use lending::lend;
 pub use lent_logs::{LentLog, LentLogs};
 pub use lent_span::LentSpan;
+pub use lent_spans::{LentIter, LentSpans};
 pub use parents::parent_first;
 pub use showing::{show, shown};
 pub use skew::{adjust_skew, adjusted};

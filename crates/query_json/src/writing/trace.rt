@@ -1,4 +1,4 @@
-ghost use Rattle.std.specs.Prelude.{◌≡◌, ◌<◌, ◌^◌, IfOk, OnOk, length, map};
+ghost use Rattle.std.specs.Prelude.{◌≡◌, IfOk, OnOk, map};
 ghost use Rattle.serde_json.specs.Data.{string};
 ghost use Rattle.serde_json.specs.Written.{compact_text};
 ghost use Rattle.trace_model.specs.Keeping.{kept_value, KeptShares};
@@ -12,34 +12,36 @@ use super::{Page, WriteJson};
 use crate::naming::lent_places;
 use crate::tree::Tree;
 use std::alloc::{AllocError, Global};
-use trace_adjust::{LentSpan, lend};
+use trace_adjust::{LentSpans, lend};
 use trace_model::{AnsweredTrace, KeptTrace, ShownTrace, TraceForm};
 
 /// The spans, each with the name of its process, which stands at its place.
-fn write_spans(out: &mut Page, places: &[usize], spans: &[LentSpan])
-    requires places { places.now ≡ map (process_place (processes_of spans.now)) spans.now }
-    requires few { length (processes_of spans.now) < 2 ^ 63 }
+fn write_spans(out: &mut Page, places: &[u32], spans: &LentSpans)
+    requires { places.now ≡ map (process_place (processes_of spans.now)) spans.now }
     ensures { Puts out.old out.new
         (compact_text (list (map (span_tree (processes_of spans.now)) spans.now))) }
 {
-    let Some((first, rest)) = spans.split_first() else {
+    let mut left = spans.iter();
+    let Some(first) = left.next() else {
         out.put("[]");
         return;
     };
     out.put("[");
-    write_span(out, places[0] as u64 + 1, first);
-    for (index, lent) in rest.iter().enumerate() {
+    write_span(out, u64::from(places[0]) + 1, &first);
+    let mut index = 1;
+    for lent in left {
         out.put(",");
-        write_span(out, places[index + 1] as u64 + 1, lent);
+        write_span(out, u64::from(places[index]) + 1, &lent);
+        index += 1;
     }
     out.put("]");
 }
 
 /// The id of a trace, that of its first span.
-fn write_id(out: &mut Page, spans: &[LentSpan])
+fn write_id(out: &mut Page, spans: &LentSpans)
     ensures { Puts out.old out.new (compact_text (string (trace_id_text spans.now))) }
 {
-    match spans.first() {
+    match spans.iter().next() {
         Some(lent) => lent.span().trace.write(out),
         None => out.put("\"\""),
     }
@@ -48,8 +50,9 @@ fn write_id(out: &mut Page, spans: &[LentSpan])
 /// A trace whose spans are lent by their entries, with what is to be known of its processes before it is written.
 #[derive(Drop)]
 pub(crate) struct LentTrace<'a> {
-    spans: Vec<LentSpan<'a>>,
-    places: Vec<usize>,
+    spans: LentSpans<'a>,
+    /// For each span how many processes stand before its own.
+    places: Vec<u32>,
     processes: Vec<NamedProcess<'a>>,
 }
 
@@ -58,7 +61,7 @@ impl<'a> LentTrace<'a> {
 
     pub(crate) fn new(alloc: Global, kept: &'a KeptTrace) -> Result<LentTrace<'a>, AllocError>
         requires { KeptShares kept.now }
-        ensures spans { IfOk result (λ t. t.spans.items ≡ kept_value kept.now) }
+        ensures spans { IfOk result (λ t. t.spans ≡ kept_value kept.now) }
         ensures numbered { IfOk result IsNumbered }
     {
         let spans = lend(alloc, kept)?;
@@ -74,7 +77,7 @@ impl<'a> LentTrace<'a> {
     /// Its spans in order, and their processes under the names that the spans give.
     pub(crate) fn write(&self, out: &mut Page)
         requires { IsNumbered self.now }
-        ensures { Puts out.old out.new (compact_text (trace_tree self.now.spans.items)) }
+        ensures { Puts out.old out.new (compact_text (trace_tree self.now.spans)) }
     {
         out.put(r#"{"processes":"#);
         write_processes(out, &self.processes);

@@ -7,22 +7,32 @@ use std::alloc::{AllocError, Global};
 use std::mem::drop;
 use std::sync::Arc;
 use std::test::*;
-use trace_adjust::{LentSpan, Warning, lend, show};
+use trace_adjust::{LentSpan, LentSpans, Warning, lend, show};
 use trace_model::{Entry, KeptSpan, KeptTrace, Limits, Shown};
 
-/// Adds the first span of each entry.
-fn add_kept(spans: &mut Vec<KeptSpan>, entries: &[Arc<Entry>]) -> Result<(), AllocError> {
+/// Adds the spans of each entry at these indexes.
+fn add_kept(
+    spans: &mut Vec<KeptSpan>,
+    entries: &[Arc<Entry>],
+    indexes: &[u32],
+) -> Result<(), AllocError> {
     for entry in entries {
-        spans.push(KeptSpan::new(entry, 0)?)?;
+        for index in indexes {
+            spans.push(KeptSpan::new(entry, *index)?)?;
+        }
     }
     Ok(())
 }
 
-/// The spans, each kept by an entry of its own.
-fn kept_by_entries(alloc: Global, trace: Vec<Placed>) -> Result<Vec<KeptSpan>, AllocError> {
+/// The spans, each kept by an entry of its own, which has no span at an index above 0.
+fn kept_by_entries(
+    alloc: Global,
+    trace: Vec<Placed>,
+    indexes: &[u32],
+) -> Result<Vec<KeptSpan>, AllocError> {
     let entries = history_of(alloc, trace)?;
     let mut spans = Vec::new(alloc);
-    let added = add_kept(&mut spans, &entries);
+    let added = add_kept(&mut spans, &entries, indexes);
     kept(spans, added)
 }
 
@@ -92,22 +102,25 @@ fn is_shown_so(alloc: Global, lent: &LentSpan, shown: &Shown) -> Result<bool, Al
 }
 
 /// Each lent span is the one that is shown at its place.
-fn are_shown_so(alloc: Global, lent: &[LentSpan], shown: &[Shown]) -> Result<bool, AllocError> {
-    let mut same = lent.len() == shown.len();
-    for (lent, shown) in lent.iter().zip(shown) {
-        same = is_shown_so(alloc, lent, shown)? && same;
+fn are_shown_so(alloc: Global, lent: &LentSpans, shown: &[Shown]) -> Result<bool, AllocError> {
+    let mut left = lent.iter();
+    let mut same = true;
+    for wanted in shown {
+        same = match left.next() {
+            Some(lent) => is_shown_so(alloc, &lent, wanted)? && same,
+            None => false,
+        };
     }
-    Ok(same)
+    Ok(same && left.next().is_none())
 }
 
 /// The spans are lent as they are shown under this limit.
 fn are_lent(
     alloc: Global,
-    trace: Vec<Placed>,
+    spans: Vec<KeptSpan>,
     limits: Limits,
     raw: bool,
 ) -> Result<bool, AllocError> {
-    let spans = kept_by_entries(alloc, trace)?;
     let places = Vec::new(alloc);
     let trace = KeptTrace {
         spans,
@@ -129,10 +142,14 @@ fn are_lent_moved(
     alloc: Global,
     [start, long, child, short]: [i64; 4],
     max_skew: u64,
+    indexes: &[u32],
 ) -> Result<bool, AllocError> {
     let rows = [("h1", 1, 0, start, long), ("h2", 2, 1, child, short)];
     match Limits::new(1, 1, 0, max_skew) {
-        Some(limits) => are_lent(alloc, trace_of(alloc, &rows)?, limits, false),
+        Some(limits) => {
+            let spans = kept_by_entries(alloc, trace_of(alloc, &rows)?, indexes)?;
+            are_lent(alloc, spans, limits, false)
+        }
         None => Ok(true),
     }
 }
@@ -140,7 +157,22 @@ fn are_lent_moved(
 #[test]
 fn child_on_another_host_is_lent(rt: HostRuntime) -> Result<(), Fail> {
     for (times, limit, _, warning) in PAIRS {
-        assert!(rt; are_lent_moved(rt.alloc(), times, limit)?, "{warning}");
+        assert!(rt;
+            are_lent_moved(rt.alloc(), times, limit, &[0])?,
+            "{warning}"
+        );
+    }
+    Ok(())
+}
+
+/// A span that its entry doesn't have is left out, and the others are moved as without it.
+#[test]
+fn span_that_is_not_there_is_left_out(rt: HostRuntime) -> Result<(), Fail> {
+    for (times, limit, _, warning) in PAIRS {
+        assert!(rt;
+            are_lent_moved(rt.alloc(), times, limit, &[1, 0, 2])?,
+            "{warning}"
+        );
     }
     Ok(())
 }
@@ -182,7 +214,8 @@ fn references_are_lent(rt: HostRuntime) -> Result<(), Fail> {
     for parent in [1, 7] {
         for raw in [false, true] {
             let trace = referring(rt.alloc(), parent)?;
-            assert!(rt; are_lent(rt.alloc(), trace, limits, raw)?, "{parent} {raw}");
+            let spans = kept_by_entries(rt.alloc(), trace, &[0])?;
+            assert!(rt; are_lent(rt.alloc(), spans, limits, raw)?, "{parent} {raw}");
         }
     }
     Ok(())

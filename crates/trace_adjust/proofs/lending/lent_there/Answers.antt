@@ -1,10 +1,10 @@
 use Rattle.std.proofs.Common.{◌∙◌, ◌++◌, ◌∷◌, [], map, take, sym, ap}
 use Rattle.std.specs.Prelude.{option_map}
 use Rattle.std.proofs.lemmas.List.{map_push}
+use Rattle.trace_model.specs.Adjusting.{with_parent_first}
 use Rattle.trace_model.specs.Keeping.{spans_there}
 use Rattle.trace_model.specs.Seeing.{placed_by_its_entry}
 use Rattle.trace_model.proofs.KeptSpans.{some_next, none_next}
-use Rattle.trace_adjust.specs.Lending.{placed_as}
 use Rattle.trace_adjust.proofs.lending.lent_there.Goals as goal
 use Rattle.trace_adjust.proofs.lending.lent_there.Goals.{in-Some+in_ok-push, in_default}
 
@@ -12,12 +12,12 @@ pub loop-span-preserved : goal.loop-span-preserved
 loop-span-preserved c =
     let ks = c.args.kept.now in
     let i = c.loop-span.span-index in
-    let f = placed_as c.args.raw in
+    let f = with_parent_first in
     let there = sym c.reported.ensures in
     elim c.match-reported.branch [
       | in-Some+in_ok-push w ↦
           let p = placed_by_its_entry w.in-Some.reported in
-          ap (λ v. v.items) w.lent-is ∙ w.in_ok-push.ensures.items ∙ (λ j. c.loop-span.invariant j ++ w.lent_as.ensures j ∷ [])
+          ap (λ v. v.items) w.lent-is ∙ w.in_ok-push.ensures.items ∙ (λ j. c.loop-span.invariant j ++ w.with_parent_first.ensures j ∷ [])
           ∙ sym (map_push f (spans_there (take i ks)) p)
           ∙ ap (map f) (some_next ks i c.span-item.result p c.loop-span-test.true c.span-item.is (there ∙ ap (option_map placed_by_its_entry) w.in-Some.is))
       | in_default w ↦

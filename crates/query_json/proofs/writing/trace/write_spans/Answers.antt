@@ -1,49 +1,37 @@
-use Rattle.std.proofs.Common.{◌≡◌, ◌<◌, ◌+◌, length, get_or, ap, sym, arith}
+use Rattle.std.proofs.Common.{◌≡◌, ◌<◌, ◌+◌, ◌∙◌, ◌∷◌, drop, length, get_or, ap, sym, arith}
 use Rattle.trace_model.specs.declared.answer.Shown.{Shown}
 use Rattle.query_json.specs.Trees.{processes_of, span_tree}
-use Rattle.query_json.proofs.Names.{place_at, place_below_all, rest_at}
-use Rattle.query_json.proofs.Pages.{◌▸◌, Going-at, Going-over, list_begun}
+use Rattle.query_json.proofs.Names.{place_at}
+use Rattle.query_json.proofs.Pages.{◌▸◌, list_begun}
+use Rattle.query_json.proofs.Walking.{next_within, next_is, left_then, Going-next, Going-done}
 use Rattle.query_json.proofs.writing.trace.write_spans.Goals as goal
 
-pub overflow_add-places : goal.overflow_add-places
-overflow_add-places c =
+pub loop-lent-init : goal.loop-lent-init
+loop-lent-init c =
     let spans = c.args.spans.now in
-    let first : Shown = c.in-Some.first.now in
-    let is : first ≡ get_or spans 0 first = sym (ap (λ l. get_or l 0 first) c.in-Some.ensures.cases.0) in
-    let some : 0 < length spans = omega (arith, c.in-Some.ensures.cases.1) in
-    omega (arith, place_at spans c.args.places.now 0 first c.requires.places some is, place_below_all spans 0 first some is, c.requires.few)
+    let first : Shown = c.in-Some.first in
+    let left = c.into_iter-lent-iterator.result in
+    let whole : spans ≡ first ∷ left = sym c.iter-left.ensures ∙ c.in-Some.ensures.steps ∙ ap (λ ss. first ∷ ss) (sym c.into_iter-lent-iterator.ensures.into_iter_gives) in
+    let is : first ≡ get_or spans 0 first = sym (ap (λ ss. get_or ss 0 first) whole) in
+    let some : 0 < length spans = omega (arith, ap length whole) in
+    let number = c.from.ensures ∙ place_at spans c.args.places.now 0 first c.requires some is in
+    record {
+      left = ap (drop 1) whole;
+      text = list_begun (span_tree (processes_of spans)) whole (c.put-2.ensures ▸ c.write_span.ensures (processes_of spans) (ap (λ n. n + 1) number));
+    }
 
-pub loop-index-init : goal.loop-index-init
-loop-index-init c =
+pub loop-lent-preserved : goal.loop-lent-preserved
+loop-lent-preserved c =
     let spans = c.args.spans.now in
-    let first : Shown = c.in-Some.first.now in
-    let is : first ≡ get_or spans 0 first = sym (ap (λ l. get_or l 0 first) c.in-Some.ensures.cases.0) in
-    let some : 0 < length spans = omega (arith, c.in-Some.ensures.cases.1) in
-    let ps = processes_of spans in
-    let number = place_at spans c.args.places.now 0 first c.requires.places some is in
-    list_begun (span_tree ps) c.in-Some.ensures.cases.0 (c.put-2.ensures ▸ c.write_span.ensures ps (ap (λ n. n + 1) number))
-
-pub overflow_add-places-in-loop-index : goal.overflow_add-places-in-loop-index
-overflow_add-places-in-loop-index c =
-    let spans = c.args.spans.now in
-    let rest = c.in-Some.rest.now in
-    let i = c.loop-index.index in
-    let s : Shown = c.index-rest-index.result in
-    let is = rest_at spans rest c.in-Some.first.now s i c.in-Some.ensures.cases.0 c.index-rest-index.is in
-    let within : i + 1 < length spans = omega (arith, c.in-Some.ensures.cases.1, c.loop-index-test.true) in
-    omega (arith, place_at spans c.args.places.now (i + 1) s c.requires.places within is, place_below_all spans (i + 1) s within is, c.requires.few)
-
-pub loop-index-preserved : goal.loop-index-preserved
-loop-index-preserved c =
-    let spans = c.args.spans.now in
-    let rest = c.in-Some.rest.now in
-    let l = c.loop-index in
-    let s : Shown = c.index-rest-index.result in
-    let is = rest_at spans rest c.in-Some.first.now s l.index c.in-Some.ensures.cases.0 c.index-rest-index.is in
-    let within : l.index + 1 < length spans = omega (arith, c.in-Some.ensures.cases.1, c.loop-index-test.true) in
-    let number = place_at spans c.args.places.now (l.index + 1) s c.requires.places within is in
-    Going-at rest l.index s l.invariant c.loop-index-test.true c.index-rest-index.is
-    (c.put-in-loop-index.ensures ▸ c.write_span-in-loop-index.ensures (processes_of spans) (ap (λ n. n + 1) number))
+    let l = c.loop-lent in
+    let s : Shown = c.in-Some-lent.lent in
+    let left = c.next-in-loop-lent.new.self in
+    let here : drop l.index spans ≡ s ∷ left = l.invariant.left ∙ c.in-Some-lent.ensures.steps in
+    let number = c.from-in-loop-lent.ensures ∙ place_at spans c.args.places.now l.index s c.requires (next_within spans l.index s left here) (next_is spans l.index s left here) in
+    record {
+      left = left_then spans l.index s left here;
+      text = Going-next c.in-Some-lent.ensures.steps l.invariant.text (c.put-in-loop-lent.ensures ▸ c.write_span-in-loop-lent.ensures (processes_of spans) (ap (λ n. n + 1) number));
+    }
 
 pub returns : goal.returns
-returns c = Going-over c.in-Some.rest.now c.loop-index.index c.loop-index.invariant c.loop-index-test.false c.put-3.ensures
+returns c = Going-done c.in-None.ensures.steps.0 c.loop-lent.invariant.text c.put-3.ensures

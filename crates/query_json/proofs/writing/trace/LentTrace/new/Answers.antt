@@ -1,4 +1,4 @@
-use Rattle.std.proofs.Common.{◌≡◌, ◌∙◌, List, subst, sym}
+use Rattle.std.proofs.Common.{List, subst, sym}
 use Rattle.trace_model.specs.declared.answer.Shown.{Shown}
 use Rattle.trace_model.specs.Adjusting.{spans_of}
 use Rattle.trace_model.specs.Keeping.{kept_value, spans_there}
@@ -9,6 +9,5 @@ use Rattle.query_json.proofs.writing.trace.LentTrace.new.Goals as goal
 pub lent_places-requires : goal.lent_places-requires
 lent_places-requires c =
     let kept = c.args.kept.now in
-    let spans : c.deref.result.now ≡ kept_value kept = c.deref.ensures.value ∙ c.in_ok-spans.ensures in
     let shares = shown_shares kept.limits kept.raw (spans_there kept.spans.items) kept.places.items c.requires in
-    subst (λ (ss : List Shown). ShareProcesses (spans_of ss) c.deref-2.result.now) (sym spans) (subst (ShareProcesses (spans_of (kept_value kept))) (sym c.deref-2.ensures.value) shares)
+    subst (λ (ss : List Shown). ShareProcesses (spans_of ss) c.deref.result.now) (sym c.in_ok-spans.ensures) (subst (ShareProcesses (spans_of (kept_value kept))) (sym c.deref.ensures.value) shares)
