@@ -5,26 +5,34 @@ ghost use Rattle.std.specs.Prelude.{◌<◌};
 use crate::labels::Label;
 
 /// How many guesses are kept.
-const CLASSES: usize = 16;
+const CLASSES: usize = 256;
 
-/// The rows in which labels were found last. Labels fall into a few classes by their lengths and by two of
-/// their bytes, and for each class one row is kept.
+/// The rows in which labels were found last. Labels fall into classes by their groups, by the lengths of their names and
+/// kinds and by three of their bytes, and for each class one row is kept.
 #[derive(Drop)]
 pub(crate) struct Guesses {
     rows: [u32; CLASSES],
 }
 
-/// The class of a label.
-fn class_of(label: Label<'_>) -> usize
-    ensures { result < 16 }
+/// The byte at an index, 0 behind the end.
+fn byte_at(bytes: &[u8], at: usize) -> usize
+    ensures { result < 256 }
 {
-    let bytes = label.name.as_bytes();
-    let length = bytes.len() % CLASSES;
-    let middle = bytes.get(bytes.len() / 2).copied().unwrap_or(0) as usize;
-    let last = bytes.last().copied().unwrap_or(0) as usize;
+    bytes.get(at).copied().unwrap_or(0) as usize
+}
+
+/// The class of a label. The factors are odd, so that labels which differ in one of the parts mostly have classes of their
+/// own.
+fn class_of(label: Label<'_>) -> usize
+    ensures { result < 256 }
+{
+    let name = label.name.as_bytes();
+    let middle = byte_at(name, name.len() / 2);
+    let last = byte_at(name, name.len().saturating_sub(1));
+    let kind = label.kind.as_bytes();
+    let kind = kind.len() % CLASSES + byte_at(kind, 0);
     let group = label.group as usize % CLASSES;
-    let kind = label.kind.len() % CLASSES;
-    (length + 3 * middle + 5 * last + group + kind) % CLASSES
+    (name.len() % CLASSES + 17 * middle + 29 * last + 61 * group + 7 * kind) % CLASSES
 }
 
 impl Guesses {
