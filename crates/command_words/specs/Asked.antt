@@ -1,7 +1,10 @@
 -- The command that some words give.
 use Rattle.std.specs.Prelude.{◌≡◌, List, true}
 use Rattle.clap.specs.Words.{Row, Text}
+use Rattle.jaeger_model.specs.declared.ids.TraceId.{TraceId}
+use Rattle.trace_model.specs.declared.limits.Limits.{Limits}
 use Rattle.command_words.specs.Words.{AsksGet, ReadsGet, AcceptsGet, AsksPipe, ReadsPipe, AcceptsPipe, AsksPlay, ReadsPlay, AcceptsPlay, AsksServe, ReadsServe, AcceptsServe, HasLimits, HasServeOptions, HasTrace, get_takes, pipe_takes, play_takes, serve_takes}
+use Rattle.command_words.specs.declared.serve_options.ServeOptions.{ServeOptions}
 use Rattle.command_words.specs.declared.words.Command.{Command}
 use Rattle.command_words.specs.declared.words.Command.TheVariants.{Get, Pipe, Play, Serve}
 
@@ -11,31 +14,6 @@ Asks words (Pipe limits) = AsksPipe words limits
 Asks words (Play limits) = AsksPlay words limits
 Asks words (Serve options) = AsksServe words options
 
--- by the words of a subcommand, which begin with its name
-abbrev pub AsksGetBy : List Text → Command → Type 0
-AsksGetBy words (Get limits id) = ReadsGet words limits id
-AsksGetBy words (Pipe limits) = ⊥
-AsksGetBy words (Play limits) = ⊥
-AsksGetBy words (Serve options) = ⊥
-
-abbrev pub AsksPipeBy : List Text → Command → Type 0
-AsksPipeBy words (Pipe limits) = ReadsPipe words limits
-AsksPipeBy words (Get limits id) = ⊥
-AsksPipeBy words (Play limits) = ⊥
-AsksPipeBy words (Serve options) = ⊥
-
-abbrev pub AsksPlayBy : List Text → Command → Type 0
-AsksPlayBy words (Play limits) = ReadsPlay words limits
-AsksPlayBy words (Get limits id) = ⊥
-AsksPlayBy words (Pipe limits) = ⊥
-AsksPlayBy words (Serve options) = ⊥
-
-abbrev pub AsksServeBy : List Text → Command → Type 0
-AsksServeBy words (Serve options) = ReadsServe words options
-AsksServeBy words (Get limits id) = ⊥
-AsksServeBy words (Pipe limits) = ⊥
-AsksServeBy words (Play limits) = ⊥
-
 -- the words ask for the command, and clap takes them
 abbrev pub Accepts : List Text → Command → Type 0
 Accepts words (Get limits id) = AcceptsGet words limits id
@@ -43,51 +21,69 @@ Accepts words (Pipe limits) = AcceptsPipe words limits
 Accepts words (Play limits) = AcceptsPlay words limits
 Accepts words (Serve options) = AcceptsServe words options
 
+-- ---- one subcommand, and what holds of its options
+
+abbrev pub IsGet : (Limits → TraceId → Type 0) → Command → Type 0
+IsGet P (Get limits id) = P limits id
+IsGet P (Pipe limits) = ⊥
+IsGet P (Play limits) = ⊥
+IsGet P (Serve options) = ⊥
+
+abbrev pub IsPipe : (Limits → Type 0) → Command → Type 0
+IsPipe P (Pipe limits) = P limits
+IsPipe P (Get limits id) = ⊥
+IsPipe P (Play limits) = ⊥
+IsPipe P (Serve options) = ⊥
+
+abbrev pub IsPlay : (Limits → Type 0) → Command → Type 0
+IsPlay P (Play limits) = P limits
+IsPlay P (Get limits id) = ⊥
+IsPlay P (Pipe limits) = ⊥
+IsPlay P (Serve options) = ⊥
+
+abbrev pub IsServe : (ServeOptions → Type 0) → Command → Type 0
+IsServe P (Serve options) = P options
+IsServe P (Get limits id) = ⊥
+IsServe P (Pipe limits) = ⊥
+IsServe P (Play limits) = ⊥
+
+-- ---- by the words of the subcommand, which begin with its name
+
+abbrev pub AsksGetBy : List Text → Command → Type 0
+AsksGetBy words command = IsGet (ReadsGet words) command
+
+abbrev pub AsksPipeBy : List Text → Command → Type 0
+AsksPipeBy words command = IsPipe (ReadsPipe words) command
+
+abbrev pub AsksPlayBy : List Text → Command → Type 0
+AsksPlayBy words command = IsPlay (ReadsPlay words) command
+
+abbrev pub AsksServeBy : List Text → Command → Type 0
+AsksServeBy words command = IsServe (ReadsServe words) command
+
+-- clap takes them too
 abbrev pub AcceptsGetBy : List Text → Command → Type 0
-AcceptsGetBy words (Get limits id) = (get_takes words ≡ true) × ReadsGet words limits id
-AcceptsGetBy words (Pipe limits) = ⊥
-AcceptsGetBy words (Play limits) = ⊥
-AcceptsGetBy words (Serve options) = ⊥
+AcceptsGetBy words command = IsGet (λ limits id. (get_takes words ≡ true) × ReadsGet words limits id) command
 
 abbrev pub AcceptsPipeBy : List Text → Command → Type 0
-AcceptsPipeBy words (Pipe limits) = (pipe_takes words ≡ true) × ReadsPipe words limits
-AcceptsPipeBy words (Get limits id) = ⊥
-AcceptsPipeBy words (Play limits) = ⊥
-AcceptsPipeBy words (Serve options) = ⊥
+AcceptsPipeBy words command = IsPipe (λ limits. (pipe_takes words ≡ true) × ReadsPipe words limits) command
 
 abbrev pub AcceptsPlayBy : List Text → Command → Type 0
-AcceptsPlayBy words (Play limits) = (play_takes words ≡ true) × ReadsPlay words limits
-AcceptsPlayBy words (Get limits id) = ⊥
-AcceptsPlayBy words (Pipe limits) = ⊥
-AcceptsPlayBy words (Serve options) = ⊥
+AcceptsPlayBy words command = IsPlay (λ limits. (play_takes words ≡ true) × ReadsPlay words limits) command
 
 abbrev pub AcceptsServeBy : List Text → Command → Type 0
-AcceptsServeBy words (Serve options) = (serve_takes words ≡ true) × ReadsServe words options
-AcceptsServeBy words (Get limits id) = ⊥
-AcceptsServeBy words (Pipe limits) = ⊥
-AcceptsServeBy words (Play limits) = ⊥
+AcceptsServeBy words command = IsServe (λ options. (serve_takes words ≡ true) × ReadsServe words options) command
 
--- `get` with the options and the id that the rows have
+-- ---- by the rows of what clap found
+
 abbrev pub IsGetOf : List Row → Command → Type 0
-IsGetOf rows (Get limits id) = HasLimits rows limits × HasTrace rows id
-IsGetOf rows (Pipe limits) = ⊥
-IsGetOf rows (Play limits) = ⊥
-IsGetOf rows (Serve options) = ⊥
+IsGetOf rows command = IsGet (λ limits id. HasLimits rows limits × HasTrace rows id) command
 
 abbrev pub IsPipeOf : List Row → Command → Type 0
-IsPipeOf rows (Pipe limits) = HasLimits rows limits
-IsPipeOf rows (Get limits id) = ⊥
-IsPipeOf rows (Play limits) = ⊥
-IsPipeOf rows (Serve options) = ⊥
+IsPipeOf rows command = IsPipe (HasLimits rows) command
 
 abbrev pub IsPlayOf : List Row → Command → Type 0
-IsPlayOf rows (Play limits) = HasLimits rows limits
-IsPlayOf rows (Get limits id) = ⊥
-IsPlayOf rows (Pipe limits) = ⊥
-IsPlayOf rows (Serve options) = ⊥
+IsPlayOf rows command = IsPlay (HasLimits rows) command
 
 abbrev pub IsServeOf : List Row → Command → Type 0
-IsServeOf rows (Serve options) = HasServeOptions rows options
-IsServeOf rows (Get limits id) = ⊥
-IsServeOf rows (Pipe limits) = ⊥
-IsServeOf rows (Play limits) = ⊥
+IsServeOf rows command = IsServe (HasServeOptions rows) command
