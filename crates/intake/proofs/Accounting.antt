@@ -1,6 +1,6 @@
 -- The clerk's accounts.
 use Rattle.std.proofs.Common.{◌≡◌, ℕ, ◌+◌, cond, List, [], ◌∷◌, ◌++◌, length, subst, sym, refl, arith, Result, Ok, Err, is_ok, is_err}
-use Rattle.std.proofs.lemmas.List.Sums.{sum_by-cons, sum_by-append}
+use Rattle.std.proofs.lemmas.List.Sums.{sum_by-cons}
 use Rattle.trace_model.specs.declared.refusal.Refusal.{Refusal}
 use Rattle.trace_model.specs.declared.entry.Entry.{Entry}
 use Rattle.intake.specs.declared.account.Account.{Account}
@@ -32,18 +32,3 @@ both_counted (a ∷ rest) =
     either : (r : Result ℕ Refusal) → cond (is_ok r) 1 0 + cond (is_err r) 1 0 ≡ 1
     either (Ok place) = refl
     either (Err why) = refl
-
--- one account more
-pub acknowledged-snoc : (accounts : List Account) (a : Account) → acknowledged (accounts ++ a ∷ []) ≡ acknowledged accounts + cond (is_ok a.answer) 1 0
-acknowledged-snoc accounts a =
-    let f : Account → ℕ = λ x. cond (is_ok x.answer) 1 0 in
-    let all = sum_by-append f accounts (a ∷ []) in
-    let one = sum_by-cons f a [] in
-    omega (arith, all, one)
-
-pub refused-snoc : (accounts : List Account) (a : Account) → refused (accounts ++ a ∷ []) ≡ refused accounts + cond (is_err a.answer) 1 0
-refused-snoc accounts a =
-    let f : Account → ℕ = λ x. cond (is_err x.answer) 1 0 in
-    let all = sum_by-append f accounts (a ∷ []) in
-    let one = sum_by-cons f a [] in
-    omega (arith, all, one)

@@ -1,4 +1,5 @@
 pub mod Copies
+pub mod CountedLogs
 pub mod Rules
 pub mod Keepers
 pub mod Receipts

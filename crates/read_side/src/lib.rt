@@ -7,7 +7,8 @@
 //! inside. No call shortens the longest list, and each answer is the plain store's of a list that begins
 //! with it. A [`Held`] stays inside, so that all its answers are of one list.
 //!
-//! * `history`: the name of a store, and the log of all that was accepted.
+//! * `counted_log`: a list that only grows at its end, as the history does: [`CountedLog`].
+//! * `history`: the name of a store, and a history that no store has yet.
 //! * `side`: one copy of the store, and what a publish changes in it.
 //! * `rule`: what holds of the copies and of their readers between any two steps.
 //! * `keeper`: the [`Keeper`]. `receipt`: the [`Receipt`].
@@ -15,6 +16,7 @@
 //! * `opening`: [`open`]. `laws`: what follows from the clauses.
 #![tactic(auto)]
 
+mod counted_log;
 mod held;
 mod history;
 mod keeper;
@@ -26,6 +28,7 @@ mod rule;
 mod side;
 mod visitor;
 
+pub use counted_log::{CountedLog, EmptyLog};
 pub use held::Held;
 pub use history::{Opened, StoreName};
 pub use keeper::Keeper;

@@ -4,7 +4,8 @@ ghost use Rattle.trace_model.specs.declared.refusal.Refusal.TheVariants.{NoMemor
 ghost use Rattle.read_side.specs.Keepers.{no_entries};
 ghost use Rattle.read_side.specs.Passes.{new_pass};
 
-use crate::history::{Log, Opened, StoreName};
+use crate::counted_log::CountedLog;
+use crate::history::{Opened, StoreName};
 use crate::keeper::{Copies, Keeper};
 use crate::pass::Pass;
 use crate::side::Side;
@@ -47,7 +48,7 @@ pub fn open<N: StoreName, R: Wait>(
     ensures count { IfOk result (λ r. length r.1.items ≡ readers) }
     ensures reason { IfErr result (λ why. why ≡ NoMemory) }
 {
-    let history: Log<N> = Log::new(name);
+    let history = CountedLog::new(name);
     let mut passes = Vec::with_capacity(alloc, readers)?;
     let Ok(journal) = Journal::without_outlines(alloc, keys, limits) else {
         return without_memory((history, passes));

@@ -1,5 +1,6 @@
-use Rattle.std.proofs.Common.{rules, ◌≡◌, ◌∙◌, ◌+◌, ap}
+use Rattle.std.proofs.Common.{rules, ◌≡◌, ◌∙◌, ◌+◌, ap, arith}
 use Rattle.std.specs.Arc.{arc_value}
+use Rattle.std.specs.List.{range_with_len}
 use Rattle.crossbeam_queue.specs.Passes.{ruled_capacity}
 use Rattle.intake.proofs.Steps.{empty, seats}
 use Rattle.intake.proofs.Seating.{seated-on}
@@ -32,3 +33,8 @@ loop-number-preserved g c =
       s.0,
       s.1,
     )
+
+pub returns-clause-numbers : goal.returns-clause-numbers
+returns-clause-numbers g c =
+    let all : c.loop-number.number ≡ c.args.seats = omega (arith, c.loop-number-test.false, c.loop-number.auto.number-end) in
+    c.loop-number.invariant.10 ∙ ap (range_with_len 0) all
