@@ -80,10 +80,6 @@ taken-already ks s n js taken items h w is last = go (n == 0) refl
 
 -- ---- moving
 
--- nothing was moved
-pub moves-nothing : (s : ℕ) (js taken left : List Entry) → MovesFor s js taken left taken left
-moves-nothing s js taken left = record { moved = []; taken_is = sym (append-nil taken); left_is = sym (append-nil left); needed = tt }
-
 pub needed-snoc : (s : ℕ) (js taken moved : List Entry) (e : Entry) → EachNeeded s js taken moved → (AllTaken s js (taken ++ moved) → ⊥) → EachNeeded s js taken (moved ++ e ∷ [])
 needed-snoc s js taken [] e h not = ((λ a. not (subst (AllTaken s js) (sym (append-nil taken)) a)), tt)
 needed-snoc s js taken (m ∷ ms) e h not =
