@@ -10,7 +10,7 @@ use Rattle.wire_pieces.proofs.Steps.{comes-trans, comes-waits, comes-inside, wai
 use Rattle.batch_codec.specs.declared.fault.DecodeError.{DecodeError}
 use Rattle.batch_codec.specs.declared.fault.DecodeError.TheVariants.{Wire}
 use Rattle.batch_codec.specs.Decoding.{Reading, wire}
-use Rattle.batch_feeder.specs.Continuing.{fault_of, ended, Faults, ContinuesTo, Places, Sets}
+use Rattle.batch_feeder.specs.Continuing.{fault_of, ended, Faults, ContinuesTo}
 
 pub one_wire : (e f : WireError) → wire e ≡ wire f → e ≡ f
 one_wire e f h = cc
@@ -80,16 +80,3 @@ pub continues-to-after : {X : Type 0} (x : X) (a b c : Reading X) (p w v : List 
 continues-to-after x a b c p w v (Ok true) f g = comes-trans f g
 continues-to-after x a b c p w v (Ok false) f g = comes-waits f g
 continues-to-after x a b c p w v (Err e) f g = comes-faults a b p w e f g
-
--- ---- slots
-
-module _ {A S : Type 0} (a b : Reading A) (p q : List ℕ) where
-  pub place-continues : (put : A → S) (x y : A) (r : Result Bool DecodeError) → Places a b x y p q r → ContinuesTo (put y) (λ w. a w >>= λ z. Ok (put z.0, z.1)) (λ w. b w >>= λ z. Ok (put z.0, z.1)) p q r
-  place-continues put x y (Ok true) g = comes-inside (λ z. Ok (put z.0, z.1)) g
-  place-continues put x y (Ok false) g = waits-inside (λ z. Ok (put z.0, z.1)) g.0
-  place-continues put x y (Err e) g = faults-inside (λ z. Ok (put z.0, z.1)) a p e g
-
-  pub set-continues : (put : Option A → S) (x y : Option A) (r : Result Bool DecodeError) → Sets a b x y p q r → ContinuesTo (put y) (λ w. a w >>= λ z. Ok (put (Some z.0), z.1)) (λ w. b w >>= λ z. Ok (put (Some z.0), z.1)) p q r
-  set-continues put x y (Ok true) (v, is, g) = rw is (comes-inside (λ z. Ok (put (Some z.0), z.1)) g)
-  set-continues put x y (Ok false) g = waits-inside (λ z. Ok (put (Some z.0), z.1)) g.0
-  set-continues put x y (Err e) g = faults-inside (λ z. Ok (put (Some z.0), z.1)) a p e g

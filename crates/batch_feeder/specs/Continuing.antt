@@ -39,17 +39,11 @@ Arrives old new end piece left (Ok true) = Comes old (ended end) piece left
 Arrives old new end piece left (Ok false) = NeedsMore (Wire Truncated) old new piece left
 Arrives old new end piece left (Err e) = Faults old piece e
 
--- the same of a call that puts a value into its place
-abbrev pub Places : {A : Type 0} → Reading A → Reading A → A → A → List ℕ → List ℕ → Result Bool DecodeError → Type 0
-Places old new before after piece left (Ok true) = Comes old (λ w. Ok (after, w)) piece left
-Places old new before after piece left (Ok false) = NeedsMore (Wire Truncated) old new piece left × (after ≡ before)
-Places old new before after piece left (Err e) = Faults old piece e
-
--- the same where the place may be empty
-abbrev pub Sets : {A : Type 0} → Reading A → Reading A → Option A → Option A → List ℕ → List ℕ → Result Bool DecodeError → Type 0
-Sets {A = A} old new before after piece left (Ok true) = (x : A) × (after ≡ Some x) × Comes old (λ w. Ok (x, w)) piece left
-Sets old new before after piece left (Ok false) = NeedsMore (Wire Truncated) old new piece left × (after ≡ before)
-Sets old new before after piece left (Err e) = Faults old piece e
+-- the same of a call that puts a value into its place, by what the place is that holds a value
+abbrev pub Places : {A S : Type 0} → (A → S) → Reading A → Reading A → S → S → List ℕ → List ℕ → Result Bool DecodeError → Type 0
+Places {A = A} holding old new before after piece left (Ok true) = (x : A) × (after ≡ holding x) × Comes old (λ w. Ok (x, w)) piece left
+Places holding old new before after piece left (Ok false) = NeedsMore (Wire Truncated) old new piece left × (after ≡ before)
+Places holding old new before after piece left (Err e) = Faults old piece e
 
 -- a value that began and was put into its place: whole, or the part of it that has come, or a fault
 abbrev pub Lays : {A P : Type 0} → Reading A → (P → Reading A) → A → A → List ℕ → List ℕ → Result (Option P) DecodeError → Type 0

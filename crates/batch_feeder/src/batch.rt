@@ -1,14 +1,14 @@
-ghost use Rattle.std.specs.Prelude.{◌≡◌, ◌≤◌, pos, length, OnOk};
+ghost use Rattle.std.specs.Prelude.{◌≡◌, ◌≤◌, Some, length, OnOk};
 ghost use Rattle.batch_codec.specs.ProcessReading.{take_process, process_from};
-ghost use Rattle.batch_feeder.specs.Continuing.{Sets};
-ghost use Rattle.batch_feeder.specs.Fields.{Opens, struct_from};
+ghost use Rattle.batch_feeder.specs.Continuing.{Places};
+ghost use Rattle.batch_feeder.specs.Fields.{struct_from};
 ghost use Rattle.batch_codec.specs.BatchReading.{take_batch};
 ghost use Rattle.batch_feeder.specs.Batches.{batch_continues};
 ghost use Rattle.batch_feeder.specs.Processes.{process_continues};
 
-use crate::fields::{Fields, Slots, Step, enter_slowly, hold_next};
+use crate::fields::{Fields, Slots, Step, enter_slowly};
 use crate::items::ListPart;
-use crate::partial::{Partial, place, set};
+use crate::partial::{Partial, place};
 use crate::process::ProcessParts;
 use crate::skipped::SkipPart;
 use crate::structs::Struct;
@@ -39,7 +39,7 @@ fn share(
     alloc: Global,
     piece: &mut Piece<'_>,
 ) -> Decoded<bool>
-    ensures continues { Sets
+    ensures continues { Places Some
         (struct_from take_process process_continues process_from part.old.slots part.old.step)
         (struct_from take_process process_continues process_from part.new.slots part.new.step)
         slot.old slot.new piece.old piece.new result }
@@ -51,66 +51,6 @@ fn share(
         Ok(Some(process)) => {
             *slot = Some(SharedProcess::new(alloc, process)?);
             Ok(true)
-        }
-    }
-}
-
-/// Begins the process over a piece. It stands apart, so that other fields have no place for such a part on their stack.
-#[tactic(auto, unfolding(batch_codec::specs::BatchReading::take_batch, batch_codec::specs::ProcessReading::process_at))]
-#[inline(never)]
-fn enter_process(
-    slots: &mut BatchSlots,
-    next: &mut Option<Step<BatchHeld>>,
-    alloc: Global,
-    piece: &mut Piece<'_>,
-) -> Decoded<bool>
-    ensures continues { Opens (take_batch slots.old 12 (pos 1)) (batch_continues slots.new)
-        slots.new next.new piece.old piece.new result }
-    ensures no_longer { OnOk result (length piece.new ≤ length piece.old) }
-{
-    let mut part = Struct::new(alloc);
-    match share(&mut part, &mut slots.process, alloc, piece) {
-        Err(error) => {
-            drop(part);
-            Err(error)
-        }
-        Ok(true) => {
-            drop(part);
-            Ok(true)
-        }
-        Ok(false) => {
-            hold_next(next, Step::Value(BatchHeld::Process(part)));
-            Ok(false)
-        }
-    }
-}
-
-/// Begins the spans over a piece. It stands apart, so that other fields have no place for such a part on their stack.
-#[tactic(auto, unfolding(batch_codec::specs::BatchReading::take_batch, batch_codec::specs::SpanReading::span_at))]
-#[inline(never)]
-fn enter_spans(
-    slots: &mut BatchSlots,
-    next: &mut Option<Step<BatchHeld>>,
-    alloc: Global,
-    piece: &mut Piece<'_>,
-) -> Decoded<bool>
-    ensures continues { Opens (take_batch slots.old 15 (pos 2)) (batch_continues slots.new)
-        slots.new next.new piece.old piece.new result }
-    ensures no_longer { OnOk result (length piece.new ≤ length piece.old) }
-{
-    let mut part = ListPart::new(alloc);
-    match part.set(&mut slots.spans, alloc, piece) {
-        Err(error) => {
-            drop(part);
-            Err(error)
-        }
-        Ok(true) => {
-            drop(part);
-            Ok(true)
-        }
-        Ok(false) => {
-            hold_next(next, Step::Value(BatchHeld::Spans(part)));
-            Ok(false)
         }
     }
 }
@@ -171,8 +111,8 @@ impl Slots for BatchSlots {
     ) -> Decoded<bool> {
         match held {
             BatchHeld::Process(part) => share(part, &mut self.process, alloc, piece),
-            BatchHeld::Spans(part) => part.set(&mut self.spans, alloc, piece),
-            BatchHeld::SeqNo(part) => set(part, &mut self.seq_no, alloc, piece),
+            BatchHeld::Spans(part) => part.place(&mut self.spans, alloc, piece),
+            BatchHeld::SeqNo(part) => place(part, &mut self.seq_no, alloc, piece),
             BatchHeld::Skip(part) => place(part, &mut (), alloc, piece),
         }
     }
@@ -206,11 +146,7 @@ impl Fields for BatchSlots {
         alloc: Global,
         piece: &mut Piece<'_>,
     ) -> Decoded<bool> {
-        match (code, id) {
-            (STRUCT, 1) => enter_process(self, next, alloc, piece),
-            (LIST, 2) => enter_spans(self, next, alloc, piece),
-            _ => enter_slowly(self, next, code, id, alloc, piece),
-        }
+        enter_slowly(self, next, code, id, alloc, piece)
     }
 
     #[inline(always)]

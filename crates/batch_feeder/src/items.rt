@@ -4,11 +4,11 @@ ghost use Rattle.thrift_binary.specs.Lists.{list_of};
 ghost use Rattle.wire_pieces.specs.Lists.{behind_head, items_from};
 ghost use Rattle.batch_codec.specs.declared.fault.DecodeError.TheVariants.{Wire};
 ghost use Rattle.batch_codec.specs.Decoding.{wire};
-ghost use Rattle.batch_feeder.specs.Continuing.{Enters, ContinuesTo, Lays, Places, Sets};
+ghost use Rattle.batch_feeder.specs.Continuing.{Enters, ContinuesTo, Lays, Places};
 ghost use Rattle.batch_feeder.specs.Lists.{items_behind, items_ended, list_from};
 ghost use Rattle.batch_feeder.specs.LeastBytes.{IsPart};
 
-use crate::partial::{Item, fault_of};
+use crate::partial::{Item, Slot, fault_of};
 use batch_codec::{DecodeError, Decoded, room};
 use jaeger_model::Seq;
 use std::alloc::Global;
@@ -175,13 +175,13 @@ impl<P: Item> ListPart<P> {
 
     /// Continues over a piece, and puts the list into its place.
     #[inline(always)]
-    pub(crate) fn place(
+    pub(crate) fn place<S: Slot<Seq<P::Value>>>(
         &mut self,
-        slot: &mut Seq<P::Value>,
+        slot: &mut S,
         alloc: Global,
         piece: &mut Piece<'_>,
     ) -> Decoded<bool>
-        ensures continues { Places (list_from P.reads P.Partial.resumes
+        ensures continues { Places S.holding (list_from P.reads P.Partial.resumes
             self.old.items.items self.old.left self.old.head self.old.one)
             (list_from P.reads P.Partial.resumes
             self.new.items.items self.new.left self.new.head self.new.one)
@@ -190,29 +190,7 @@ impl<P: Item> ListPart<P> {
     {
         let result = self.go_on(alloc, piece);
         if let Ok(true) = result {
-            *slot = self.take_items(alloc);
-        }
-        result
-    }
-
-    /// The same where the place may be empty.
-    #[inline(always)]
-    pub(crate) fn set(
-        &mut self,
-        slot: &mut Option<Seq<P::Value>>,
-        alloc: Global,
-        piece: &mut Piece<'_>,
-    ) -> Decoded<bool>
-        ensures continues { Sets (list_from P.reads P.Partial.resumes
-            self.old.items.items self.old.left self.old.head self.old.one)
-            (list_from P.reads P.Partial.resumes
-            self.new.items.items self.new.left self.new.head self.new.one)
-            slot.old slot.new piece.old piece.new result }
-        ensures no_longer { OnOk result (length piece.new ≤ length piece.old) }
-    {
-        let result = self.go_on(alloc, piece);
-        if let Ok(true) = result {
-            *slot = Some(self.take_items(alloc));
+            slot.fill(self.take_items(alloc));
         }
         result
     }

@@ -5,7 +5,7 @@ ghost use Rattle.batch_feeder.specs.Logs.{log_continues};
 
 use crate::fields::{Fields, Slots, Step, enter_slowly, hold_next};
 use crate::items::ListPart;
-use crate::partial::{place, set};
+use crate::partial::place;
 use crate::skipped::SkipPart;
 use crate::structs::Struct;
 use crate::tag::TagParts;
@@ -39,7 +39,7 @@ fn enter_log_fields(
     ensures no_longer { OnOk result (length piece.new ≤ length piece.old) }
 {
     let mut part = ListPart::new(alloc);
-    match part.set(&mut slots.fields, alloc, piece) {
+    match part.place(&mut slots.fields, alloc, piece) {
         Err(error) => {
             drop(part);
             Err(error)
@@ -104,8 +104,8 @@ impl Slots for LogSlots {
 
     fn more(&mut self, held: &mut LogHeld, alloc: Global, piece: &mut Piece<'_>) -> Decoded<bool> {
         match held {
-            LogHeld::At(part) => set(part, &mut self.at, alloc, piece),
-            LogHeld::Fields(part) => part.set(&mut self.fields, alloc, piece),
+            LogHeld::At(part) => place(part, &mut self.at, alloc, piece),
+            LogHeld::Fields(part) => part.place(&mut self.fields, alloc, piece),
             LogHeld::Skip(part) => place(part, &mut (), alloc, piece),
         }
     }

@@ -2,9 +2,8 @@ ghost use Rattle.std.specs.Prelude.{◌≡◌, ◌≤◌, ℕ, List, Result, Err
 ghost use Rattle.thrift_binary.specs.declared.fault.WireError.TheVariants.{Truncated};
 ghost use Rattle.batch_codec.specs.declared.fault.DecodeError.{DecodeError};
 ghost use Rattle.batch_codec.specs.declared.fault.DecodeError.TheVariants.{Wire};
-ghost use Rattle.batch_codec.specs.Decoding.{Reading};
 ghost use Rattle.batch_feeder.specs.LeastBytes.{IsPart};
-ghost use Rattle.batch_feeder.specs.Continuing.{Arrives, BeginsValue, Continues, Places, Sets, fault_of};
+ghost use Rattle.batch_feeder.specs.Continuing.{Arrives, BeginsValue, Continues, Places, fault_of};
 
 use batch_codec::{DecodeError, Decoded};
 use std::alloc::Global;
@@ -71,35 +70,44 @@ pub(crate) fn fault_of(error: PieceError) -> DecodeError
     }
 }
 
-/// Continues over a piece, and puts the value into its place.
-pub(crate) fn place<P: Partial>(
-    part: &mut P,
-    slot: &mut P::Value,
-    alloc: Global,
-    piece: &mut Piece<'_>,
-) -> Decoded<bool>
-    ensures continues { Places (P.resumes part.old) (P.resumes part.new) slot.old slot.new
-        piece.old piece.new result }
-    ensures no_longer { OnOk result (length piece.new ≤ length piece.old) }
-{
-    match part.more(alloc, piece) {
-        Err(error) => Err(error),
-        Ok(None) => Ok(false),
-        Ok(Some(value)) => {
-            *slot = value;
-            Ok(true)
-        }
+/// A place for a value.
+pub(crate) trait Slot<V> {
+    /// The place that holds the value.
+    ghost holding: { V → Self };
+
+    /// Puts the value into it.
+    fn fill(&mut self, value: V)
+        ensures { self.new ≡ holding value };
+}
+
+impl<V: Drop> Slot<V> for V {
+    ghost holding = { λ v. v };
+
+    #[inline(always)]
+    fn fill(&mut self, value: V) {
+        *self = value;
     }
 }
 
-/// The same where the place may be empty.
-pub(crate) fn set<P: Partial>(
+impl<V: Drop> Slot<V> for Option<V> {
+    ghost use Rattle.std.specs.Prelude.{Some};
+
+    ghost holding = { λ v. Some v };
+
+    #[inline(always)]
+    fn fill(&mut self, value: V) {
+        *self = Some(value);
+    }
+}
+
+/// Continues over a piece, and puts the value into its place.
+pub(crate) fn place<P: Partial, S: Slot<P::Value>>(
     part: &mut P,
-    slot: &mut Option<P::Value>,
+    slot: &mut S,
     alloc: Global,
     piece: &mut Piece<'_>,
 ) -> Decoded<bool>
-    ensures continues { Sets (P.resumes part.old) (P.resumes part.new) slot.old slot.new
+    ensures continues { Places S.holding (P.resumes part.old) (P.resumes part.new) slot.old slot.new
         piece.old piece.new result }
     ensures no_longer { OnOk result (length piece.new ≤ length piece.old) }
 {
@@ -107,7 +115,7 @@ pub(crate) fn set<P: Partial>(
         Err(error) => Err(error),
         Ok(None) => Ok(false),
         Ok(Some(value)) => {
-            *slot = Some(value);
+            slot.fill(value);
             Ok(true)
         }
     }

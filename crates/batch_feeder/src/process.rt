@@ -3,7 +3,7 @@ ghost use Rattle.batch_feeder.specs.Fields.{Opens};
 
 use crate::fields::{Fields, Slots, Step, enter_slowly, hold_next};
 use crate::items::ListPart;
-use crate::partial::{place, set};
+use crate::partial::place;
 use crate::reads::read_text;
 use crate::skipped::SkipPart;
 use crate::structs::Struct;
@@ -128,7 +128,7 @@ impl Slots for ProcessParts {
         piece: &mut Piece<'_>,
     ) -> Decoded<bool> {
         match held {
-            ProcessHeld::Service(part) => set(part, &mut self.service, alloc, piece),
+            ProcessHeld::Service(part) => place(part, &mut self.service, alloc, piece),
             ProcessHeld::Tags(part) => part.place(&mut self.tags, alloc, piece),
             ProcessHeld::Skip(part) => place(part, &mut (), alloc, piece),
         }

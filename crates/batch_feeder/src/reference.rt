@@ -1,6 +1,6 @@
 use crate::enums::KindPart;
 use crate::fields::{Fields, Slots, Step, enter_slowly};
-use crate::partial::{place, set};
+use crate::partial::place;
 use crate::skipped::SkipPart;
 use crate::values::IdPart;
 use batch_codec::{Decoded, LEAST_REFERENCE, ReferenceSlots, read_id, read_kind};
@@ -79,10 +79,10 @@ impl Slots for ReferenceSlots {
         piece: &mut Piece<'_>,
     ) -> Decoded<bool> {
         match held {
-            ReferenceHeld::Kind(part) => set(part, &mut self.kind, alloc, piece),
-            ReferenceHeld::TraceLow(part) => set(part, &mut self.trace_low, alloc, piece),
-            ReferenceHeld::TraceHigh(part) => set(part, &mut self.trace_high, alloc, piece),
-            ReferenceHeld::Id(part) => set(part, &mut self.id, alloc, piece),
+            ReferenceHeld::Kind(part) => place(part, &mut self.kind, alloc, piece),
+            ReferenceHeld::TraceLow(part) => place(part, &mut self.trace_low, alloc, piece),
+            ReferenceHeld::TraceHigh(part) => place(part, &mut self.trace_high, alloc, piece),
+            ReferenceHeld::Id(part) => place(part, &mut self.id, alloc, piece),
             ReferenceHeld::Skip(part) => place(part, &mut (), alloc, piece),
         }
     }

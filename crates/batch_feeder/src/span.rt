@@ -5,7 +5,7 @@ ghost use Rattle.batch_feeder.specs.Spans.{span_continues};
 
 use crate::fields::{Fields, Slots, Step, enter_slowly, hold_next};
 use crate::items::ListPart;
-use crate::partial::{place, set};
+use crate::partial::place;
 use crate::reads::read_text;
 use crate::skipped::SkipPart;
 use crate::structs::Struct;
@@ -172,15 +172,15 @@ impl Slots for SpanSlots {
 
     fn more(&mut self, held: &mut SpanHeld, alloc: Global, piece: &mut Piece<'_>) -> Decoded<bool> {
         match held {
-            SpanHeld::TraceLow(part) => set(part, &mut self.trace_low, alloc, piece),
-            SpanHeld::TraceHigh(part) => set(part, &mut self.trace_high, alloc, piece),
-            SpanHeld::Id(part) => set(part, &mut self.id, alloc, piece),
-            SpanHeld::Parent(part) => set(part, &mut self.parent, alloc, piece),
-            SpanHeld::Operation(part) => set(part, &mut self.operation, alloc, piece),
+            SpanHeld::TraceLow(part) => place(part, &mut self.trace_low, alloc, piece),
+            SpanHeld::TraceHigh(part) => place(part, &mut self.trace_high, alloc, piece),
+            SpanHeld::Id(part) => place(part, &mut self.id, alloc, piece),
+            SpanHeld::Parent(part) => place(part, &mut self.parent, alloc, piece),
+            SpanHeld::Operation(part) => place(part, &mut self.operation, alloc, piece),
             SpanHeld::References(part) => part.place(&mut self.references, alloc, piece),
-            SpanHeld::Flags(part) => set(part, &mut self.flags, alloc, piece),
-            SpanHeld::Start(part) => set(part, &mut self.start, alloc, piece),
-            SpanHeld::Duration(part) => set(part, &mut self.duration, alloc, piece),
+            SpanHeld::Flags(part) => place(part, &mut self.flags, alloc, piece),
+            SpanHeld::Start(part) => place(part, &mut self.start, alloc, piece),
+            SpanHeld::Duration(part) => place(part, &mut self.duration, alloc, piece),
             SpanHeld::Tags(part) => part.place(&mut self.tags, alloc, piece),
             SpanHeld::Logs(part) => part.place(&mut self.logs, alloc, piece),
             SpanHeld::Skip(part) => place(part, &mut (), alloc, piece),

@@ -2,7 +2,7 @@ ghost use Rattle.std.specs.Prelude.{◌≡◌};
 
 use crate::enums::TypePart;
 use crate::fields::{Fields, Slots, Step, enter_slowly};
-use crate::partial::{place, set};
+use crate::partial::place;
 use crate::reads::{read_binary, read_text};
 use crate::skipped::SkipPart;
 use crate::texts::{BinaryPart, TextPart};
@@ -126,8 +126,8 @@ impl Slots for TagParts {
 
     fn more(&mut self, held: &mut TagHeld, alloc: Global, piece: &mut Piece<'_>) -> Decoded<bool> {
         match held {
-            TagHeld::Key(part) => set(part, &mut self.key, alloc, piece),
-            TagHeld::Kind(part) => set(part, &mut self.kind, alloc, piece),
+            TagHeld::Key(part) => place(part, &mut self.key, alloc, piece),
+            TagHeld::Kind(part) => place(part, &mut self.kind, alloc, piece),
             TagHeld::Text(part) => place(part, &mut self.text, alloc, piece),
             TagHeld::Double(part) => place(part, &mut self.double, alloc, piece),
             TagHeld::Boolean(part) => place(part, &mut self.boolean, alloc, piece),

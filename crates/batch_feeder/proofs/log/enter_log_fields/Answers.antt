@@ -24,7 +24,7 @@ pub returns-in-Ok-false-clause-continues : goal.returns-in-Ok-false-clause-conti
 unfolding take_log tag_at
 returns-in-Ok-false-clause-continues c =
     let h = rw c.in-Ok-false.field-0-test at c.in-Ok-false.ensures.continues in (
-      Fields c.set.new.self,
+      Fields c.place.new.self,
       c.hold_next.ensures,
       same-waits _ _ (λ w. ap (λ r. r >>= λ x. Ok (record c.args.slots.now { fields = Some x.0 }, x.1)) (c.new-part.ensures.fresh w)) _ _ _
           (waits-inside (λ x. Ok (record c.args.slots.now { fields = Some x.0 }, x.1)) h.0),

@@ -1,19 +1,9 @@
-use Rattle.std.proofs.Common.{rules, w16, ◌≡◌, pos, sym}
+use Rattle.std.proofs.Common.{rules, w16}
 use Rattle.std.proofs.lemmas.Int.{to_z-of_z}
 use mir.Val.{SFits}
 use Rattle.batch_feeder.proofs.batch.BatchSlotsFields.enter.Goals as goal
 
-pub returns-in_default-clause-continues : goal.returns-in_default-clause-continues
-returns-in_default-clause-continues c =
+pub returns-clause-continues : goal.returns-clause-continues
+returns-clause-continues c =
     let f : SFits w16 c.args.id = search rules in
     simp to_z-of_z at c.enter_slowly.ensures.continues
-
-pub returns-in-12-eq1-clause-continues : goal.returns-in-12-eq1-clause-continues
-returns-in-12-eq1-clause-continues c =
-    let i : c.args.id ≡ pos 1 = rw c.in-12-eq1.is-1 at (sym (to_z-of_z w16 c.args.id c.ranges.id)) in
-    rw (c.in-12-eq1.is-0, i) c.enter_process.ensures.continues
-
-pub returns-in-15-eq2-clause-continues : goal.returns-in-15-eq2-clause-continues
-returns-in-15-eq2-clause-continues c =
-    let i : c.args.id ≡ pos 2 = rw c.in-15-eq2.is-1 at (sym (to_z-of_z w16 c.args.id c.ranges.id)) in
-    rw (c.in-15-eq2.is-0, i) c.enter_spans.ensures.continues
