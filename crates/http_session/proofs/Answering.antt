@@ -42,7 +42,7 @@ module _ {S C : Type 0} (submits : Submits S) (reads : Reads S) (line : Line C) 
     turn = record { text = found.request.text; head = found.head; body = found.body; verdict = v; reply = reply; close = asked || closes reply }
 
     is_turn : IsExchange turn
-    is_turn = record { spells = found.request.spells; judged = found.judged; close_is = ap (λ (b : Bool). b || closes reply) found.closes_is }
+    is_turn = record { spells = found.request.spells; verdict_follows = found.verdict_follows; close_is = ap (λ (b : Bool). b || closes reply) found.closes_is }
 
     pub answered_open : Appends (line.contents c2) (line.contents c3) (response_of reply close) → line.takes c2 (response_of reply close) c3 → close ≡ false
         → SoFar submits reads line c0 c3 s u here (answered + 1)

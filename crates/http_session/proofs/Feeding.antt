@@ -30,14 +30,14 @@ module _ (old new : List ℕ → Result Reported DecodeError) (body : List ℕ) 
   all : ((rest : List ℕ) → old (body ++ rest) ≡ new rest) → new [] ≡ decoded body
   all same = sym (same []) ∙ ap old (append-nil body) ∙ reads body
 
-  pub judged : (v : Verdict) → Follows old body new → JudgesRead (new []) v → JudgesBatch true body v
-  judged (Submit b) (inl same) is = (refl, sym (all same) ∙ is)
-  judged (Submit b) (inr want) is = absurd (cc (want.0.all [], is))
-  judged (Say (BatchRefused f)) (inl same) is = (refl, sym (all same) ∙ is.0)
-  judged (Say (BatchRefused f)) (inr want) is = absurd (is.1 (cc (want.0.all [], is.0)))
-  judged (Say NoMemory) follows is = refl
-  judged (Say UnsupportedType) follows is = absurd is
-  judged (Say NoSuchPath) follows is = absurd is
-  judged (Say (NotAllowed e)) follows is = absurd is
-  judged (Say (BadParameter p)) follows is = absurd is
-  judged (Ask q) follows is = absurd is
+  pub batch_verdict : (v : Verdict) → Follows old body new → JudgesRead (new []) v → JudgesBatch true body v
+  batch_verdict (Submit b) (inl same) is = (refl, sym (all same) ∙ is)
+  batch_verdict (Submit b) (inr want) is = absurd (cc (want.0.all [], is))
+  batch_verdict (Say (BatchRefused f)) (inl same) is = (refl, sym (all same) ∙ is.0)
+  batch_verdict (Say (BatchRefused f)) (inr want) is = absurd (is.1 (cc (want.0.all [], is.0)))
+  batch_verdict (Say NoMemory) follows is = refl
+  batch_verdict (Say UnsupportedType) follows is = absurd is
+  batch_verdict (Say NoSuchPath) follows is = absurd is
+  batch_verdict (Say (NotAllowed e)) follows is = absurd is
+  batch_verdict (Say (BadParameter p)) follows is = absurd is
+  batch_verdict (Ask q) follows is = absurd is

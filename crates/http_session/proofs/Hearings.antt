@@ -1,10 +1,10 @@
 -- A request that was heard: its head, and then its body.
-use Rattle.std.proofs.Common.{◌≡◌, ℕ, Bool, List, take, drop, Result, Ok, Err, IfOk, IfErr, sym, ap, subst, inl}
+use Rattle.std.proofs.Common.{◌≡◌, ℕ, Bool, List, take, drop, Result, Ok, Err, IfOk, sym, ap, subst, inl}
 use Rattle.http_requests.specs.Asked.{Asked, asked_by}
 use Rattle.http_requests.specs.Requests.{AwaitsRequest}
 use Rattle.http_requests.specs.Waiting.{Source}
 use Rattle.session_devices.specs.Takings.{Takings}
-use Rattle.http_requests.specs.Receiving.{ReadBuffer, StopsWhile, SameUnlessReading, FindsHead, FindsEnd}
+use Rattle.http_requests.specs.Receiving.{ReadBuffer, StopsWhile, FindsHead, FindsEnd}
 use Rattle.http_requests.specs.Bodies.{TakesBody, ReadsBody}
 use Rattle.http_requests.specs.declared.asked.BodyLength.{BodyLength}
 use Rattle.http_requests.specs.declared.asked.Request.{Request}
@@ -33,7 +33,7 @@ module _ {R : Type 0} (source : Source R) (s m t : R) (old here behind new : Rea
         head = (found.is).head;
         body = whole.body;
         request = takes_request source s m t old here behind new r len size found behind_is takes q q body;
-        judged = subst (λ (a : Asked). Judges a whole.body v) (sym same) (asks whole.body v whole.decides);
+        verdict_follows = subst (λ (a : Asked). Judges a whole.body v) (sym same) (asks whole.body v whole.decides);
         closes_is = ap (λ (a : Asked). a.closes) (sym same);
       }
 
@@ -64,14 +64,3 @@ reported_heard takes source s t old new before after size q v (Ok (Ok x)) decide
     record { text = body.text; body = body.body; body_is = body.body_is; reads = body.reads; decides = decides body.body body.put }
 reported_heard takes source s t old new before after size q v (Ok (Err why)) decides breaks = breaks
 reported_heard takes source s t old new before after size q v (Err why) decides read = tt
-
-pub reported_err : (v : Verdict) (P : ReadError → Type 0) (read : Result (Result (Unit {0}) Breach) ReadError) → IfErr read P → IfErr (reported_behind read v) P
-reported_err v P (Ok (Ok x)) p = tt
-reported_err v P (Ok (Err why)) p = tt
-reported_err v P (Err why) p = p
-
-pub reported_same : (v : Verdict) (failed0 failed1 : Bool) (read : Result (Result (Unit {0}) Breach) ReadError) → SameUnlessReading failed0 failed1 read → SameUnlessReading failed0 failed1 (reported_behind read v)
-reported_same v failed0 failed1 (Ok (Ok x)) same = same
-reported_same v failed0 failed1 (Ok (Err breach)) same = same
-reported_same v failed0 failed1 (Err why.Memory) same = same
-reported_same v failed0 failed1 (Err why.Reading) same = same

@@ -41,7 +41,7 @@ pub record HearsOne {R : Type 0} (source : Source R) (s t : R) (old new : ReadBu
   pub head : RequestHead
   pub body : List ℕ
   pub request : TakesRequest source s t old new head body
-  pub judged : Judges (asked_by head) body v
+  pub verdict_follows : Judges (asked_by head) body v
   pub closes_is : closes ≡ (asked_by head).closes
 
 -- nothing was left when the input ended; each read was made while a request was awaited

@@ -36,7 +36,7 @@ pub record Exchange : Type 0 where
 -- the text is the request's, the verdict is on it, and it closes where the request or the reply wants it
 pub record IsExchange (x : Exchange) : Type 0 where
   pub spells : Spells x.text x.head x.body
-  pub judged : Judges (asked_by x.head) x.body x.verdict
+  pub verdict_follows : Judges (asked_by x.head) x.body x.verdict
   pub close_is : x.close ≡ ((asked_by x.head).closes || closes x.reply)
 
 pub record IsOpen (x : Exchange) : Type 0 where

@@ -24,9 +24,9 @@ pub record Asks (bytes : List ℕ) (s : Held) (x : Exchange) (rest : List ℕ) :
 
 same_verdict : (x y : Exchange) → IsExchange x → IsExchange y → x.verdict ≢ Say NoMemory → y.verdict ≢ Say NoMemory → x.head ≡ y.head → x.body ≡ y.body → x.verdict ≡ y.verdict
 same_verdict x y one other m n heads bodies =
-    let judged : Judges (asked_by x.head) x.body y.verdict =
-    subst (λ (b : List ℕ). Judges (asked_by x.head) b y.verdict) (sym bodies) (subst (λ h. Judges (asked_by h) y.body y.verdict) (sym heads) other.judged) in
-    one_verdict (asked_by x.head) x.body x.verdict y.verdict m n one.judged judged
+    let follows : Judges (asked_by x.head) x.body y.verdict =
+    subst (λ (b : List ℕ). Judges (asked_by x.head) b y.verdict) (sym bodies) (subst (λ h. Judges (asked_by h) y.body y.verdict) (sym heads) other.verdict_follows) in
+    one_verdict (asked_by x.head) x.body x.verdict y.verdict m n one.verdict_follows follows
 
 pub same_exchange : (bytes : List ℕ) (s : Held) (x y : Exchange) (rest more : List ℕ) → Asks bytes s x rest → Asks bytes s y more → (x ≡ y) × (rest ≡ more)
 same_exchange bytes s x y rest more one other =
