@@ -19,7 +19,7 @@ const ROOM: u32 = 40;
 const FULL: u64 = 81;
 
 /// The places of a table with eight rows, times those that it has before it spreads them.
-const EIGHT: u64 = 29 * 13;
+const EIGHT: u64 = 41 * 9;
 
 /// The walk to the id begins at the first of so many places.
 fn is_first(keys: &RandomState, id: TraceId, places: u64) -> bool {
@@ -46,16 +46,17 @@ fn colliding_ids(
     Ok(ids)
 }
 
-/// The walk to the service's operation `op` without a kind begins at the first place.
-fn is_first_name(keys: &RandomState, service: &str) -> bool {
+/// The walk to a service of this name begins at the first place, and so does that to an operation of this name and without
+/// a kind, where it is one of the first service.
+fn is_first_name(keys: &RandomState, name: &str) -> bool {
     let mut state = keys.build_hasher();
-    service.hash(&mut state);
-    "op".hash(&mut state);
+    0u32.hash(&mut state);
+    name.hash(&mut state);
     "".hash(&mut state);
     state.finish() % EIGHT == 0
 }
 
-/// So many services, named by numbers, the walks to whose operations are one.
+/// So many numbers that are names of services, or of operations of the first service, to which one walk leads.
 fn colliding_names(
     alloc: Global,
     keys: &RandomState,
@@ -109,24 +110,37 @@ fn colliding_ids_have_rows_of_their_own(rt: HostRuntime) -> Result<(), Fail> {
     Ok(())
 }
 
-/// An entry of one span, of the trace and of the service with this number for a name.
-fn entry_of(alloc: Global, id: TraceId, name: u64, number: u64) -> Result<Arc<Entry>, AllocError> {
-    let name = name.to_string(alloc)?;
-    let mut one = span(alloc, 1, 1)?;
-    one.trace = id;
-    let spans = list_of(alloc, one)?.into_vec();
-    entry(alloc, 0, number, name.as_str(), spans)
+/// A service and an operation of it, which have numbers for names.
+#[derive(Clone, Copy)]
+struct Named {
+    service: u64,
+    operation: u64,
 }
 
-/// Adds an entry for each of the ids, from the service of its place.
+/// An entry of one span of the trace.
+fn entry_of(
+    alloc: Global,
+    id: TraceId,
+    named: Named,
+    number: u64,
+) -> Result<Arc<Entry>, AllocError> {
+    let service = named.service.to_string(alloc)?;
+    let mut one = span(alloc, 1, 1)?;
+    one.trace = id;
+    one.operation = Text::from_string(named.operation.to_string(alloc)?);
+    let spans = list_of(alloc, one)?.into_vec();
+    entry(alloc, 0, number, service.as_str(), spans)
+}
+
+/// Adds an entry for each of the ids, named as it is at the same place.
 fn add_entries(
     alloc: Global,
     entries: &mut Vec<Arc<Entry>>,
     ids: &[TraceId],
-    names: &[u64],
+    names: &[Named],
 ) -> Result<(), AllocError> {
-    for (place, (id, name)) in ids.iter().zip(names).enumerate() {
-        entries.push(entry_of(alloc, *id, *name, place as u64 + 1)?)?;
+    for (place, (id, named)) in ids.iter().zip(names).enumerate() {
+        entries.push(entry_of(alloc, *id, *named, place as u64 + 1)?)?;
     }
     Ok(())
 }
@@ -135,7 +149,7 @@ fn add_entries(
 fn entries_of(
     alloc: Global,
     ids: &[TraceId],
-    names: &[u64],
+    names: &[Named],
 ) -> Result<Vec<Arc<Entry>>, AllocError> {
     let mut entries = Vec::new(alloc);
     let added = add_entries(alloc, &mut entries, ids, names);
@@ -205,25 +219,40 @@ fn same_each(
     keys: RandomState,
     entries: &[Arc<Entry>],
     ids: &[TraceId],
-    names: &[u64],
+    names: &[Named],
 ) -> Result<bool, Fail> {
     let mut same = same_answer(alloc, keys, entries, Query::Services)?;
     for id in ids {
         let query = Query::Trace { id: *id, raw: true };
         same = same && same_answer(alloc, keys, entries, query)?;
     }
-    for name in names {
-        same = same && same_operations(alloc, keys, entries, *name)?;
+    for named in names {
+        same = same && same_operations(alloc, keys, entries, named.service)?;
     }
     Ok(same)
 }
 
 /// The same of an entry for each of them.
-fn same_of(alloc: Global, keys: RandomState, ids: &[TraceId], names: &[u64]) -> Result<bool, Fail> {
+fn same_of(
+    alloc: Global,
+    keys: RandomState,
+    ids: &[TraceId],
+    names: &[Named],
+) -> Result<bool, Fail> {
     let entries = entries_of(alloc, ids, names)?;
     let same = same_each(alloc, keys, &entries, ids, names);
     drop(entries);
     same
+}
+
+/// Each of the names for a service, or for an operation of one service.
+fn all_named(alloc: Global, names: &[u64], of_services: bool) -> Result<Vec<Named>, AllocError> {
+    let mut named = Vec::new(alloc);
+    for &name in names {
+        let (service, operation) = if of_services { (name, 0) } else { (0, name) };
+        named.push(Named { service, operation })?;
+    }
+    Ok(named)
 }
 
 /// Ring, traces and names by ids and names with one walk.
@@ -234,6 +263,9 @@ fn collisions_as_the_plain_store(rt: HostRuntime) -> Result<(), Fail> {
     let ids = colliding_ids(alloc, &keys, EIGHT, 8)?;
     let names = colliding_names(alloc, &keys, 8)?;
     assert_eq!(rt; (ids.len(), names.len()), (8, 8));
-    assert!(rt; same_of(alloc, keys, &ids, &names)?);
+    for of_services in [true, false] {
+        let named = all_named(alloc, &names, of_services)?;
+        assert!(rt; same_of(alloc, keys, &ids, &named)?);
+    }
     Ok(())
 }
