@@ -35,7 +35,8 @@ fn all_deltas(
     clocks: &TraceClocks,
 ) -> Result<Vec<i128>, AllocError>
     ensures { (max_skew : ℕ) → AreTraceClocks max_skew trace.now clocks.now →
-        IfOk result (λ v. shifted_all max_skew v.items trace.now ≡ skew_adjusted max_skew trace.now) }
+        IfOk result (λ v.
+        shifted_all max_skew v.items trace.now ≡ skew_adjusted max_skew trace.now) }
 {
     let mut deltas = Vec::with_capacity(alloc, trace.len())?;
     for (place, placed) in trace.iter().enumerate() {

@@ -28,7 +28,8 @@ impl<'a> Model for LentSpans<'a> {
 
     ghost Value = { List Shown };
 
-    ghost view = { λ l. lent_all l.trace.now.raw l.trace.now.limits.max_skew l.deltas.items l.trace.now.spans.items };
+    ghost view = { λ l. lent_all l.trace.now.raw l.trace.now.limits.max_skew
+        l.deltas.items l.trace.now.spans.items };
 }
 
 /// Those that come next, in their order. Contracts see them as they are shown.
