@@ -86,13 +86,6 @@ heads_number i (Some z) s = ((s, refl), tt)
 
 -- ---- Tag
 
-tag_gathered : Tag → Value → TagSlots
-tag_gathered t (values.Text x) = record no_tag { key = Some t.key; kind = Some types.Text; text = x }
-tag_gathered t (values.Double x) = record no_tag { key = Some t.key; kind = Some types.Double; double = x }
-tag_gathered t (values.Bool x) = record no_tag { key = Some t.key; kind = Some types.Bool; boolean = x }
-tag_gathered t (values.Long x) = record no_tag { key = Some t.key; kind = Some types.Long; long = x }
-tag_gathered t (values.Bytes x) = record no_tag { key = Some t.key; kind = Some types.Binary; binary = x }
-
 value_head : (v : Value) → HasHead (value_field v)
 value_head (values.Text x) = (sfits_lit tt, refl)
 value_head (values.Double x) = (sfits_lit tt, refl)

@@ -38,9 +38,6 @@ of_ok : (v : List ℕ) (b : Batch) (r : List ℕ) → batch_at v ≡ Ok (b, r) �
 unfolding decoded
 of_ok v b r h = rw h refl
 
-end_none : (b : Batch) → at_end (b, []) ≡ good b
-end_none b = refl
-
 end_some : (b : Batch) (v : List ℕ) → (v ≡ [] → ⊥) → at_end (b, v) ≡ bad Trailing
 end_some b [] ne = absurd (ne refl)
 end_some b (x ∷ v) ne = let some : eqb (length (x ∷ v)) 0 ≡ false = ne_eqb (length (x ∷ v)) 0 (λ e. absurd (omega arith)) in rw some refl

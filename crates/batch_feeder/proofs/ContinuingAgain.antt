@@ -1,12 +1,12 @@
 -- What calls gave, in larger readings.
-use Rattle.std.proofs.Common.{◌≡◌, ℕ, List, ◌++◌, Option, Some, None, Result, Ok, Err, Bool, true, false, refl, ap, sym, ◌∙◌}
+use Rattle.std.proofs.Common.{◌≡◌, ℕ, List, ◌++◌, Result, Ok, Err, Bool, true, false, refl, ap, sym, ◌∙◌}
 use Rattle.thrift_binary.specs.declared.fault.WireError.{WireError}
 use Rattle.thrift_binary.specs.declared.fault.WireError.TheVariants.{Truncated}
 use Rattle.thrift_binary.specs.Reading.{◌>>=◌, lift}
 use Rattle.wire_pieces.specs.declared.fault.PieceError.{PieceError}
 use Rattle.wire_pieces.specs.declared.fault.PieceError.TheVariants as piece
-use Rattle.wire_pieces.specs.Pieces.{Comes, NeedsMore, Refused, Reaches}
-use Rattle.wire_pieces.proofs.Steps.{comes-trans, comes-waits, comes-inside, waits-inside, refuses-inside, comes-refuses, comes-lift, waits-lift, refuses-lift}
+use Rattle.wire_pieces.specs.Pieces.{Comes, NeedsMore, Refused}
+use Rattle.wire_pieces.proofs.Steps.{comes-trans, comes-waits, comes-inside, waits-inside, refuses-inside, comes-refuses, refuses-lift}
 use Rattle.batch_codec.specs.declared.fault.DecodeError.{DecodeError}
 use Rattle.batch_codec.specs.declared.fault.DecodeError.TheVariants.{Wire}
 use Rattle.batch_codec.specs.Decoding.{Reading, wire}
@@ -16,10 +16,6 @@ pub one_wire : (e f : WireError) → wire e ≡ wire f → e ≡ f
 one_wire e f h = cc
 
 -- ---- a part of the wire
-
-pub reaches-lift : {A X : Type 0} (view : A → X) (a b : List ℕ → Result (X × List ℕ) WireError) (p q : List ℕ) (o : Option A) → Reaches Truncated view a b p q o → Reaches (Wire Truncated) view (λ w. lift wire (a w)) (λ w. lift wire (b w)) p q o
-reaches-lift view a b p q None g = waits-lift wire g
-reaches-lift view a b p q (Some x) g = comes-lift wire g
 
 pub faults-lift : {X : Type 0} (a : List ℕ → Result X WireError) (p : List ℕ) (e : PieceError) → Refused a p e → Faults (λ w. lift wire (a w)) p (fault_of e)
 faults-lift a p (piece.Wire e) g = λ n. refuses-lift wire (one_wire e Truncated) g
@@ -66,14 +62,8 @@ module _ {A X : Type 0} (reads a : Reading A) (same : (w : List ℕ) → a w ≡
   inside : (w : List ℕ) → (a w >>= then) ≡ (reads w >>= then)
   inside w = ap (λ r. r >>= then) (same w)
 
-  pub fresh-whole : (x : A) (p q : List ℕ) → Comes a (λ w. Ok (x, w)) p q → Comes (λ w. reads w >>= then) (λ w. then (x, w)) p q
-  fresh-whole x p q g = same-comes (λ w. a w >>= then) (λ w. reads w >>= then) inside (λ w. then (x, w)) p q (comes-inside then g)
-
   pub fresh-waits : (b : Reading A) (p q : List ℕ) → NeedsMore (Wire Truncated) a b p q → NeedsMore (Wire Truncated) (λ w. reads w >>= then) (λ w. b w >>= then) p q
   fresh-waits b p q g = same-waits (λ w. a w >>= then) (λ w. reads w >>= then) inside (λ w. b w >>= then) p q (waits-inside then g)
-
-  pub fresh-faults : (p : List ℕ) (e : DecodeError) → Faults a p e → Faults (λ w. reads w >>= then) p e
-  fresh-faults p e g = same-faults (λ w. a w >>= then) (λ w. reads w >>= then) inside p e (faults-inside then a p e g)
 
 -- a call that went on, behind other bytes
 pub continues-to-after : {X : Type 0} (x : X) (a b c : Reading X) (p w v : List ℕ) (r : Result Bool DecodeError) → Comes a b p w → ContinuesTo x b c w v r → ContinuesTo x a c p v r

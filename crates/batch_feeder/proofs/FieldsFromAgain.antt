@@ -1,5 +1,5 @@
 -- The steps of a struct that comes in pieces.
-use Rattle.std.proofs.Common.{◌≡◌, ℕ, ℤ, eqb, Bool, true, false, arith, List, [], ◌∷◌, length, Some, None, Result, Ok, Err, refl, ap, sym, ◌∙◌}
+use Rattle.std.proofs.Common.{◌≡◌, ℕ, ℤ, eqb, Bool, true, false, arith, List, [], ◌∷◌, length, Some, None, Result, Ok, Err, refl, ap, sym}
 use Rattle.std.proofs.lemmas.Bool.{eqb-true}
 use Rattle.thrift_binary.specs.declared.fault.WireError.TheVariants.{Truncated}
 use Rattle.thrift_binary.specs.Reading.{◌>>=◌, field_at}
@@ -33,13 +33,6 @@ module _ {S V : Type 0} (take : Take S DecodeError) (res : S → V → Reading S
   -- the head of a field, and what follows it
   pub head-typed : (s : S) (step : Step V) (h : FieldHead) (c : ℕ) (i : ℤ) (w v : List ℕ) → step ≡ Head h → Comes (head_from h) (λ u. Ok (Some (c, i), u)) w v → Comes a (fields_from take res s step) p w → Comes a (fields_value wire take (take s c i)) p v
   head-typed s step h c i w v is g inv = comes-trans (rw is at inv) (wires.head-value wire take s h w v c i (take s c i) g (λ u. refl))
-
-  -- the value of a field that began
-  pub value-bad : (now : Reading S) (v : List ℕ) (e : DecodeError) → Comes a (fields_value wire take now) p v → Faults now v e → Faults a p e
-  value-bad now v e inv g = comes-faults a (fields_value wire take now) p v e inv (faults-inside (λ x. fields_at wire take x.0 x.1) now v e g)
-
-  pub value-part : (now : Reading S) (t : S) (held : V) (v q : List ℕ) → Comes a (fields_value wire take now) p v → NeedsMore (Wire Truncated) now (res t held) v q → NeedsMore (Wire Truncated) a (fields_from take res t (Value held)) p q
-  value-part now t held v q inv g = comes-waits inv (waits-inside (λ x. fields_at wire take x.0 x.1) g)
 
   pub value-whole : (now : Reading S) (t : S) (v q : List ℕ) → Comes a (fields_value wire take now) p v → Comes now (λ u. Ok (t, u)) v q → Comes a (fields_at wire take t) p q
   value-whole now t v q inv g = comes-trans inv (comes-inside (λ x. fields_at wire take x.0 x.1) g)
@@ -75,18 +68,6 @@ module _ {S V A : Type 0} (take : Take S DecodeError) (res : S → V → Reading
 
   pub struct-fresh : ((s : S) (c : ℕ) (i : ℤ) → IsCutSafe (Wire Truncated) (take s c i)) → (s none : S) (h : FieldHead) (w : List ℕ) → s ≡ none → ((u : List ℕ) → head_from h u ≡ field_at u) → struct_from take res makes s (Head h) w ≡ struct_at take none makes w
   struct-fresh safe s none h w is fresh = rw is (ap (λ r. r >>= made) (wires.head-fresh wire take safe none h fresh w))
-
-  pub struct-whole : (s t : S) (step : Step V) (m : A) (p q : List ℕ) → makes t ≡ Ok m → Comes (fields_from take res s step) (λ u. Ok (t, u)) p q → Comes (struct_from take res makes s step) (λ u. Ok (m, u)) p q
-  struct-whole s t step m p q is g = comes-trans (comes-inside made g) (record { same = λ rest. rw is refl })
-
-  pub struct-faults : (s t : S) (step : Step V) (e : DecodeError) (p q : List ℕ) → ((r : S) → makes r ≡ Err (Wire Truncated) → ⊥) → makes t ≡ Err e → Comes (fields_from take res s step) (λ u. Ok (t, u)) p q → Faults (struct_from take res makes s step) p e
-  struct-faults s t step e p q never is g = λ n. record { same = λ rest. (comes-inside made g).same rest ∙ rw is refl; no_want = λ h. never t (is ∙ ap (λ d. Err d) h) }
-
-  pub struct-waits : (s t : S) (step next : Step V) (p q : List ℕ) → NeedsMore (Wire Truncated) (fields_from take res s step) (fields_from take res t next) p q → NeedsMore (Wire Truncated) (struct_from take res makes s step) (struct_from take res makes t next) p q
-  struct-waits s t step next p q g = waits-inside made g
-
-  pub fields-faults : (s : S) (step : Step V) (p : List ℕ) (e : DecodeError) → Faults (fields_from take res s step) p e → Faults (struct_from take res makes s step) p e
-  fields-faults s step p e g = faults-inside made (fields_from take res s step) p e g
 
   pub struct-arrives : (s t : S) (step next : Step V) (p q : List ℕ) (r : Result Bool DecodeError) → ContinuesTo t (fields_from take res s step) (fields_from take res t next) p q r → Arrives (struct_from take res makes s step) (struct_from take res makes t next) (makes t) p q r
   struct-arrives s t step next p q (Ok true) g = comes-inside made g

@@ -1,7 +1,6 @@
 -- The steps of a list of structs that comes in pieces.
-use Rattle.std.proofs.Common.{◌≡◌, ℕ, suc, ◌<◌, ◌-◌, Bool, true, false, eqb, List, [], ◌∷◌, ◌++◌, Option, None, Result, Ok, Err, refl, ap, sym, ◌∙◌, arith, append_assoc, append-nil}
-use Rattle.std.proofs.lemmas.Bool.{ne_eqb}
-use Rattle.thrift_binary.specs.declared.fault.WireError.TheVariants.{Truncated, BadType}
+use Rattle.std.proofs.Common.{◌≡◌, ℕ, suc, ◌<◌, ◌-◌, List, [], ◌∷◌, ◌++◌, None, Result, Ok, Err, refl, ap, sym, ◌∙◌, arith, append_assoc, append-nil}
+use Rattle.thrift_binary.specs.declared.fault.WireError.TheVariants.{Truncated}
 use Rattle.thrift_binary.specs.Reading.{◌>>=◌}
 use Rattle.thrift_binary.specs.Lists.{items_at}
 use Rattle.wire_pieces.specs.declared.fault.PieceError.{PieceError}
@@ -9,12 +8,12 @@ use Rattle.wire_pieces.specs.declared.heads.ListHead.{ListHead}
 use Rattle.wire_pieces.specs.Pieces.{Comes, NeedsMore, Refused}
 use Rattle.wire_pieces.specs.Heads.{list_head}
 use Rattle.wire_pieces.specs.Lists.{items_from, with_beginning, behind_head}
-use Rattle.wire_pieces.proofs.Steps.{comes-trans, comes-is, comes-inside, comes-lift}
+use Rattle.wire_pieces.proofs.Steps.{comes-trans, comes-is, comes-inside}
 use Rattle.wire_pieces.proofs.ItemsAgain.{items-refuses, list-waits}
 use Rattle.batch_codec.specs.declared.fault.DecodeError.{DecodeError}
 use Rattle.batch_codec.specs.declared.fault.DecodeError.TheVariants.{Wire}
 use Rattle.batch_codec.specs.Decoding.{Reading, wire}
-use Rattle.batch_feeder.specs.Continuing.{fault_of, ended, Enters, Faults, ContinuesTo}
+use Rattle.batch_feeder.specs.Continuing.{fault_of, ended, Faults}
 use Rattle.batch_feeder.specs.Lists.{items_behind, items_ended, list_from}
 use Rattle.batch_feeder.proofs.ContinuingAgain.{faults-lift, faults-inside}
 
@@ -81,25 +80,10 @@ module _ {A : Type 0} (one : Reading A) where
   unfolding items_from
   item-next a items n m now p w lt is same inv = comes-trans (behind-opens a items n m p w lt is inv) (comes-is (items_from one items m one) (items_from one items m now) w (λ u. ap (λ r. r >>= λ y. with_beginning (items ++ y.0 ∷ []) (items_at one m y.1)) (sym (same u))))
 
-  no_front : (r : Result (List A × List ℕ) DecodeError) → r ≡ with_beginning [] r
-  no_front (Ok z) = refl
-  no_front (Err e) = refl
-
   -- behind the head of a list
   pub head-none : (c n : ℕ) (w : List ℕ) → n ≡ 0 → Comes (behind_head wire 12 one (c, n)) (λ u. Ok ([], u)) w w
   unfolding items_at
   head-none c n w is = record { same = λ rest. rw is refl }
-
-  pub head-other : (c n : ℕ) (w : List ℕ) → (n ≡ 0 → ⊥) → (c ≡ 12 → ⊥) → Faults (behind_head wire 12 one (c, n)) w (Wire BadType)
-  head-other c n w some other =
-      let n0 : eqb n 0 ≡ false = ne_eqb n 0 some in
-      let c12 : eqb c 12 ≡ false = ne_eqb c 12 other in
-      λ apart. record { same = λ rest. rw (n0, c12) refl; no_want = λ h. absurd (let k : Wire BadType ≡ Wire Truncated = h in cc) }
-
-  pub head-items : (c n : ℕ) (none : List A) (w : List ℕ) → (n ≡ 0 → ⊥) → c ≡ 12 → none ≡ [] → Comes (behind_head wire 12 one (c, n)) (items_behind one none n) w w
-  head-items c n none w some is empty =
-      let n0 : eqb n 0 ≡ false = ne_eqb n 0 some in
-      record { same = λ rest. rw (n0, is, empty) (no_front (items_at one n (w ++ rest))) }
 
 module _ {A P : Type 0} (one : Reading A) (res : P → Reading A) (items : List A) (left : ℕ) (p : ListHead) where
   pub head-faults : (w : List ℕ) (e : PieceError) → Refused (list_head p) w e → Faults (list_from one res items left p None) w (fault_of e)
@@ -107,12 +91,3 @@ module _ {A P : Type 0} (one : Reading A) (res : P → Reading A) (items : List 
 
   pub head-waits : (q : ListHead) (w v : List ℕ) → NeedsMore Truncated (list_head p) (list_head q) w v → NeedsMore (Wire Truncated) (list_from one res items left p None) (list_from one res items left q None) w v
   head-waits q w v g = list-waits one wire 12 p q w v g
-
-  pub head-behind : (w v : List ℕ) (d n : ℕ) → Comes (list_head p) (λ u. Ok ((d, n), u)) w v → Comes (list_from one res items left p None) (behind_head wire 12 one (d, n)) w v
-  head-behind w v d n g = comes-inside (λ h. behind_head wire 12 one h.0 h.1) (comes-lift wire g)
-
-  -- the items behind the head, of which one may be held
-  pub list-held : (a : Reading (List A)) (x : List A) (part : Option P) (w v : List ℕ) (r : Result Bool DecodeError) → Enters a (λ k. items_from one items left (res k)) x part w v r → ContinuesTo x a (list_from one res items left p part) w v r
-  list-held a x part w v (Ok true) g = g
-  list-held a x part w v (Ok false) (k, is, g) = rw is g
-  list-held a x part w v (Err e) g = g

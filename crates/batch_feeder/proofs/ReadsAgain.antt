@@ -13,15 +13,12 @@ use Rattle.thrift_binary.proofs.CutFields.{fields_step}
 use Rattle.wire_pieces.specs.declared.heads.FieldHead.{FieldHead}
 use Rattle.wire_pieces.specs.Pieces.{Comes, NeedsMore, Refuses, Reaches}
 use Rattle.wire_pieces.specs.Heads.{head_from, fields_value}
-use Rattle.wire_pieces.proofs.Steps.{comes-is, comes-trans, comes-waits, comes-inside, waits-inside, refuses-inside, comes-lift, refuses-lift, comes-refuses}
+use Rattle.wire_pieces.proofs.Steps.{comes-is, comes-trans, comes-inside, refuses-inside, comes-lift, refuses-lift, comes-refuses}
 use Rattle.batch_codec.specs.declared.fault.DecodeError.{DecodeError}
 use Rattle.batch_codec.specs.declared.fault.DecodeError.TheVariants.{Wire, Missing, BadEnum, Trailing, Memory}
-use Rattle.batch_codec.specs.Decoding.{Reading, Fails, wire}
-use Rattle.batch_feeder.specs.declared.fields.Step.{Step}
-use Rattle.batch_feeder.specs.declared.fields.Step.TheVariants.{Value}
-use Rattle.batch_feeder.specs.Continuing.{Enters, Faults, ContinuesTo}
-use Rattle.batch_feeder.specs.Fields.{fields_from}
-use Rattle.batch_feeder.proofs.ContinuingAgain.{one_wire, comes-faults, faults-inside}
+use Rattle.batch_codec.specs.Decoding.{Fails, wire}
+use Rattle.batch_feeder.specs.Continuing.{Faults}
+use Rattle.batch_feeder.proofs.ContinuingAgain.{one_wire}
 
 module _ {A E : Type 0} (short : E) (read : List ℕ → Result (A × List ℕ) E) (safe : IsCutSafe short read) where
   -- a value that is whole
@@ -111,28 +108,3 @@ pub head-short : (h k : FieldHead) (w v : List ℕ) (o : Option (Option (ℕ × 
 head-short h k w v None fresh few g = g
 head-short h k w v (Some x) fresh few g =
     absurd (let e : ◌≡◌ {A = Result (Option (ℕ × ℤ) × List ℕ) WireError} (Ok (x, v ++ [])) (Err Truncated) = sym (g.same []) ∙ fresh (w ++ []) ∙ ap field_at (append-nil w) ∙ few in cc)
-
--- ---- what calls gave, behind other bytes
-
-pub enters-after : {X V : Type 0} (a b : Reading X) (res : V → Reading X) (x : X) (part : Option V) (p w v : List ℕ) (r : Result Bool DecodeError) → Comes a b p w → Enters b res x part w v r → Enters a res x part p v r
-enters-after a b res x part p w v (Ok true) f g = comes-trans f g
-enters-after a b res x part p w v (Ok false) f (k, is, g) = (k, is, comes-waits f g)
-enters-after a b res x part p w v (Err e) f g = comes-faults a b p w e f g
-
--- a part that is held
-pub enters-held : {X V : Type 0} (a : Reading X) (res : V → Reading X) (x : X) (part : Option V) (held : V) (p v : List ℕ) (r : Result Bool DecodeError) → ((k : V) → part ≡ Some k → held ≡ k) → Enters a res x part p v r → ContinuesTo x a (res held) p v r
-enters-held a res x part held p v (Ok true) same g = g
-enters-held a res x part held p v (Ok false) same (k, is, g) = rw (same k is) g
-enters-held a res x part held p v (Err e) same g = g
-
-module _ {S V : Type 0} (take : Take S DecodeError) (res : S → V → Reading S) where
-  -- a value that began, among its fields
-  pub opens-faults : (a now : Reading S) (p w : List ℕ) (e : DecodeError) → Comes a (fields_value wire take now) p w → Faults now w e → Faults a p e
-  opens-faults a now p w e f g = comes-faults a (fields_value wire take now) p w e f (faults-inside (λ x. fields_at wire take x.0 x.1) now w e g)
-
-  pub opens-waits : (a now : Reading S) (t : S) (next : Option (Step V)) (p w v : List ℕ) → Comes a (fields_value wire take now) p w → ((k : V) × (next ≡ Some (Value k)) × NeedsMore (Wire Truncated) now (res t k) w v)
-      → (s : Step V) × (next ≡ Some s) × NeedsMore (Wire Truncated) a (fields_from take res t s) p v
-  opens-waits a now t next p w v f (k, is, g) = (Value k, is, comes-waits f (waits-inside (λ x. fields_at wire take x.0 x.1) g))
-
-  pub opens-whole : (a now : Reading S) (t : S) (p w v : List ℕ) → Comes a (fields_value wire take now) p w → Comes now (λ u. Ok (t, u)) w v → Comes a (fields_at wire take t) p v
-  opens-whole a now t p w v f g = comes-trans f (comes-inside (λ x. fields_at wire take x.0 x.1) g)

@@ -34,9 +34,6 @@ module _ {S E : Type 0} (wire : WireError → E) (take : Take S E) where
   pub value-waits : (now next : Reader S E) (w v : List ℕ) → NeedsMore (wire Truncated) now next w v → NeedsMore (wire Truncated) (fields_value wire take now) (fields_value wire take next) w v
   value-waits now next w v g = waits-inside (λ x. fields_at wire take x.0 x.1) g
 
-  pub value-refuses : (now : Reader S E) (w : List ℕ) (e : E) → Refuses (wire Truncated) now w e → Refuses (wire Truncated) (fields_value wire take now) w e
-  value-refuses now w e g = refuses-inside (λ x. fields_at wire take x.0 x.1) g
-
   module _ (safe : (s : S) (c : ℕ) (i : ℤ) → IsCutSafe (wire Truncated) (take s c i)) where
     -- before the first byte of a head
     pub head-fresh : (s : S) (h : FieldHead) → ((w : List ℕ) → head_from h w ≡ field_at w) → (w : List ℕ) → fields_head wire take s h w ≡ fields_at wire take s w

@@ -1,11 +1,11 @@
 -- Numbers and heads, whose bytes are gathered until all have come.
-use Rattle.std.proofs.Common.{◌≡◌, ℕ, ◌^◌, ◌<◌, ◌≤◌, true, false, eqb, ltb, ◌&&◌, ◌||◌, List, [], ◌∷◌, ◌++◌, length, Result, Ok, Err, refl, ap, sym, ◌∙◌, arith, append_assoc, length-append, append-nil}
+use Rattle.std.proofs.Common.{◌≡◌, ℕ, ◌^◌, ◌<◌, ◌≤◌, true, false, ltb, List, [], ◌++◌, length, Result, Ok, Err, refl, ap, sym, ◌∙◌, arith, append_assoc, length-append, append-nil}
 use Rattle.std.proofs.lemmas.List.{take_at, drop_at}
 use Rattle.std.proofs.lemmas.Bool.{le-ltb, lt-ltb}
 use Rattle.std.specs.Int.{Width, cast_signed}
 use Rattle.byteorder.specs.Endian.{big_number}
-use Rattle.thrift_binary.specs.declared.fault.WireError.TheVariants.{Truncated, BadLength, BadType}
-use Rattle.thrift_binary.specs.Reading.{bytes_at, number_at, signed_at, size_at, list_at, map_at, is_code}
+use Rattle.thrift_binary.specs.declared.fault.WireError.TheVariants.{Truncated, BadLength}
+use Rattle.thrift_binary.specs.Reading.{bytes_at, number_at, signed_at, size_at}
 use Rattle.thrift_binary.proofs.Found.{big_number-take, size_found}
 use Rattle.wire_pieces.specs.Pieces.{Comes, NeedsMore, Refuses}
 
@@ -43,14 +43,8 @@ same_number : (n : ℕ) (g rest : List ℕ) → length g ≡ n → big_number n 
 same_number n g rest e =
     big_number-take n (g ++ rest) (omega (arith, length-append g rest)) ∙ ap (big_number n) (take_at g rest n e)
 
-pub signed-short : (width : Width) (n : ℕ) (w : List ℕ) → length w < n → signed_at width n w ≡ Err Truncated
-signed-short width n w lt = rw (few n w lt) refl
-
 pub signed-whole : (width : Width) (n : ℕ) (g rest : List ℕ) → length g ≡ n → signed_at width n (g ++ rest) ≡ Ok (cast_signed width (big_number n g), rest)
 signed-whole width n g rest e = rw (enough n g rest e, same_number n g rest e, drop_at g rest n e) refl
-
-pub bytes-short : (n : ℕ) (w : List ℕ) → length w < n → bytes_at n w ≡ Err Truncated
-bytes-short n w lt = rw (few n w lt) refl
 
 pub bytes-whole : (n : ℕ) (g rest : List ℕ) → length g ≡ n → bytes_at n (g ++ rest) ≡ Ok (g, rest)
 bytes-whole n g rest e = rw (enough n g rest e, take_at g rest n e, drop_at g rest n e) refl
@@ -79,38 +73,3 @@ size-spelled w n e =
     (rw same s.spells.0, rw same s.spells.1, omega arith)
 
 -- ---- heads
-
-pub list_head-short : (w : List ℕ) → length w < 5 → list_at w ≡ Err Truncated
-unfolding list_at
-list_head-short [] lt = refl
-list_head-short (c ∷ w) lt = let few : size_at w ≡ Err Truncated = size-short w (omega arith) in rw few refl
-
-pub list_head-whole : (c : ℕ) (g rest : List ℕ) → length g ≡ 4 → big_number 4 g ≤ 2147483647 → (eqb (big_number 4 g) 0 || is_code c) ≡ true → list_at ((c ∷ g) ++ rest) ≡ Ok ((c, big_number 4 g), rest)
-unfolding list_at
-list_head-whole c g rest e le good = rw (size-whole g rest e le, good) refl
-
-pub list_head-long : (c : ℕ) (g rest : List ℕ) → length g ≡ 4 → 2147483647 < big_number 4 g → list_at ((c ∷ g) ++ rest) ≡ Err BadLength
-unfolding list_at
-list_head-long c g rest e lt = rw (size-bad g rest e lt) refl
-
-pub list_head-bad : (c : ℕ) (g rest : List ℕ) → length g ≡ 4 → big_number 4 g ≤ 2147483647 → (eqb (big_number 4 g) 0 || is_code c) ≡ false → list_at ((c ∷ g) ++ rest) ≡ Err BadType
-unfolding list_at
-list_head-bad c g rest e le bad = rw (size-whole g rest e le, bad) refl
-
-pub map_head-short : (w : List ℕ) → length w < 6 → map_at w ≡ Err Truncated
-unfolding map_at
-map_head-short [] lt = refl
-map_head-short (k ∷ []) lt = refl
-map_head-short (k ∷ (v ∷ w)) lt = let few : size_at w ≡ Err Truncated = size-short w (omega arith) in rw few refl
-
-pub map_head-whole : (k v : ℕ) (g rest : List ℕ) → length g ≡ 4 → big_number 4 g ≤ 2147483647 → (eqb (big_number 4 g) 0 || (is_code k && is_code v)) ≡ true → map_at ((k ∷ (v ∷ g)) ++ rest) ≡ Ok (((k, v), big_number 4 g), rest)
-unfolding map_at
-map_head-whole k v g rest e le good = rw (size-whole g rest e le, good) refl
-
-pub map_head-long : (k v : ℕ) (g rest : List ℕ) → length g ≡ 4 → 2147483647 < big_number 4 g → map_at ((k ∷ (v ∷ g)) ++ rest) ≡ Err BadLength
-unfolding map_at
-map_head-long k v g rest e lt = rw (size-bad g rest e lt) refl
-
-pub map_head-bad : (k v : ℕ) (g rest : List ℕ) → length g ≡ 4 → big_number 4 g ≤ 2147483647 → (eqb (big_number 4 g) 0 || (is_code k && is_code v)) ≡ false → map_at ((k ∷ (v ∷ g)) ++ rest) ≡ Err BadType
-unfolding map_at
-map_head-bad k v g rest e le bad = rw (size-whole g rest e le, bad) refl

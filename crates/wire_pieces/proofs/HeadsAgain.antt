@@ -1,21 +1,16 @@
 -- The first byte of a head.
-use Rattle.std.proofs.Common.{◌≡◌, ℕ, false, eqb, List, ◌∷◌, ◌++◌, refl, ap, sym, w16}
+use Rattle.std.proofs.Common.{◌≡◌, ℕ, false, eqb, List, ◌∷◌, ◌++◌, ap, sym, w16}
 use Rattle.std.proofs.lemmas.Bool.{ne_eqb}
-use Rattle.thrift_binary.specs.Reading.{◌>>=◌, signed_at, size_at, typed, field_at, list_at, map_at}
+use Rattle.thrift_binary.specs.Reading.{◌>>=◌, signed_at, size_at, typed, field_at, list_at}
 use Rattle.wire_pieces.specs.declared.heads.HeadStep.TheVariants as field
 use Rattle.wire_pieces.specs.declared.heads.TypedId.{TypedId}
 use Rattle.wire_pieces.specs.declared.heads.FieldHead.{FieldHead}
 use Rattle.wire_pieces.specs.declared.heads.ListStep.TheVariants as list
 use Rattle.wire_pieces.specs.declared.heads.TypedSize.{TypedSize}
 use Rattle.wire_pieces.specs.declared.heads.ListHead.{ListHead}
-use Rattle.wire_pieces.specs.declared.maps.PairStep.TheVariants as pair
-use Rattle.wire_pieces.specs.declared.maps.PairSize.{PairSize}
-use Rattle.wire_pieces.specs.declared.maps.PairHead.{PairHead}
-use Rattle.wire_pieces.specs.declared.maps.MapStep.TheVariants as map
-use Rattle.wire_pieces.specs.declared.maps.MapHead.{MapHead}
 use Rattle.wire_pieces.specs.Pieces.{Comes}
 use Rattle.wire_pieces.specs.Numbers.{i16_from, size_from}
-use Rattle.wire_pieces.specs.Heads.{id_from, head_from, sized, typed_size_from, list_head, pairs_sized, pair_size_from, pair_head, map_head}
+use Rattle.wire_pieces.specs.Heads.{id_from, head_from, sized, typed_size_from, list_head}
 
 pub head-typed : (h : FieldHead) (part : TypedId) (w v : List ℕ) → h.step ≡ field.First → w ≡ part.code ∷ v → (part.code ≡ 0 → ⊥) → ((u : List ℕ) → i16_from part.id u ≡ signed_at w16 2 u) → Comes (head_from h) (id_from part) w v
 unfolding field_at
@@ -24,10 +19,3 @@ head-typed h part w v is e some fresh = record { same = λ rest. (let z : eqb pa
 pub list-typed : (h : ListHead) (part : TypedSize) (w v : List ℕ) → h.step ≡ list.First → w ≡ part.code ∷ v → ((u : List ℕ) → size_from part.size u ≡ size_at u) → Comes (list_head h) (typed_size_from part) w v
 unfolding list_at
 list-typed h part w v is e fresh = record { same = λ rest. rw (is, e) (ap (λ r. r >>= sized part.code) (sym (fresh (v ++ rest)))) }
-
-pub map-keyed : (h : MapHead) (part : PairHead) (w v : List ℕ) → h.step ≡ map.First → part.step ≡ pair.First → w ≡ part.key ∷ v → Comes (map_head h) (pair_head part) w v
-unfolding map_at
-map-keyed h part w v is first e = record { same = λ rest. rw (is, first, e) refl }
-
-pub pair-typed : (h : PairHead) (part : PairSize) (w v : List ℕ) → h.step ≡ pair.First → w ≡ part.value ∷ v → h.key ≡ part.key → ((u : List ℕ) → size_from part.size u ≡ size_at u) → Comes (pair_head h) (pair_size_from part) w v
-pair-typed h part w v is e key fresh = record { same = λ rest. rw (is, e, key) (ap (λ r. r >>= λ n. pairs_sized part.key part.value n) (sym (fresh (v ++ rest)))) }

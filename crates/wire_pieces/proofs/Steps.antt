@@ -69,9 +69,6 @@ module _ {X : Type 0} where
   refused-inside then a p (Wire e) g = refuses-inside then g
   refused-inside then a p Memory g = tt
 
-  pub refused-memory : (a : List ℕ → Result X WireError) (p : List ℕ) (e : PieceError) → e ≡ Memory → Refused a p e
-  refused-memory a p e is = rw is tt
-
   pub refused-wire : (a : List ℕ → Result X WireError) (p : List ℕ) (e : PieceError) (d : WireError) → e ≡ Wire d → Refuses Truncated a p d → Refused a p e
   refused-wire a p e d is h = rw is h
 

@@ -77,14 +77,6 @@ past-waits beginning piece left n parts size more =
       spent = nothing left none;
     }
 
-pub past-whole : (beginning piece left : List ℕ) (n : ℕ) → piece ≡ beginning ++ left → length beginning ≡ n → Comes (past n) (λ w. Ok (tt, w)) piece left
-past-whole beginning piece left n parts size =
-    let k : n ≡ length beginning + 0 = omega arith in
-    record { same = λ rest. rw (parts, append_assoc) (ap (λ m. past m (beginning ++ (left ++ rest))) k ∙ past-part beginning (left ++ rest) 0 ∙ none (left ++ rest)) }
-  where
-    none : (w : List ℕ) → past 0 w ≡ Ok (tt, w)
-    none w = rw (lt-whole (length w)) refl
-
 no_front : (r : Read (List ℕ)) → (r >>= λ t. Ok ([] ++ t.0, t.1)) ≡ r
 no_front (Ok t) = refl
 no_front (Err e) = refl
