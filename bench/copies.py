@@ -11,8 +11,9 @@ read by the ids of held ones. Four kinds of measurement, each a process of its o
 
     bench/copies.py [--bin PATH | --folder PATH] [--sizes 1000,10000,100000] [--timed 100] [--rounds 9]
 
-Outlines of the batches for two copies are made before the timing, since workers make them and not the one that writes; the store of
-one thread makes them within it.
+Timed batches are decoded behind the others, just before they are timed, as a server decodes a batch before it hands it in. For two
+copies their outlines are made then too, since workers make them and not the one that writes; the store of one thread makes them
+within the timing.
 
 The program is proved and built by `rt run` in a copy of the crates that it stands on: some five minutes where their `out/` has the
 proofs, and about an hour from a plain clone. The copy is temporary, or stays in the folder that `--folder` names; `--bin` names a program that
@@ -65,11 +66,11 @@ use std::time::{Clock, Duration};
 use std::{env, thread};
 use trace_model::{Answer, Entry, Limits, Query, Refusal, Work};
 
-/// What is handed in before the timing and within it, and the traces that are held before.
+/// What is handed in before the timing, the bodies that are decoded behind that and timed, and the traces that are held before.
 #[derive(Drop)]
-struct Load {
+struct Load<'a> {
     first: Vec<Arc<Entry>>,
-    timed: Vec<Arc<Entry>>,
+    timed: &'a [u8],
     ids: Vec<TraceId>,
 }
 
@@ -102,52 +103,76 @@ fn now<R: Clock>(rt: &R) -> u64 {
     }
 }
 
-/// The entries of the bodies, which are a length of four bytes and then that many bytes, each.
-fn entries(alloc: Global, input: &[u8]) -> Result<Vec<Arc<Entry>>> {
+/// The first body and what stands behind it; none where there is no whole one. A body is a length of four bytes and then that many bytes.
+fn split_body(input: &[u8]) -> Option<(&[u8], &[u8])> {
+    let [a, b, c, d, tail @ ..] = input else {
+        return None;
+    };
+    let length = u32::from_be_bytes([*a, *b, *c, *d]) as usize;
+    if tail.len() < length {
+        return None;
+    }
+    Some(tail.split_at(length))
+}
+
+/// How many bodies there are.
+fn count_bodies(input: &[u8]) -> usize {
+    let mut rest = input;
+    for count in 0..1_000_000usize {
+        let Some((_, after)) = split_body(rest) else {
+            return count;
+        };
+        rest = after;
+    }
+    0
+}
+
+/// The entries of the first bodies, numbered behind so many others, and what stands behind them.
+fn entries<'a>(
+    alloc: Global,
+    input: &'a [u8],
+    before: u64,
+    most: usize,
+) -> Result<(Vec<Arc<Entry>>, &'a [u8])> {
     let mut entries = Vec::new(alloc);
     let mut rest = input;
-    for before in 0..1_000_000u64 {
-        let [a, b, c, d, tail @ ..] = rest else {
+    let mut number = before;
+    while entries.len() < most {
+        let Some((body, after)) = split_body(rest) else {
             break;
         };
-        let length = u32::from_be_bytes([*a, *b, *c, *d]) as usize;
-        if tail.len() < length {
-            break;
-        }
-        let (body, after) = tail.split_at(length);
-        let batch = decode(alloc, body)?;
-        let number = before + 1;
+        number = number.saturating_add(1);
+        let work = Work::Batch(decode(alloc, body)?);
         let entry = Entry {
             seat: 0,
             number,
-            work: Work::Batch(batch),
+            work,
         };
         entries.push(Arc::new(alloc, entry)?)?;
         rest = after;
     }
-    Ok(entries)
+    Ok((entries, rest))
 }
 
-/// The last entries are timed, as many as that.
-fn split_load(alloc: Global, input: &[u8], timed: usize) -> Result<Load> {
-    let all = entries(alloc, input)?;
-    let held = all.len().saturating_sub(timed);
-    let mut load = Load {
-        first: Vec::new(alloc),
-        timed: Vec::new(alloc),
-        ids: Vec::new(alloc),
-    };
-    for entry in all {
-        if load.first.len() < held {
-            if let Some(span) = entry.work.spans().first() {
-                load.ids.push(span.trace)?;
-            }
-            load.first.push(entry)?;
-        } else {
-            load.timed.push(entry)?;
+/// The timed entries, which come behind so many others.
+fn decode_timed(alloc: Global, timed: &[u8], before: u64) -> Result<Vec<Arc<Entry>>, Refusal> {
+    match entries(alloc, timed, before, 1_000_000) {
+        Ok((entries, _)) => Ok(entries),
+        Err(_) => Err(Refusal::Gone),
+    }
+}
+
+/// The last bodies are timed, as many as that.
+fn split_load<'a>(alloc: Global, input: &'a [u8], timed: usize) -> Result<Load<'a>> {
+    let held = count_bodies(input).saturating_sub(timed);
+    let (first, timed) = entries(alloc, input, 0, held)?;
+    let mut ids = Vec::new(alloc);
+    for entry in first.iter() {
+        if let Some(span) = entry.work.spans().first() {
+            ids.push(span.trace)?;
         }
     }
-    Ok(load)
+    Ok(Load { first, timed, ids })
 }
 
 /// One of the traces, and the choice after it.
@@ -207,11 +232,13 @@ fn timed_one<R: Clock>(
     alloc: Global,
     keys: RandomState,
     limits: Limits,
-    load: Load,
+    load: Load<'_>,
 ) -> Result<Times, Refusal> {
     let Load { first, timed, ids } = load;
+    let held = first.len() as u64;
     let mut store = SpanStore::open(alloc, keys, limits)?;
     let _untimed = apply_timed(rt, alloc, &mut store, first)?;
+    let timed = decode_timed(alloc, timed, held)?;
     let admits = apply_timed(rt, alloc, &mut store, timed)?;
     let mut reads = Vec::new(alloc);
     reads.push(answer_timed(rt, alloc, &store, ids.as_slice())?)?;
@@ -308,12 +335,13 @@ fn write_and_read<N: StoreName + Send + Sync, R: Threads + Wait + Clock + Sync>(
     alloc: Global,
     keeper: &mut Keeper<N>,
     passes: Vec<Pass<N>>,
-    load: Load,
+    load: Load<'_>,
 ) -> Result<Times, Refusal> {
     let Load { first, timed, ids } = load;
+    let held = first.len() as u64;
     let first = outlined(alloc, first)?;
-    let timed = outlined(alloc, timed)?;
     admit_timed(rt, alloc, keeper, first)?;
+    let timed = outlined(alloc, decode_timed(alloc, timed, held)?)?;
     let phases = Phases {
         reading: AtomicU64::new(0),
         phase: AtomicU64::new(0),
@@ -346,7 +374,7 @@ fn timed_named<N: StoreName + Send + Sync, R: Threads + Wait + Clock + Sync>(
     name: Opened,
     limits: Limits,
     readers: bool,
-    load: Load,
+    load: Load<'_>,
 ) -> Result<Times, Refusal>
     requires book { name.seen.book ≡ N.book }
     requires limits { limits ≡ N.limits }
@@ -367,7 +395,7 @@ fn timed_copies<R: Threads + Wait + Clock + Sync>(
     keys: RandomState,
     limits: Limits,
     readers: bool,
-    load: Load,
+    load: Load<'_>,
 ) -> Result<Times, Refusal> {
     timed_named::<Brand, R>(rt, alloc, keys, Opened::new(), limits, readers, load)
 }
@@ -388,7 +416,7 @@ fn main(rt: HostRuntime) -> Result<()> {
         bail!("limits out of their ranges");
     };
     if kind == "still" {
-        load.timed.clear();
+        load.timed = &[];
     }
     let times = if kind == "one" {
         timed_one(&rt, alloc, keys, limits, load)
