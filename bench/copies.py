@@ -137,7 +137,7 @@ fn entries<'a>(
     let mut entries = Vec::new(alloc);
     let mut rest = input;
     let mut number = before;
-    while entries.len() < most {
+    for _ in 0..most {
         let Some((body, after)) = split_body(rest) else {
             break;
         };
