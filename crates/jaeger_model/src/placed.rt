@@ -51,16 +51,23 @@ impl Eq for Placed {
     ghost laws = { decided same_placed same_placed-decides };
 }
 
+/// The reference to a span's parent that is made of the parent's id.
+pub fn parent_reference(span: &Span) -> SpanRef
+    ensures { result ≡ parent_reference span.now }
+{
+    SpanRef {
+        kind: RefKind::ChildOf,
+        trace: span.trace,
+        id: span.parent,
+    }
+}
+
 /// The references of a span with one to its parent in front.
 fn with_one_in_front(alloc: Global, span: &Span) -> Result<Seq<SpanRef>, AllocError>
     ensures { IfOk result (λ s. s ≡ parent_reference span.now ∷ span.now.references) }
 {
     let mut references = Vec::new(alloc);
-    references.push(SpanRef {
-        kind: RefKind::ChildOf,
-        trace: span.trace,
-        id: span.parent,
-    })?;
+    references.push(parent_reference(span))?;
     references.extend_from_slice(span.references.as_slice())?;
     Ok(Seq::from_vec(references))
 }

@@ -2,30 +2,10 @@
 
 ghost use Rattle.std.specs.Prelude.{◌≡◌, ◌<◌, IfSome, length};
 ghost use Rattle.std.specs.List.{position};
-ghost use Rattle.jaeger_model.specs.Parents.{same_trace, own_child, own_other};
+ghost use Rattle.jaeger_model.specs.Parents.{own_child, own_other};
 ghost use Rattle.trace_model.specs.Adjusting.{parent_place};
 
-use jaeger_model::{RefKind, SpanRef, TraceId};
-
-fn is_own(reference: SpanRef, trace: TraceId) -> bool
-    ensures { result ≡ same_trace reference.trace trace }
-{
-    reference.trace == trace
-}
-
-/// A child-of reference to the trace.
-fn is_own_child(reference: SpanRef, trace: TraceId) -> bool
-    ensures { result ≡ own_child trace reference }
-{
-    is_own(reference, trace) && matches!(reference.kind, RefKind::ChildOf)
-}
-
-/// Another reference to the trace.
-fn is_own_other(reference: SpanRef, trace: TraceId) -> bool
-    ensures { result ≡ own_other trace reference }
-{
-    is_own(reference, trace) && !matches!(reference.kind, RefKind::ChildOf)
-}
+use jaeger_model::{SpanRef, TraceId, is_own_child, is_own_other};
 
 fn child_place(references: &[SpanRef], trace: TraceId) -> Option<usize>
     ensures { result ≡ position (own_child trace) references.now }

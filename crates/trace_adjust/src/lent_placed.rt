@@ -7,7 +7,8 @@ ghost use Rattle.trace_model.specs.Seeing.{placed_by_its_entry};
 ghost use Rattle.trace_adjust.specs.Lent.{referred, IsLent, IsReferred};
 
 use jaeger_model::{
-    Log, Placed, Process, RefKind, Seen, Span, SpanId, SpanRef, Text, needs_no_reference, parent_of,
+    Log, Placed, Process, Seen, Span, SpanId, SpanRef, Text, needs_no_reference, parent_of,
+    parent_reference,
 };
 use span_steps::{all_fit, host_named, parent_place, start_at};
 use std::alloc::{AllocError, Global};
@@ -85,24 +86,13 @@ fn swapped(references: &[SpanRef], place: usize, index: usize) -> SpanRef
     }
 }
 
-/// The reference to the span's parent that is made.
-fn made(span: &Span) -> SpanRef
-    ensures { result ≡ parent_reference span.now }
-{
-    SpanRef {
-        kind: RefKind::ChildOf,
-        trace: span.trace,
-        id: span.parent,
-    }
-}
-
 /// The reference at an index, one that is made in front of the others.
 fn with_made(span: &Span, index: usize) -> SpanRef
     requires { index < length span.now.references + 1 }
     ensures { slice_get (parent_reference span.now ∷ span.now.references) index ≡ Some result }
 {
     if index == 0 {
-        return made(span);
+        return parent_reference(span);
     }
     span.references.as_slice()[index - 1]
 }
