@@ -2,14 +2,13 @@
 use Rattle.std.proofs.Common.{◌≡◌, ℕ, zero, suc, ◌+◌, ◌-◌, ◌<◌, true, false, List, [], ◌∷◌, ◌++◌, map, length, get_or, take, refl, sym, ap, subst, ◌∙◌, arith, length-append}
 use Rattle.std.specs.Prelude.{if◌then◌else◌, cond, nat_lt, Some, None}
 use Rattle.std.proofs.lemmas.Bool.{false≢true, ltb-true, lt-ltb}
-use Rattle.std.proofs.lemmas.List.{length-map, get_or-map, map-append, take_more, take_at, get_or_append_left, get_or_default}
-use Rattle.std.proofs.lemmas.List.Sums.{fold_push}
+use Rattle.std.proofs.lemmas.List.{length-map, get_or-map, map-append, take_at, get_or_append_left, get_or_default}
 use Rattle.jaeger_model.specs.declared.placed.Placed.{Placed}
 use Rattle.jaeger_model.specs.declared.batch.Batch.{Batch}
 use Rattle.jaeger_model.specs.declared.span.Span.{Span}
 use Rattle.jaeger_model.specs.Parents.{placed, needs_no_reference, parent_reference}
 use Rattle.jaeger_model.specs.Tags.{kind_of}
-use Rattle.jaeger_model.specs.Texts.{same_text, sorted_set, insert_once}
+use Rattle.jaeger_model.specs.Texts.{same_text, sorted_set}
 use Rattle.trace_model.specs.declared.entry.Entry.{Entry}
 use Rattle.trace_model.specs.declared.entry.Work.{Work}
 use Rattle.trace_model.specs.declared.entry.Work.TheVariants as brings
@@ -113,9 +112,6 @@ listed_before h index first some indexed so_far is =
     let l = length-map (arrivals before) listed in
     listing_extends (names_of before) (names_of h) index (extends_last h some) indexed ∙ so_far
     ∙ ap (sorted_set listed_cmp) (sym (ap (take first) (ap reports (sym last.1) ∙ reports_push before last.0) ∙ take_at (reports before) (map listed (placed_brought last.0.work)) first (omega arith)))
-
-pub listed_step : (ls : List Listed) (n : ℕ) → n < length ls → sorted_set listed_cmp (take (n + 1) ls) ≡ insert_once listed_cmp (sorted_set listed_cmp (take n ls)) (get_or ls n (service_alone []))
-listed_step ls n below = ap (sorted_set listed_cmp) (take_more ls n (service_alone []) below) ∙ fold_push (insert_once listed_cmp) [] (take n ls) (get_or ls n (service_alone []))
 
 pub services_reported : (s : List ℕ) (ps : List Placed) → has_service s (listed_in ps) ≡ reports_service s ps
 services_reported s ps = any_set listed_exact (λ (l : Listed). same_text s l.service) (map listed ps) ∙ any_map (λ (l : Listed). same_text s l.service) listed ps

@@ -1,10 +1,9 @@
 -- The places of rows marked one by one.
-use Rattle.std.proofs.Common.{◌≡◌, ℕ, ◌+◌, ◌*◌, ◌<◌, ◌≤◌, cond, List, [], ◌∷◌, ◌++◌, length, get_or, take, refl, sym, ap, subst, ◌∙◌, inl, inr, arith, length-append}
-use Rattle.std.proofs.Math.ListN.{set, replicate}
+use Rattle.std.proofs.Common.{◌≡◌, ℕ, ◌+◌, ◌*◌, ◌<◌, ◌≤◌, cond, List, [], ◌∷◌, ◌++◌, length, get_or, refl, sym, ap, subst, ◌∙◌, inl, inr, arith, length-append}
+use Rattle.std.proofs.Math.ListN.{set}
 use Rattle.std.proofs.lemmas.Bool.{lt-ltb, cases_eq, cases_lt}
-use Rattle.std.proofs.lemmas.List.{length-set, get_or-set_same, get_or-set_other, get_or_append_left, get_or_push, get_or_past, get_or-replicate, length-replicate, take_more}
+use Rattle.std.proofs.lemmas.List.{length-set, get_or-set_same, get_or-set_other, get_or_append_left, get_or_push, get_or_past}
 use Rattle.std.proofs.lemmas.List.Sums.{sum_by-set}
-use Rattle.std.proofs.lemmas.List.Folds.{sum_by-replicate}
 use Rattle.row_places.specs.Leading.{start_of, steps, AreTaken, Reaches, LeadsTo}
 use Rattle.row_places.proofs.Walking.{one_if}
 
@@ -62,21 +61,3 @@ leads_more hashes slots hash k h more kn free taken =
             (reaches_set slots (start_of (get_or hashes r 0) (length slots)) k (r + 1) n kn free (omega arith) (omega arith) (h.found r (omega arith)))
       ]);
     }
-
--- no row yet
-pub leads_empty : (n : ℕ) → 0 < n → LeadsTo [] (replicate n 0)
-leads_empty n some =
-    let l : length (replicate {A = ℕ} n 0) ≡ n = length-replicate {A = ℕ} n 0 in
-    record {
-      half = omega arith;
-      taken = sum_by-replicate one_if n 0 ∙ (omega arith);
-      known = λ k. elim (cases_lt k n) [
-        | inl within ↦ let e : get_or (replicate {A = ℕ} n 0) k 0 ≡ 0 = get_or-replicate {A = ℕ} n k 0 0 within in omega arith
-        | inr past ↦ let e : get_or (replicate {A = ℕ} n 0) k 0 ≡ 0 = get_or_past {X = ℕ} (replicate n 0) k 0 (subst (λ (m : ℕ). m ≤ k) (sym l) past) in omega arith
-      ];
-      found = λ r within. absurd (omega arith);
-    }
-
--- the rows up to one, and the next
-pub leads_next : (hashes slots : List ℕ) (row hash : ℕ) → row < length hashes → hash ≡ get_or hashes row 0 → LeadsTo (take row hashes ++ hash ∷ []) slots → LeadsTo (take (row + 1) hashes) slots
-leads_next hashes slots row hash within e h = subst (λ (xs : List ℕ). LeadsTo xs slots) (ap (λ x. take row hashes ++ x ∷ []) e ∙ sym (take_more hashes row 0 within)) h

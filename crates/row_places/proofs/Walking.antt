@@ -1,11 +1,11 @@
 -- Walks over places.
-use Rattle.std.proofs.Common.{◌≡◌, ℕ, suc, ◌+◌, ◌-◌, ◌<◌, ◌≤◌, Bool, true, false, cond, List, [], ◌∷◌, length, get_or, Option, Some, None, refl, sym, ap, subst, ◌∙◌, inl, inr, arith}
+use Rattle.std.proofs.Common.{◌≡◌, ℕ, suc, ◌+◌, ◌-◌, ◌<◌, Bool, true, false, cond, List, [], ◌∷◌, length, get_or, Option, Some, None, refl, sym, ap, subst, ◌∙◌, inl, inr, arith}
 use Rattle.std.specs.Prelude.{count_by}
 use Rattle.std.specs.List.{sum_by}
-use Rattle.std.proofs.lemmas.Bool.{false≢true, lt-ltb, cases_eq, cases_order}
+use Rattle.std.proofs.lemmas.Bool.{false≢true, lt-ltb, cases_eq}
 use Rattle.std.proofs.lemmas.Bool.Decides.{nat_tests}
 use Rattle.std.proofs.lemmas.List.Sums.{sum_by-cons}
-use Rattle.row_places.specs.Leading.{start_of, place_after, steps, is_taken, EachBefore, AreTaken, Reaches, Walked, LeadsTo, Found}
+use Rattle.row_places.specs.Leading.{start_of, steps, is_taken, EachBefore, AreTaken, Reaches, Walked, LeadsTo, Found}
 
 -- steps
 pub steps_within : (n s k : ℕ) → s < n → k < n → steps n s k < n
@@ -13,16 +13,6 @@ steps_within n s k a b = grind (arith, nat_tests)
 
 pub same_place : (n s j k : ℕ) → s < n → j < n → k < n → steps n s j ≡ steps n s k → j ≡ k
 same_place n s j k a b c e = grind (arith, nat_tests)
-
-pub steps_none : (n s : ℕ) → steps n s s ≡ 0
-steps_none n s = grind (arith, nat_tests)
-
-pub steps_next : (n s k d : ℕ) → s < n → k < n → d + 1 < n → steps n s k ≡ d → steps n s (place_after n k) ≡ d + 1
-steps_next n s k d a b c e = grind (arith, nat_tests)
-
--- each place before
-pub each_none : (P : ℕ → Type 0) (slots : List ℕ) (s : ℕ) → EachBefore P slots s 0
-each_none P slots s j jn below = absurd (omega arith)
 
 pub each_more : (P : ℕ → Type 0) (slots : List ℕ) (s d k : ℕ) → s < length slots → k < length slots → steps (length slots) s k ≡ d → EachBefore P slots s d → P (get_or slots k 0) → EachBefore P slots s (d + 1)
 each_more P slots s d k sn kn at before here j jn below =
@@ -34,25 +24,6 @@ each_more P slots s d k sn kn at before here j jn below =
 -- a mark that is taken, of a row that isn't sought
 abbrev pub IsPassed : (ℕ → Bool) → ℕ → Type 0
 IsPassed is mark = (0 < mark) × (is (mark - 1) ≡ false)
-
-row_of_mark : (is : ℕ → Bool) (row mark : ℕ) → mark ≡ row + 1 → is (mark - 1) ≡ false → is row ≡ false
-row_of_mark is row mark e none = let same : mark - 1 ≡ row = omega arith in sym (ap is same) ∙ none
-
--- a walk that ended at a free place, or passed all
-pub walked_free : (slots : List ℕ) (s k : ℕ) (is : ℕ → Bool) → s < length slots → k < length slots → get_or slots k 0 ≡ 0 → EachBefore (IsPassed is) slots s (steps (length slots) s k)
-    → (row : ℕ) → Reaches slots s (row + 1) → is row ≡ false
-walked_free slots s k is sn kn free passed row p =
-    elim (cases_order (steps (length slots) s p.0) (steps (length slots) s k)) [
-      | inl e ↦ let same : p.0 ≡ k = same_place (length slots) s p.0 k sn p.1 kn e in
-          let clash : 0 ≡ row + 1 = sym free ∙ ap (λ x. get_or slots x 0) (sym same) ∙ p.2 in absurd (omega arith)
-      | inr o ↦ elim o [
-        | inl below ↦ row_of_mark is row (get_or slots p.0 0) p.2 (passed p.0 p.1 below).1
-        | inr above ↦ let taken = p.3 k kn above in absurd (omega arith)
-      ]
-    ]
-
-pub walked_all : (slots : List ℕ) (s : ℕ) (is : ℕ → Bool) → s < length slots → EachBefore (IsPassed is) slots s (length slots) → (row : ℕ) → Reaches slots s (row + 1) → is row ≡ false
-walked_all slots s is sn passed row p = row_of_mark is row (get_or slots p.0 0) p.2 (passed p.0 p.1 (steps_within (length slots) s p.0 sn p.1)).1
 
 -- counts
 abbrev pub one_if : ℕ → ℕ

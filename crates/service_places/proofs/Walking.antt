@@ -25,10 +25,6 @@ along_enough earlier back (suc n) (suc m) (suc k) a b w =
     let less = back k (omega arith) in
     ap (λ l. suc k ∷ l) (along_enough earlier back n m (get_or earlier k 0) (omega arith) (omega arith) (omega arith))
 
--- one step
-pub along_end : (earlier : List ℕ) (at : ℕ) → at ≡ 0 → along at earlier at ≡ []
-along_end earlier at e = ap (λ k. along k earlier k) e
-
 pub along_step : (earlier : List ℕ) (at next : ℕ) → IsBack earlier at → 0 < at → next ≡ get_or earlier (at - 1) 0 → along at earlier at ≡ at ∷ along next earlier next
 along_step earlier zero next h pos e = absurd (omega arith)
 along_step earlier (suc k) next h pos e =
@@ -37,12 +33,6 @@ along_step earlier (suc k) next h pos e =
     let same : suc k - 1 ≡ k = omega arith in
     let is : next ≡ get_or earlier k 0 = e ∙ ap (λ j. get_or earlier j 0) same in
     ap (λ l. suc k ∷ l) (along_enough earlier h.back k (get_or earlier k 0) (get_or earlier k 0) less (omega arith) (omega arith) ∙ ap (λ j. along j earlier j) (sym is))
-
-pub back_step : (earlier : List ℕ) (at next : ℕ) → IsBack earlier at → 0 < at → next ≡ get_or earlier (at - 1) 0 → IsBack earlier next
-back_step earlier at next h pos e =
-    let w = h.within in
-    let less = h.back (at - 1) (omega arith) in
-    record { within = omega arith; back = h.back }
 
 -- services
 same_self : (s : List ℕ) → same_text s s ≡ true
@@ -76,7 +66,3 @@ walked s rows earlier chain (suc n) (suc k) below a w h =
     let less = next.within in
     ap (λ l. suc k ∷ l) (walked s rows earlier chain n (get_or earlier k 0) k (omega arith) (omega arith) next)
     ∙ sym (skip s rows (suc k) below v h.none ∙ ap (λ b. if b then suc k ∷ places_upto s rows k else places_upto s rows k) (ap (λ (x : List ℕ). same_text x s) own ∙ same_self s))
-
--- a chain leads back
-pub chain_back : (rows : List (List ℕ)) (earlier : List ℕ) (k : ℕ) → IsChain rows earlier → k < length earlier → get_or earlier k 0 ≤ k
-chain_back rows earlier k chain below = let m = chain.as_many in (chain.before k (omega arith)).within

@@ -1,5 +1,5 @@
 -- The shown spans of one trace, as they change with one more event.
-use Rattle.std.proofs.Common.{◌≡◌, ℕ, suc, zero, ◌+◌, ◌-◌, ◌<◌, ◌≤◌, Bool, true, false, ◌&&◌, ◌||◌, cond, List, [], ◌∷◌, ◌++◌, length, drop, map, refl, sym, ap, subst, ◌∙◌, arith, eqb-true, eq-eqb, length-append, append_assoc}
+use Rattle.std.proofs.Common.{◌≡◌, ℕ, suc, zero, ◌+◌, ◌-◌, ◌<◌, ◌≤◌, Bool, true, false, ◌&&◌, ◌||◌, cond, List, [], ◌∷◌, ◌++◌, length, drop, refl, sym, ap, subst, ◌∙◌, arith, eqb-true, eq-eqb, length-append, append_assoc}
 use Rattle.std.specs.Prelude.{filter, if◌then◌else◌, ◌==◌}
 use Rattle.std.specs.List.{list_any, list_all}
 use Rattle.std.proofs.lemmas.Bool.{false≢true}
@@ -13,7 +13,7 @@ use Rattle.trace_model.specs.Events.{Event, came, limited, without_limits}
 use Rattle.trace_model.specs.Limiting.{limits_none, comes_for}
 use Rattle.trace_model.specs.Rings.{holds, newest, arrive}
 use Rattle.trace_model.specs.Showing.{trace_of, ring, limit_after, shown, of_trace, spans_of_trace}
-use Rattle.trace_model.proofs.Shows.{by_pushes, all_push, in_ring, ring_came, ring_limited, limit_came, limit_limited, without_limits-append, without_limits-came, shown_push, shown_in_ring}
+use Rattle.trace_model.proofs.Shows.{by_pushes, all_push, in_ring, ring_came, ring_limited, limit_came, limit_limited, without_limits-append, shown_push, shown_in_ring}
 
 -- the test decides equality
 pub same_is : (a b : TraceId) → same_trace a b ≡ true → a ≡ b
@@ -89,10 +89,6 @@ opened_alone n es p e =
     ∙ ap (λ l. l ++ of_trace (trace_of p) (p ∷ [])) (spans_gone n es (trace_of p) e)
     ∙ ap (λ b. cond b (p ∷ []) []) (same_self (trace_of p))
 
--- a late span doesn't renew its trace
-pub not_renewed : (n : ℕ) (es : List (Event Placed)) (p : Placed) → holds (ring n es) (trace_of p) ≡ true → ring n (es ++ came p ∷ []) ≡ ring n es
-not_renewed n es p e = ring_came n es p ∙ ap (λ b. if b then ring n es else newest (limit_after n es) (ring n es ++ trace_of p ∷ [])) e
-
 -- with no limit the ring only grows
 holds-arrive : (r : List TraceId) (t s : TraceId) → holds r t ≡ true → holds (arrive 0 r s) t ≡ true
 holds-arrive r t s e = elim (holds r s) as (λ h. holds (if h then r else r ++ s ∷ []) t ≡ true) [ true ↦ e | false ↦ list_any-append (same_trace t) r (s ∷ []) ∙ ap (λ b. b || list_any (same_trace t) (s ∷ [])) e ]
@@ -154,13 +150,6 @@ all_stay = by_pushes (λ es. list_all limits_none es ≡ true → (limit_after 0
 -- where no event sets a limit, limit 0 keeps all that came
 pub shown_all : (es : List (Event Placed)) → list_all limits_none es ≡ true → shown 0 es ≡ without_limits es
 shown_all es none = (all_stay es none).2
-
-none_by_came : (ps : List Placed) → list_all limits_none (map came ps) ≡ true
-none_by_came [] = refl
-none_by_came (p ∷ ps) = none_by_came ps
-
-pub shown_all-came : (ps : List Placed) → shown 0 (map came ps) ≡ ps
-shown_all-came ps = shown_all (map came ps) (none_by_came ps) ∙ without_limits-came ps
 
 -- ---- each trace of the ring has a span
 or_cases : {P : Type 0} (a b : Bool) → (a || b) ≡ true → (a ≡ true → P) → (b ≡ true → P) → P

@@ -1,4 +1,4 @@
-use Rattle.std.proofs.Common.{ℕ, length, subst, arith}
+use Rattle.std.proofs.Common.{subst, arith}
 use Rattle.row_places.specs.Leading.{AreTaken}
 use Rattle.row_places.proofs.Walking.{never_all}
 use Rattle.row_places.proofs.slots.free_place.Goals as goal

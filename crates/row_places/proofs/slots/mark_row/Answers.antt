@@ -1,4 +1,4 @@
-use Rattle.std.proofs.Common.{◌+◌, ◌*◌, ◌<◌, ◌++◌, ◌∷◌, [], ℕ, length, subst, sym, arith}
+use Rattle.std.proofs.Common.{◌+◌, ◌++◌, ◌∷◌, [], ℕ, length, subst, arith}
 use Rattle.std.proofs.Math.ListN.{set}
 use Rattle.row_places.specs.Leading.{steps, AreTaken, LeadsTo}
 use Rattle.row_places.proofs.Marking.{leads_more}
