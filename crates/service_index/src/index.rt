@@ -9,7 +9,7 @@ ghost use Rattle.service_index.specs.Indexes.{owners, AreFrom, IsChain, IsIndexe
 
 use crate::labels::Label;
 use crate::name_table::NameTable;
-use crate::operation_sets::{names_alone, operations_in_order, texts_in_order, with_kind};
+use crate::operation_sets::{names_alone, operations_in_order, texts_in_order};
 use crate::texts::{GroupLabels, OperationLabels, Texts};
 use jaeger_model::Text;
 use std::alloc::{AllocError, Global};
@@ -188,8 +188,9 @@ impl ServiceIndex {
             operations_in service.now kind.now (listing_by (T.names texts.now) self.now)) }
     {
         let operations = self.operations_of(texts, service.as_str())?;
-        let known = operations_in_order(operations)?;
-        with_kind(self.alloc, known, kind)
+        let mut known = operations_in_order(operations)?;
+        known.retain(|o| o.has_kind(kind));
+        Ok(known)
     }
 
     /// The operations of a service, each once, in the order of their bytes.

@@ -1,20 +1,13 @@
 //! The operations of one service, as a set in order.
 
-ghost use Rattle.std.specs.Prelude.{◌≡◌, IfOk, filter, map};
+ghost use Rattle.std.specs.Prelude.{◌≡◌, IfOk, map};
 ghost use Rattle.jaeger_model.specs.Texts.{text_cmp, sorted_set};
 ghost use Rattle.trace_model.specs.declared.answer.Operation.{Operation as OperationValue};
-ghost use Rattle.trace_model.specs.Names.{is_asked_kind, operation_cmp};
+ghost use Rattle.trace_model.specs.Names.{operation_cmp};
 
 use jaeger_model::Text;
 use std::alloc::{AllocError, Global};
 use trace_model::Operation;
-
-/// Whether the operation has the asked kind; an empty one asks for any.
-fn has_kind(operation: &Operation, kind: &Text) -> bool
-    ensures { result ≡ is_asked_kind kind.now operation.now }
-{
-    kind.as_str() == "" || *kind == operation.kind
-}
 
 /// The texts in order, each once.
 pub(crate) fn texts_in_order(texts: Vec<Text>) -> Result<Vec<Text>, AllocError>
@@ -34,23 +27,6 @@ pub(crate) fn operations_in_order(operations: Vec<Operation>) -> Result<Vec<Oper
     operations.sort()?;
     operations.dedup();
     Ok(operations)
-}
-
-/// Those of the operations that have the asked kind.
-pub(crate) fn with_kind(
-    alloc: Global,
-    operations: Vec<Operation>,
-    kind: &Text,
-) -> Result<Vec<Operation>, AllocError>
-    ensures { IfOk result (λ v. v.items ≡ filter (is_asked_kind kind.now) operations.items) }
-{
-    let mut found = Vec::new(alloc);
-    for operation in operations {
-        if has_kind(&operation, kind) {
-            found.push(operation)?;
-        }
-    }
-    Ok(found)
 }
 
 /// The names of the operations.
