@@ -6,22 +6,11 @@ use Rattle.trace_model.specs.declared.limits.Limits.{Limits}
 use Rattle.trace_model.specs.Histories.{IsLegal}
 use Rattle.trace_model.specs.Refusals.{admission}
 use Rattle.trace_model.specs.declared.admission.Admission.TheVariants.{Added}
-use Rattle.trace_model.proofs.Admissions.{follows_added}
-use Rattle.trace_model.proofs.Legality.{rises_pushed, sent_once_pushed, above_last, span_count_push, legal_front}
-
-last_follows : (limits : Limits) (h : List Entry) (e : Entry) → IsLegal limits (h ++ e ∷ []) → admission limits h e ≡ Ok Added
-last_follows limits h e l =
-    let above = rises_pushed [] h e l.rising in
-    follows_added limits h e (record {
-      rises = above_last e h above.0 above.1;
-      unsent = sent_once_pushed [] h e l.sent_once;
-      batches = let b = l.batches in omega (arith, length-append h (e ∷ []));
-      spans = let s = l.spans in omega (arith, span_count_push h e);
-    })
+use Rattle.trace_model.proofs.Legality.{last_is_added, legal_front}
 
 next_follows : (limits : Limits) (h rest all : List Entry) (e : Entry) → IsLegal limits all → h ++ e ∷ rest ≡ all → admission limits h e ≡ Ok Added
 next_follows limits h rest all e legal whole =
-    last_follows limits h e
+    last_is_added limits h e
     (legal_front limits (h ++ e ∷ []) rest (subst (IsLegal limits) (sym (append_assoc h (e ∷ []) rest ∙ whole)) legal))
 
 -- the same where what is behind is seen through f

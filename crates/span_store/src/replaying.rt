@@ -4,7 +4,7 @@ ghost use Rattle.std.specs.Prelude.{◌≡◌, map, OnOk, IfOk, IfErr};
 ghost use Rattle.std.specs.Arc.{arc_value};
 ghost use Rattle.trace_model.specs.Answers.{answer};
 ghost use Rattle.trace_model.specs.declared.refusal.Refusal.TheVariants.{NoMemory};
-ghost use Rattle.span_store.specs.Replaying.{taken, accepted};
+ghost use Rattle.trace_model.specs.Refusals.{behind, history_of};
 
 use crate::store::SpanStore;
 use std::alloc::Global;
@@ -17,7 +17,7 @@ fn take(store: &mut SpanStore, entry: &Arc<Entry>) -> Result<(), Refusal>
     ensures taken { OnOk result (store.new ≡
         record {
           limits = store.old.limits;
-          entries = taken store.old.limits store.old.entries
+          entries = behind store.old.limits store.old.entries
               (arc_value entry.now);
         }) }
     ensures reason { IfErr result (λ why. why ≡ NoMemory) }
@@ -41,7 +41,7 @@ pub fn replay(
     entries: &[Arc<Entry>],
 ) -> Result<SpanStore, Refusal>
     ensures held { IfOk result (λ s. s ≡
-        record { limits = limits; entries = accepted limits (map arc_value entries.now) }) }
+        record { limits = limits; entries = history_of limits (map arc_value entries.now) }) }
     ensures reason { IfErr result (λ why. why ≡ NoMemory) }
 {
     let mut store = SpanStore::open(alloc, keys, limits)?;
@@ -68,7 +68,7 @@ pub fn replayed_answer(
     query: &Query,
 ) -> Result<Answer, Refusal>
     ensures answer { IfOk result (λ a. a ≡
-        answer limits (accepted limits (map arc_value entries.now)) query.now) }
+        answer limits (history_of limits (map arc_value entries.now)) query.now) }
     ensures reason { IfErr result (λ why. why ≡ NoMemory) }
 {
     let store = replay(alloc, keys, limits, entries)?;

@@ -8,8 +8,8 @@ use Rattle.trace_model.specs.declared.admission.Admission.TheVariants.{Added}
 use Rattle.trace_model.specs.Refusals.{admission}
 use Rattle.trace_model.specs.Works.{spans_brought}
 use Rattle.trace_model.specs.Histories.{last_number, span_count, IsLegal, AboveEach, RisesAfter}
-use Rattle.trace_model.proofs.Admissions.{MayFollow, IsSaid, admission_says, follows_added}
-use Rattle.trace_model.proofs.Legality.{sent_once_pushed, rises_pushed, above_last, above_each, span_count_push, legal_push, rises_front, legal_front}
+use Rattle.trace_model.proofs.Admissions.{MayFollow, IsSaid, admission_says}
+use Rattle.trace_model.proofs.Legality.{last_is_added, rises_pushed, above_last, above_each, legal_push, rises_front, legal_front}
 use Rattle.store_laws.specs.Splits.{RisesBySplits}
 use mathlib.Core.List.{IsPrefix}
 
@@ -17,26 +17,11 @@ pub legal_prefix : (limits : Limits) (h k : List Entry) → IsPrefix h k → IsL
 legal_prefix limits h k p l = legal_front limits h p.0 (subst (IsLegal limits) (sym p.1) l)
 
 -- ---- one more entry
--- what a legal list says of its last entry
-pub legal_pushed : (limits : Limits) (h : List Entry) (e : Entry) → IsLegal limits (h ++ e ∷ []) → last_number e.seat h < e.number
-legal_pushed limits h e l = let a = rises_pushed [] h e l.rising in above_last e h a.0 a.1
-
 -- a legal list stays legal with an entry that is added
 pub legal_snoc : (limits : Limits) (h : List Entry) (e : Entry) → IsLegal limits h → admission limits h e ≡ Ok Added → IsLegal limits (h ++ e ∷ [])
 legal_snoc limits h e l added =
     let f : MayFollow limits h e = subst (IsSaid limits h e) added (admission_says limits h e) in
     legal_push limits h e l f.rises f.unsent f.batches f.spans
-
--- and with no other
-pub snoc_legal : (limits : Limits) (h : List Entry) (e : Entry) → IsLegal limits (h ++ e ∷ []) → admission limits h e ≡ Ok Added
-snoc_legal limits h e l =
-    let b = l.batches in let s = l.spans in
-    follows_added limits h e (record {
-      rises = legal_pushed limits h e l;
-      unsent = sent_once_pushed [] h e l.sent_once;
-      batches = omega (arith, length-append h (e ∷ []));
-      spans = omega (arith, span_count_push h e);
-    })
 
 -- ---- splits
 -- an entry of a rising list is above all in front of it
@@ -76,7 +61,7 @@ never_twice limits before e between after l = let n = numbers_rise limits before
 
 -- ---- both ways
 pub legal_more : (limits : Limits) (h : List Entry) (e : Entry) → IsLegal limits h → (IsLegal limits (h ++ e ∷ []) ↔ (admission limits h e ≡ Ok Added))
-legal_more limits h e l = (snoc_legal limits h e, legal_snoc limits h e l)
+legal_more limits h e l = (last_is_added limits h e, legal_snoc limits h e l)
 
 pub rises_by_splits : (h : List Entry) → (RisesAfter [] h ↔ RisesBySplits h)
 rises_by_splits h = (rises_splits h, splits_rise h)

@@ -21,15 +21,14 @@ use Rattle.trace_model.specs.declared.refusal.Refusal.{Refusal}
 use Rattle.trace_model.specs.declared.refusal.Refusal.TheVariants.{Conflict}
 use Rattle.trace_model.specs.Histories.{IsLegal}
 use Rattle.trace_model.specs.Resending.{is_sent_as, resends, is_sent, SentOnceAfter, AnswersFor}
-use Rattle.trace_model.specs.Refusals.{admission, admitted_anew}
+use Rattle.trace_model.specs.Refusals.{admission, admitted_anew, with_admitted, behind, history_of}
 use Rattle.trace_model.specs.WorkLaws.{same_work-decides}
 use Rattle.trace_model.specs.Works.{same_work}
-use Rattle.trace_model.specs.Refusals.{with_admitted}
 use Rattle.trace_model.specs.Places.{entry_at}
 use Rattle.trace_model.proofs.Admissions.{none_passes, IsAnswered, IsSaid, admission_says, admission_repeated, admission_anew, sent_nowhere}
 use Rattle.trace_model.proofs.Legality.{legal_empty}
 use Rattle.trace_model.proofs.Prefixes.{prefix_self, prefix_trans}
-use Rattle.store_laws.specs.Submits.{behind, history_of, StandsOnce}
+use Rattle.store_laws.specs.Submits.{StandsOnce}
 use Rattle.store_laws.proofs.LegalLists.{legal_snoc}
 use mathlib.Core.List.{IsPrefix}
 

@@ -1,5 +1,5 @@
 -- Whether a history takes an entry, and why not.
-use Rattle.std.specs.Prelude.{ℕ, suc, ◌+◌, Bool, ◌&&◌, List, [], ◌∷◌, ◌++◌, length, Option, Result, Ok, Err, get_or, if◌then◌else◌, nat_le}
+use Rattle.std.specs.Prelude.{ℕ, suc, ◌+◌, Bool, ◌&&◌, List, [], ◌∷◌, ◌++◌, length, fold, Option, Result, Ok, Err, get_or, if◌then◌else◌, nat_le}
 use Rattle.std.specs.Option.{option_map_or}
 use Rattle.std.specs.Result.{result_err}
 use Rattle.trace_model.specs.declared.admission.Admission.{Admission}
@@ -48,6 +48,14 @@ abbrev pub with_admitted : Held → Entry → Result Admission Refusal → Held
 with_admitted held e (Ok Added) = followed_by held e
 with_admitted held e (Ok (Resent place)) = held
 with_admitted held e (Err why) = held
+
+-- the history behind one more entry that is handed in
+abbrev pub behind : Limits → List Entry → Entry → List Entry
+behind limits h e = (with_admitted (record { limits = limits; entries = h }) e (admission limits h e)).entries
+
+-- the history behind entries that are handed in one after the other, each judged after the accepted ones before it
+abbrev pub history_of : Limits → List Entry → List Entry
+history_of limits es = fold (behind limits) [] es
 
 -- where the entry stands, or the one that answers for it
 abbrev pub place_of : List Entry → Admission → ℕ

@@ -45,16 +45,14 @@ fn placed_in(alloc: Global, batch: &Batch, index: u32) -> Result<Option<Placed>,
 }
 
 /// The span of a batch at an index, to look at as it was reported.
-fn reported_in(batch: &Batch, index: u32) -> Option<Seen>
+pub fn reported_in(batch: &Batch, index: u32) -> Option<Seen>
     ensures { option_map placed_by_its_entry result ≡ slice_get (domain batch.now) index }
 {
-    match batch.spans.as_slice().get(index as usize) {
-        Some(span) => Some(Seen {
-            process: batch.process.get(),
-            span,
-        }),
-        None => None,
-    }
+    let span = batch.spans.as_slice().get(index as usize)?;
+    Some(Seen {
+        process: batch.process.get(),
+        span,
+    })
 }
 
 impl KeptSpan {

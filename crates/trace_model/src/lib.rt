@@ -22,7 +22,7 @@ mod shown_trace;
 
 pub use admission::Admission;
 pub use answer::{Answer, Link, Operation, Shown};
-pub use answered_trace::{AnsweredTrace, KeptSpan, KeptTrace, TraceForm};
+pub use answered_trace::{AnsweredTrace, KeptSpan, KeptTrace, TraceForm, reported_in};
 pub use clock::Clock;
 pub use entry::{Entry, Work};
 pub use limits::Limits;
