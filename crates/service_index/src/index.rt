@@ -15,7 +15,7 @@ use jaeger_model::Text;
 use std::alloc::{AllocError, Global};
 use std::hash::RandomState;
 use std::marker::Model;
-use trace_model::Operation;
+use trace_model::{Operation, with_kind};
 
 /// The services that the spans of some numbers reported, each with its operations and their kinds, in
 /// room that is taken once.
@@ -188,9 +188,8 @@ impl ServiceIndex {
             operations_in service.now kind.now (listing_by (T.names texts.now) self.now)) }
     {
         let operations = self.operations_of(texts, service.as_str())?;
-        let mut known = operations_in_order(operations)?;
-        known.retain(|o| o.has_kind(kind));
-        Ok(known)
+        let known = operations_in_order(operations)?;
+        Ok(with_kind(known, kind))
     }
 
     /// The operations of a service, each once, in the order of their bytes.

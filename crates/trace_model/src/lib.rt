@@ -21,7 +21,7 @@ mod refusal;
 mod shown_trace;
 
 pub use admission::Admission;
-pub use answer::{Answer, Link, Operation, Shown};
+pub use answer::{Answer, Link, Operation, Shown, with_kind};
 pub use answered_trace::{AnsweredTrace, KeptSpan, KeptTrace, TraceForm, reported_in};
 pub use clock::Clock;
 pub use entry::{Entry, Work};
