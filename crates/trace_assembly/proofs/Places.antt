@@ -8,7 +8,6 @@ use Rattle.jaeger_model.specs.declared.ids.TraceId.{TraceId}
 use Rattle.jaeger_model.specs.declared.batch.Batch.{Batch}
 use Rattle.jaeger_model.specs.declared.span.Span.{Span}
 use Rattle.jaeger_model.specs.Parents.{domain, placed}
-use Rattle.jaeger_model.proofs.Referred.{trace_stays}
 use Rattle.trace_model.specs.declared.entry.Entry.{Entry}
 use Rattle.trace_model.specs.declared.entry.Work.{Work}
 use Rattle.trace_model.specs.declared.entry.Work.TheVariants as brings
@@ -16,7 +15,7 @@ use Rattle.trace_model.specs.Events.{Event, came, limited, event_map, without_li
 use Rattle.trace_model.proofs.Arriving.{came_of}
 use Rattle.trace_model.specs.Histories.{arrivals, events}
 use Rattle.trace_model.specs.Works.{events_brought, placed_brought}
-use Rattle.trace_model.specs.Showing.{trace_of, stands}
+use Rattle.trace_model.specs.Showing.{stands}
 use Rattle.trace_assembly.specs.declared.spot.Spot.{Spot}
 use Rattle.trace_assembly.specs.Located.{located_in, located_by, located_from, located_events, span_at, spans_in, spots_in, events_in, located_trace, shown_in, own_of, located_upto}
 use Rattle.trace_assembly.proofs.Lists.{Each, OfCame, each_append, each_came, each_filter, each_lasting, each_without_limits, slice_get_middle}
@@ -111,9 +110,6 @@ shown-lies h n t =
     each_filter (LiesIn h) _ (shown_in n (located_events h)) (each_without_limits (LiesIn h) _ (each_lasting (OfCame (LiesIn h)) (stands located_trace n) [] (located_events h) (located-lies h)))
 
 -- ---- one more batch, span by span
-pub trace_of-placed : (b : Batch) (s : Span) → trace_of (placed b s) ≡ s.trace
-trace_of-placed b s = trace_stays s
-
 pub upto_none : (h : List Entry) (b : Batch) → located_upto h b 0 ≡ located_events h
 upto_none h b = append-nil (located_events h)
 

@@ -1,4 +1,4 @@
-use Rattle.std.proofs.Common.{◌≡◌, ◌<◌, ◌∙◌, ℕ, arith, length, List, ◌∷◌, ◌++◌, [], sym, ap, subst, length-append}
+use Rattle.std.proofs.Common.{◌<◌, ◌∙◌, ℕ, arith, length, List, ◌∷◌, ◌++◌, [], sym, ap, subst, length-append}
 use Rattle.std.proofs.lemmas.List.{get_or_push}
 use Rattle.std.specs.Prelude.{if◌then◌else◌}
 use Rattle.jaeger_model.specs.declared.ids.TraceId.{TraceId}
