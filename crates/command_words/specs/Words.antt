@@ -1,7 +1,8 @@
 -- What the program's words ask for.
-use Rattle.std.specs.Prelude.{◌≡◌, ℕ, pos, Bool, List, [], ◌∷◌, Option, Some, None, true, false, codes, ◌⊎◌}
+use Rattle.std.specs.Prelude.{◌≡◌, ℕ, pos, Bool, List, [], ◌∷◌, Option, Some, None, Result, IfOk, true, false, codes, ◌⊎◌}
 use Rattle.std.specs.Str.Parse.{IsNumeral, digits_value, without_leading_plus}
-use Rattle.clap.specs.Words.{App, Row, Rule, Text, new_app, new_rule, with_rule, matches_of, one_of, first_of, takes}
+use Rattle.clap.specs.Words.{App, Row, Rule, Text, app_of, is_simple, new_app, new_rule, with_rule, matches_of, one_of, first_of, takes}
+use Rattle.clap.specs.declared.builder.command.Command.{Command}
 use Rattle.clap.specs.declared.builder.value_parser.ValueParser.{ValueParser}
 use Rattle.clap.specs.declared.builder.value_parser.ValueParser.TheVariants as parser
 use Rattle.jaeger_model.specs.declared.ids.TraceId.{TraceId}
@@ -96,87 +97,27 @@ abbrev pub trace_in : Option Text → Option TraceId
 trace_in None = None
 trace_in (Some text) = read_trace text
 
--- what clap reads in the words of the subcommand, which begin with its name
-pub record ReadsGet (words : List Text) (limits : Limits) (id : TraceId) : Type 0 where
-  pub options : HasLimits (matches_of get_app words) limits
-  pub trace : HasTrace (matches_of get_app words) id
+-- the command, if one was made, is the subcommand, whose words clap's definitions read
+abbrev pub Makes : {E : Type 0} → Result Command E → App → Type 0
+Makes made app = IfOk made (λ c. app_of c ≡ app) × (is_simple app ≡ true)
 
--- The words are the program's name, the subcommand's, and others.
-pub record AsksGet (words : List Text) (limits : Limits) (id : TraceId) : Type 0 where
+-- The words are the program's name, the subcommand's, and others. So much holds of the words behind the program's name.
+pub record AsksFor (app : App) (Holds : List Text → Type 0) (words : List Text) : Type 0 where
   pub program : Text
   pub others : List Text
-  pub words_are : words ≡ program ∷ codes "get" ∷ others
-  pub reads : ReadsGet (codes "get" ∷ others) limits id
-
--- what clap reads in the words of the subcommand, which begin with its name
-abbrev pub ReadsPipe : List Text → Limits → Type 0
-ReadsPipe words limits = HasLimits (matches_of pipe_app words) limits
-
-pub record AsksPipe (words : List Text) (limits : Limits) : Type 0 where
-  pub program : Text
-  pub others : List Text
-  pub words_are : words ≡ program ∷ codes "pipe" ∷ others
-  pub reads : ReadsPipe (codes "pipe" ∷ others) limits
-
--- what clap reads in the words of the subcommand, which begin with its name
-abbrev pub ReadsPlay : List Text → Limits → Type 0
-ReadsPlay words limits = HasLimits (matches_of play_app words) limits
-
-pub record AsksPlay (words : List Text) (limits : Limits) : Type 0 where
-  pub program : Text
-  pub others : List Text
-  pub words_are : words ≡ program ∷ codes "play" ∷ others
-  pub reads : ReadsPlay (codes "play" ∷ others) limits
-
--- what clap reads in the words of the subcommand, which begin with its name
-abbrev pub ReadsServe : List Text → ServeOptions → Type 0
-ReadsServe words options = HasServeOptions (matches_of serve_app words) options
-
-pub record AsksServe (words : List Text) (options : ServeOptions) : Type 0 where
-  pub program : Text
-  pub others : List Text
-  pub words_are : words ≡ program ∷ codes "serve" ∷ others
-  pub reads : ReadsServe (codes "serve" ∷ others) options
-
--- ---- words that have to be accepted
+  pub words_are : words ≡ program ∷ app.top.name ∷ others
+  pub holds : Holds (app.top.name ∷ others)
 
 -- clap takes the words of the subcommand, which begin with its name
-unfoldable pub get_takes : List Text → Bool
-get_takes words = takes get_app words
+unfoldable pub are_taken : App → List Text → Bool
+are_taken app words = takes app words
 
-unfoldable pub pipe_takes : List Text → Bool
-pipe_takes words = takes pipe_app words
+-- clap takes the words of `get`, and the options can be had; nothing is said of the trace's id
+abbrev pub TakesLimits : Limits → List Text → Type 0
+TakesLimits limits words = (are_taken get_app words ≡ true) × HasLimits (matches_of get_app words) limits
 
-unfoldable pub play_takes : List Text → Bool
-play_takes words = takes play_app words
-
-unfoldable pub serve_takes : List Text → Bool
-serve_takes words = takes serve_app words
-
--- The words ask for `get`, and clap takes them.
-pub record AcceptsGet (words : List Text) (limits : Limits) (id : TraceId) : Type 0 where
-  pub asks : AsksGet words limits id
-  pub taken : get_takes (codes "get" ∷ asks.others) ≡ true
-
-pub record AcceptsPipe (words : List Text) (limits : Limits) : Type 0 where
-  pub asks : AsksPipe words limits
-  pub taken : pipe_takes (codes "pipe" ∷ asks.others) ≡ true
-
-pub record AcceptsPlay (words : List Text) (limits : Limits) : Type 0 where
-  pub asks : AsksPlay words limits
-  pub taken : play_takes (codes "play" ∷ asks.others) ≡ true
-
-pub record AcceptsServe (words : List Text) (options : ServeOptions) : Type 0 where
-  pub asks : AsksServe words options
-  pub taken : serve_takes (codes "serve" ∷ asks.others) ≡ true
-
--- The words are those of `get`, clap takes them, and the options can be had; nothing is said of the trace's id.
-pub record TakesGet (words : List Text) (limits : Limits) : Type 0 where
-  pub program : Text
-  pub others : List Text
-  pub words_are : words ≡ program ∷ codes "get" ∷ others
-  pub taken : get_takes (codes "get" ∷ others) ≡ true
-  pub options : HasLimits (matches_of get_app (codes "get" ∷ others)) limits
+abbrev pub TakesGet : List Text → Limits → Type 0
+TakesGet words limits = AsksFor get_app (TakesLimits limits) words
 
 -- the statuses of a run that asks for nothing: a fault of the words or a call for help, a writer that failed, memory that ran out
 abbrev pub IsFault : ℕ → Type 0

@@ -1,13 +1,13 @@
 //! The subcommand `serve`: its options, and what its words ask for.
-ghost use Rattle.std.specs.Prelude.{◌≡◌, IfErr, IfOk, IfSome, IsOk, IsSome, OnOk, false, map};
+ghost use Rattle.std.specs.Prelude.{◌≡◌, IfErr, IfOk, IfSome, IsSome, OnOk, false, map};
 ghost use Rattle.clap.specs.Words.{app_of, found_of, rows_of, rule_of};
 ghost use Rattle.command_words.specs.declared.serve_options.ServeOptions.{ServeOptions as ServeOptionsValue};
-ghost use Rattle.command_words.specs.declared.words.Command.{Command as CommandValue};
-ghost use Rattle.command_words.specs.Words.{HasServeOptions, IsFault, idle_rule, port_rule, queue_rule, serve_app, sessions_rule, with_serving as serving_on, workers_rule};
-ghost use Rattle.command_words.specs.Asked.{AcceptsServeBy, AsksServeBy, IsServeOf};
+ghost use Rattle.command_words.specs.declared.words.Command.TheVariants.{Serve};
+ghost use Rattle.command_words.specs.Words.{HasServeOptions, IsFault, Makes, idle_rule, port_rule, queue_rule, serve_app, sessions_rule, with_serving as serving_on, workers_rule};
+ghost use Rattle.command_words.specs.Asked.{Reads, Takes};
 
 use crate::serve_options::ServeOptions;
-use crate::words::{Command, limits_of, matches_of, number, with_limits};
+use crate::words::{limits_of, matches_of, number, with_limits};
 use clap::{Arg, ArgMatches, value_parser};
 use std::alloc::{AllocError, Global};
 use std::convert::AsStr;
@@ -76,7 +76,7 @@ fn with_serving(alloc: Global, command: clap::Command<'_>) -> Result<clap::Comma
 
 /// The subcommand `serve`.
 pub(crate) fn serve_command<'a>(alloc: Global) -> Result<clap::Command<'a>, AllocError>
-    ensures { IfOk result (λ c. app_of c ≡ serve_app) }
+    ensures { Makes result serve_app }
 {
     let command = clap::Command::new(alloc, "serve")
         .bin_name("jaeger_one serve")?
@@ -100,34 +100,18 @@ fn serve_options_of(matches: &ArgMatches<'_>) -> Option<ServeOptions>
     ServeOptions::new(limits, port, workers, queue, sessions, idle)
 }
 
-/// `serve` with its options.
-fn serve_of(matches: &ArgMatches<'_>) -> Result<Command, u8>
-    ensures asked { IfOk result (IsServeOf (rows_of (found_of matches.now))) }
-    ensures status { IfErr result IsFault }
-    ensures found { (options : ServeOptionsValue)
-        → HasServeOptions (rows_of (found_of matches.now)) options → IsOk result }
-{
-    match serve_options_of(matches) {
-        Some(options) => Ok(Command::Serve { options }),
-        None => Err(2),
-    }
-}
-
-/// The subcommand `serve`, whose own name is the first of the words.
+/// The options of `serve`, whose own name is the first of the words.
 pub(crate) fn read_serve<S: AsStr, W: Write>(
     alloc: Global,
     words: &[S],
     writer: &mut W,
-) -> Result<Command, u8>
-    ensures asked { IfOk result (AsksServeBy (map S.text words.now)) }
+) -> Result<ServeOptions, u8>
+    ensures asked { IfOk result (λ options. Reads (Serve options) (map S.text words.now)) }
     ensures silent { OnOk result (W.contents writer.new ≡ W.contents writer.old) }
     ensures status { IfErr result IsFault }
-    ensures accepted { (command : CommandValue) → AcceptsServeBy (map S.text words.now) command
-        → IfErr result (λ s. s ≡ 5) }
+    ensures accepted { (options : ServeOptionsValue) →
+        Takes (Serve options) (map S.text words.now) → IfErr result (λ s. s ≡ 5) }
 {
-    let Ok(command) = serve_command(alloc) else {
-        return Err(5);
-    };
-    let matches = matches_of(command, words, writer)?;
-    serve_of(&matches)
+    let matches = matches_of(serve_command(alloc), words, writer)?;
+    serve_options_of(&matches).ok_or(2)
 }

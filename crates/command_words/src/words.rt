@@ -1,12 +1,13 @@
 //! What the words ask for, and what is said to words that ask for nothing.
-ghost use Rattle.std.specs.Prelude.{◌≡◌, ◌⊎◌, IfOk, IfErr, IfSome, IsOk, IsSome, None, OnOk, Some, codes, map, false, true};
+ghost use Rattle.std.specs.Prelude.{◌≡◌, ◌⊎◌, IfOk, IfErr, IfSome, IsSome, None, OnOk, Some, codes, map, false, true};
 ghost use Rattle.std.specs.Io.KnownBytes.{Appends};
-ghost use Rattle.clap.specs.Words.{HasMatchesOf, app_of, first_value, found_of, kind_of, matches_of, rows_of, rule_of, takes};
+ghost use Rattle.clap.specs.Words.{App, app_of, first_value, found_of, kind_of, matches_of, rows_of, rule_of};
 ghost use Rattle.trace_model.specs.declared.limits.Limits.{Limits as LimitsValue};
 ghost use Rattle.jaeger_model.specs.declared.ids.TraceId.{TraceId as TraceIdValue};
 ghost use Rattle.command_words.specs.declared.words.Command.{Command as CommandValue};
-ghost use Rattle.command_words.specs.Words.{HasLimits, HasTrace, IsFault, IsFaultOf, TakesGet, get_app, get_takes, number_rule, pipe_app, play_app, trace_in, with_limits as limits_on};
-ghost use Rattle.command_words.specs.Asked.{Accepts, AcceptsGetBy, AcceptsPipeBy, AcceptsPlayBy, Asks, AsksGetBy, AsksPipeBy, AsksPlayBy, IsGetOf, IsPipeOf, IsPlayOf};
+ghost use Rattle.command_words.specs.declared.words.Command.TheVariants.{Get};
+ghost use Rattle.command_words.specs.Words.{HasLimits, IsFault, IsFaultOf, Makes, TakesGet, TakesLimits, are_taken, get_app, number_rule, pipe_app, play_app, trace_in, with_limits as limits_on};
+ghost use Rattle.command_words.specs.Asked.{Accepts, Asks, Reads, Takes};
 
 use crate::serve::{read_serve, serve_command};
 use crate::serve_options::ServeOptions;
@@ -99,7 +100,7 @@ pub(crate) fn with_limits(
 
 /// The subcommand `get`.
 fn get_command<'a>(alloc: Global) -> Result<clap::Command<'a>, AllocError>
-    ensures { IfOk result (λ c. app_of c ≡ get_app) }
+    ensures { Makes result get_app }
 {
     let trace = Arg::new(alloc, "TRACE")
         .required(true)
@@ -115,7 +116,7 @@ fn get_command<'a>(alloc: Global) -> Result<clap::Command<'a>, AllocError>
 
 /// The subcommand `pipe`.
 fn pipe_command<'a>(alloc: Global) -> Result<clap::Command<'a>, AllocError>
-    ensures { IfOk result (λ c. app_of c ≡ pipe_app) }
+    ensures { Makes result pipe_app }
 {
     let command = clap::Command::new(alloc, "pipe")
         .bin_name("jaeger_one pipe")?
@@ -125,7 +126,7 @@ fn pipe_command<'a>(alloc: Global) -> Result<clap::Command<'a>, AllocError>
 
 /// The subcommand `play`.
 fn play_command<'a>(alloc: Global) -> Result<clap::Command<'a>, AllocError>
-    ensures { IfOk result (λ c. app_of c ≡ play_app) }
+    ensures { Makes result play_app }
 {
     let command = clap::Command::new(alloc, "play")
         .bin_name("jaeger_one play")?
@@ -172,19 +173,22 @@ fn explain<W: Write>(writer: &mut W, error: &Error) -> u8
     }
 }
 
-/// Reads the words as clap does, or says what is wrong with them.
+/// Reads the words of a subcommand as clap does, or says what is wrong with them.
 pub(crate) fn matches_of<'a, S: AsStr, W: Write>(
-    command: clap::Command<'a>,
+    made: Result<clap::Command<'a>, AllocError>,
     words: &'a [S],
     writer: &mut W,
 ) -> Result<ArgMatches<'a>, u8>
-    ensures matches { IfOk result (HasMatchesOf (app_of command.entry)
-        (map S.text words.entry.now)) }
+    ensures rows { (app : App) → Makes made.entry app →
+        IfOk result (λ m. rows_of (found_of m) ≡ matches_of app (map S.text words.entry.now)) }
     ensures silent { OnOk result (W.contents writer.new ≡ W.contents writer.old) }
     ensures status { IfErr result IsFault }
-    ensures taken { takes (app_of command.entry) (map S.text words.entry.now) ≡ true →
-        IfErr result (λ s. s ≡ 5) }
+    ensures taken { (app : App) → Makes made.entry app →
+        are_taken app (map S.text words.entry.now) ≡ true → IfErr result (λ s. s ≡ 5) }
 {
+    let Ok(command) = made else {
+        return Err(5);
+    };
     match command.try_get_matches_from(words) {
         Ok(matches) => Ok(matches),
         Err(error) => Err(explain(writer, &error)),
@@ -239,98 +243,43 @@ fn trace_of<W: Write>(matches: &ArgMatches<'_>, writer: &mut W) -> Result<TraceI
     }
 }
 
-/// `get` with its options and its trace.
-fn get_of<W: Write>(matches: &ArgMatches<'_>, writer: &mut W) -> Result<Command, u8>
-    ensures asked { IfOk result (IsGetOf (rows_of (found_of matches.now))) }
+/// The limits and the trace of `get`, whose own name is the first of the words.
+fn read_get<S: AsStr, W: Write>(
+    alloc: Global,
+    words: &[S],
+    writer: &mut W,
+) -> Result<(Limits, TraceId), u8>
+    ensures asked { IfOk result (λ r. Reads (Get r.0 r.1) (map S.text words.now)) }
     ensures silent { OnOk result (W.contents writer.new ≡ W.contents writer.old) }
     ensures status { IfErr result IsFault }
-    ensures found { (limits : LimitsValue) (id : TraceIdValue) →
-        HasLimits (rows_of (found_of matches.now)) limits →
-        HasTrace (rows_of (found_of matches.now)) id → IsOk result }
-    ensures bad_trace { (limits : LimitsValue) → HasLimits (rows_of (found_of matches.now)) limits
-        → IfErr result (λ s. s ≡ 2 → Appends (W.contents writer.old) (W.contents writer.new)
+    ensures accepted { (limits : LimitsValue) (id : TraceIdValue) →
+        Takes (Get limits id) (map S.text words.now) → IfErr result (λ s. s ≡ 5) }
+    ensures bad_trace { (limits : LimitsValue) → TakesLimits limits (map S.text words.now) →
+        IfErr result (λ s. s ≡ 2 → Appends (W.contents writer.old) (W.contents writer.new)
         (codes "bad trace id\n")) }
 {
-    let Some(limits) = limits_of(matches) else {
-        return Err(2);
-    };
-    let trace = trace_of(matches, writer)?;
-    Ok(Command::Get { limits, trace })
+    let matches = matches_of(get_command(alloc), words, writer)?;
+    let limits = limits_of(&matches).ok_or(2)?;
+    let trace = trace_of(&matches, writer)?;
+    Ok((limits, trace))
 }
 
-/// The subcommand `get`, whose own name is the first of the words.
-fn read_get<S: AsStr, W: Write>(alloc: Global, words: &[S], writer: &mut W) -> Result<Command, u8>
-    ensures asked { IfOk result (AsksGetBy (map S.text words.now)) }
+/// The limits of a subcommand that has no other options, whose own name is the first of the words.
+fn read_limits<'a, S: AsStr, W: Write>(
+    made: Result<clap::Command<'a>, AllocError>,
+    words: &'a [S],
+    writer: &mut W,
+) -> Result<Limits, u8>
+    ensures asked { (app : App) → Makes made.entry app →
+        IfOk result (HasLimits (matches_of app (map S.text words.now))) }
     ensures silent { OnOk result (W.contents writer.new ≡ W.contents writer.old) }
     ensures status { IfErr result IsFault }
-    ensures accepted { (command : CommandValue) → AcceptsGetBy (map S.text words.now) command →
-        IfErr result (λ s. s ≡ 5) }
-    ensures bad_trace { (limits : LimitsValue) → get_takes (map S.text words.now) ≡ true →
-        HasLimits (matches_of get_app (map S.text words.now)) limits
-        → IfErr result (λ s. s ≡ 2 → Appends (W.contents writer.old) (W.contents writer.new)
-        (codes "bad trace id\n")) }
+    ensures accepted { (app : App) (limits : LimitsValue) → Makes made.entry app →
+        are_taken app (map S.text words.now) ≡ true →
+        HasLimits (matches_of app (map S.text words.now)) limits → IfErr result (λ s. s ≡ 5) }
 {
-    let Ok(command) = get_command(alloc) else {
-        return Err(5);
-    };
-    let matches = matches_of(command, words, writer)?;
-    get_of(&matches, writer)
-}
-
-/// `pipe` with its options.
-fn pipe_of(matches: &ArgMatches<'_>) -> Result<Command, u8>
-    ensures asked { IfOk result (IsPipeOf (rows_of (found_of matches.now))) }
-    ensures status { IfErr result IsFault }
-    ensures found { (limits : LimitsValue) → HasLimits (rows_of (found_of matches.now)) limits →
-        IsOk result }
-{
-    match limits_of(matches) {
-        Some(limits) => Ok(Command::Pipe { limits }),
-        None => Err(2),
-    }
-}
-
-/// The subcommand `pipe`, whose own name is the first of the words.
-fn read_pipe<S: AsStr, W: Write>(alloc: Global, words: &[S], writer: &mut W) -> Result<Command, u8>
-    ensures asked { IfOk result (AsksPipeBy (map S.text words.now)) }
-    ensures silent { OnOk result (W.contents writer.new ≡ W.contents writer.old) }
-    ensures status { IfErr result IsFault }
-    ensures accepted { (command : CommandValue) → AcceptsPipeBy (map S.text words.now) command →
-        IfErr result (λ s. s ≡ 5) }
-{
-    let Ok(command) = pipe_command(alloc) else {
-        return Err(5);
-    };
-    let matches = matches_of(command, words, writer)?;
-    pipe_of(&matches)
-}
-
-/// `play` with its options.
-fn play_of(matches: &ArgMatches<'_>) -> Result<Command, u8>
-    ensures asked { IfOk result (IsPlayOf (rows_of (found_of matches.now))) }
-    ensures status { IfErr result IsFault }
-    ensures found { (limits : LimitsValue) → HasLimits (rows_of (found_of matches.now)) limits →
-        IsOk result }
-{
-    match limits_of(matches) {
-        Some(limits) => Ok(Command::Play { limits }),
-        None => Err(2),
-    }
-}
-
-/// The subcommand `play`, whose own name is the first of the words.
-fn read_play<S: AsStr, W: Write>(alloc: Global, words: &[S], writer: &mut W) -> Result<Command, u8>
-    ensures asked { IfOk result (AsksPlayBy (map S.text words.now)) }
-    ensures silent { OnOk result (W.contents writer.new ≡ W.contents writer.old) }
-    ensures status { IfErr result IsFault }
-    ensures accepted { (command : CommandValue) → AcceptsPlayBy (map S.text words.now) command →
-        IfErr result (λ s. s ≡ 5) }
-{
-    let Ok(command) = play_command(alloc) else {
-        return Err(5);
-    };
-    let matches = matches_of(command, words, writer)?;
-    play_of(&matches)
+    let matches = matches_of(made, words, writer)?;
+    limits_of(&matches).ok_or(2)
 }
 
 /// What the words ask for, the first of them being the program's name, and the word behind it the
@@ -352,16 +301,20 @@ fn judge_words<S: AsStr, W: Write>(
     if let Some((_, rest)) = words.split_first() {
         if let Some(name) = rest.first() {
             if name.as_str() == "get" {
-                return read_get(alloc, rest, writer);
+                let (limits, trace) = read_get(alloc, rest, writer)?;
+                return Ok(Command::Get { limits, trace });
             }
             if name.as_str() == "pipe" {
-                return read_pipe(alloc, rest, writer);
+                let limits = read_limits(pipe_command(alloc), rest, writer)?;
+                return Ok(Command::Pipe { limits });
             }
             if name.as_str() == "play" {
-                return read_play(alloc, rest, writer);
+                let limits = read_limits(play_command(alloc), rest, writer)?;
+                return Ok(Command::Play { limits });
             }
             if name.as_str() == "serve" {
-                return read_serve(alloc, rest, writer);
+                let options = read_serve(alloc, rest, writer)?;
+                return Ok(Command::Serve { options });
             }
         }
     }
@@ -372,10 +325,7 @@ fn judge_words<S: AsStr, W: Write>(
 fn refuse<S: AsStr, W: Write>(alloc: Global, words: &[S], writer: &mut W) -> u8
     ensures { IsFault result }
 {
-    let Ok(command) = program(alloc) else {
-        return 5;
-    };
-    match matches_of(command, words, writer) {
+    match matches_of(program(alloc), words, writer) {
         Ok(_) => 2,
         Err(status) => status,
     }

@@ -1,23 +1,10 @@
-use Rattle.std.proofs.Common.{rules, ◌≡◌, map}
-use Rattle.clap.specs.Words.{app_of, found_of, rows_of}
-use Rattle.command_words.proofs.Accepting.{accepts_serve, asks_serve, failed_serve, serve_rows, serve_taken}
+use Rattle.std.proofs.Common.{◌≡◌, IfErr, subst, sym}
+use Rattle.command_words.specs.Words.{HasServeOptions, serve_app}
+use Rattle.command_words.proofs.Accepting.{some_is_no_fault}
 use Rattle.command_words.proofs.serve.read_serve.Goals as goal
 
-pub returns-clause-asked : goal.returns-clause-asked
-returns-clause-asked g c =
-    let words = map g.S.AsStr.text c.args.words.now in
-    let rows = serve_rows (app_of c.in-Ok.command) words c.in_ok-matches.matches c.in-Ok.ensures c.in_ok-matches.ensures.matches in
-    asks_serve (rows_of (found_of c.in_ok-matches.matches)) words rows c.serve_of.result c.serve_of.ensures.asked
-
 pub returns-clause-accepted : goal.returns-clause-accepted
-returns-clause-accepted g c =
-    let words = map g.S.AsStr.text c.args.words.now in
-    let rows = serve_rows (app_of c.in-Ok.command) words c.in_ok-matches.matches c.in-Ok.ensures c.in_ok-matches.ensures.matches in
-    accepts_serve (rows_of (found_of c.in_ok-matches.matches)) words rows c.serve_of.result c.serve_of.ensures.found
-
-pub returns-in_err-matches-clause-accepted : goal.returns-in_err-matches-clause-accepted
-returns-in_err-matches-clause-accepted g c =
-    let words = map g.S.AsStr.text c.args.words.now in
-    failed_serve words c.from_residual.result (λ taken.
-    let five : c.in_err-matches.field-0.0 ≡ 5 = c.in_err-matches.ensures.taken (serve_taken (app_of c.in-Ok.command) words c.in-Ok.ensures taken) in
-    search rules)
+returns-clause-accepted g c options takes =
+    let rows = c.in_ok-matches.ensures.rows serve_app c.serve_command.ensures in
+    let found = c.serve_options_of.ensures.found options (subst (λ rs. HasServeOptions rs options) (sym rows) takes.1) in
+    subst (λ r. IfErr r (λ s. s ≡ 5)) (sym c.ok_or.ensures.value) (some_is_no_fault c.serve_options_of.result 2 _ found)

@@ -2,9 +2,10 @@ use Rattle.std.proofs.Common.{rules, ap, ◌≡◌, ◌∙◌, codes}
 use Rattle.std.proofs.lemmas.Result.{IfOk-weaker}
 use Rattle.clap.specs.Words.{app_of, new_app}
 use Rattle.command_words.specs.Words.{with_limits}
+use Rattle.command_words.proofs.Accepting.{play_is_simple}
 use Rattle.command_words.proofs.words.play_command.Goals as goal
 
 pub returns : goal.returns
 returns c =
     let own : app_of c.about-command.result ≡ new_app (codes "play") = search rules in
-    IfOk-weaker c.with_limits.result _ _ (λ r is. is ∙ ap with_limits own) c.with_limits.ensures
+    (IfOk-weaker c.with_limits.result _ _ (λ r is. is ∙ ap with_limits own) c.with_limits.ensures, play_is_simple)
