@@ -11,9 +11,6 @@ last_get c d rest = simp unary_clauses refl
 take_last : (c d : ℕ) (rest : List ℕ) → take (length (c ∷ d ∷ rest) - 1) (c ∷ d ∷ rest) ≡ c ∷ take (length (d ∷ rest) - 1) (d ∷ rest)
 take_last c d rest = simp unary_clauses refl
 
-pub ends_with_return : List ℕ → Bool
-ends_with_return xs = option_eq ◌==◌ (slice_get xs (length xs - 1)) (Some 13)
-
 only : (b : Bool) (x y : List ℕ) → b ≡ false → y ≡ (if b then x else y)
 only b x y e = rw e refl
 
