@@ -3,6 +3,8 @@
 //! Contracts see a [`Live`] as its seat and the longest list that its pass knows. Its pass
 //! learns what it hands in before the call returns, so a session reads its own writes. What its calls do is said by
 //! relations of seat and list, so that the seat's list of jobs is known at a session's end.
+//!
+//! * `processes`: the processes of batches that come one after the other, of which two that are the same are kept once.
 #![tactic(auto)]
 
 ghost use Rattle.std.specs.Prelude.{◌≡◌, ◌⊎◌};

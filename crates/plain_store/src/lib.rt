@@ -8,6 +8,7 @@
 //! * `search`, `ranks`: the traces that a search finds, and their order.
 //! * `links`: calls between services.
 //! * `adjust`: a trace with its clocks put right.
+//! * `sets`: an item put among others once.
 #![tactic(auto)]
 
 mod adjust;

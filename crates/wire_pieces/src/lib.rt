@@ -6,13 +6,16 @@
 //! fed a piece and then read with what follows gives what the joined bytes give, faults included, and
 //! a fault is reported at the piece that holds its last byte.
 //!
-//! - [`I16`], [`I32`], [`I64`], [`Double`], [`Bool`], [`Size`]: single values.
-//! - [`StringPart`]: a string or binary, which grows only by bytes that have come.
-//! - [`FieldHead`], [`ListHead`], [`MapHead`]: heads. `specs/Heads.antt` and `specs/Lists.antt` say what
+//! - `piece`: the bytes of a piece that are left.
+//! - `gathered`: the bytes of a number or a head that have come.
+//! - `numbers`: [`I16`], [`I32`], [`I64`], [`Double`], [`Bool`], [`Size`].
+//! - `strings`: a string or binary ([`StringPart`]), which grows only by bytes that have come.
+//! - `heads`, `maps`: [`FieldHead`], [`ListHead`], [`MapHead`]. `specs/Heads.antt` and `specs/Lists.antt` say what
 //!   the fields of a struct and the values of a list read from a head or a value on, and
 //!   `proofs/FieldsAgain.antt` and `proofs/ItemsAgain.antt` have the steps of such loops.
-//! - [`Skipping`]: a value of any type that is read past, with at most 64 levels of containers.
-//! - [`PieceError`]: why a piece is refused.
+//! - `skip`: a value of any type that is read past ([`Skipping`]), with at most 64 levels of containers.
+//! - `past`: so many bytes that are read past.
+//! - `fault`: why a piece is refused ([`PieceError`]).
 #![tactic(auto)]
 
 mod fault;
