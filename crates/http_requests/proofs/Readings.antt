@@ -65,10 +65,6 @@ regroup a b text more in0 in1 reads = record {
   end = reads.end;
 }
 
--- a text was taken, and then another
-pub takes_join : (in0 in1 in2 : Option (List ℕ)) (a b c : ReadBuffer) (text more : List ℕ) → ReadsOn in0 in1 a (put_back text b) → ReadsOn in1 in2 b (put_back more c) → ReadsOn in0 in2 a (put_back (text ++ more) c)
-takes_join in0 in1 in2 a b c text more first second = regroup a c text more in0 in2 (takes_then_reads in0 in1 in2 a b (put_back more c) text first second)
-
 -- and one more from the beginning of what is there
 pub takes_more : (in0 in1 : Option (List ℕ)) (a b : ReadBuffer) (text more rest : List ℕ) → ReadsOn in0 in1 a (put_back text b) → b.held ≡ more ++ rest → ReadsOn in0 in1 a (put_back (text ++ more) (record b { held = rest }))
 takes_more in0 in1 a b text more rest reads cut = record {

@@ -1,12 +1,12 @@
 -- How a body is taken, piece by piece.
-use Rattle.std.proofs.Common.{All, ◌≡◌, ℕ, ◌+◌, ◌-◌, ◌≤◌, ◌<◌, ◌==◌, ◌&&◌, Bool, true, false, List, [], ◌∷◌, ◌++◌, length, take, drop, replicate, Result, Ok, Err, IfOk, IfErr, refl, sym, ap, ◌∙◌, subst, arith, inl, inr, append_assoc, append-nil, length-append}
+use Rattle.std.proofs.Common.{All, ◌≡◌, ℕ, ◌+◌, ◌-◌, ◌≤◌, ◌<◌, Bool, true, false, List, [], ◌∷◌, ◌++◌, length, take, drop, replicate, Result, Ok, Err, IfOk, IfErr, refl, sym, ap, ◌∙◌, subst, arith, inl, inr, append_assoc, append-nil, length-append}
 use Rattle.std.proofs.lemmas.Grind.{flat_map-append}
 use Rattle.std.proofs.lemmas.Bool.Decides.{nat_tests}
 use Rattle.std.proofs.lemmas.List.{take-append-drop, length-take-le, length-replicate, drop_all}
 use Rattle.std.proofs.lemmas.List.Elements.{All-append, All-cons, All-nil}
 use Rattle.std.specs.Io.KnownBytes.{IsAtEnd}
 use Rattle.httparse.specs.Ascii.{crlf_bytes}
-use Rattle.chunked_bodies.specs.Chunks.{IsSizeLine, IsSomeSizeLine, IsTrailer, IsContent, IsDecided, Chunk, IsChunk, texts, contents, HasNone, NeverHas, Lacks}
+use Rattle.chunked_bodies.specs.Chunks.{IsSizeLine, IsSomeSizeLine, IsTrailer, IsContent, IsDecided, Chunk, IsChunk, texts, contents, HasNone, Lacks}
 use Rattle.chunked_bodies.proofs.Once.{same_cut}
 use Rattle.chunked_bodies.proofs.Sizes.{zero_line, zero_line_is}
 use Rattle.chunked_bodies.proofs.Behind.{lacks_behind, behind_chunks, no_line, no_content, no_trailer}
@@ -20,24 +20,13 @@ use Rattle.http_requests.specs.Bodies.{Takes, Misses, AwaitsLine, AwaitsRest, Is
 use Rattle.http_requests.specs.declared.asked.BodyLength.TheVariants.{Bytes, Chunked, Unreadable, TooLarge}
 use Rattle.http_requests.specs.declared.asked.Breach.TheVariants as breach
 use Rattle.http_requests.proofs.Ends.{cut_before}
-use Rattle.http_requests.proofs.Readings.{nothing_yet, once, then_on, beginning_then, beginnings_join, beginning_more, beginning_taken, widened, fails_put_back, stops_there, stops_behind, widened_stop}
+use Rattle.http_requests.proofs.Readings.{nothing_yet, once, then_on, beginning_then, beginnings_join, beginning_more, widened, fails_put_back, stops_there, stops_behind, widened_stop}
 
 -- ---- nothing of a kind
 
 module _ {R : Type 0} (source : Source R) (Awaits : List ℕ → Type 0) (s t : R) (old here : ReadBuffer) (Is : List ℕ → Type 0) (bytes : List ℕ) (reads : ReadsOnWhile source Awaits s t old here) (are : bytes ≡ here.held) where
-  pub misses_never : NeverHas Is bytes → Misses source Awaits s t old here Is
-  misses_never never = record { reads = reads; lacks = inl (subst (NeverHas Is) are never) }
-
   pub misses_at_end : (ended : Bool) → KnowsItsEnd old.ended (source.remaining s) → ended ≡ here.ended → ended ≡ true → HasNone Is bytes → Misses source Awaits s t old here Is
   misses_at_end ended knows is over none = record { reads = reads; lacks = inr (reads.on.end knows (sym is ∙ over), subst (HasNone Is) are none) }
-
-  -- a text at the beginning is taken
-  pub takes_it : (mid : ReadBuffer) (len : ℕ) → Is (take len bytes) → len ≤ length bytes → mid ≡ record here { held = drop len here.held } → Takes source Awaits s t old mid Is
-  takes_it mid len is fits mid_is = rw mid_is (record {
-    text = take len bytes;
-    is = is;
-    reads = beginning_taken source Awaits s t old here (take len bytes) (drop len here.held) reads (sym (take-append-drop len here.held) ∙ ap (λ l. take len l ++ drop len here.held) (sym are));
-  })
 
 -- one more read, where more was awaited of what is there
 pub reads_more : {R : Type 0} (source : Source R) (Awaits : List ℕ → Type 0) (s m t : R) (old here new : ReadBuffer) (bytes : List ℕ) → ReadsOnWhile source Awaits s m old here → bytes ≡ here.held
@@ -121,14 +110,6 @@ module _ {S R : Type 0} (takes : Takings S) (source : Source R) where
 
 -- ---- CR LF
 
-pub line_end_cut : (bytes : List ℕ) → begins_line_end bytes ≡ true → bytes ≡ crlf_bytes ++ drop 2 bytes
-line_end_cut [] e = absurd (cc e)
-line_end_cut (a ∷ []) e = absurd (cc e)
-line_end_cut (a ∷ b ∷ rest) e =
-    let first : a ≡ 13 = grind (arith, nat_tests, e) in
-    let second : b ≡ 10 = grind (arith, nat_tests, e) in
-    (λ i. first i ∷ second i ∷ rest)
-
 pub no_line_end : (bytes : List ℕ) → begins_line_end bytes ≡ false → HasNone IsLineEnd bytes
 no_line_end bytes e text rest is cut =
     let yes : begins_line_end bytes ≡ true = ap begins_line_end (cut ∙ ap (λ l. l ++ rest) is) in
@@ -140,15 +121,6 @@ awaits_line_end (a ∷ []) e f =
     let is : a ≡ 13 = grind (arith, nat_tests, f) in
     record { none = no_line_end (a ∷ []) e; more = 10 ∷ []; may = λ i. is i ∷ 10 ∷ [] }
 awaits_line_end (a ∷ b ∷ rest) e f = absurd (cc f)
-
-begins_none : (bytes more : List ℕ) → begins_line_end bytes ≡ false → may_begin_line_end bytes ≡ false → begins_line_end (bytes ++ more) ≡ false
-begins_none [] more e f = absurd (cc f)
-begins_none (a ∷ []) [] e f = refl
-begins_none (a ∷ []) (m ∷ more) e f = ap (λ b. b && m == 10) f
-begins_none (a ∷ b ∷ rest) more e f = e
-
-pub never_line_end : (bytes : List ℕ) → begins_line_end bytes ≡ false → may_begin_line_end bytes ≡ false → NeverHas IsLineEnd bytes
-never_line_end bytes e f more = no_line_end (bytes ++ more) (begins_none bytes more e f)
 
 -- ---- the data of a chunk
 

@@ -1,10 +1,9 @@
 -- A head at the beginning of bytes, and the body behind it.
-use Rattle.std.proofs.Common.{◌≡◌, ℕ, ◌+◌, ◌-◌, ◌==◌, ◌||◌, ◌≤◌, ◌<◌, Bool, true, false, List, ◌++◌, [], length, take, drop, map, slice_range, refl, sym, ap, ◌∙◌, subst, arith, inl, inr, append_assoc, length-append}
+use Rattle.std.proofs.Common.{◌≡◌, ℕ, ◌+◌, ◌-◌, ◌==◌, ◌||◌, ◌≤◌, Bool, List, ◌++◌, [], length, take, drop, slice_range, refl, sym, ap, ◌∙◌, subst, arith, inl, inr, append_assoc, length-append}
 use Rattle.std.specs.Io.KnownBytes.{IsAtEnd}
 use Rattle.std.proofs.lemmas.List.{drop-append-le, take-append-le, take-append-drop, length-drop}
 use Rattle.std.proofs.Math.Seq.{take-append_seam}
 use Rattle.httparse.specs.Grammar.{RequestHead, print_request}
-use Rattle.httparse.specs.Spans.{header_bytes}
 use Rattle.httparse.specs.declared.spans.RequestSpans.{RequestSpans}
 use Rattle.httparse.specs.declared.spans.HeaderSpan.{HeaderSpan}
 use Rattle.http_requests.specs.Heads.{TakesHead, IsWholeHead, AwaitsHead}
@@ -28,11 +27,6 @@ pub slice_of_beginning : (beginning more : List ℕ) (start end : ℕ) → start
 slice_of_beginning beginning more start end ordered inside =
     ap (take (end - start)) (drop-append-le start beginning more (omega arith))
     ∙ take-append-le (end - start) (drop start beginning) more (omega (arith, length-drop start beginning))
-
--- the fields that the spans cover are the head's
-pub pairs_are : (bytes : List ℕ) (headers : List HeaderSpan) (spans : RequestSpans) (w : IsWholeHead bytes headers spans)
-    → map (header_bytes w.beginning) (take spans.headers headers) ≡ pairs_of w.head
-pairs_are bytes headers spans w = w.at.fields
 
 pub target_is : (bytes : List ℕ) (headers : List HeaderSpan) (spans : RequestSpans) (w : IsWholeHead bytes headers spans)
     → w.head.target ≡ slice_range (print_request w.head) spans.path.start spans.path.end
@@ -121,8 +115,3 @@ module _ {R : Type 0} (source : Source R) (s m t : R) (old here behind new : Rea
 -- no head is no request
 pub none_is_breach : {R : Type 0} (source : Source R) (s t : R) (old new : ReadBuffer) → FindsNone source s t old new → FindsBreach source s t old new breach.Head
 none_is_breach source s t old new none = record { text = []; reads = awaits_more source s t old new none.reads; broken = none.broken }
-
--- who stopped with fewer bytes than asked for has found the end
-pub short_ends : (ended : Bool) (count n : ℕ) → (ended ≡ false → count ≤ n) → n < count → ended ≡ true
-short_ends true count n all short = refl
-short_ends false count n all short = absurd (omega (arith, all refl))
