@@ -252,12 +252,6 @@ pub table_given : (hosts : List (List ℕ)) (h : List ℕ) (old new : List ℕ �
 table_given hosts h old new fresh is long put t = put t ∙ (λ i. option_or (is t i) (cond (same_text t h) (Some ((sym long) i)) None)) ∙ sym (number_push hosts h t)
 
 -- ---- one entry of the table of numbers
-pub entry_kept : (g : List ℕ → Option ℕ) (h : List ℕ) (n fresh : ℕ) → g h ≡ Some n → (t : List ℕ) → g t ≡ option_or (g t) (cond (same_text t h) (Some fresh) None)
-entry_kept g h n fresh e t = elim (same_text t h) as (λ b. same_text t h ≡ b → g t ≡ option_or (g t) (cond b (Some fresh) None)) [
-  | true ↦ λ s. let found : g t ≡ Some n = ap g (same_is t h s) ∙ e in found ∙ ap (λ o. option_or o (Some fresh)) (sym found)
-  | false ↦ λ s. sym (or_none (g t))
-] refl
-
 pub entry_made : (g : List ℕ → Option ℕ) (h : List ℕ) (o : Option ℕ) (fresh : ℕ) (t : List ℕ) → g h ≡ None → o ≡ cond (is_eq (text_cmp h t)) (Some fresh) (g t) → o ≡ option_or (g t) (cond (same_text t h) (Some fresh) None)
 entry_made g h o fresh t none put = put ∙ ap (λ b. cond b (Some fresh) (g t)) (sym (texts_ties h t)) ∙ elim (same_text h t) as (λ b. same_text h t ≡ b → cond b (Some fresh) (g t) ≡ option_or (g t) (cond (same_text t h) (Some fresh) None)) [
   | true ↦ λ s.

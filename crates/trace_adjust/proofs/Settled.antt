@@ -1,5 +1,5 @@
 -- Clocks that are set from above are the spans' clocks, and where none can be set any more all are known.
-use Rattle.std.proofs.Common.{◌≡◌, ℕ, zero, suc, ◌+◌, ◌<◌, ◌⊎◌, inl, inr, ⊎_elim, Bool, true, false, ◌&&◌, cond, List, [], ◌∷◌, ◌++◌, map, length, get_or, set, refl, sym, ap, ◌∙◌, arith, subst, length-set, get_or-set_same, get_or-set_other}
+use Rattle.std.proofs.Common.{◌≡◌, ℕ, zero, suc, ◌+◌, ◌<◌, ◌⊎◌, inl, inr, ⊎_elim, Bool, true, false, ◌&&◌, cond, List, [], ◌∷◌, map, length, get_or, set, refl, sym, ap, ◌∙◌, arith, subst, length-set, get_or-set_same, get_or-set_other}
 use Rattle.std.proofs.lemmas.List.{length-map, get_or_default, set-get_or, get_or-map}
 use Rattle.std.specs.Prelude.{Option, Some, None, option_map, is_some, if◌then◌else◌}
 use Rattle.std.proofs.lemmas.Bool.{false≢true, cases_eq}
@@ -115,12 +115,6 @@ none_set m trace cs len none = (
   ),
   λ k. subst (IsNumbered (hosts_of trace)) (sym (none k)) tt,
 )
-
-pub none_push : (cs : List (Option HostClock)) → ((k : ℕ) → get_or cs k None ≡ None) → (k : ℕ) → get_or (cs ++ None ∷ []) k None ≡ None
-none_push [] h zero = refl
-none_push [] h (suc k) = refl
-none_push (c ∷ cs) h zero = h zero
-none_push (c ∷ cs) h (suc k) = none_push cs (λ j. h (suc j)) k
 
 pub closed_more : (m : ℕ) (trace : List Placed) (i : ℕ) (cs new : List (Option HostClock)) → new ≡ cs → AreClosed m trace i (all_hosted (hosts_of trace) cs) → IsClosed m trace i (all_hosted (hosts_of trace) new) → AreClosed m trace (i + 1) (all_hosted (hosts_of trace) new)
 closed_more m trace i cs new e before here k l = ⊎_elim

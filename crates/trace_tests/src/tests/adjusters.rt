@@ -1,4 +1,4 @@
-use crate::tests::histories::{CYCLE, Row as Reported, answer_of, kept};
+use crate::tests::histories::{CYCLE, Row as Reported, SpanRow, answer_of, kept, trace_of};
 use jaeger_model::{Log, Placed, Process, Seq, SharedProcess, Span, SpanId, Text, TraceId};
 use std::alloc::{AllocError, Global};
 use std::mem::drop;
@@ -65,22 +65,10 @@ fn placed_on(alloc: Global, host: &str, span: Span) -> Result<Placed, AllocError
 }
 
 /// A span with one log, at its start, and its process.
-pub(crate) fn placed(alloc: Global, row: Row) -> Result<Placed, AllocError> {
-    placed_on(alloc, row.0, span_of(alloc, row)?)
-}
-
-/// Adds a span for each of the rows.
-fn add_placed(alloc: Global, trace: &mut Vec<Placed>, rows: &[Row]) -> Result<(), AllocError> {
-    for row in rows {
-        trace.push(placed(alloc, *row)?)?;
+impl SpanRow for Row {
+    fn placed(self, alloc: Global) -> Result<Placed, AllocError> {
+        placed_on(alloc, self.0, span_of(alloc, self)?)
     }
-    Ok(())
-}
-
-pub(crate) fn trace_of(alloc: Global, rows: &[Row]) -> Result<Vec<Placed>, AllocError> {
-    let mut trace = Vec::new(alloc);
-    let added = add_placed(alloc, &mut trace, rows);
-    kept(trace, added)
 }
 
 /// The first warning, or an empty text.
@@ -241,7 +229,7 @@ fn late_child(alloc: Global) -> Result<Placed, AllocError> {
 
 /// Adds the root and the late child.
 fn add_late(alloc: Global, trace: &mut Vec<Placed>) -> Result<(), AllocError> {
-    trace.push(placed(alloc, ROOT)?)?;
+    trace.push(ROOT.placed(alloc)?)?;
     trace.push(late_child(alloc)?)?;
     Ok(())
 }
@@ -337,9 +325,10 @@ fn late_log(rt: HostRuntime) -> Result<(), Fail> {
 fn add_chain(alloc: Global, trace: &mut Vec<Placed>) -> Result<(), AllocError> {
     for steps in 0..9_999u64 {
         let id = 10_000 - steps;
-        trace.push(placed(alloc, ("h2", id, id - 1, 900, 50))?)?;
+        let row: Row = ("h2", id, id - 1, 900, 50);
+        trace.push(row.placed(alloc)?)?;
     }
-    trace.push(placed(alloc, ROOT)?)?;
+    trace.push(ROOT.placed(alloc)?)?;
     Ok(())
 }
 

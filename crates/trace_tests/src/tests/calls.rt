@@ -1,4 +1,6 @@
-use crate::tests::histories::{CYCLE, Row as Reported, answer_of, kept, store_answer_to};
+use crate::tests::histories::{
+    CYCLE, Row as Reported, SpanRow, answer_of, store_answer_to, trace_of,
+};
 use jaeger_model::{Placed, Span, SpanId};
 use std::alloc::{AllocError, Global};
 use std::hash::RandomState;
@@ -17,23 +19,11 @@ fn span_at(alloc: Global, id: u64, parent: u64, start: i64) -> Result<Span, Allo
     Ok(span)
 }
 
-fn placed_at(alloc: Global, row: Row) -> Result<Placed, AllocError> {
-    let (service, id, parent, start) = row;
-    placed(alloc, service, span_at(alloc, id, parent, start)?)
-}
-
-/// Adds a span for each of the rows.
-fn add_placed(alloc: Global, trace: &mut Vec<Placed>, rows: &[Row]) -> Result<(), AllocError> {
-    for row in rows {
-        trace.push(placed_at(alloc, *row)?)?;
+impl SpanRow for Row {
+    fn placed(self, alloc: Global) -> Result<Placed, AllocError> {
+        let (service, id, parent, start) = self;
+        placed(alloc, service, span_at(alloc, id, parent, start)?)
     }
-    Ok(())
-}
-
-fn trace_of(alloc: Global, rows: &[Row]) -> Result<Vec<Placed>, AllocError> {
-    let mut trace = Vec::new(alloc);
-    let added = add_placed(alloc, &mut trace, rows);
-    kept(trace, added)
 }
 
 /// How many calls between services the store answers of a history of these spans, within the end and

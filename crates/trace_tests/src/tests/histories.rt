@@ -57,6 +57,30 @@ pub(crate) fn kept<T: Drop>(value: T, done: Result<(), AllocError>) -> Result<T,
     }
 }
 
+/// A row of which a span with its process is made.
+pub(crate) trait SpanRow: Copy {
+    fn placed(self, alloc: Global) -> Result<Placed, AllocError>;
+}
+
+/// Adds a span for each of the rows.
+fn add_spans<R: SpanRow>(
+    alloc: Global,
+    trace: &mut Vec<Placed>,
+    rows: &[R],
+) -> Result<(), AllocError> {
+    for row in rows {
+        trace.push((*row).placed(alloc)?)?;
+    }
+    Ok(())
+}
+
+/// A span for each of the rows.
+pub(crate) fn trace_of<R: SpanRow>(alloc: Global, rows: &[R]) -> Result<Vec<Placed>, AllocError> {
+    let mut trace = Vec::new(alloc);
+    let added = add_spans(alloc, &mut trace, rows);
+    kept(trace, added)
+}
+
 /// Adds an entry for each of the spans.
 fn add_rows(alloc: Global, entries: &mut Vec<Arc<Entry>>, rows: &[Row]) -> Result<(), AllocError> {
     for (place, row) in rows.iter().enumerate() {

@@ -1,7 +1,7 @@
 //! Traces that are lent by the entries of their spans, beside the same ones copied from them.
 
-use crate::tests::adjusters::{PAIRS, placed, trace_of};
-use crate::tests::histories::{history_of, kept};
+use crate::tests::adjusters::{PAIRS, Row};
+use crate::tests::histories::{SpanRow, history_of, kept, trace_of};
 use jaeger_model::{Placed, RefKind, SpanId, SpanRef, TraceId};
 use std::alloc::{AllocError, Global};
 use std::mem::drop;
@@ -65,28 +65,31 @@ fn are_same_references(lent: &LentSpan, shown: &Shown) -> bool {
     true
 }
 
-/// What is said of the span, or nothing.
-fn warning_of(alloc: Global, lent: &LentSpan) -> Result<Vec<u8>, AllocError> {
-    let mut text = Vec::with_capacity(alloc, Warning::LONGEST)?;
-    match lent.warning() {
-        Some(warning) => {
-            let written = warning.write_into(&mut text);
-            kept(text, written)
-        }
-        None => Ok(text),
+/// What is said of a clock, as a span that is copied says it.
+fn text_of(alloc: Global, warning: Warning) -> Result<String, AllocError> {
+    match warning {
+        Warning::Adjusted(delta) => format!(in alloc; "clock skew adjusted by {delta} us"),
+        Warning::PastLimit { delta, max_skew } => format!(in alloc;
+            "clock skew of {delta} us not applied: the limit is {max_skew} us"
+        ),
+        Warning::PastTimes(delta) => format!(in alloc;
+            "clock skew of {delta} us not applied: a time would not fit"
+        ),
     }
 }
 
 /// The same is said of both.
 fn are_same_warnings(alloc: Global, lent: &LentSpan, shown: &Shown) -> Result<bool, AllocError> {
-    let text = warning_of(alloc, lent)?;
-    let same = match shown.warnings.as_slice() {
-        [] => text.is_empty(),
-        [warning] => warning.as_str().as_bytes() == text.as_slice(),
-        _ => false,
-    };
-    drop(text);
-    Ok(same)
+    match (lent.warning(), shown.warnings.as_slice()) {
+        (None, []) => Ok(true),
+        (Some(warning), [wanted]) => {
+            let text = text_of(alloc, warning)?;
+            let same = wanted.as_str() == text.as_str();
+            drop(text);
+            Ok(same)
+        }
+        _ => Ok(false),
+    }
 }
 
 /// The lent span is the one that is shown.
@@ -144,7 +147,7 @@ fn are_lent_moved(
     max_skew: u64,
     indexes: &[u32],
 ) -> Result<bool, AllocError> {
-    let rows = [("h1", 1, 0, start, long), ("h2", 2, 1, child, short)];
+    let rows: [Row; 2] = [("h1", 1, 0, start, long), ("h2", 2, 1, child, short)];
     match Limits::new(1, 1, 0, max_skew) {
         Some(limits) => {
             let spans = kept_by_entries(alloc, trace_of(alloc, &rows)?, indexes)?;
@@ -199,8 +202,9 @@ fn add_references(placed: &mut Placed, parent: u64) -> Result<(), AllocError> {
 
 /// A root and its child, which has references, and has its parent among them or not.
 fn referring(alloc: Global, parent: u64) -> Result<Vec<Placed>, AllocError> {
-    let mut trace = trace_of(alloc, &[("h1", 1, 0, 1000, 101)])?;
-    let mut child = placed(alloc, ("h2", 2, 1, 900, 50))?;
+    let [root, child]: [Row; 2] = [("h1", 1, 0, 1000, 101), ("h2", 2, 1, 900, 50)];
+    let mut trace = trace_of(alloc, &[root])?;
+    let mut child = child.placed(alloc)?;
     let referred = add_references(&mut child, parent);
     let child = kept(child, referred)?;
     trace.push(child)?;
