@@ -14,7 +14,7 @@ import os
 import random
 
 from decode import KEYS, ROOT, field, tag, text
-from serve import Server
+from serve import started
 
 IN_BATCH = 10
 
@@ -40,7 +40,7 @@ def batch(rng, tags):
 def fill(server, size, tags):
     """Hands in so many spans; gives how many bytes of bodies that were."""
     rng = random.Random(3)
-    client = http.client.HTTPConnection("127.0.0.1", int(server.port))
+    client = http.client.HTTPConnection("127.0.0.1", server.port)
     sent = 0
     for _ in range(size // IN_BATCH):
         body = batch(rng, tags)
@@ -56,13 +56,13 @@ def fill(server, size, tags):
 def answered(server):
     """The bytes of the answer to a search for all traces, and by how many bytes the greatest size rose for it."""
     before = server.peak()
-    client = http.client.HTTPConnection("127.0.0.1", int(server.port))
+    client = http.client.HTTPConnection("127.0.0.1", server.port)
     client.request("GET", "/api/traces?service=orders&limit=0")
     answer = client.getresponse()
     assert answer.status == 200, answer.status
     size = len(answer.read())
     client.close()
-    return size, (server.peak() - before) * 1000 * 1024
+    return size, (server.peak() - before) * 1024
 
 
 def main():
@@ -74,9 +74,9 @@ def main():
     print(f"{'tags':>5} {'spans':>9} {'MB in':>7} {'MB held':>8} {'bytes a span':>13} {'of bytes in':>12} {'MB answer':>10} {'MB more':>8}")
     for tags in [int(number) for number in options.tags.split(",")]:
         for size in [int(number) for number in options.sizes.split(",")]:
-            with Server(options.bin, 2) as server:
+            with started(options.bin, 2) as server:
                 sent = fill(server, size, tags)
-                held = server.peak() * 1000 * 1024
+                held = server.peak() * 1024
                 answer, more = answered(server)
             per = f"{held / size:13.0f} {held / sent:12.2f}" if size else f"{'-':>13} {'-':>12}"
             print(f"{tags:>5} {size:>9} {sent / 1e6:>7.1f} {held / 1e6:>8.1f} {per} {answer / 1e6:>10.1f} {more / 1e6:>8.1f}")

@@ -23,7 +23,6 @@ together. It ends by itself after five minutes at most; what was not measured by
 """
 import argparse
 import os
-import select
 import statistics
 import subprocess
 import sys
@@ -33,8 +32,10 @@ import urllib.request
 
 HERE = os.path.dirname(os.path.abspath(__file__))
 ROOT = os.path.dirname(HERE)
+sys.path.append(os.path.join(ROOT, "checks"))
+from servers import Failed, Server
+
 LIMITS = ["--queue", "256", "--batches", "1000000", "--spans", "10000000"]
-TICK = os.sysconf("SC_CLK_TCK")
 SEARCH = "/api/traces?service=orders&limit=20"
 AT_MOST = 290
 SERVERS = ["ours", "plain"]
@@ -57,42 +58,14 @@ def build(folder, name):
     return program
 
 
-class Server:
-    """A server on a free port, killed at the end."""
+def started(program, workers):
+    """A server with so many workers and room for all that is measured."""
+    return Server("--workers", workers, *LIMITS, binary=program)
 
-    def __init__(self, program, workers):
-        words = [program, "serve", "--port", "0", "--workers", str(workers), *LIMITS]
-        self.run = subprocess.Popen(words, stdin=subprocess.DEVNULL, stdout=subprocess.PIPE, stderr=subprocess.DEVNULL)
-        ready, _, _ = select.select([self.run.stdout], [], [], 10)
-        line = self.run.stdout.readline().decode() if ready else ""
-        if not line.startswith("listening 127.0.0.1:"):
-            self.run.kill()
-            self.run.wait()
-            raise OSError(f"{program} serve does not listen: {line!r}")
-        self.port = line.strip().rsplit(":", 1)[1]
 
-    def __enter__(self):
-        return self
-
-    def __exit__(self, *_):
-        self.run.kill()
-        self.run.wait()
-        self.run.stdout.close()
-
-    def processor(self):
-        """The seconds of a processor that it took, system time too."""
-        with open(f"/proc/{self.run.pid}/stat") as file:
-            words = file.read().rsplit(")", 1)[1].split()
-        return (int(words[11]) + int(words[12])) / TICK
-
-    def peak(self):
-        """The most memory it had, in megabytes."""
-        with open(f"/proc/{self.run.pid}/status") as file:
-            return next(int(line.split()[1]) for line in file if line.startswith("VmHWM")) / 1000
-
-    def get(self, target):
-        with urllib.request.urlopen(f"http://127.0.0.1:{self.port}{target}", timeout=10) as response:
-            return response.read()
+def get(server, target):
+    with urllib.request.urlopen(f"http://127.0.0.1:{server.port}{target}", timeout=10) as response:
+        return response.read()
 
 
 class Bench:
@@ -119,16 +92,16 @@ class Bench:
         if name not in self.programs or time.monotonic() > self.end:
             return {}
         try:
-            with Server(self.programs[name], writers + readers + 4) as server:
+            with started(self.programs[name], writers + readers + 4) as server:
                 self.load_with("--port", server.port, "--fill", size, "--writers", 0)
                 before = server.processor()
                 asked = ["--target", target] if target else []
                 numbers = self.load_with("--port", server.port, "--fill", 0, "--held", size, "--writers", writers, "--readers",
                                          readers, "--pace", pace, "--seconds", seconds or self.seconds, *asked)
                 numbers["processor"] = 1e6 * (server.processor() - before) / max(1, numbers["reads"] or numbers["spans"])
-                numbers["peak"] = server.peak()
-                self.shown[name] = [server.get(f"/api/traces/{first_trace():x}"), server.get(SEARCH)]
-        except (OSError, subprocess.TimeoutExpired) as fault:
+                numbers["peak"] = server.peak() / 1000
+                self.shown[name] = [get(server, f"/api/traces/{first_trace():x}"), get(server, SEARCH)]
+        except (Failed, OSError, subprocess.TimeoutExpired) as fault:
             self.faults.append(f"{NAMES[name]}, {size} spans, {writers} writers, {readers} readers: {fault}")
             return {}
         numbers["held"] = size + numbers["spans"]

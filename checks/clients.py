@@ -12,7 +12,6 @@ is missing; nothing is installed. With ruby-jaeger-client there are more checks;
 import argparse
 import json
 import os
-import select
 import shutil
 import struct
 import subprocess
@@ -21,7 +20,8 @@ import tempfile
 import urllib.error
 import urllib.request
 
-ROOT = os.path.dirname(os.path.dirname(os.path.abspath(__file__)))
+from servers import ROOT, Failed, Server
+
 TRACE = 0x0102030405060708_F1F2F3F4F5F6F7F8
 OTHER = 0x00000000000000AA_00000000000000BB
 LOW = 0xDEAD
@@ -69,30 +69,8 @@ class Checks:
             print(f"FAILED {client}: {type(fault).__name__}: {fault}", flush=True)
 
 
-class Server:
-    """The program, or one that listens already."""
-
-    def __init__(self, binary, port):
-        self.run = None
-        self.port = port
-        if port is None:
-            if not os.path.exists(binary):
-                sys.exit(f"{binary} is not there")
-            self.run = subprocess.Popen([binary, "serve", "--port", "0"], stdin=subprocess.DEVNULL, stdout=subprocess.PIPE, stderr=subprocess.DEVNULL)
-            ready, _, _ = select.select([self.run.stdout], [], [], 10)
-            line = self.run.stdout.readline().decode().strip() if ready else ""
-            if not line.startswith("listening 127.0.0.1:"):
-                self.run.kill()
-                sys.exit(f"{binary} serve does not listen: {line!r}")
-            self.port = int(line.rpartition(":")[2])
-
-    def __enter__(self):
-        return self
-
-    def __exit__(self, *_):
-        if self.run:
-            self.run.kill()
-            self.run.wait()
+class Queried(Server):
+    """A server whose answers are read as JSON."""
 
     def url(self, target):
         return f"http://127.0.0.1:{self.port}{target}"
@@ -369,7 +347,11 @@ def main():
             missing(package)
     os.environ["no_proxy"] = "127.0.0.1"
     checks = Checks()
-    with tempfile.TemporaryDirectory() as folder, Server(options.bin, options.port) as server:
+    try:
+        server = Queried(binary=options.bin, port=options.port)
+    except Failed as fault:
+        sys.exit(str(fault))
+    with tempfile.TemporaryDirectory() as folder, server:
         checks.each("thrift", lambda: by_thrift(checks, server, generated(folder)))
         checks.each("curl", lambda: by_curl(checks, server, folder, not options.no_searches))
         ruby = ["ruby", "-e", "require 'jaeger/client'"]

@@ -34,10 +34,10 @@ it could not run, or a connection ended in a way that no client asked for. Stand
 """
 import argparse
 import collections
+import contextlib
 import multiprocessing
 import os
 import random
-import select
 import subprocess
 import sys
 import tempfile
@@ -47,49 +47,21 @@ import traceback
 from history_clients import (RECORD, TOLD, Connection, Log, Look, OperationsLook, PageLook, Parted, Reader, ServicesLook,
                              Violation, Writer, run_client, service_of)
 from history_judge import Judge
-
-ROOT = os.path.dirname(os.path.dirname(os.path.abspath(__file__)))
+from servers import ROOT, Failed, Server
 
 
 class CannotRun(Exception):
     pass
 
 
-class Server:
-    """The program, killed at the end, or a server that listens already."""
-
-    def __init__(self, words, port=None):
-        self.run = None
-        self.port = port
-        if port is None:
-            self.start(words)
-
-    def start(self, words):
-        try:
-            self.run = subprocess.Popen(words, stdin=subprocess.DEVNULL, stdout=subprocess.PIPE)
-        except OSError as fault:
-            raise CannotRun(f"{words[0]} can't be started: {fault}") from None
-        ready, _, _ = select.select([self.run.stdout], [], [], 10)
-        line = self.run.stdout.readline().decode().strip() if ready else ""
-        if not line.startswith("listening 127.0.0.1:"):
-            self.end()
-            raise CannotRun(f"{words[0]} does not listen: {line!r}")
-        self.port = int(line.rpartition(":")[2])
-
-    def __enter__(self):
-        return self
-
-    def __exit__(self, *_):
-        self.end()
-
-    def end(self):
-        if self.run:
-            self.run.kill()
-            self.run.wait()
-            self.run.stdout.close()
-
-    def is_there(self):
-        return self.run is None or self.run.poll() is None
+@contextlib.contextmanager
+def telling(server):
+    """At the end it is told what the server wrote to standard error."""
+    try:
+        yield
+    finally:
+        for line in server.told():
+            print(f"the server told: {line}", flush=True)
 
 
 def run_clients(options, port, start):
@@ -172,10 +144,10 @@ def troubles(logs):
     return sum((log.troubles for log in logs), collections.Counter())
 
 
-def drive(options, words, port=None):
+def drive(options, binary, *words, port=None):
     """Drives a server and judges it: what violates a promise, and whether something went wrong beside that."""
     start = time.monotonic()
-    with Server(words, port) as server:
+    with Server(*words, binary=binary, port=port) as server, telling(server):
         wants_empty(server.port)
         logs = run_clients(options, server.port, start)
         if not server.is_there():
@@ -225,8 +197,7 @@ def self_test(options):
         program = build(folder)
         for fault in ["none", *FAULTS]:
             print(f"-- a plain server, fault: {fault}", flush=True)
-            words = [program, "serve", "--port", "0", "--workers", str(options.workers), "--fault", fault]
-            violations, troubled = drive(options, words)
+            violations, troubled = drive(options, program, "--workers", options.workers, "--fault", fault)
             is_seen = any(FAULTS[fault] in what for what in violations) if fault in FAULTS else not violations
             if troubled or not is_seen:
                 failed += 1
@@ -266,10 +237,9 @@ def main():
         if options.self_test:
             sys.exit(self_test(options))
         limits = ["--queue", options.queue, "--batches", options.batches, "--spans", 3 * options.batches]
-        words = [options.bin, "serve", "--port", "0", "--idle", "60", "--workers", options.workers, *limits]
-        violations, troubled = drive(options, [str(word) for word in words], options.port)
+        violations, troubled = drive(options, options.bin, "--idle", 60, "--workers", options.workers, *limits, port=options.port)
         sys.exit(1 if violations else 2 if troubled else 0)
-    except CannotRun as fault:
+    except (CannotRun, Failed) as fault:
         print(fault)
     except Exception:
         traceback.print_exc()

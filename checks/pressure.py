@@ -17,10 +17,9 @@ Standard library alone, Linux. One line for each part; the last line is `N passe
 import argparse
 import os
 import resource
-import sys
 import time
 
-from servers import ROOT, Client, Failed, Server, check, get, post
+from servers import ROOT, Client, Failed, Server, check, get, post, run_cases
 
 
 def posted_until_refused(server):
@@ -44,7 +43,7 @@ def posted_until_refused(server):
     return accepted, others
 
 
-def memory(_):
+def memory():
     limit = 600 << 20
     with Server("--batches", 1_000_000, "--spans", 1_000_000, "--workers", 4, "--idle", 0, address_space=limit) as server:
         accepted, others = posted_until_refused(server)
@@ -80,7 +79,7 @@ def refusals(posts):
         return f"{posts} refusals; {held[0]} kB after the first ten thousand, {held[-1]} kB after all"
 
 
-def idle(_):
+def idle():
     with Server("--workers", 4) as server:
         with server.client() as client:
             client.ask(post(1), 202)
@@ -89,7 +88,7 @@ def idle(_):
         return f"{share:.3f} of a core"
 
 
-def told(_):
+def told():
     with Server("--batches", 1, "--workers", 2) as server:
         with server.client() as client:
             client.ask(post(1), 202)
@@ -116,20 +115,10 @@ def main():
     asked = argparse.ArgumentParser(description=__doc__, formatter_class=argparse.RawDescriptionHelpFormatter)
     asked.add_argument("--bin", default=os.path.join(ROOT, "crates/jaeger_one/out/jaeger_one"))
     asked.add_argument("--posts", type=int, default=1_000_000)
-    asked.add_argument("--only")
+    asked.add_argument("--only", default="", help="the parts whose name has this word")
     options = asked.parse_args()
     Server.binary = options.bin
-    passed = failed = 0
-    for part in (memory, refusals, idle, told):
-        if options.only in (None, part.__name__):
-            try:
-                print(f"{part.__name__}: {part(options.posts)}", flush=True)
-                passed += 1
-            except (Failed, OSError) as fault:
-                print(f"{part.__name__}: FAILED: {fault}", flush=True)
-                failed += 1
-    print(f"{passed} passed, {failed} failed")
-    sys.exit(1 if failed else 0)
+    run_cases({"memory": memory, "refusals": lambda: refusals(options.posts), "idle": idle, "told": told}, options.only)
 
 
 if __name__ == "__main__":

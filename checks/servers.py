@@ -1,6 +1,8 @@
-"""What checks of a running server share: batches as bytes, requests, a client that reads responses, and the program on a free port.
+"""What checks of a running server share: batches as bytes, requests, a client that reads responses, the program on a free port, and a
+run of cases.
 
-`sockets.py` and `pressure.py` use it. Standard library alone; what it tells of a process is for Linux.
+`sockets.py` and `pressure.py` use it; `clients.py`, `history.py`, `bench/serve.py` and `bench/memory.py` start their servers by it. Standard
+library alone; what it tells of a process is for Linux.
 """
 import json
 import os
@@ -9,6 +11,7 @@ import select
 import socket
 import struct
 import subprocess
+import sys
 import tempfile
 import time
 
@@ -25,6 +28,25 @@ class Failed(Exception):
 def check(holds, text):
     if not holds:
         raise Failed(text)
+
+
+def run_cases(cases, only):
+    """Runs the cases whose name has this word, and ends with status 0 if none failed. A line has what a case tells, or why it failed; the last
+    one counts them."""
+    passed = failed = 0
+    for name, case in cases.items():
+        if only not in name:
+            continue
+        try:
+            told = case()
+            passed += 1
+            if told:
+                print(f"{name}: {told}", flush=True)
+        except (Failed, OSError) as fault:
+            failed += 1
+            print(f"FAILED {name}: {str(fault) or type(fault).__name__}", flush=True)
+    print(f"{passed} passed, {failed} failed")
+    sys.exit(1 if failed else 0)
 
 
 # Batches: one span each, by docs/wire-format.md.
@@ -134,44 +156,67 @@ class Client:
 
 
 class Server:
-    """The program on a port, killed at the end unless it has ended by itself. It may have a limit of address space, as
-    `ulimit -v` sets it."""
+    """A program that serves on a port, killed at the end unless it has ended by itself; or with `port` one that listens there already. It
+    may have a limit of address space, as `ulimit -v` sets it."""
 
-    binary = None
+    binary = None  # the program where no other one is named
 
-    def __init__(self, *words, address_space=None):
-        def limited():
-            if address_space:
-                resource.setrlimit(resource.RLIMIT_AS, (address_space, resource.RLIM_INFINITY))
-
-        command = [self.binary, "serve", *(str(word) for word in words)]
-        self.errors = tempfile.TemporaryFile("a+b")  # what is read here moves no place to write
-        self.run = subprocess.Popen(command, stdin=subprocess.DEVNULL, stdout=subprocess.PIPE, stderr=self.errors, preexec_fn=limited)
+    def __init__(self, *words, binary=None, port=None, address_space=None):
+        self.run = None
         self.output = b""
+        self.port = port
+        if port is None:
+            self.start([binary or self.binary, "serve", *map(str, words)], address_space)
+
+    def start(self, command, address_space):
+        def limited():
+            resource.setrlimit(resource.RLIMIT_AS, (address_space, resource.RLIM_INFINITY))
+
+        self.errors = tempfile.TemporaryFile("a+b")  # what is read here moves no place to write
+        try:
+            self.run = subprocess.Popen(command, stdin=subprocess.DEVNULL, stdout=subprocess.PIPE, stderr=self.errors,
+                                        preexec_fn=limited if address_space else None)
+        except OSError as fault:
+            self.errors.close()
+            raise Failed(f"{command[0]} can't be started: {fault}") from None
+        self.await_line()
+        line, line_feed, _ = self.output.partition(b"\n")
+        if not (line_feed and line.startswith(b"listening 127.0.0.1:")):
+            self.end()
+            raise Failed(f"{command[0]} does not listen: {self.output!r}")
+        self.port = int(line.rpartition(b":")[2])
+
+    def await_line(self):
+        """The first line that it prints is taken in, or as far as it comes in time."""
         end = time.monotonic() + PATIENCE
         while b"\n" not in self.output:
             ready, _, _ = select.select([self.run.stdout], [], [], max(0, end - time.monotonic()))
             data = os.read(self.run.stdout.fileno(), 4096) if ready else b""
             if not data:
-                self.run.kill()
-                self.run.wait()
-                raise Failed(f"it does not listen: {self.output!r}")
+                break
             self.output += data
-        line = self.output.partition(b"\n")[0].decode()
-        check(line.startswith("listening 127.0.0.1:"), f"the first line is {line!r}")
-        self.port = int(line.rpartition(":")[2])
 
     def __enter__(self):
         return self
 
     def __exit__(self, *_):
-        self.run.kill()
-        self.run.wait()
-        self.run.stdout.close()
-        self.errors.close()
+        self.end()
+
+    def end(self):
+        if self.run:
+            self.run.kill()
+            self.run.wait()
+            self.run.stdout.close()
+            self.errors.close()
+
+    def is_there(self):
+        """Whether it has not ended, as far as can be seen."""
+        return self.run is None or self.run.poll() is None
 
     def told(self):
-        """The lines that it wrote to standard error."""
+        """The lines that it wrote to standard error; none of one that was there already."""
+        if not self.run:
+            return []
         self.errors.seek(0)
         return self.errors.read().decode().splitlines()
 
@@ -187,10 +232,18 @@ class Server:
         time.sleep(seconds)
         return (self.processor() - before) / seconds
 
+    def kilobytes(self, line):
+        """What this line of its status says."""
+        with open(f"/proc/{self.run.pid}/status") as file:
+            return next(int(each.split()[1]) for each in file if each.startswith(line + ":"))
+
     def memory(self):
         """The kilobytes that it holds."""
-        with open(f"/proc/{self.run.pid}/status") as file:
-            return next(int(line.split()[1]) for line in file if line.startswith("VmRSS"))
+        return self.kilobytes("VmRSS")
+
+    def peak(self):
+        """The most kilobytes that it held."""
+        return self.kilobytes("VmHWM")
 
     def client(self):
         return Client(self.port)

@@ -14,11 +14,10 @@ import os
 import signal
 import socket
 import subprocess
-import sys
 import threading
 import time
 
-from servers import PATIENCE, ROOT, THRIFT, Client, Failed, Server, batch, check, get, head, post
+from servers import PATIENCE, ROOT, THRIFT, Client, Failed, Server, batch, check, get, head, post, run_cases
 
 
 def found(client, trace):
@@ -438,18 +437,7 @@ def main():
     asked.add_argument("--only", default="", help="the cases whose name has this word")
     options = asked.parse_args()
     Server.binary = options.bin
-    passed = failed = 0
-    for name, case in CASES.items():
-        if options.only not in name:
-            continue
-        try:
-            case()
-            passed += 1
-        except (Failed, OSError) as fault:
-            failed += 1
-            print(f"FAILED {name}: {fault or type(fault).__name__}", flush=True)
-    print(f"{passed} passed, {failed} failed")
-    sys.exit(1 if failed else 0)
+    run_cases(CASES, options.only)
 
 
 if __name__ == "__main__":
