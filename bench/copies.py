@@ -39,6 +39,28 @@ IN_BATCH = 10
 KINDS = ["one", "copies", "beside", "still"]
 NAMES = {"one": "one thread", "copies": "two copies", "beside": "two copies, 3 readers", "still": "3 readers, no writer"}
 
+# What the programs of this script and of searches.py both need.
+CLOCK_AND_BODIES = """/// Nanoseconds since some moment.
+fn now<R: Clock>(rt: &R) -> u64 {
+    match rt.monotonic() {
+        Ok(time) => u64::try_from(time.as_nanos()).unwrap_or(0),
+        Err(_) => 0,
+    }
+}
+
+/// The first body and what stands behind it; none where there is no whole one. A body is a length of four bytes and then that many bytes.
+fn split_body(input: &[u8]) -> Option<(&[u8], &[u8])> {
+    let [a, b, c, d, tail @ ..] = input else {
+        return None;
+    };
+    let length = u32::from_be_bytes([*a, *b, *c, *d]) as usize;
+    if tail.len() < length {
+        return None;
+    }
+    Some(tail.split_at(length))
+}
+"""
+
 # The program.
 MAIN = """//! Times the store of one thread, or two copies of a store, over the bodies of standard input: the last ones are timed as they are
 //! taken in, and traces are read after that or beside it.
@@ -95,26 +117,7 @@ struct Phases {
     phase: AtomicU64,
 }
 
-/// Nanoseconds since some moment.
-fn now<R: Clock>(rt: &R) -> u64 {
-    match rt.monotonic() {
-        Ok(time) => u64::try_from(time.as_nanos()).unwrap_or(0),
-        Err(_) => 0,
-    }
-}
-
-/// The first body and what stands behind it; none where there is no whole one. A body is a length of four bytes and then that many bytes.
-fn split_body(input: &[u8]) -> Option<(&[u8], &[u8])> {
-    let [a, b, c, d, tail @ ..] = input else {
-        return None;
-    };
-    let length = u32::from_be_bytes([*a, *b, *c, *d]) as usize;
-    if tail.len() < length {
-        return None;
-    }
-    Some(tail.split_at(length))
-}
-
+""" + CLOCK_AND_BODIES + """
 /// How many bodies there are.
 fn count_bodies(input: &[u8]) -> usize {
     let mut rest = input;
@@ -461,28 +464,33 @@ def below(names, lists):
     return found
 
 
-def build(top):
-    """Proves and builds the program in a copy below this folder."""
+def build(top, name, deps, files):
+    """Proves and builds a program of these sources in a copy, below this folder, of the crates that it stands on."""
     with open(os.path.join(ROOT, "crates.txt")) as file:
         lines = [line.partition(":") for line in file if ":" in line and not line.startswith("#")]
-    lists = {name.split()[0]: deps.split() for name, _, deps in lines}
-    names = sorted(below(DEPS.split(), lists))
-    for name in names:
-        there = os.path.join(top, "crates", name)
+    lists = {crate.split()[0]: words.split() for crate, _, words in lines}
+    used = below(deps.split(), lists)
+    for crate in used:
+        there = os.path.join(top, "crates", crate)
         if not os.path.exists(there):
-            shutil.copytree(os.path.join(ROOT, "crates", name), there, symlinks=True)
+            shutil.copytree(os.path.join(ROOT, "crates", crate), there, symlinks=True)
     shutil.copy(os.path.join(ROOT, "HANDLES"), top)
     with open(os.path.join(top, "crates.txt"), "w") as file:
-        file.writelines(f"{name}: {' '.join(lists[name])}\n" for name in names)
-        file.write(f"copies_times: {DEPS}\n")
-    crate = os.path.join(top, "crates", "copies_times")
-    for name, contents in {"src/main.rt": MAIN, "proofs/timed_copies/Invariants.antt": GHOSTS}.items():
-        path = os.path.join(crate, name)
+        file.writelines(f"{crate}: {' '.join(lists[crate])}\n" for crate in lists if crate in used)
+        file.write(f"{name}: {deps}\n")
+    home = os.path.join(top, "crates", name)
+    for path, contents in files.items():
+        path = os.path.join(home, path)
         os.makedirs(os.path.dirname(path), exist_ok=True)
         with open(path, "w") as file:
             file.write(contents)
-    subprocess.run(["rt", "run", "--jobs", "1"], cwd=crate, check=True, stdin=subprocess.DEVNULL, stdout=sys.stderr)
-    return os.path.join(crate, "out", "copies_times")
+    subprocess.run(["rt", "run", "--jobs", "1"], cwd=home, check=True, stdin=subprocess.DEVNULL, stdout=sys.stderr)
+    return os.path.join(home, "out", name)
+
+
+def built(options, folder, name, deps, files):
+    """The program that `--bin` names, or else one that is built where `--folder` says, or in this folder."""
+    return options.bin or build(os.path.abspath(options.folder or os.path.join(folder, "repository")), name, deps, files)
 
 
 def batch(rng, trace):
@@ -546,7 +554,7 @@ def main():
     options = asked.parse_args()
     columns = ["admits/s", "of one", "admit p50", "admit p99", "reads/s", "read p50", "read p99"]
     with tempfile.TemporaryDirectory() as folder:
-        program = options.bin or build(os.path.abspath(options.folder) if options.folder else os.path.join(folder, "repository"))
+        program = built(options, folder, "copies_times", DEPS, {"src/main.rt": MAIN, "proofs/timed_copies/Invariants.antt": GHOSTS})
         print(f"load at the start {load()}; times in microseconds; medians of {options.rounds} rounds")
         print("| Spans held | | " + " | ".join(columns) + " |")
         print("|---" * (len(columns) + 2) + "|")

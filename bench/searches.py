@@ -22,13 +22,11 @@ import random
 import statistics
 import struct
 import subprocess
-import sys
 import tempfile
 
 from compare import instructions
-from copies import below
+from copies import CLOCK_AND_BODIES, built, load
 from decode import ROOT, field, span, text
-import shutil
 
 SERVICES = ["frontend", "orders", "billing", "catalogue", "shipping"]
 QUESTIONS = ["one of a common service", "20 of a common service", "20 of a common service, with JSON", "all of a common service", "a rare service",
@@ -52,26 +50,7 @@ use std::sync::Arc;
 use std::time::Clock;
 use trace_model::{Answer, Entry, Find, Limits, Query, Work};
 
-/// Nanoseconds since some moment.
-fn now<R: Clock>(rt: &R) -> u64 {
-    match rt.monotonic() {
-        Ok(time) => u64::try_from(time.as_nanos()).unwrap_or(0),
-        Err(_) => 0,
-    }
-}
-
-/// The first of the bodies, which are a length of four bytes and then that many bytes, each, and those behind it.
-fn next_body(bodies: &[u8]) -> Option<(&[u8], &[u8])> {
-    let [a, b, c, d, tail @ ..] = bodies else {
-        return None;
-    };
-    let length = u32::from_be_bytes([*a, *b, *c, *d]) as usize;
-    if tail.len() < length {
-        return None;
-    }
-    Some(tail.split_at(length))
-}
-
+""" + CLOCK_AND_BODIES + """
 /// The entry of a body.
 fn entry_of(alloc: Global, body: &[u8], number: u64) -> Result<Arc<Entry>> {
     let batch = decode(alloc, body)?;
@@ -96,7 +75,7 @@ fn applied<R: Clock>(rt: &R, store: &mut SpanStore, entry: Arc<Entry>) -> Result
 fn filled<R: Clock + Print>(rt: &R, alloc: Global, store: &mut SpanStore, bodies: &[u8], reporting: bool) -> Result<()> {
     let mut rest = bodies;
     for before in 0..1_000_000u64 {
-        let Some((body, after)) = next_body(rest) else {
+        let Some((body, after)) = split_body(rest) else {
             break;
         };
         let entry = entry_of(alloc, body, before + 1)?;
@@ -239,29 +218,6 @@ fn main(rt: HostRuntime) -> Result<()> {
 DEPS = "span_store query_json batch_codec jaeger_model trace_model serde_json anyhow"
 
 
-def build_store(top):
-    """Proves and builds the program in a copy below this folder."""
-    with open(os.path.join(ROOT, "crates.txt")) as file:
-        lines = [line.partition(":") for line in file if ":" in line and not line.startswith("#")]
-    lists = {name.split()[0]: deps.split() for name, _, deps in lines}
-    names = below(DEPS.split(), lists)
-    for name in names:
-        there = os.path.join(top, "crates", name)
-        if not os.path.exists(there):
-            shutil.copytree(os.path.join(ROOT, "crates", name), there, symlinks=True)
-    shutil.copy(os.path.join(ROOT, "HANDLES"), top)
-    with open(os.path.join(top, "crates.txt"), "w") as file:
-        file.writelines(f"{name}: {' '.join(lists[name])}\n" for name in lists if name in names)
-        file.write(f"searches_times: {DEPS}\n")
-    source = os.path.join(top, "crates", "searches_times", "src")
-    os.makedirs(source, exist_ok=True)
-    with open(os.path.join(source, "main.rt"), "w") as file:
-        file.write(MAIN)
-    crate = os.path.dirname(source)
-    subprocess.run(["rt", "run", "--jobs", "1"], cwd=crate, check=True, stdin=subprocess.DEVNULL, stdout=sys.stderr)
-    return os.path.join(crate, "out", "searches_times")
-
-
 def build_scan(folder):
     program = os.path.join(folder, "scan")
     source = os.path.join(ROOT, "bench", "compare", "scan.rs")
@@ -322,11 +278,6 @@ def count(program, path, end_ms):
     return more(2) - more(1), int(said.split()[3])
 
 
-def load():
-    with open("/proc/loadavg") as file:
-        return file.read().split()[0]
-
-
 def main():
     asked = argparse.ArgumentParser(description=__doc__, formatter_class=argparse.RawDescriptionHelpFormatter)
     asked.add_argument("--bin", help="a program that was built by this script")
@@ -337,7 +288,7 @@ def main():
     asked.add_argument("--count", action="store_true", help="the instructions that JSON takes")
     options = asked.parse_args()
     with tempfile.TemporaryDirectory() as folder:
-        program = options.bin or build_store(os.path.abspath(options.folder) if options.folder else os.path.join(folder, "repository"))
+        program = built(options, folder, "searches_times", DEPS, {"src/main.rt": MAIN})
         path = os.path.join(folder, "bodies")
         print(f"load at the start {load()}")
         if options.load:

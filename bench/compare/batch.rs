@@ -1,5 +1,5 @@
-//! A decoder of batches in plain Rust, by the rules of `docs/wire-format.md` and without proofs: what `plain.rs` measures
-//! and `bench/plain_server.rs` takes its batches by.
+//! A decoder of batches in plain Rust, by the rules of `docs/wire-format.md` and without proofs: what `plain.rs` measures,
+//! and what `scan.rs` and `bench/plain_server.rs` take their batches by.
 #![allow(dead_code)]
 
 #[derive(Debug)]
@@ -338,6 +338,17 @@ fn span(cursor: &mut Cursor<'_>) -> Read<Span> {
         tags,
         logs,
     })
+}
+
+/// The bodies of the input of `plain.rs` and `scan.rs`: a length of four bytes, then that many bytes, each.
+pub fn bodies(mut input: &[u8]) -> Vec<&[u8]> {
+    let mut bodies = Vec::new();
+    while let Some((length, rest)) = input.split_first_chunk() {
+        let (body, rest) = rest.split_at(u32::from_be_bytes(*length) as usize);
+        bodies.push(body);
+        input = rest;
+    }
+    bodies
 }
 
 pub fn decode(bytes: &[u8]) -> Read<Batch> {

@@ -3,19 +3,8 @@
 
 mod batch;
 
-use batch::decode;
+use batch::{bodies, decode};
 use std::io::{self, Read as _};
-
-/// The bodies of the input: a length of four bytes, then that many bytes, each.
-fn bodies(mut input: &[u8]) -> Vec<&[u8]> {
-    let mut bodies = Vec::new();
-    while let Some((length, rest)) = input.split_first_chunk() {
-        let (body, rest) = rest.split_at(u32::from_be_bytes(*length) as usize);
-        bodies.push(body);
-        input = rest;
-    }
-    bodies
-}
 
 fn main() {
     let rounds: u32 = std::env::args().nth(1).and_then(|word| word.parse().ok()).unwrap_or(1);

@@ -2,7 +2,7 @@
 
 mod batch;
 
-use batch::{decode, Batch, Span, Value};
+use batch::{bodies, decode, Batch, Span, Value};
 use std::collections::{BTreeMap, HashMap, HashSet};
 use std::fmt::Write as _;
 use std::io::{self, Read as _};
@@ -190,16 +190,6 @@ fn asked(batches: &[Batch], number: u32, end_ms: i64) -> usize {
         assert!(!json(&found).is_empty());
     }
     found.len()
-}
-
-fn bodies(mut input: &[u8]) -> Vec<&[u8]> {
-    let mut bodies = Vec::new();
-    while let Some((length, rest)) = input.split_first_chunk() {
-        let (body, rest) = rest.split_at(u32::from_be_bytes(*length) as usize);
-        bodies.push(body);
-        input = rest;
-    }
-    bodies
 }
 
 fn main() {
