@@ -133,6 +133,41 @@ pub(crate) fn history_of(alloc: Global, spans: Vec<Placed>) -> Result<Vec<Arc<En
     kept(entries, added)
 }
 
+/// What the store with these keys answers of the entries, or without any the plain store, with no limit of traces.
+fn answered(
+    alloc: Global,
+    keys: Option<RandomState>,
+    entries: &[Arc<Entry>],
+    max_skew: u64,
+    query: &Query,
+) -> Result<Answer, Fail> {
+    let limits = Limits::new(10, 10, 0, max_skew).ok_or("limits")?;
+    match keys {
+        Some(keys) => {
+            let answer = replayed_answer(alloc, keys, limits, entries, query);
+            Ok(answer.ok().ok_or("refused")?)
+        }
+        None => Ok(plain_answer(alloc, entries, limits, query)?),
+    }
+}
+
+/// The same of entries and a question that are given up behind that.
+fn answered_once(
+    alloc: Global,
+    keys: Option<RandomState>,
+    entries: Result<Vec<Arc<Entry>>, AllocError>,
+    max_skew: u64,
+    query: Query,
+) -> Result<Answer, Fail> {
+    let answer = match &entries {
+        Ok(entries) => answered(alloc, keys, entries, max_skew, &query),
+        Err(_) => Err(AllocError.into()),
+    };
+    drop(entries);
+    drop(query);
+    answer
+}
+
 /// What the store answers of a history of these spans, each in an entry with its process.
 pub(crate) fn store_answer_to(
     alloc: Global,
@@ -140,46 +175,10 @@ pub(crate) fn store_answer_to(
     spans: Vec<Placed>,
     query: Query,
 ) -> Result<Answer, Fail> {
-    let entries = history_of(alloc, spans);
-    let answer = replayed(alloc, keys, &entries, 0, &query);
-    drop(entries);
-    drop(query);
-    answer
+    answered_once(alloc, Some(keys), history_of(alloc, spans), 0, query)
 }
 
-/// What the store answers of these entries.
-fn replayed(
-    alloc: Global,
-    keys: RandomState,
-    entries: &Result<Vec<Arc<Entry>>, AllocError>,
-    max_skew: u64,
-    query: &Query,
-) -> Result<Answer, Fail> {
-    let limits = Limits::new(10, 10, 0, max_skew).ok_or("limits")?;
-    match entries {
-        Ok(entries) => {
-            let answer = replayed_answer(alloc, keys, limits, entries, query);
-            Ok(answer.ok().ok_or("refused")?)
-        }
-        Err(_) => Err(AllocError.into()),
-    }
-}
-
-/// What the plain store answers of these entries.
-fn plainly(
-    alloc: Global,
-    entries: &Result<Vec<Arc<Entry>>, AllocError>,
-    max_skew: u64,
-    query: &Query,
-) -> Result<Answer, Fail> {
-    let limits = Limits::new(10, 10, 0, max_skew).ok_or("limits")?;
-    match entries {
-        Ok(entries) => Ok(plain_answer(alloc, entries, limits, query)?),
-        Err(_) => Err(AllocError.into()),
-    }
-}
-
-/// What the store answers of a history of these spans, with no limit of traces.
+/// What the store answers of a history of these spans.
 pub(crate) fn store_answer_of(
     alloc: Global,
     keys: RandomState,
@@ -187,23 +186,15 @@ pub(crate) fn store_answer_of(
     max_skew: u64,
     query: Query,
 ) -> Result<Answer, Fail> {
-    let entries = history(alloc, rows);
-    let answer = replayed(alloc, keys, &entries, max_skew, &query);
-    drop(entries);
-    drop(query);
-    answer
+    answered_once(alloc, Some(keys), history(alloc, rows), max_skew, query)
 }
 
-/// What the plain store answers of a history of these spans, with no limit of traces.
+/// What the plain store answers of a history of these spans.
 pub(crate) fn answer_of(
     alloc: Global,
     rows: &[Row],
     max_skew: u64,
     query: Query,
 ) -> Result<Answer, Fail> {
-    let entries = history(alloc, rows);
-    let answer = plainly(alloc, &entries, max_skew, &query);
-    drop(entries);
-    drop(query);
-    answer
+    answered_once(alloc, None, history(alloc, rows), max_skew, query)
 }

@@ -149,31 +149,30 @@ fn begun(alloc: Global, starts: &[[i64; 2]]) -> Result<Vec<Row>, AllocError> {
     Ok(rows)
 }
 
-/// The starts of traces, the limit, and the places of those found.
-const ORDERS: [(&[[i64; 2]], u64, &[usize]); 9] = [
-    (&[[3000, 0], [1000, 0], [2000, 0]], 0, &[0, 2, 1]),
-    (&[[3000, 0], [1000, 0], [2000, 0]], 1, &[0]),
-    (&[[3000, 0], [1000, 0], [2000, 0]], 2, &[0, 2]),
-    (&[[3000, 0], [1000, 0], [2000, 0]], 3, &[0, 2, 1]),
-    (&[[1000, 9000], [2000, 0]], 0, &[1, 0]),
-    (&[[1000, 9000], [2000, 0]], 1, &[1]),
-    (&[[1000, 0], [1000, 0]], 1, &[1]),
-    (&[[1000, 0], [1000, 0], [1000, 0]], 0, &[2, 1, 0]),
-    (&[[i64::MIN, 0], [i64::MAX, 0]], 9, &[1, 0]),
+/// The starts of traces, the limit, and the ids of those found.
+const ORDERS: [(&[[i64; 2]], u64, &[u64]); 9] = [
+    (&[[3000, 0], [1000, 0], [2000, 0]], 0, &[1, 3, 2]),
+    (&[[3000, 0], [1000, 0], [2000, 0]], 1, &[1]),
+    (&[[3000, 0], [1000, 0], [2000, 0]], 2, &[1, 3]),
+    (&[[3000, 0], [1000, 0], [2000, 0]], 3, &[1, 3, 2]),
+    (&[[1000, 9000], [2000, 0]], 0, &[2, 1]),
+    (&[[1000, 9000], [2000, 0]], 1, &[2]),
+    (&[[1000, 0], [1000, 0]], 1, &[2]),
+    (&[[1000, 0], [1000, 0], [1000, 0]], 0, &[3, 2, 1]),
+    (&[[i64::MIN, 0], [i64::MAX, 0]], 9, &[2, 1]),
 ];
 
-/// The trace at this place.
-fn is_at(id: u64, place: usize) -> bool {
-    id == place as u64 % 1000 + 1
+/// The ids have these low halves.
+fn are_lows(ids: &[TraceId], wanted: &[u64]) -> bool {
+    ids.len() == wanted.len() && ids.iter().zip(wanted).all(|(id, low)| id.low == *low)
 }
 
-/// The ids are those of the traces at these places.
-fn are_ids_at(ids: &[TraceId], places: &[usize]) -> bool {
-    ids.len() == places.len()
-        && ids
-            .iter()
-            .zip(places)
-            .all(|(id, place)| is_at(id.low, *place))
+/// The answer has the ids with these low halves, and no others.
+fn are_ids(answer: &Answer, wanted: &[u64]) -> bool {
+    match answer {
+        Answer::Ids(ids) => are_lows(ids.as_slice(), wanted),
+        _ => false,
+    }
 }
 
 /// The low half of the id of the trace of these spans.
@@ -197,62 +196,46 @@ fn low_of_trace(alloc: Global, trace: &AnsweredTrace) -> Result<u64, AllocError>
     }
 }
 
-/// The traces are those at these places.
-fn are_traces_at(
-    alloc: Global,
-    traces: &[AnsweredTrace],
-    places: &[usize],
-) -> Result<bool, AllocError> {
-    let mut same = traces.len() == places.len();
-    for (trace, place) in traces.iter().zip(places) {
+/// The traces have ids with these low halves.
+fn are_traces(alloc: Global, traces: &[AnsweredTrace], wanted: &[u64]) -> Result<bool, AllocError> {
+    let mut same = traces.len() == wanted.len();
+    for (trace, wanted) in traces.iter().zip(wanted) {
         let low = low_of_trace(alloc, trace)?;
-        same = same && is_at(low, *place);
+        same = same && low == *wanted;
     }
     Ok(same)
 }
 
-/// The ids that are found.
-fn ids_in(answer: &Answer) -> &[TraceId] {
+/// The answer has these ids alone, or the traces with these ids, and no others.
+fn are_found(
+    alloc: Global,
+    answer: &Answer,
+    ids_alone: bool,
+    wanted: &[u64],
+) -> Result<bool, AllocError> {
     match answer {
-        Answer::Ids(ids) => ids.as_slice(),
-        _ => &[],
+        Answer::Traces(traces) if !ids_alone => are_traces(alloc, traces.as_slice(), wanted),
+        _ => Ok(ids_alone && are_ids(answer, wanted)),
     }
 }
 
-/// The traces that are found.
-fn traces_in(answer: &Answer) -> &[AnsweredTrace] {
-    match answer {
-        Answer::Traces(traces) => traces.as_slice(),
-        _ => &[],
-    }
-}
-
-/// A search for ids among the spans with the limit finds those of the traces at these places.
-fn finds_ids_at(
+/// A search among the spans with the limit, for ids alone or for traces, finds those with these ids.
+fn finds(
     alloc: Global,
     keys: RandomState,
     rows: &[Row],
     limit: u64,
-    places: &[usize],
+    ids_alone: bool,
+    wanted: &[u64],
 ) -> Result<bool, Fail> {
     let find = limited(alloc, limit)?;
-    let answer = store_answer_of(alloc, keys, rows, 0, Query::FindIds(find))?;
-    let same = are_ids_at(ids_in(&answer), places);
-    drop(answer);
-    Ok(same)
-}
-
-/// A search for traces finds those themselves.
-fn finds_traces_at(
-    alloc: Global,
-    keys: RandomState,
-    rows: &[Row],
-    limit: u64,
-    places: &[usize],
-) -> Result<bool, Fail> {
-    let find = limited(alloc, limit)?;
-    let answer = store_answer_of(alloc, keys, rows, 0, Query::Find(find))?;
-    let same = are_traces_at(alloc, traces_in(&answer), places);
+    let query = if ids_alone {
+        Query::FindIds(find)
+    } else {
+        Query::Find(find)
+    };
+    let answer = store_answer_of(alloc, keys, rows, 0, query)?;
+    let same = are_found(alloc, &answer, ids_alone, wanted);
     drop(answer);
     Ok(same?)
 }
@@ -263,8 +246,9 @@ fn latest_first(rt: HostRuntime) -> Result<(), Fail> {
     let keys = RandomState::new(&rt)?;
     for (starts, limit, wanted) in &ORDERS {
         let rows = begun(alloc, *starts)?;
-        assert!(rt; finds_ids_at(alloc, keys, &rows, *limit, *wanted)?);
-        assert!(rt; finds_traces_at(alloc, keys, &rows, *limit, *wanted)?);
+        for ids_alone in [true, false] {
+            assert!(rt; finds(alloc, keys, &rows, *limit, ids_alone, *wanted)?);
+        }
     }
     Ok(())
 }
@@ -451,16 +435,6 @@ fn a_process_matches_in_its_own_entry(rt: HostRuntime) -> Result<(), Fail> {
     Ok(())
 }
 
-/// The answer has these ids, and no others.
-fn are_ids(answer: &Answer, wanted: &[u64]) -> bool {
-    are_lows(ids_in(answer), wanted)
-}
-
-/// The ids have these low halves.
-fn are_lows(ids: &[TraceId], wanted: &[u64]) -> bool {
-    ids.len() == wanted.len() && ids.iter().zip(wanted).all(|(id, low)| id.low == *low)
-}
-
 /// Spans, the limit of the search, and the ids of the traces that are found.
 const PLAIN_ORDERS: [(&[Row], u64, &[u64]); 5] = [
     (
@@ -565,25 +539,12 @@ fn bounds_plainly(rt: HostRuntime) -> Result<(), Fail> {
 }
 
 /// The same as in the plain store, in the other one.
-fn finds_in_the_store(
-    alloc: Global,
-    keys: RandomState,
-    rows: &[Row],
-    limit: u64,
-    wanted: &[u64],
-) -> Result<bool, Fail> {
-    let find = limited(alloc, limit)?;
-    let answer = store_answer_of(alloc, keys, rows, 0, Query::FindIds(find))?;
-    let same = are_ids(&answer, wanted);
-    drop(answer);
-    Ok(same)
-}
-
 #[test]
 fn latest_first_in_the_store(rt: HostRuntime) -> Result<(), Fail> {
+    let alloc = rt.alloc();
     let keys = RandomState::new(&rt)?;
     for (rows, limit, wanted) in &PLAIN_ORDERS {
-        assert!(rt; finds_in_the_store(rt.alloc(), keys, *rows, *limit, *wanted)?);
+        assert!(rt; finds(alloc, keys, *rows, *limit, true, *wanted)?);
     }
     Ok(())
 }
