@@ -22,24 +22,17 @@ import os
 import random
 import re
 import resource
-import shutil
 import struct
 import subprocess
-import sys
 import tempfile
 
+import copies
 import decode as batches
 
 HERE = os.path.dirname(os.path.abspath(__file__))
 ROOT = os.path.dirname(HERE)
 COMPARE = os.path.join(HERE, "compare")
-CRATES = {
-    "jaeger_model": "hex",
-    "thrift_binary": "byteorder",
-    "batch_codec": "thrift_binary jaeger_model",
-    "wire_pieces": "thrift_binary byteorder",
-    "batch_feeder": "wire_pieces thrift_binary batch_codec jaeger_model",
-}
+DEPS = "batch_codec batch_feeder jaeger_model anyhow"
 
 # The program over `decode` and the Feeder: main of plain.rs, with a second word for the way.
 MAIN = """//! Decodes the bodies of standard input so many times as its first word says, and prints the number of their spans. The second
@@ -55,19 +48,15 @@ use std::env;
 use std::io::Read;
 use std::slice;
 
-/// The bodies: a length of four bytes, then that many bytes, each.
+""" + copies.SPLIT_BODY + """
+/// The bodies.
 fn bodies(alloc: Global, input: &[u8]) -> Result<Vec<&[u8]>> {
     let mut bodies = Vec::new(alloc);
     let mut rest = input;
     for _ in 0..input.len() {
-        let [a, b, c, d, tail @ ..] = rest else {
+        let Some((body, after)) = split_body(rest) else {
             break;
         };
-        let length = u32::from_be_bytes([*a, *b, *c, *d]) as usize;
-        if tail.len() < length {
-            break;
-        }
-        let (body, after) = tail.split_at(length);
         bodies.push(body)?;
         rest = after;
     }
@@ -126,19 +115,7 @@ fn main(rt: HostRuntime) -> Result<()> {
 
 
 def build_rattle(folder):
-    top = os.path.join(folder, "repository")
-    for name in CRATES:
-        shutil.copytree(os.path.join(ROOT, "crates", name), os.path.join(top, "crates", name), symlinks=True)
-    source = os.path.join(top, "crates", "decode_rounds", "src")
-    os.makedirs(source)
-    with open(os.path.join(source, "main.rt"), "w") as file:
-        file.write(MAIN)
-    lines = [f"{name}: {deps}\n" for name, deps in CRATES.items()] + ["decode_rounds: batch_codec batch_feeder jaeger_model anyhow\n"]
-    with open(os.path.join(top, "crates.txt"), "w") as file:
-        file.writelines(lines)
-    crate = os.path.dirname(source)
-    subprocess.run(["rt", "run"], cwd=crate, check=True, stdin=subprocess.DEVNULL, stdout=sys.stderr)
-    return os.path.join(crate, "out", "decode_rounds")
+    return copies.build(os.path.join(folder, "repository"), "decode_rounds", DEPS, {"src/main.rt": MAIN})
 
 
 def build_rust(folder):

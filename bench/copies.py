@@ -39,16 +39,16 @@ IN_BATCH = 10
 KINDS = ["one", "copies", "beside", "still"]
 NAMES = {"one": "one thread", "copies": "two copies", "beside": "two copies, 3 readers", "still": "3 readers, no writer"}
 
-# What the programs of this script and of searches.py both need.
-CLOCK_AND_BODIES = """/// Nanoseconds since some moment.
+# What programs of other scripts need too.
+NOW = """/// Nanoseconds since some moment.
 fn now<R: Clock>(rt: &R) -> u64 {
     match rt.monotonic() {
         Ok(time) => u64::try_from(time.as_nanos()).unwrap_or(0),
         Err(_) => 0,
     }
 }
-
-/// The first body and what stands behind it; none where there is no whole one. A body is a length of four bytes and then that many bytes.
+"""
+SPLIT_BODY = """/// The first body and what stands behind it; none where there is no whole one. A body is a length of four bytes and then that many bytes.
 fn split_body(input: &[u8]) -> Option<(&[u8], &[u8])> {
     let [a, b, c, d, tail @ ..] = input else {
         return None;
@@ -117,7 +117,7 @@ struct Phases {
     phase: AtomicU64,
 }
 
-""" + CLOCK_AND_BODIES + """
+""" + NOW + "\n" + SPLIT_BODY + """
 /// How many bodies there are.
 fn count_bodies(input: &[u8]) -> usize {
     let mut rest = input;

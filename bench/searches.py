@@ -25,7 +25,7 @@ import subprocess
 import tempfile
 
 from compare import instructions
-from copies import CLOCK_AND_BODIES, built, load
+from copies import NOW, SPLIT_BODY, built, load
 from decode import ROOT, field, span, text
 
 SERVICES = ["frontend", "orders", "billing", "catalogue", "shipping"]
@@ -50,7 +50,7 @@ use std::sync::Arc;
 use std::time::Clock;
 use trace_model::{Answer, Entry, Find, Limits, Query, Work};
 
-""" + CLOCK_AND_BODIES + """
+""" + NOW + "\n" + SPLIT_BODY + """
 /// The entry of a body.
 fn entry_of(alloc: Global, body: &[u8], number: u64) -> Result<Arc<Entry>> {
     let batch = decode(alloc, body)?;
