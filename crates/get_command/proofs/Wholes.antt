@@ -39,17 +39,17 @@ module _ (in0 in1 out0 out1 out2 : Option (List ℕ)) (i o : Bool) (limits : Lim
       → found ≡ is_some (found_in held1 id) → Appends out1 out2 (trace_lines (found_in held1 id)) → status ≡ status_at faulty found → i ≡ false → o ≡ false
       → Finishes in0 in1 out0 out2 i o (output_of limits id) (status_of limits id) status
   finishes start a found status f said s ie oe =
-      let lines = lines_of a.input in
-      let r = each_judged held0 1 lines a.said held1 a.each in
+      let lines = lines_of a.all.input in
+      let r = each_judged held0 1 lines a.all.said held1 a.all.each in
       let h : held1 ≡ held_after (nothing_held limits) lines = r.0 ∙ ap (λ x. held_after x lines) start in
       record {
-        input = a.input;
-        read = a.read;
-        whole = a.whole;
+        input = a.all.input;
+        read = a.all.read;
+        whole = a.all.whole;
         written = subst (Appends out0 out2) (ap (λ x. x ++ trace_lines (found_in held1 id)) (r.1 ∙ ap (λ x. fault_lines 1 x lines) start)
             ∙ ap (λ x. fault_lines 1 (nothing_held limits) lines ++ trace_lines (found_in x id)) h)
             (Appends-trans out0 out1 out2 _ _ a.written said);
-        status_is = s ∙ ap (λ b. status_at b found) (a.faulty_is ∙ r.2 ∙ ap (λ x. has_fault x lines) start)
+        status_is = s ∙ ap (λ b. status_at b found) (a.all.faulty_is ∙ r.2 ∙ ap (λ x. has_fault x lines) start)
             ∙ ap (status_at (has_fault (nothing_held limits) lines)) (f ∙ ap (λ x. is_some (found_in x id)) h);
         input_works = ie;
         output_works = oe;
@@ -60,10 +60,10 @@ module _ (in0 in1 out0 out1 out2 : Option (List ℕ)) (i o : Bool) (limits : Lim
       → WritesSome out1 out2 (trace_lines (found_in held1 id)) → IsWhyOf h o → i ≡ false
       → StopsShort in0 in1 out0 out2 i o (output_of limits id) (status_by h)
   stops_late start a h some why ie =
-      let lines = lines_of a.input in
-      let r = each_judged held0 1 lines a.said held1 a.each in
+      let lines = lines_of a.all.input in
+      let r = each_judged held0 1 lines a.all.said held1 a.all.each in
       let now : held1 ≡ held_after (nothing_held limits) lines = r.0 ∙ ap (λ x. held_after x lines) start in
-      let whole : a.said.text ++ trace_lines (found_in held1 id) ≡ output_of limits id a.input =
+      let whole : a.all.said.text ++ trace_lines (found_in held1 id) ≡ output_of limits id a.all.input =
       ap (λ x. x ++ trace_lines (found_in held1 id)) (r.1 ∙ ap (λ x. fault_lines 1 x lines) start)
       ∙ ap (λ x. fault_lines 1 (nothing_held limits) lines ++ trace_lines (found_in x id)) now in
       stops_all TakesBatch in0 in1 out0 out1 out2 held0 held1 faulty i o h (output_of limits id) a (subst (WritesSome out0 out2) whole (some_after out0 out1 out2 _ _ a.written some)) why ie

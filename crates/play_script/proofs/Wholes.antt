@@ -32,13 +32,13 @@ module _ (in0 in1 out0 out1 : Option (List ℕ)) (i o : Bool) (limits : Limits) 
   pub finishes : StandsAt w0 (new_machine limits) → (faulty : Bool) → AnswersAll TakesStep in0 in1 out0 out1 w0 w1 faulty → (status : ℕ) → status ≡ play_status faulty
       → i ≡ false → o ≡ false → Finishes in0 in1 out0 out1 i o (output_of limits) (status_of limits) status
   finishes stands faulty a status is ie oe =
-      let r = each_played w0 (new_machine limits) 1 (lines_of a.input) a.said w1 stands a.each in
+      let r = each_played w0 (new_machine limits) 1 (lines_of a.all.input) a.all.said w1 stands a.all.each in
       record {
-        input = a.input;
-        read = a.read;
-        whole = a.whole;
+        input = a.all.input;
+        read = a.all.read;
+        whole = a.all.whole;
         written = subst (Appends out0 out1) r.0 a.written;
-        status_is = is ∙ ap play_status (a.faulty_is ∙ r.1);
+        status_is = is ∙ ap play_status (a.all.faulty_is ∙ r.1);
         input_works = ie;
         output_works = oe;
       }

@@ -111,13 +111,15 @@ ends takes in0 in1 in2 out0 out1 out2 s t feed feed2 w1 w2 n faulty f l last =
     let none : l.taken ≡ [] = none_behind feed.waiting l.taken l.nothing in
     let all : lines_of (f.taken ++ l.taken) ≡ f.lines = f.split l.taken (λ e. none) ∙ ap (λ x. f.lines ++ lines_of x) l.nothing ∙ append-nil f.lines in
     record {
-      input = f.taken ++ l.taken;
-      said = f.said;
-      read = Consumes-trans in0 in1 in2 f.taken l.taken f.read l.read;
-      whole = l.end f.end;
-      each = subst (λ ls. TakesEach takes s 1 ls f.said t) (sym all) f.each;
+      all = record {
+        input = f.taken ++ l.taken;
+        said = f.said;
+        read = Consumes-trans in0 in1 in2 f.taken l.taken f.read l.read;
+        whole = l.end f.end;
+        each = subst (λ ls. TakesEach takes s 1 ls f.said t) (sym all) f.each;
+        faulty_is = f.faulty_is;
+      };
       wrote = moves_then out0 out1 out2 f.said.text w1 w2 f.wrote last;
-      faulty_is = f.faulty_is;
     }
 
 -- ---- a run that stops
@@ -201,15 +203,10 @@ line_lost in1 in2 feed feed2 line i o l ie oe = record {
 pub all_answered : {S : Type 0} (takes : Takes S) (in0 in1 out0 out1 out2 : Option (List ℕ)) (s t : S) (w : List ℕ) (faulty : Bool)
     → TookAll takes in0 in1 out0 out1 s t w faulty → Moves out1 out2 w [] → AnswersAll takes in0 in1 out0 out2 s t faulty
 all_answered takes in0 in1 out0 out1 out2 s t w faulty a last =
-    let whole = moves_then out0 out1 out2 a.said.text w [] a.wrote last in
+    let whole = moves_then out0 out1 out2 a.all.said.text w [] a.wrote last in
     record {
-      input = a.input;
-      said = a.said;
-      read = a.read;
-      whole = a.whole;
-      each = a.each;
+      all = a.all;
       written = subst (Appends out0 out2) (sym (whole.2 ∙ append-nil whole.0)) whole.1;
-      faulty_is = a.faulty_is;
     }
 
 pub holds_all : (in0 in1 : Option (List ℕ)) (taken : List ℕ) → Consumes in0 in1 taken → IsAtEnd in1 → Holds in0 (taken ++ [])
@@ -221,19 +218,19 @@ pub all_lost : {S : Type 0} (takes : Takes S) (in0 in1 out0 out1 out2 : Option (
     → TookAll takes in0 in1 out0 out1 s t w faulty → Moves out1 out2 w w2 → h ≡ Device → o ≡ true → AnswersSome takes in0 in1 out0 out2 s i o h
 all_lost takes in0 in1 out0 out1 out2 s t w w2 faulty i o h a last is failed = rw is record {
   first = record {
-    taken = a.input;
+    taken = a.all.input;
     rest = [];
-    lines = lines_of a.input;
+    lines = lines_of a.all.input;
     others = [];
-    said = a.said;
+    said = a.all.said;
     last = t;
-    read = a.read;
-    held = holds_all in0 in1 a.input a.read a.whole;
-    split = ap lines_of (append-nil a.input) ∙ sym (append-nil (lines_of a.input));
-    each = a.each;
+    read = a.all.read;
+    held = holds_all in0 in1 a.all.input a.all.read a.all.whole;
+    split = ap lines_of (append-nil a.all.input) ∙ sym (append-nil (lines_of a.all.input));
+    each = a.all.each;
     why = inr (inl failed);
   };
-  written = some_written out0 out2 a.said.text w2 (moves_then out0 out1 out2 a.said.text w w2 a.wrote last);
+  written = some_written out0 out2 a.all.said.text w2 (moves_then out0 out1 out2 a.all.said.text w w2 a.wrote last);
 }
 
 pub some_answered : {S : Type 0} (takes : Takes S) (in0 in1 out0 out1 out2 : Option (List ℕ)) (s : S) (w w2 : List ℕ) (i o o2 : Bool) (h h2 : RunError)

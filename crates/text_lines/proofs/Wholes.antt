@@ -24,15 +24,15 @@ why_by Memory i o Met e ie = (ie, e)
 
 -- all lines were taken, and then something stopped the run
 pub stops_all : {S : Type 0} (takes : Takes S) (in0 in1 out0 out1 out2 : Option (List ℕ)) (s t : S) (faulty i o : Bool) (h : RunError) (output_of : List ℕ → List ℕ)
-    → (a : AnswersAll takes in0 in1 out0 out1 s t faulty) → WritesSome out0 out2 (output_of a.input) → IsWhyOf h o → i ≡ false
+    → (a : AnswersAll takes in0 in1 out0 out1 s t faulty) → WritesSome out0 out2 (output_of a.all.input) → IsWhyOf h o → i ≡ false
     → StopsShort in0 in1 out0 out2 i o output_of (status_by h)
 stops_all takes in0 in1 out0 out1 out2 s t faulty i o h output_of a some why ie = record {
   error = h;
-  taken = a.input;
+  taken = a.all.input;
   rest = [];
-  read = a.read;
-  held = holds_all in0 in1 a.input a.read a.whole;
-  written = subst (λ x. WritesSome out0 out2 (output_of x)) (sym (append-nil a.input)) some;
+  read = a.all.read;
+  held = holds_all in0 in1 a.all.input a.all.read a.all.whole;
+  written = subst (λ x. WritesSome out0 out2 (output_of x)) (sym (append-nil a.all.input)) some;
   why = why_by h i o _ why ie;
   status_is = refl;
 }

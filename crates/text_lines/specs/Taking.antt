@@ -28,15 +28,19 @@ TakesEach takes s n [] all t = (t ≡ s) × (all ≡ nothing_said)
 TakesEach {S = S} takes s n (line ∷ lines) all t =
     (m : S) × (said : Said) × (more : Said) × takes s n line said m × TakesEach takes m (n + 1) lines more t × (all ≡ joined said more)
 
--- all lines of the input were taken, and what was said to them was written
-pub record AnswersAll {S : Type 0} (takes : Takes S) (in0 in1 out0 out1 : Option (List ℕ)) (s t : S) (faulty : Bool) : Type 0 where
+-- all lines of the input were taken
+pub record AllLines {S : Type 0} (takes : Takes S) (in0 in1 : Option (List ℕ)) (s t : S) (faulty : Bool) : Type 0 where
   pub input : List ℕ
   pub said : Said
   pub read : Consumes in0 in1 input
   pub whole : IsAtEnd in1
   pub each : TakesEach takes s 1 (lines_of input) said t
-  pub written : Appends out0 out1 said.text
   pub faulty_is : faulty ≡ said.faulty
+
+-- all lines of the input were taken, and what was said to them was written
+pub record AnswersAll {S : Type 0} (takes : Takes S) (in0 in1 out0 out1 : Option (List ℕ)) (s t : S) (faulty : Bool) : Type 0 where
+  pub all : AllLines takes in0 in1 s t faulty
+  pub written : Appends out0 out1 all.said.text
 
 -- the first lines of the input were taken, and no more for this reason
 pub record FirstLines {S : Type 0} (takes : Takes S) (in0 in1 : Option (List ℕ)) (s : S) (in_failed out_failed : Bool) (error : RunError) : Type 0 where
@@ -74,17 +78,12 @@ pub record SoFar {S : Type 0} (takes : Takes S) (in0 in1 out0 out1 : Option (Lis
   pub wrote : Moves out0 out1 said.text waits
   pub faulty_is : faulty ≡ said.faulty
 
--- all of the input was taken
+-- all lines of the input were taken, and what was said to them was written or waits
 pub record TookAll {S : Type 0} (takes : Takes S) (in0 in1 out0 out1 : Option (List ℕ)) (s t : S) (waits : List ℕ) (faulty : Bool) : Type 0 where
-  pub input : List ℕ
-  pub said : Said
-  pub read : Consumes in0 in1 input
-  pub whole : IsAtEnd in1
-  pub each : TakesEach takes s 1 (lines_of input) said t
-  pub wrote : Moves out0 out1 said.text waits
-  pub faulty_is : faulty ≡ said.faulty
+  pub all : AllLines takes in0 in1 s t faulty
+  pub wrote : Moves out0 out1 all.said.text waits
 
--- the first lines of it were
+-- the first lines of the input were taken, and a beginning of what was said to them was written or waits
 pub record TookSome {S : Type 0} (takes : Takes S) (in0 in1 out0 out1 : Option (List ℕ)) (s : S) (waits : List ℕ) (in_failed out_failed : Bool) (error : RunError) : Type 0 where
   pub first : FirstLines takes in0 in1 s in_failed out_failed error
   pub wrote : Moves out0 out1 first.said.text waits

@@ -13,7 +13,7 @@ use Rattle.text_lines.specs.declared.run_error.RunError.TheVariants.{Device, Mem
 use Rattle.text_lines.proofs.Pages.{moves_nothing, some_written}
 use Rattle.text_lines.proofs.Wholes.{some_after, some_more}
 use Rattle.trace_server.specs.WorkerSeats.{AreNew}
-use Rattle.trace_server.specs.Serving.{StopsIn, Ends, StopsEarly, Closes, Completes, Reports, Serves, listening_line, served_line, last_lines}
+use Rattle.trace_server.specs.Serving.{StopsIn, Ends, StopsEarly, Completes, Reports, Serves, listening_line, served_line, last_lines}
 
 none_written : (a : Option (List ℕ)) (text : List ℕ) → WritesSome a a text
 none_written a text = some_written a a text text (moves_nothing a text)
@@ -67,17 +67,19 @@ reported limits workers desk opened a b c failed port status new said (inl early
 }))
 reported limits workers desk opened a b c failed port status new said (inr closes) = inr (inr (record {
   port = port;
-  served = closes.served;
-  failed = closes.failed;
-  acknowledged = closes.acknowledged;
-  refused = closes.refused;
-  left = closes.left;
   desk = desk;
   opened = opened;
   new = new;
-  seats = closes.seats;
-  gone_on = closes.gone_on;
-  one_for_each = closes.one_for_each;
-  books = closes.books;
-  ends = ended_behind a b c failed (listening_line port) (last_lines closes.served closes.acknowledged closes.refused closes.left) closes.failed status said closes.ends;
+  closes = record {
+    served = closes.served;
+    failed = closes.failed;
+    acknowledged = closes.acknowledged;
+    refused = closes.refused;
+    left = closes.left;
+    seats = closes.seats;
+    gone_on = closes.gone_on;
+    one_for_each = closes.one_for_each;
+    books = closes.books;
+    ends = ended_behind a b c failed (listening_line port) (last_lines closes.served closes.acknowledged closes.refused closes.left) closes.failed status said closes.ends;
+  };
 }))

@@ -76,9 +76,9 @@ pub record StopsEarly (out0 out1 : Option (List ℕ)) (out_failed : Bool) (statu
   pub served : ℕ
   pub stops : StopsIn out0 out1 out_failed (listening_line port ++ served_line served) status
 
--- behind the first line: it closed the books of the seats that these have become, and said how many connections were
--- taken and what became of the batches
-pub record Closes (limits : Limits) (workers : ℕ) (opened : List SeatValue) (out0 out1 : Option (List ℕ)) (out_failed : Bool) (status : ℕ) : Type 0 where
+-- it closed the books of the seats that these have become, and said how many connections were taken and what became of
+-- the batches, behind this front
+pub record Closes (limits : Limits) (workers : ℕ) (opened : List SeatValue) (front : List ℕ) (out0 out1 : Option (List ℕ)) (out_failed : Bool) (status : ℕ) : Type 0 where
   pub served : ℕ
   pub failed : Bool
   pub acknowledged : ℕ
@@ -88,31 +88,22 @@ pub record Closes (limits : Limits) (workers : ℕ) (opened : List SeatValue) (o
   pub gone_on : GoOn opened seats
   pub one_for_each : OneForEach workers seats
   pub books : ClosesBooks limits seats acknowledged refused left
-  pub ends : Ends out0 out1 out_failed (last_lines served acknowledged refused left) failed status
+  pub ends : Ends out0 out1 out_failed (front ++ last_lines served acknowledged refused left) failed status
 
--- it stopped before its books were closed, or it closed those of the seats that these have become
+-- behind the first line: it stopped before its books were closed, or it closed those of the seats that these have become
 abbrev pub Reports : Limits → ℕ → List SeatValue → Option (List ℕ) → Option (List ℕ) → Bool → ℕ → Type 0
 Reports limits workers opened out0 out1 out_failed status =
     ((served : ℕ) × StopsIn out0 out1 out_failed (served_line served) status)
-    ⊎ Closes limits workers opened out0 out1 out_failed status
+    ⊎ Closes limits workers opened [] out0 out1 out_failed status
 
 -- it closed its books: where it listens is said, and at the end how many connections were taken and what
 -- became of the batches that were handed in by the seats of one desk, which were new when it began
 pub record Completes (limits : Limits) (workers : ℕ) (out0 out1 : Option (List ℕ)) (out_failed : Bool) (status : ℕ) : Type 0 where
   pub port : ℕ
-  pub served : ℕ
-  pub failed : Bool
-  pub acknowledged : ℕ
-  pub refused : ℕ
-  pub left : ℕ
   pub desk : TableId
   pub opened : List SeatValue
   pub new : AreNew desk opened
-  pub seats : List SeatValue
-  pub gone_on : GoOn opened seats
-  pub one_for_each : OneForEach workers seats
-  pub books : ClosesBooks limits seats acknowledged refused left
-  pub ends : Ends out0 out1 out_failed (listening_line port ++ last_lines served acknowledged refused left) failed status
+  pub closes : Closes limits workers opened (listening_line port) out0 out1 out_failed status
 
 abbrev pub Serves : Limits → ℕ → Option (List ℕ) → Option (List ℕ) → Bool → ℕ → Type 0
 Serves limits workers out0 out1 out_failed status =

@@ -1,7 +1,7 @@
 use Rattle.std.proofs.Common.{rules, inl, inr, ◌≡◌}
 use Rattle.std.proofs.lemmas.Result.{err_from_is_err_and}
 use Rattle.text_lines.specs.declared.run_error.RunError.TheVariants.{Device, Memory}
-use Rattle.text_lines.proofs.Progress.{all_lost, some_answered, some_left}
+use Rattle.text_lines.proofs.Progress.{all_answered, all_lost, some_answered, some_left}
 use Rattle.text_lines.proofs.answering.answer_lines.Goals as goal
 
 pub returns-in_err-hand_out-in-Ok-clause-some : goal.returns-in_err-hand_out-in-Ok-clause-some
@@ -24,3 +24,6 @@ returns-in-Err-Memory-clause-some g c =
 
 pub returns-clause-some : goal.returns-clause-some
 returns-clause-some g c = some_left g.T.LineTaker.takes _ _ _ _ _ _ _ _ _ Device c.in-Err-Device.field-0-is c.in-Err-Device.ensures.some
+
+pub returns-in-Ok-clause-all : goal.returns-in-Ok-clause-all
+returns-in-Ok-clause-all g c = all_answered g.T.LineTaker.takes _ _ _ _ _ _ _ _ _ c.in-Ok.ensures.all (rw c.in_ok-hand_out-in-Ok.ensures.ok at c.hand_out.ensures.moves)
