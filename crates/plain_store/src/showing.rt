@@ -2,7 +2,6 @@
 
 ghost use Rattle.std.specs.Prelude.{◌≡◌, ℕ, List, [], ◌∷◌, ◌++◌, IfOk, map};
 ghost use Rattle.std.specs.List.{list_any};
-ghost use Rattle.jaeger_model.specs.Parents.{same_trace};
 ghost use Rattle.jaeger_model.specs.declared.placed.Placed.{Placed as PlacedValue};
 ghost use Rattle.plain_store.specs.Happened.{event_of, in_ring, Shows};
 ghost use Rattle.trace_model.specs.Events.{Event};
@@ -13,17 +12,11 @@ ghost use Rattle.trace_model.specs.Showing.{of_trace, trace_of};
 use jaeger_model::{Placed, Seq, TraceId};
 use std::alloc::{AllocError, Global};
 
-fn is_same_trace(a: TraceId, b: TraceId) -> bool
-    ensures { result ≡ same_trace a b }
-{
-    a.high == b.high && a.low == b.low
-}
-
 /// The trace is in the ring.
 fn is_held(ring: &[TraceId], trace: TraceId) -> bool
     ensures { result ≡ holds ring.now trace }
 {
-    ring.iter().any(|t| is_same_trace(trace, *t))
+    ring.iter().any(|t| trace == *t)
 }
 
 /// The newest traces alone stay, all where the limit is 0.
@@ -144,7 +137,7 @@ pub(crate) fn keep_trace(spans: Vec<Placed>, id: TraceId) -> Vec<Placed>
     ensures { result.items ≡ of_trace id spans.items }
 {
     let mut spans = spans;
-    spans.retain(|p| is_same_trace(id, p.span.trace));
+    spans.retain(|p| id == p.span.trace);
     spans
 }
 
@@ -154,7 +147,7 @@ fn copy_trace(alloc: Global, spans: &[Placed], id: TraceId) -> Result<Seq<Placed
 {
     let mut own = Vec::new(alloc);
     for placed in spans {
-        if is_same_trace(id, placed.span.trace) {
+        if id == placed.span.trace {
             own.push(placed.clone()?)?;
         }
     }
