@@ -24,8 +24,9 @@ use Rattle.jaeger_model.specs.declared.tag.Tag.{Tag}
 use Rattle.jaeger_model.specs.Tags.{tag_text}
 use Rattle.jaeger_model.specs.Texts.{text_cmp}
 use Rattle.trace_model.specs.declared.query.Find.{Find}
+use Rattle.trace_model.specs.Linking.{call_cmp as pair_cmp}
 use Rattle.trace_model.specs.Searching.{tag_matches, has_tag, tags_of}
-use Rattle.find_traces.specs.Wanting.{pair_of, pair_cmp, same_pair, with_key, key_bits, asks, asked_count, if_asked, has_pair, is_in, wants}
+use Rattle.find_traces.specs.Wanting.{pair_of, same_pair, with_key, key_bits, asks, asked_count, if_asked, has_pair, is_in, wants}
 use Rattle.find_traces.specs.Prepared.{IsJudged}
 use Rattle.find_traces.proofs.Counting.{and_first, few, counted, none_left}
 

@@ -6,7 +6,8 @@ use Rattle.std.specs.Ordering.{eq_by_cmp, nat_cmp}
 use Rattle.jaeger_model.specs.declared.batch.Process.{Process}
 use Rattle.jaeger_model.specs.Texts.{text_cmp}
 use Rattle.trace_model.specs.declared.query.Find.{Find}
-use Rattle.find_traces.specs.Wanting.{pair_cmp, asks_key, key_bits, asks_length, asks, asked_count, has_pair, is_in}
+use Rattle.trace_model.specs.Linking.{call_cmp as pair_cmp}
+use Rattle.find_traces.specs.Wanting.{asks_key, key_bits, asks_length, asks, asked_count, has_pair, is_in}
 
 -- the keys, the bits for their lengths, the lengths of the texts, and the pairs of a search
 pub record IsPrepared (q : Find) (keys : List (List ℕ)) (bits : ℕ) (lengths : List ℕ) (pairs : List (List ℕ × List ℕ)) : Type 0 where

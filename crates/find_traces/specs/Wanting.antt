@@ -3,22 +3,19 @@ use Rattle.std.specs.Prelude.{ℕ, ◌%◌, ◌^◌, Bool, not, ◌&&◌, List, 
 use Rattle.std.specs.Int.Bits.{bit_or}
 use Rattle.std.specs.List.{fold, list_any}
 use Rattle.std.specs.Set.{distinct_count}
-use Rattle.std.specs.declared.cmp.Ordering.{Ordering}
-use Rattle.std.specs.Ordering.{ordering_then, eq_by_cmp, nat_cmp}
+use Rattle.std.specs.Ordering.{eq_by_cmp, nat_cmp}
 use Rattle.jaeger_model.specs.declared.batch.Process.{Process}
 use Rattle.jaeger_model.specs.declared.tag.Tag.{Tag}
 use Rattle.jaeger_model.specs.Tags.{tag_text}
 use Rattle.jaeger_model.specs.Texts.{text_cmp}
 use Rattle.trace_model.specs.declared.query.Find.{Find}
+use Rattle.trace_model.specs.Linking.{call_cmp as pair_cmp}
 
 -- the pair of a tag
 abbrev pub pair_of : Tag → List ℕ × List ℕ
 pair_of t = (t.key, tag_text t.value)
 
--- by key, and then by text
-abbrev pub pair_cmp : List ℕ × List ℕ → List ℕ × List ℕ → Ordering
-pair_cmp a b = ordering_then (text_cmp a.0 b.0) (text_cmp a.1 b.1)
-
+-- the same key and the same text
 abbrev pub same_pair : List ℕ × List ℕ → List ℕ × List ℕ → Bool
 same_pair a b = eq_by_cmp pair_cmp a b
 
