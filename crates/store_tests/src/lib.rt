@@ -8,7 +8,7 @@
 //! * `stores`: `span_store`, put the same questions as the plain store of its entries.
 //! * `collisions`: ids and names that a key doesn't spread.
 //! * `large`: a store of many entries.
-//! * `entries`, `shown`: entries for these, and what an answer shows.
+//! * `entries`, `replays`, `shown`: entries for these, what a store of them answers, and what an answer shows.
 #![tactic(auto)]
 
 #[cfg(test)]

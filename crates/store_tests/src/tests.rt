@@ -6,6 +6,7 @@ mod journals;
 mod large;
 mod limits;
 mod names;
+mod replays;
 mod rings;
 mod shown;
 mod stores;

@@ -1,9 +1,9 @@
 use crate::tests::entries::{entry, kept};
+use crate::tests::replays::store_answer;
 use crate::tests::shown::shown;
 use id_table::IdTable;
 use jaeger_model::{Text, TraceId};
 use plain_store::plain_answer;
-use span_store::replayed_answer;
 use std::alloc::{AllocError, Global};
 use std::hash::{BuildHasher, Hash, Hasher, RandomState};
 use std::mem::drop;
@@ -174,8 +174,8 @@ fn quickly(
     entries: &[Arc<Entry>],
     query: &Query,
 ) -> Result<String, Fail> {
-    let answer = replayed_answer(alloc, keys, three_traces()?, entries, query);
-    Ok(shown(alloc, answer.ok().ok_or("refused")?)?)
+    let answer = store_answer(alloc, keys, three_traces()?, entries, query)?;
+    Ok(shown(alloc, answer)?)
 }
 
 /// The store of the entries answers the question as the plain store.

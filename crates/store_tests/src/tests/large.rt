@@ -1,7 +1,7 @@
 use crate::tests::entries::{entry, id, kept};
+use crate::tests::replays::store_answer_to;
 use jaeger_model::{Placed, Seq, Text};
 use plain_store::get_trace;
-use span_store::replayed_answer;
 use std::alloc::{AllocError, Global};
 use std::hash::RandomState;
 use std::mem::drop;
@@ -61,24 +61,11 @@ fn answered(
     entries: &[Arc<Entry>],
     query: Query,
 ) -> Result<usize, Fail> {
-    let answer = answer_of(alloc, keys, entries, &query);
-    drop(query);
-    let answer = answer?;
+    let limits = Limits::new(MANY, MANY, 0, 0).ok_or("limits")?;
+    let answer = store_answer_to(alloc, keys, limits, entries, query)?;
     let count = count_in(&answer);
     drop(answer);
     Ok(count)
-}
-
-/// What a store of the entries answers.
-fn answer_of(
-    alloc: Global,
-    keys: RandomState,
-    entries: &[Arc<Entry>],
-    query: &Query,
-) -> Result<Answer, Fail> {
-    let limits = Limits::new(MANY, MANY, 0, 0).ok_or("limits")?;
-    let answer = replayed_answer(alloc, keys, limits, entries, query);
-    Ok(answer.ok().ok_or("refused")?)
 }
 
 fn all_of_a(alloc: Global) -> Result<Find, AllocError> {

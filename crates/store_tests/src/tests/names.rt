@@ -1,9 +1,9 @@
 ghost use Rattle.std.specs.Prelude.{◌<◌};
 
 use crate::tests::entries::{entry, kept};
+use crate::tests::replays::store_answer_to;
 use jaeger_model::{Placed, Span, Text};
 use plain_store::{operation_names, operations, plain_answer, services};
-use span_store::replayed_answer;
 use std::alloc::{AllocError, Global};
 use std::hash::RandomState;
 use std::mem::drop;
@@ -65,16 +65,14 @@ fn history_of(alloc: Global, added: &[(&str, &str, &str)]) -> Result<Vec<Arc<Ent
     kept(entries, added)
 }
 
-/// What the store of these entries answers, to a question that is given up behind that.
+/// What the store of these entries answers, where one trace is shown.
 fn answer_to(
     alloc: Global,
     keys: RandomState,
     entries: &[Arc<Entry>],
     query: Query,
 ) -> Result<Answer, Fail> {
-    let answer = store_answer(alloc, keys, entries, &query);
-    drop(query);
-    answer
+    store_answer_to(alloc, keys, one_trace()?, entries, query)
 }
 
 fn operation_names_of(alloc: Global, service: &str) -> Result<Query, AllocError> {
@@ -443,17 +441,6 @@ fn served(alloc: Global) -> Result<Vec<Arc<Entry>>, AllocError> {
 /// Limits by which one trace is shown, so that the first two of that history have left.
 fn one_trace() -> Result<Limits, Fail> {
     Ok(Limits::new(20, 20, 1, 0).ok_or("limits")?)
-}
-
-/// What the store of these entries answers.
-fn store_answer(
-    alloc: Global,
-    keys: RandomState,
-    entries: &[Arc<Entry>],
-    query: &Query,
-) -> Result<Answer, Fail> {
-    let answer = replayed_answer(alloc, keys, one_trace()?, entries, query);
-    Ok(answer.ok().ok_or("refused")?)
 }
 
 /// The names of an answer that is made of names.
