@@ -7,7 +7,7 @@ ghost use Rattle.intake.specs.Books.{Balances};
 ghost use Rattle.intake.specs.Seats.{IsNewSeat};
 ghost use Rattle.intake_tests.specs.Seats.{AllMayHandIn, Stays};
 
-use crate::tests::fixture::batch;
+use crate::tests::fixture::{batch, close_books};
 use intake::{Books, BooksAlone, Clerk, Desk, Seat, Ticket, Turn, desk};
 use read_side::{Keeper, Opened, StoreName, open};
 use std::alloc::Global;
@@ -340,19 +340,6 @@ fn is_whole<N: StoreName, R: Wait>(
         return true;
     };
     seat.handed() == number && matches!(seat.submit(rt, alloc, late), Err((Refusal::Closed, _)))
-}
-
-/// Closes the store.
-fn close_books<N: StoreName, R: Wait>(rt: &R, books: Books<N>) {
-    let Books {
-        keeper,
-        accounts: _,
-        acknowledged: _,
-        refused: _,
-        left: _,
-        inbox: _,
-    } = books;
-    keeper.close(rt);
 }
 
 /// Takes all seats in, and says how many jobs are left. None where some job that was handed in isn't in the

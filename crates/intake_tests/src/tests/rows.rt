@@ -2,7 +2,7 @@
 
 ghost use Rattle.std.specs.Prelude.{◌≡◌, ◌≤◌};
 
-use crate::tests::fixture::{Fixture, batch, played};
+use crate::tests::fixture::{Fixture, batch, close_books, played};
 use crate::tests::limits::a_limit_is_in_force;
 use crate::tests::resent::a_resent_job_is_acknowledged;
 use intake::{Books, Clerk, Desk, Seat, Ticket, Turn};
@@ -271,22 +271,6 @@ pub(crate) fn kept<N: StoreName>(books: &mut Books<N>) -> u64 {
     front
 }
 
-/// Gives the books up, and closes the store.
-pub(crate) fn closed_books<N: StoreName, R: Wait>(rt: &R, books: Books<N>) {
-    let Books {
-        keeper,
-        accounts,
-        acknowledged: _,
-        refused: _,
-        left,
-        inbox,
-    } = books;
-    drop(accounts);
-    drop(left);
-    drop(inbox);
-    keeper.close(rt);
-}
-
 /// One seat and the clerk, each in its thread. At the end the desk vouches for all that the keeper has, and each
 /// pass settles on that.
 fn seat_and_clerk<N: StoreName + Send + Sync, R: Threads + Wait + Sync>(
@@ -318,7 +302,7 @@ fn seat_and_clerk<N: StoreName + Send + Sync, R: Threads + Wait + Sync>(
         books.refused,
         books.left.len(),
     );
-    closed_books(rt, books);
+    close_books(rt, books);
     served && counts == (4, 3, 1, 0) && (kept, settled) == (3, Ok(2))
 }
 
