@@ -97,10 +97,10 @@ impl Guests {
             ),
             Guests::OneTooMany => asks(rt, alloc, address, &ONE_TOO_MANY),
             Guests::Repeats => asks(rt, alloc, address, &REPEATS),
-            Guests::RepeatAtOnce => repeat_at_once(rt, alloc, address),
+            Guests::RepeatAtOnce => two_at_once(rt, alloc, address, &NUMBERED_IS_FOUND),
             Guests::Conflicts => asks(rt, alloc, address, &CONFLICTS),
             Guests::TwoConnections => two_connections(rt, alloc, address),
-            Guests::TwoAtOnce => two_at_once(rt, alloc, address),
+            Guests::TwoAtOnce => two_at_once(rt, alloc, address, &LOOKS),
             Guests::Eight => eight(rt, alloc, address),
             Guests::BadNeighbours => bad_neighbours(rt, alloc, address),
             Guests::SendsOn => sends_on(rt, alloc, address),
@@ -143,15 +143,17 @@ fn one<R: Net<Stream = TcpStream, Listener = TcpListener>>(
     Ok(ask_all(alloc, &mut stream, &HANDS_IN_AND_LOOKS)? && parts(alloc, &mut stream, b"")?)
 }
 
-fn repeat_at_once<R: Threads + Net<Stream = TcpStream, Listener = TcpListener> + Sync>(
+/// Two ask each of these at the same time, each over a connection of its own.
+fn two_at_once<R: Threads + Net<Stream = TcpStream, Listener = TcpListener> + Sync>(
     rt: &R,
     alloc: Global,
     address: SocketAddr,
+    exchanges: &[Exchange],
 ) -> io::Result<bool> {
     let (one, other) = join(
         rt,
-        || matches!(asks(rt, alloc, address, &NUMBERED_IS_FOUND), Ok(true)),
-        || matches!(asks(rt, alloc, address, &NUMBERED_IS_FOUND), Ok(true)),
+        || matches!(asks(rt, alloc, address, exchanges), Ok(true)),
+        || matches!(asks(rt, alloc, address, exchanges), Ok(true)),
     );
     Ok(one && other)
 }
@@ -168,19 +170,6 @@ fn two_connections<R: Net<Stream = TcpStream, Listener = TcpListener>>(
             && ask_all(alloc, &mut one, &HANDS_IN)?
             && ask(alloc, &mut other, SERVICES, ONE_SERVICE)?,
     )
-}
-
-fn two_at_once<R: Threads + Net<Stream = TcpStream, Listener = TcpListener> + Sync>(
-    rt: &R,
-    alloc: Global,
-    address: SocketAddr,
-) -> io::Result<bool> {
-    let (one, other) = join(
-        rt,
-        || matches!(asks(rt, alloc, address, &LOOKS), Ok(true)),
-        || matches!(asks(rt, alloc, address, &LOOKS), Ok(true)),
-    );
-    Ok(one && other)
 }
 
 fn hands_in_and_looks<R: Net<Stream = TcpStream, Listener = TcpListener>>(
