@@ -59,15 +59,6 @@ no_longer n path w rest le e some =
 
 module _ {K : Type 0} (k : K) where
   -- ---- a part at the end of the path
-  last_rows : RowsOf K
-  last_rows = (256 ∷ [], k) ∷ []
-
-  end_rows : RowsOf K
-  end_rows = ([], k) ∷ []
-
-  taken_last : List ℕ → ℕ × RowsOf K
-  taken_last t = param_step (([], k) ∷ []) t
-
   taken_last-is : (t : List ℕ) → param_step (([], k) ∷ []) t ≡ cond (has_slash t) (0, []) (length t, ([], k) ∷ [])
   unfolding param_step
   taken_last-is t = refl

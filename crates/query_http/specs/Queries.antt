@@ -18,7 +18,7 @@ use Rattle.query_http.specs.Forms.{parameter, values_of, split_at, question_mark
 use Rattle.query_http.specs.Numbers.{read_number, read_duration}
 
 infixl 10 ◌>>=◌
-abbrev pub ◌>>=◌ : {A B : Type 0} → Result A Parameter → (A → Result B Parameter) → Result B Parameter
+abbrev pub ◌>>=◌ : {A B E : Type 0} → Result A E → (A → Result B E) → Result B E
 (Ok x) >>= f = f x
 (Err e) >>= f = Err e
 
