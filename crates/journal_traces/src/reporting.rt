@@ -10,7 +10,6 @@ use arrival_journal::Journal;
 use service_places::ServicePlaces;
 use std::alloc::{AllocError, Global};
 use trace_assembly::{Assembly, Spot, Spots};
-use trace_ring::Ring;
 
 /// Whether there is an entry at a spot's place, and its service has this number.
 fn is_reported(journal: &Journal, reported: &ServicePlaces, service: u32, spot: Spot) -> bool
@@ -50,7 +49,6 @@ fn are_reported(journal: &Journal, reported: &ServicePlaces, service: u32, spots
 /// Out of memory, and nothing else.
 pub fn spots_reported<'a>(
     alloc: Global,
-    ring: &Ring,
     assembly: &'a Assembly,
     journal: &Journal,
     reported: &ServicePlaces,
@@ -60,11 +58,11 @@ pub fn spots_reported<'a>(
     requires numbers { AreGroups journal.now.held.entries reported.now.groups }
     ensures { IfOk result (λ v. v.items ≡ map (spots_of assembly.now)
         (filter (λ t. are_reported journal.now.held.entries reported.now.groups service
-        (spots_of assembly.now t)) ring.now.ids)) }
+        (spots_of assembly.now t)) assembly.now.newest.ids)) }
 {
     let mut found = Vec::new(alloc);
-    for place in 0..ring.len() {
-        let spots = assembly.spots_near(ring.row_at(place), ring.trace_at(place));
+    for place in 0..assembly.ring().len() {
+        let spots = assembly.spots_at(place);
         if are_reported(journal, reported, service, spots.again()) {
             found.push(spots)?;
         }

@@ -19,7 +19,7 @@ use trace_assembly::{Assembly, Spots};
 use trace_model::Find;
 use trace_ring::Ring;
 
-/// Guesses of the rows in the ring of an entry's spans: those in the assembly, where the same spans came.
+/// Guesses of how many traces were seen before those of an entry's spans: by the spots that were added for these spans.
 #[derive(Clone, Copy)]
 struct RowGuesses<'a> {
     assembly: &'a Assembly,
@@ -143,17 +143,18 @@ fn spans_before(firsts: &[u32], place: u64) -> u32 {
 /// For each trace of the ring whether the entries at these places have a span of it that meets the search.
 fn marks_along(
     alloc: Global,
-    ring: &Ring,
     assembly: &Assembly,
     firsts: &[u32],
     journal: &Journal,
     places: Places<'_>,
     wanted: &Wanted<'_>,
 ) -> Result<Vec<bool>, AllocError>
-    requires { NoneTwice ring.now.ids }
+    requires { NoneTwice assembly.now.newest.ids }
     ensures { IfOk result (λ v. v.items ≡
-        map (reaches (met_along wanted.now journal.now.held.entries places.entry)) ring.now.ids) }
+        map (reaches (met_along wanted.now journal.now.held.entries places.entry))
+        assembly.now.newest.ids) }
 {
+    let ring = assembly.ring();
     let mut marks = vec![in alloc; false; ring.len()]?;
     for place in places {
         let rows = RowGuesses {
@@ -165,22 +166,21 @@ fn marks_along(
     Ok(marks)
 }
 
-/// The spots of the traces of the ring that are marked, in their order. Most traces came to the ring and to
-/// the assembly in the same order, so that few of them are looked up.
+/// The spots of the traces of the ring that are marked, in their order.
 fn marked_spots<'a>(
     alloc: Global,
-    ring: &Ring,
     assembly: &'a Assembly,
     marks: &[bool],
 ) -> Result<Vec<Spots<'a>>, AllocError>
-    requires { length ring.now.ids ≡ length marks.now }
-    ensures { (p : TraceIdValue → Bool) → marks.now ≡ map p ring.now.ids →
-        IfOk result (λ v. v.items ≡ map (spots_of assembly.now) (filter p ring.now.ids)) }
+    requires { length assembly.now.newest.ids ≡ length marks.now }
+    ensures { (p : TraceIdValue → Bool) → marks.now ≡ map p assembly.now.newest.ids →
+        IfOk result (λ v. v.items ≡
+        map (spots_of assembly.now) (filter p assembly.now.newest.ids)) }
 {
     let mut spots = Vec::new(alloc);
-    for place in 0..ring.len() {
+    for place in 0..assembly.ring().len() {
         if marks[place] {
-            spots.push(assembly.spots_near(ring.row_at(place), ring.trace_at(place)))?;
+            spots.push(assembly.spots_at(place))?;
         }
     }
     Ok(spots)
@@ -195,18 +195,17 @@ fn marked_spots<'a>(
 /// Out of memory, and nothing else.
 pub fn spots_along<'a>(
     alloc: Global,
-    ring: &Ring,
     assembly: &'a Assembly,
     firsts: &[u32],
     journal: &Journal,
     places: Places<'_>,
     wanted: &Wanted<'_>,
 ) -> Result<Vec<Spots<'a>>, AllocError>
-    requires { NoneTwice ring.now.ids }
+    requires { NoneTwice assembly.now.newest.ids }
     ensures { IfOk result (λ v. v.items ≡ map (spots_of assembly.now)
         (filter (reaches (met_along wanted.now journal.now.held.entries places.entry))
-        ring.now.ids)) }
+        assembly.now.newest.ids)) }
 {
-    let marks = marks_along(alloc, ring, assembly, firsts, journal, places, wanted)?;
-    marked_spots(alloc, ring, assembly, &marks)
+    let marks = marks_along(alloc, assembly, firsts, journal, places, wanted)?;
+    marked_spots(alloc, assembly, &marks)
 }

@@ -1,6 +1,7 @@
-use Rattle.std.proofs.Common.{◌≡◌, ◌∙◌, ℕ, List, [], ◌∷◌, ◌++◌, ap, sym, length, false, arith, map, append_assoc}
+use Rattle.std.proofs.Common.{◌≡◌, ◌∙◌, ℕ, List, [], ◌∷◌, ◌++◌, ap, sym, subst, length, false, arith, map, append_assoc}
 use Rattle.std.proofs.lemmas.Simd.{splat_is_map}
 use Rattle.std.proofs.lemmas.List.{length-map, take-append-le, take_all, append-nil}
+use Rattle.trace_ring.specs.Windows.{Window, NoneTwice}
 use Rattle.journal_traces.specs.Picked.{reaches, met_along}
 use Rattle.journal_traces.proofs.Marking.{marked_place}
 use Rattle.journal_traces.proofs.searching.marks_along.Goals as goal
@@ -9,12 +10,15 @@ pub loop-place-init : goal.loop-place-init
 loop-place-init c = (
   [],
   sym c.into_iter-place-iterator.ensures.into_iter_gives,
-  c.in_ok-marks.ensures.items_if_clones_equal (λ y e. e) ∙ splat_is_map c.args.ring.now.ids c.len.result false (sym c.len.ensures.length),
+  c.in_ok-marks.ensures.items_if_clones_equal (λ y e. e) ∙ splat_is_map c.ring-ring.result.now.ids c.len.result false (sym c.len.ensures.length),
 )
+
+pub mark_entry-requires-clause-once : goal.mark_entry-requires-clause-once
+mark_entry-requires-clause-once c = subst (λ (w : Window). NoneTwice w.ids) (sym c.ring-ring.ensures) c.requires
 
 pub mark_entry-requires-clause-size : goal.mark_entry-requires-clause-size
 mark_entry-requires-clause-size c =
-    ap length (c.deref_mut.ensures.value ∙ c.loop-place.invariant.2) ∙ length-map c.args.ring.now.ids (reaches (met_along c.args.wanted.now c.args.journal.now.held.entries c.loop-place.invariant.0))
+    ap length (c.deref_mut.ensures.value ∙ c.loop-place.invariant.2) ∙ length-map c.ring-ring.result.now.ids (reaches (met_along c.args.wanted.now c.args.journal.now.held.entries c.loop-place.invariant.0))
 
 pub loop-place-preserved : goal.loop-place-preserved
 loop-place-preserved c =
@@ -27,11 +31,12 @@ loop-place-preserved c =
       c.loop-place.invariant.1 ∙ ap (λ (r : List ℕ). done ++ r) c.in-Some.ensures.steps ∙ sym (append_assoc done (place ∷ []) c.next.new.self),
       take-append-le c.loop-place.marks.len marks _ (omega (arith, long)) ∙ take_all c.loop-place.marks.len marks (omega (arith, long))
           ∙ c.in_ok-mark_entry.ensures (reaches (met_along c.args.wanted.now h done)) (c.deref_mut.ensures.value ∙ c.loop-place.invariant.2)
-          ∙ marked_place c.args.wanted.now h c.args.ring.now.ids done place,
+          ∙ marked_place c.args.wanted.now h c.ring-ring.result.now.ids done place,
     )
 
 pub returns : goal.returns
 returns c =
     let done = c.loop-place.invariant.0 in
     let all : c.args.places ≡ done = c.loop-place.invariant.1 ∙ ap (λ (r : List ℕ). done ++ r) c.in-None.ensures.steps.0 ∙ append-nil done in
-    c.loop-place.invariant.2 ∙ ap (λ ps. map (reaches (met_along c.args.wanted.now c.args.journal.now.held.entries ps)) c.args.ring.now.ids) (sym all)
+    c.loop-place.invariant.2
+    ∙ (λ i. map (reaches (met_along c.args.wanted.now c.args.journal.now.held.entries (sym all i))) ((c.ring-ring.ensures i).ids))

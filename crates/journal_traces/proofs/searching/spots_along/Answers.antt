@@ -7,7 +7,7 @@ use Rattle.journal_traces.proofs.searching.spots_along.Goals as goal
 pub marked_spots-requires : goal.marked_spots-requires
 marked_spots-requires c =
     let p : TraceId → Bool = reaches (met_along c.args.wanted.now c.args.journal.now.held.entries c.args.places) in
-    sym (ap length (c.deref.ensures.value ∙ c.in_ok-marks.ensures) ∙ length-map c.args.ring.now.ids p)
+    sym (ap length (c.deref.ensures.value ∙ c.in_ok-marks.ensures) ∙ length-map c.args.assembly.now.newest.ids p)
 
 pub returns : goal.returns
 returns c =
