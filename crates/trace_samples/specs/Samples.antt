@@ -1,14 +1,11 @@
 -- What the samples are.
-use Rattle.std.specs.Prelude.{ℕ, pos, List, [], ◌∷◌, map, codes}
-use Rattle.std.specs.Global.{Vec}
+use Rattle.std.specs.Prelude.{ℕ, pos, List, [], ◌∷◌, codes}
 use Rattle.jaeger_model.specs.declared.ids.TraceId.{TraceId}
 use Rattle.jaeger_model.specs.declared.ids.SpanId.{SpanId}
 use Rattle.jaeger_model.specs.declared.tag.Tag.{Tag}
 use Rattle.jaeger_model.specs.declared.tag.Value.TheVariants.{Text}
 use Rattle.jaeger_model.specs.declared.span.Span.{Span}
 use Rattle.jaeger_model.specs.declared.batch.Process.{Process}
-use Rattle.jaeger_model.specs.declared.placed.Placed.{Placed}
-use Rattle.jaeger_model.specs.declared.placed.Seen.{Seen}
 
 abbrev pub text_tag : List ℕ → List ℕ → Tag
 text_tag key text = record { key = key; value = Text text }
@@ -28,10 +25,3 @@ own_trace low = record { high = 0; low = low }
 -- a span without parent, as the first sample of batches has it
 abbrev pub root_span : ℕ → ℕ → Span
 root_span trace id = record { trace = own_trace trace; id = span_id id; parent = span_id 0; operation = codes "op"; references = []; flags = pos 1; start = pos 1000; duration = pos 50; tags = []; logs = [] }
-
--- what is looked at
-abbrev pub seen : Seen → Placed
-seen s = record { process = s.process.now; span = s.span.now }
-
-abbrev pub traces_seen : List (Vec Seen) → List (List Placed)
-traces_seen ts = map (λ (t : Vec Seen). map seen t.items) ts

@@ -1,5 +1,5 @@
 ghost use Rattle.std.specs.Prelude.{◌≡◌, IfOk, map};
-ghost use Rattle.trace_samples.specs.Samples.{seen, traces_seen};
+ghost use Rattle.trace_model.specs.Seeing.{seen, seen_traces};
 
 use jaeger_model::{Placed, Seen};
 use std::alloc::{AllocError, Global};
@@ -28,7 +28,7 @@ pub fn seen_trace(alloc: Global, trace: &[Placed]) -> Result<Vec<Seen<'_>>, Allo
 /// Out of memory, and nothing else.
 #[tactic(auto, using(std::proofs::lemmas::List::map_more))]
 pub fn seen_traces(alloc: Global, traces: &[Vec<Placed>]) -> Result<Vec<Vec<Seen<'_>>>, AllocError>
-    ensures { IfOk result (λ all. traces_seen all.items ≡ map (λ t. t.items) traces.now) }
+    ensures { IfOk result (λ all. seen_traces all.items ≡ map (λ t. t.items) traces.now) }
 {
     let mut all = Vec::new(alloc);
     for trace in traces {

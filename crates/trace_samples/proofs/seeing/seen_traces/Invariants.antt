@@ -1,7 +1,7 @@
 use Rattle.std.proofs.Common.{◌≡◌, take}
 use Rattle.std.specs.Prelude.{map}
-use Rattle.trace_samples.specs.Samples.{traces_seen}
+use Rattle.trace_model.specs.Seeing.{seen_traces}
 use Rattle.trace_samples.proofs.seeing.seen_traces.Given as goal
 
 abbrev pub invariant-loop-trace : goal.invariant-loop-trace
-invariant-loop-trace l = traces_seen l.all.items ≡ map (λ t. t.items) (take l.trace-index l.traces)
+invariant-loop-trace l = seen_traces l.all.items ≡ map (λ t. t.items) (take l.trace-index l.traces)
