@@ -24,7 +24,7 @@ use Rattle.arrival_journal.proofs.Places.{lent_item}
 use Rattle.jaeger_model.proofs.Referred.{trace_stays}
 use Rattle.trace_assembly.specs.declared.spot.Spot.{Spot}
 use Rattle.trace_assembly.specs.Located.{span_at}
-use Rattle.journal_traces.specs.Given.{given_span}
+use Rattle.trace_model.specs.Seeing.{placed_by_its_entry}
 use Rattle.journal_traces.specs.Standing.{batch_at, spans_named, traces_named}
 use Rattle.journal_traces.proofs.Adopting.{start-adopted}
 
@@ -105,17 +105,17 @@ pub trace_there : (h : List Entry) (ss : List (List Spot)) (place : ℕ) (r : Op
 trace_there h ss place r s looked is = trace_got h ss place s.now (sym (ap option_copied is) ∙ lent_item ss place r looked)
 
 -- ---- the first of the spans
-pub first_starts : (ps : List Placed) (s : Seen) → Some (given_span s) ≡ slice_get ps 0 → s.span.now.start ≡ first_start ps
+pub first_starts : (ps : List Placed) (s : Seen) → Some (placed_by_its_entry s) ≡ slice_get ps 0 → s.span.now.start ≡ first_start ps
 first_starts [] s e = absurd cc
-first_starts (p ∷ ps) s e = let same : given_span s ≡ p = cc e in sym (start-adopted (seen s)) ∙ ap (λ (x : Placed). x.span.start) same
+first_starts (p ∷ ps) s e = let same : placed_by_its_entry s ≡ p = cc e in sym (start-adopted (seen s)) ∙ ap (λ (x : Placed). x.span.start) same
 
 pub no_start : (ps : List Placed) → ◌≡◌ {A = Option Placed} None (slice_get ps 0) → pos 0 ≡ first_start ps
 no_start [] e = refl
 no_start (p ∷ ps) e = absurd cc
 
-pub first_trace : (ps : List Placed) (s : Seen) → Some (given_span s) ≡ slice_get ps 0 → Some s.span.now.trace ≡ first_id ps
+pub first_trace : (ps : List Placed) (s : Seen) → Some (placed_by_its_entry s) ≡ slice_get ps 0 → Some s.span.now.trace ≡ first_id ps
 first_trace [] s e = absurd cc
-first_trace (p ∷ ps) s e = let same : given_span s ≡ p = cc e in ap Some (sym (trace_stays s.span.now) ∙ ap (λ (x : Placed). x.span.trace) same)
+first_trace (p ∷ ps) s e = let same : placed_by_its_entry s ≡ p = cc e in ap Some (sym (trace_stays s.span.now) ∙ ap (λ (x : Placed). x.span.trace) same)
 
 pub no_trace : (ps : List Placed) → ◌≡◌ {A = Option Placed} None (slice_get ps 0) → ◌≡◌ {A = Option TraceId} None (first_id ps)
 no_trace [] e = refl

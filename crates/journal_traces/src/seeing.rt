@@ -6,7 +6,8 @@ ghost use Rattle.trace_model.specs.Linking.{in_window};
 ghost use Rattle.trace_assembly.specs.Located.{span_at};
 ghost use Rattle.trace_assembly.specs.Rows.{spots_of};
 ghost use Rattle.service_places.specs.Reported.{AreGroups};
-ghost use Rattle.journal_traces.specs.Given.{given_span, given_all, given_traces};
+ghost use Rattle.journal_traces.specs.Given.{given_all, given_traces};
+ghost use Rattle.trace_model.specs.Seeing.{placed_by_its_entry};
 ghost use Rattle.journal_traces.specs.Standing.{spans_named, trace_named, HasNumber, HaveNumbers};
 
 use crate::standing::{reaches_window, seen_at};
@@ -26,7 +27,7 @@ fn numbered_at<'a>(
 ) -> Option<NumberedSpan<'a>>
     requires few { length journal.now.held.entries < 2 ^ 32 }
     requires numbers { AreGroups journal.now.held.entries reported.now.groups }
-    ensures given_span { option_map (λ s. given_span s.seen) result ≡
+    ensures given_span { option_map (λ s. placed_by_its_entry s.seen) result ≡
         span_at journal.now.held.entries spot }
     ensures numbered { IfSome result (HasNumber journal.now.held.entries) }
 {

@@ -3,11 +3,10 @@
 ghost use Rattle.std.specs.Prelude.{◌≡◌, false, [], ◌∷◌, option_map, slice_get, IfOk};
 ghost use Rattle.std.specs.Bool.{OnTrue};
 ghost use Rattle.std.specs.List.{list_any};
-ghost use Rattle.jaeger_model.specs.Parents.{domain};
 ghost use Rattle.trace_model.specs.Searching.{matches, first_start, first_id};
 ghost use Rattle.trace_model.specs.Linking.{in_window};
 ghost use Rattle.trace_assembly.specs.Located.{span_at};
-ghost use Rattle.journal_traces.specs.Given.{given_span};
+ghost use Rattle.trace_model.specs.Seeing.{placed_by_its_entry};
 ghost use Rattle.journal_traces.specs.Standing.{batch_at, spans_named};
 
 use crate::judging::Judging;
@@ -18,6 +17,7 @@ use jaeger_model::{Batch, Seen, TraceId};
 use span_steps::is_in_window;
 use std::alloc::{AllocError, Global};
 use trace_assembly::{Spot, Spots};
+use trace_model::reported_in;
 
 /// The batch that the entry at a place brings, unless it is a limit.
 pub(crate) fn batch_at(journal: &Journal, place: u64) -> Option<&Batch>
@@ -29,31 +29,20 @@ pub(crate) fn batch_at(journal: &Journal, place: u64) -> Option<&Batch>
     }
 }
 
-/// The span of a batch at an index.
-fn seen_in(batch: &Batch, index: u32) -> Option<Seen<'_>>
-    ensures { option_map given_span result ≡ slice_get (domain batch.now) index }
-{
-    let span = batch.spans.as_slice().get(index as usize)?;
-    Some(Seen {
-        process: batch.process.get(),
-        span,
-    })
-}
-
 /// The span that a spot names.
 #[tactic(auto, using(crate::proofs::Spots::span_there, crate::proofs::Spots::no_span_there))]
 pub(crate) fn seen_at(journal: &Journal, spot: Spot) -> Option<Seen<'_>>
-    ensures { option_map given_span result ≡ span_at journal.now.held.entries spot }
+    ensures { option_map placed_by_its_entry result ≡ span_at journal.now.held.entries spot }
 {
     match batch_at(journal, spot.place) {
-        Some(batch) => seen_in(batch, spot.index),
+        Some(batch) => reported_in(batch, spot.index),
         None => None,
     }
 }
 
 /// The first span that the spots name.
 fn first_seen<'a>(journal: &'a Journal, spots: Spots<'_>) -> Option<Seen<'a>>
-    ensures { option_map given_span result ≡ slice_get
+    ensures { option_map placed_by_its_entry result ≡ slice_get
         (spans_named journal.now.held.entries spots.entry) 0 }
 {
     for spot in spots {
