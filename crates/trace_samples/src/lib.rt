@@ -1,15 +1,15 @@
-//! Values of traces for tests: spans, tags, processes and batches that are alike but for what a test
-//! is about.
+//! Values of traces for tests: spans, tags, processes, batches and searches that are alike but for what a
+//! test is about.
 //!
 //! Each constructor says exactly what it makes. A test names what it wants and changes a field where
 //! it wants another value, as `span.start = 900`. Nothing but tests stands on this crate.
 //!
-//! * `parts`: tags, processes, spans, and batches of them.
+//! * `parts`: tags, processes, spans, batches of them, and searches.
 //! * `seeing`: spans that are only looked at.
 #![tactic(auto)]
 
 mod parts;
 mod seeing;
 
-pub use parts::{batch, host_process, list_of, placed, process, span, text_tag};
+pub use parts::{batch, host_process, list_of, placed, process, service_find, span, text_tag};
 pub use seeing::{seen_trace, seen_traces};

@@ -1,10 +1,11 @@
 ghost use Rattle.std.specs.Prelude.{◌≡◌, ◌∷◌, [], IfOk, None};
-ghost use Rattle.trace_samples.specs.Samples.{text_tag, plain_process, host_process, root_span};
+ghost use Rattle.trace_samples.specs.Samples.{text_tag, plain_process, host_process, root_span, service_find};
 
 use jaeger_model::{
     Batch, Placed, Process, Seq, SharedProcess, Span, SpanId, Tag, TagValue, Text, TraceId, Value,
 };
 use std::alloc::{AllocError, Global};
+use trace_model::Find;
 
 /// A list of one item.
 ///
@@ -113,5 +114,25 @@ pub fn batch(alloc: Global, service: &str, spans: Vec<Span>) -> Result<Batch, Al
         process: SharedProcess::new(alloc, process(alloc, service)?)?,
         spans: Seq::from_vec(spans),
         seq_no: None,
+    })
+}
+
+/// A search by a service, without any other condition and without a limit.
+///
+/// # Errors
+///
+/// Out of memory, and nothing else.
+pub fn service_find(alloc: Global, service: &str) -> Result<Find, AllocError>
+    ensures { IfOk result (λ find. find ≡ service_find service.now) }
+{
+    Ok(Find {
+        service: Text::from_str(alloc, service)?,
+        operation: Text::new(alloc),
+        tags: Seq::new(alloc),
+        start_min: None,
+        start_max: None,
+        duration_min: 0,
+        duration_max: 0,
+        limit: 0,
     })
 }

@@ -1,14 +1,14 @@
 use crate::tests::entries::{entry, id, kept};
 use crate::tests::replays::store_answer_to;
-use jaeger_model::{Placed, Seq, Text};
+use jaeger_model::{Placed, Text};
 use plain_store::get_trace;
 use std::alloc::{AllocError, Global};
 use std::hash::RandomState;
 use std::mem::drop;
 use std::sync::Arc;
 use std::test::*;
-use trace_model::{Answer, AnsweredTrace, Entry, Find, Limits, Query, TraceForm};
-use trace_samples::{list_of, span};
+use trace_model::{Answer, AnsweredTrace, Entry, Limits, Query, TraceForm};
+use trace_samples::{list_of, service_find, span};
 
 const MANY: u32 = 10_000;
 
@@ -68,19 +68,6 @@ fn answered(
     Ok(count)
 }
 
-fn all_of_a(alloc: Global) -> Result<Find, AllocError> {
-    Ok(Find {
-        service: Text::from_str(alloc, "a")?,
-        operation: Text::new(alloc),
-        tags: Seq::new(alloc),
-        start_min: None,
-        start_max: None,
-        duration_min: 0,
-        duration_max: 0,
-        limit: 0,
-    })
-}
-
 fn operation_names(alloc: Global) -> Result<Query, AllocError> {
     let service = Text::from_str(alloc, "a")?;
     Ok(Query::OperationNames { service })
@@ -119,8 +106,13 @@ fn found_counts(
     keys: RandomState,
     entries: &[Arc<Entry>],
 ) -> Result<[usize; 2], Fail> {
-    let traces = answered(alloc, keys, entries, Query::Find(all_of_a(alloc)?))?;
-    let ids = answered(alloc, keys, entries, Query::FindIds(all_of_a(alloc)?))?;
+    let traces = answered(alloc, keys, entries, Query::Find(service_find(alloc, "a")?))?;
+    let ids = answered(
+        alloc,
+        keys,
+        entries,
+        Query::FindIds(service_find(alloc, "a")?),
+    )?;
     Ok([traces, ids])
 }
 

@@ -7,7 +7,7 @@ use std::mem::drop;
 use std::test::*;
 use trace_adjust::show;
 use trace_model::{Answer, AnsweredTrace, Find, Query, Shown, TraceForm};
-use trace_samples::{list_of, placed, process, span};
+use trace_samples::{list_of, placed, process, service_find, span};
 
 /// A span of service `a` of this trace.
 fn begun_once(alloc: Global, trace: u64, start: i64, duration: i64) -> Result<Placed, AllocError> {
@@ -17,28 +17,13 @@ fn begun_once(alloc: Global, trace: u64, start: i64, duration: i64) -> Result<Pl
     placed(alloc, "a", span)
 }
 
-/// A search by service `a` alone.
-fn by_service(alloc: Global) -> Result<Find, AllocError> {
-    let service = Text::from_str(alloc, "a")?;
-    Ok(Find {
-        service,
-        operation: Text::new(alloc),
-        tags: Seq::new(alloc),
-        start_min: None,
-        start_max: None,
-        duration_min: 0,
-        duration_max: 0,
-        limit: 0,
-    })
-}
-
-/// The same within bounds of durations and of starts.
+/// A search by service `a` within bounds of durations and of starts.
 fn within(
     alloc: Global,
     durations: [i64; 2],
     starts: [Option<i64>; 2],
 ) -> Result<Find, AllocError> {
-    let mut find = by_service(alloc)?;
+    let mut find = service_find(alloc, "a")?;
     find.duration_min = durations[0];
     find.duration_max = durations[1];
     find.start_min = starts[0];
@@ -46,9 +31,9 @@ fn within(
     Ok(find)
 }
 
-/// The same for no more traces than the limit.
+/// A search by service `a` for no more traces than the limit.
 fn limited(alloc: Global, limit: u64) -> Result<Find, AllocError> {
-    let mut find = by_service(alloc)?;
+    let mut find = service_find(alloc, "a")?;
     find.limit = limit;
     Ok(find)
 }
@@ -332,7 +317,7 @@ fn set_asked(alloc: Global, find: &mut Find, asked: &[&str]) -> Result<(), Alloc
 
 /// A search by service `a` and the flag under each of these keys.
 fn by_flags(alloc: Global, asked: &[&str]) -> Result<Find, AllocError> {
-    let mut find = by_service(alloc)?;
+    let mut find = service_find(alloc, "a")?;
     let set = set_asked(alloc, &mut find, asked);
     kept(find, set)
 }
