@@ -35,12 +35,10 @@ pub record IsPlaced (held : Held) (reported : Reported) : Type 0 where
   pub kept : PlacesKept held.entries reported
   pub batches : reported.batches ≡ held.limits.batches
 
--- ring, spots, names and the places of services are those of the entries, and there is room for all spans that may come and for their traces
-pub record IsKept (held : Held) (newest : Window) (spots : Assembled) (names : Names) (reported : Reported) : Type 0 where
-  pub room : newest.room ≡ held.limits.spans
-  pub few : length newest.seen ≤ span_count held.entries
-  pub spots_room : spots.room ≡ held.limits.spans
-  pub spots_used : spots.used ≡ span_count held.entries
-  pub follows : Follows held.limits.traces (located_events held.entries) newest (spots_of spots)
+-- the shown traces with their spots, the names and the places of services are those of the entries, and there is room for all spans that may come
+pub record IsKept (held : Held) (shown : Assembled) (names : Names) (reported : Reported) : Type 0 where
+  pub room : shown.room ≡ held.limits.spans
+  pub used : shown.used ≡ span_count held.entries
+  pub follows : Follows held.limits.traces (located_events held.entries) shown.newest (spots_of shown)
   pub named : IsNamed held names
   pub placed : IsPlaced held reported

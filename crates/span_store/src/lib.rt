@@ -1,12 +1,12 @@
-//! One store for one thread: the journal of entries, the ring of the newest traces, and where the
-//! spans of each trace stand.
+//! One store for one thread: the journal of entries, and the newest traces with where the spans of
+//! each stand.
 //!
 //! Contracts see a store as its limits and its list of entries, and nothing else: every answer is
 //! the plain store's answer for that list. What is kept beside the list only makes answers quick,
 //! and one invariant of the type ties it to the list. An entry that is refused changes nothing. All room
 //! is taken when a store is opened: applying an entry takes no memory.
 //!
-//! * `arrange`: what one more entry changes in ring and assembly.
+//! * `arrange`: what one more entry changes in what is shown.
 //! * `common`: which searches look at all traces, and not at a service's entries.
 //! * `finding`: searches and calls over traces that stand in the journal.
 //! * `store`: the [`SpanStore`].

@@ -12,12 +12,11 @@ ghost use Rattle.trace_model.specs.declared.admission.Admission.TheVariants.{Add
 ghost use Rattle.trace_model.specs.Refusals.{followed_by, with_admitted};
 ghost use Rattle.arrival_journal.specs.Journals.{admission_by, place_by};
 ghost use Rattle.trace_assembly.specs.Located.{located_events, shown_spots};
-ghost use Rattle.trace_assembly.specs.Rows.{spots_of};
 ghost use Rattle.call_links.specs.Seen.{AreNumbered};
 ghost use Rattle.journal_traces.specs.Given.{given_traces};
 ghost use Rattle.journal_traces.specs.Standing.{traces_named};
 ghost use Rattle.service_places.specs.Reported.{group_of};
-ghost use Rattle.span_store.specs.Kept.{Follows, IsNamed, IsPlaced};
+ghost use Rattle.span_store.specs.Kept.{IsNamed, IsPlaced};
 
 use crate::arrange::follow;
 use crate::common::{COMMON, are_more, asks_service_alone};
@@ -37,7 +36,6 @@ use trace_assembly::{Assembly, Spots};
 use trace_model::{
     Admission, Answer, AnsweredTrace, Entry, Find, KeptTrace, Limits, Query, Refusal,
 };
-use trace_ring::Ring;
 
 /// The accepted entries of one store, and quick answers from them.
 ///
@@ -49,8 +47,8 @@ use trace_ring::Ring;
 pub struct SpanStore {
     alloc: Global,
     journal: Journal,
-    ring: Ring,
-    assembly: Assembly,
+    /// The shown traces, with where their spans stand.
+    shown: Assembly,
     names: ArrivalNames,
     reported: ServicePlaces,
 }
@@ -64,25 +62,7 @@ impl Model for SpanStore {
 
     ghost view = { λ s. s.journal.held };
 
-    ghost invariant = { λ s. IsKept s.journal.held s.ring s.assembly s.names s.reported };
-}
-
-/// Room for the ring, and for where the spans of its traces stand.
-fn room_for_traces(
-    alloc: Global,
-    keys: RandomState,
-    limits: Limits,
-) -> Result<(Ring, Assembly), AllocError>
-    ensures follows { IfOk result (λ r.
-        Follows limits.traces (located_events []) r.0 (spots_of r.1)) }
-    ensures room { IfOk result (λ r. r.0.room ≡ limits.spans) }
-    ensures seen { IfOk result (λ r. r.0.seen ≡ []) }
-    ensures spots_room { IfOk result (λ r. r.1.room ≡ limits.spans) }
-    ensures spots_used { IfOk result (λ r. r.1.used ≡ 0) }
-{
-    let ring = Ring::with_room(alloc, keys, limits.traces, limits.spans)?;
-    let assembly = Assembly::with_room(alloc, keys, limits.spans)?;
-    Ok((ring, assembly))
+    ghost invariant = { λ s. IsKept s.journal.held s.shown s.names s.reported };
 }
 
 /// Room for the names, and for the places of services.
@@ -110,13 +90,12 @@ impl SpanStore {
         ensures { IfOk result (λ store. store ≡ record { limits = limits; entries = [] }) }
     {
         let journal = Journal::new(alloc, keys, limits)?;
-        let shown = room_for_traces(alloc, keys, limits)?;
+        let shown = Assembly::with_room(alloc, keys, limits.traces, limits.spans)?;
         let named = room_for_names(alloc, keys, limits)?;
         Ok(SpanStore {
             alloc,
             journal,
-            ring: shown.0,
-            assembly: shown.1,
+            shown,
             names: named.0,
             reported: named.1,
         })
@@ -197,7 +176,7 @@ impl SpanStore {
         ensures legal { IsLegal self.new.limits self.new.entries }
     {
         let place = self.journal.len() + 1;
-        follow(entry.entry(), place, &mut self.ring, &mut self.assembly);
+        follow(entry.entry(), place, &mut self.shown);
         let kinds = entry.kinds().again();
         self.journal.append_prepared(entry);
         let entries = self.journal.entries();
@@ -215,7 +194,7 @@ impl SpanStore {
         ensures { IfOk result (λ v. v.items ≡
             ring self.now.limits.traces (events self.now.entries)) }
     {
-        ring_ids(self.alloc, &self.ring)
+        ring_ids(self.alloc, self.shown.ring())
     }
 
     /// Where the shown spans of a trace stand in the entries, in the order of their arrival: none where
@@ -223,7 +202,7 @@ impl SpanStore {
     pub fn spots(&self, id: TraceId) -> Spots<'_>
         ensures { result ≡ shown_spots self.now.limits.traces (located_events self.now.entries) id }
     {
-        self.assembly.spots(id)
+        self.shown.spots(id)
     }
 
     /// What the plain store of the entries answers.
@@ -321,8 +300,7 @@ impl SpanStore {
         let _legal = self.journal.len();
         let spots = spots_reported(
             self.alloc,
-            &self.ring,
-            &self.assembly,
+            &self.shown,
             &self.journal,
             &self.reported,
             service,
@@ -342,8 +320,7 @@ impl SpanStore {
             .places_of(self.journal.entries(), query.service.as_str());
         let spots = spots_along(
             self.alloc,
-            &self.ring,
-            &self.assembly,
+            &self.shown,
             self.names.firsts(),
             &self.journal,
             places,
@@ -413,11 +390,11 @@ impl SpanStore {
         ensures numbered { IfOk result (λ v. AreNumbered v.items) }
     {
         let _legal = self.journal.len();
-        let ids = ring_ids(self.alloc, &self.ring)?;
+        let ids = ring_ids(self.alloc, self.shown.ring())?;
         let traces = see_within(
             self.alloc,
             &self.journal,
-            &self.assembly,
+            &self.shown,
             &self.reported,
             &ids,
             end_ms,
@@ -441,7 +418,7 @@ impl SpanStore {
         ensures { IfOk result (λ a. a ≡ answer self.now.limits self.now.entries
             (ask.Trace id raw)) }
     {
-        let spots = self.assembly.spots(id);
+        let spots = self.shown.spots(id);
         if spots.is_empty() {
             return Ok(Answer::Trace(None));
         }

@@ -8,7 +8,7 @@ use std::sync::Arc;
 use std::test::*;
 use trace_assembly::{Assembly, Spot};
 use trace_model::{Answer, AnsweredTrace, Entry, Limits, Query, Shown, TraceForm};
-use trace_ring::{Arrived, Ring};
+use trace_ring::{Arrived, Gone, Ring};
 use trace_samples::span;
 
 /// What the arrival did, for which there must be room in a ring that keeps its limit.
@@ -18,6 +18,14 @@ fn arrive(rt: &impl Abort, ring: &mut Ring, trace: TraceId) -> Arrived {
     ring.arrive_near(0, trace)
 }
 
+/// A trace that left, before whose first sight so many traces were seen.
+fn gone(trace: u64, row: u32) -> Gone {
+    Gone {
+        trace: id(trace),
+        row,
+    }
+}
+
 #[test]
 fn late_spans_renew_nothing(rt: HostRuntime) -> Result<(), Fail> {
     let mut ring = Ring::with_room(rt.alloc(), RandomState::new(&rt)?, 2, 4)?;
@@ -25,8 +33,8 @@ fn late_spans_renew_nothing(rt: HostRuntime) -> Result<(), Fail> {
         (1, true, None, 0),
         (2, true, None, 1),
         (1, false, None, 0),
-        (3, true, Some(id(1)), 2),
-        (1, true, Some(id(2)), 0),
+        (3, true, Some(gone(1, 0)), 2),
+        (1, true, Some(gone(2, 1)), 0),
     ] {
         let arrived = arrive(&rt, &mut ring, id(trace));
         assert_eq!(rt; arrived, Arrived { opened, left, row }, "trace {trace}");
@@ -58,34 +66,53 @@ fn spot(place: u64) -> Spot {
     Spot { place, index: 7 }
 }
 
-/// Adds a spot, for which there must be room.
-fn add(rt: &impl Abort, assembly: &mut Assembly, trace: TraceId, place: u64) {
+/// Adds a spot, for which there must be room in an assembly that keeps its limit.
+fn add(rt: &impl Abort, assembly: &mut Assembly, trace: TraceId, place: u64) -> Arrived {
     assert!(rt; assembly.has_room());
-    assembly.add_near(0, trace, spot(place));
+    assert!(rt;
+        assembly.ring().limit() == 0 || assembly.ring().len() <= assembly.ring().limit() as usize
+    );
+    assembly.arrive_near(0, trace, spot(place))
 }
 
 #[test]
 fn hidden_spots_stay_away(rt: HostRuntime) -> Result<(), Fail> {
-    let mut assembly = Assembly::with_room(rt.alloc(), RandomState::new(&rt)?, 4)?;
+    let mut assembly = Assembly::with_room(rt.alloc(), RandomState::new(&rt)?, 2, 5)?;
     for (trace, place) in [(1, 1), (2, 2), (1, 3)] {
         add(&rt, &mut assembly, id(trace), place);
     }
     assert!(rt; assembly.spots(id(1)).eq([spot(1), spot(3)]));
-    assembly.hide(id(1));
-    assembly.hide(id(3));
+    let third = add(&rt, &mut assembly, id(3), 4);
+    assert_eq!(rt; third.left, Some(gone(1, 0)));
     assert!(rt; assembly.spots(id(1)).is_empty());
-    add(&rt, &mut assembly, id(1), 4);
-    assert!(rt; assembly.spots(id(1)).eq([spot(4)]));
-    assert!(rt; assembly.spots(id(2)).eq([spot(2)]));
-    assert!(rt; assembly.spots(TraceId { high: 2, low: 2 }).is_empty());
-    assert_eq!(rt; assembly.used(), 4);
+    add(&rt, &mut assembly, id(1), 5);
+    assert!(rt; assembly.spots(id(1)).eq([spot(5)]));
+    assert!(rt; assembly.spots(id(2)).is_empty());
+    assert!(rt; assembly.spots(id(3)).eq([spot(4)]));
+    assert!(rt; assembly.spots(TraceId { high: 3, low: 3 }).is_empty());
+    assert_eq!(rt; assembly.used(), 5);
     assert!(rt; !assembly.has_room());
     Ok(())
 }
 
 #[test]
+fn a_lower_limit_hides_the_oldest(rt: HostRuntime) -> Result<(), Fail> {
+    let mut assembly = Assembly::with_room(rt.alloc(), RandomState::new(&rt)?, 0, 3)?;
+    for (trace, place) in [(1, 1), (2, 2), (3, 3)] {
+        add(&rt, &mut assembly, id(trace), place);
+    }
+    assembly.set_limit(1);
+    for left in [Some(gone(1, 0)), Some(gone(2, 1)), None] {
+        assert_eq!(rt; assembly.drop_oldest(), left);
+    }
+    assert!(rt; assembly.spots(id(1)).is_empty() && assembly.spots(id(2)).is_empty());
+    assert!(rt; assembly.spots(id(3)).eq([spot(3)]));
+    Ok(())
+}
+
+#[test]
 fn spots_are_returned_again(rt: HostRuntime) -> Result<(), Fail> {
-    let mut assembly = Assembly::with_room(rt.alloc(), RandomState::new(&rt)?, 3)?;
+    let mut assembly = Assembly::with_room(rt.alloc(), RandomState::new(&rt)?, 0, 3)?;
     for (trace, place) in [(5, 1), (6, 2), (5, 3)] {
         add(&rt, &mut assembly, id(trace), place);
     }

@@ -14,10 +14,8 @@ pub loop-span-init : goal.loop-span-init
 loop-span-init c = record {
   index = refl;
   within = c.requires.within;
-  follows = λ n h at f. follows_none n h c.args.batch.now c.args.ring.now (spots_of c.args.assembly.now) f;
-  ring_room = refl;
-  seen = omega arith;
-  assembly_room = refl;
+  follows = λ n h at f. follows_none n h c.args.batch.now c.args.shown.now.newest (spots_of c.args.shown.now) f;
+  room = refl;
   used = omega arith;
 }
 
@@ -39,38 +37,25 @@ loop-span-preserved c =
       index = ap (λ k. k + 1) c.loop-span.invariant.index;
       within = c.let_in-row.ensures.within;
       follows = λ n h at f.
-          subst (λ es. Follows n es c.let_in-row.new.ring (spots_of c.let_in-row.new.assembly))
+          subst (λ es. Follows n es c.let_in-row.new.shown.newest (spots_of c.let_in-row.new.shown))
           ((λ j. located_upto h b i ++ came (record { place = at j; index = c.loop-span.invariant.index j }, placed b s) ∷ []) ∙ sym (upto_more h b i s le (sym is)))
           (c.let_in-row.ensures.follows n (located_upto h b i) (placed b s) (c.loop-span.invariant.follows n h at f) (trace_stays s));
-      ring_room = c.let_in-row.ensures.ring_room ∙ c.loop-span.invariant.ring_room;
-      seen = let now = c.let_in-row.ensures.seen in let then = c.loop-span.invariant.seen in omega arith;
-      assembly_room = c.let_in-row.ensures.assembly_room ∙ c.loop-span.invariant.assembly_room;
+      room = c.let_in-row.ensures.room ∙ c.loop-span.invariant.room;
       used = let now = c.let_in-row.ensures.used in let then = c.loop-span.invariant.used in omega arith;
     }
 
 pub returns-clause-follows : goal.returns-clause-follows
 returns-clause-follows c = λ n h at f.
     let past : length c.args.batch.now.spans ≤ c.loop-span.span-index = subst (λ (ss : List Span). length ss ≤ c.loop-span.span-index) c.as_slice-span-items.ensures c.loop-span-test.false in
-    subst (λ es. Follows n es c.loop-span.ring (spots_of c.loop-span.assembly)) (upto_end h c.args.batch.now c.loop-span.span-index past) (c.loop-span.invariant.follows n h at f)
+    subst (λ es. Follows n es c.loop-span.shown.newest (spots_of c.loop-span.shown)) (upto_end h c.args.batch.now c.loop-span.span-index past) (c.loop-span.invariant.follows n h at f)
 
-pub let_in-row-requires-clause-ring_room : goal.let_in-row-requires-clause-ring_room
-let_in-row-requires-clause-ring_room c =
+pub let_in-row-requires-clause-room : goal.let_in-row-requires-clause-room
+let_in-row-requires-clause-room c =
     let le : c.loop-span.span-index < length c.args.batch.now.spans = subst (λ (ss : List Span). c.loop-span.span-index < length ss) c.as_slice-span-items.ensures c.loop-span-test.true in
-    omega (arith, c.requires.ring_room, c.loop-span.invariant.ring_room, c.loop-span.invariant.seen)
+    omega (arith, c.requires.room, c.loop-span.invariant.room, c.loop-span.invariant.used)
 
-pub returns-clause-ring_room : goal.returns-clause-ring_room
-returns-clause-ring_room c = c.loop-span.invariant.ring_room
-
-pub returns-clause-seen : goal.returns-clause-seen
-returns-clause-seen c = omega (arith, c.loop-span.invariant.seen)
-
-pub let_in-row-requires-clause-assembly_room : goal.let_in-row-requires-clause-assembly_room
-let_in-row-requires-clause-assembly_room c =
-    let le : c.loop-span.span-index < length c.args.batch.now.spans = subst (λ (ss : List Span). c.loop-span.span-index < length ss) c.as_slice-span-items.ensures c.loop-span-test.true in
-    omega (arith, c.requires.assembly_room, c.loop-span.invariant.assembly_room, c.loop-span.invariant.used)
-
-pub returns-clause-assembly_room : goal.returns-clause-assembly_room
-returns-clause-assembly_room c = c.loop-span.invariant.assembly_room
+pub returns-clause-room : goal.returns-clause-room
+returns-clause-room c = c.loop-span.invariant.room
 
 pub returns-clause-used : goal.returns-clause-used
 returns-clause-used c =

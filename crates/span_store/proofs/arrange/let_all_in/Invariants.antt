@@ -1,4 +1,4 @@
-use Rattle.std.proofs.Common.{◌≡◌, ℕ, ◌+◌, ◌-◌, ◌≤◌, List, length}
+use Rattle.std.proofs.Common.{◌≡◌, ℕ, ◌+◌, ◌-◌, List, length}
 use Rattle.trace_model.specs.declared.entry.Entry.{Entry}
 use Rattle.trace_assembly.specs.Rows.{spots_of}
 use Rattle.trace_assembly.specs.Located.{located_events, located_upto}
@@ -8,10 +8,8 @@ use Rattle.span_store.proofs.arrange.let_all_in.Given as goal
 abbrev pub invariant-loop-span : goal.invariant-loop-span
 invariant-loop-span l = record {
   index : l.index ≡ l.span-index;
-  within : IsWithin l.ring;
-  follows : (n : ℕ) (h : List Entry) → l.place ≡ length h + 1 → Follows n (located_events h) l.initial.ring (spots_of l.initial.assembly) → Follows n (located_upto h l.batch l.span-index) l.ring (spots_of l.assembly);
-  ring_room : l.ring.room ≡ l.initial.ring.room;
-  seen : length l.ring.seen + (length l.batch.spans - l.span-index) ≤ length l.initial.ring.seen + length l.batch.spans;
-  assembly_room : l.assembly.room ≡ l.initial.assembly.room;
-  used : l.assembly.used + (length l.batch.spans - l.span-index) ≡ l.initial.assembly.used + length l.batch.spans;
+  within : IsWithin l.shown.newest;
+  follows : (n : ℕ) (h : List Entry) → l.place ≡ length h + 1 → Follows n (located_events h) l.initial.shown.newest (spots_of l.initial.shown) → Follows n (located_upto h l.batch l.span-index) l.shown.newest (spots_of l.shown);
+  room : l.shown.room ≡ l.initial.shown.room;
+  used : l.shown.used + (length l.batch.spans - l.span-index) ≡ l.initial.shown.used + length l.batch.spans;
 }

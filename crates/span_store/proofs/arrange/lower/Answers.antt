@@ -7,5 +7,5 @@ loop-gone-preserved c =
     let before = c.loop-gone in
     let drop = c.in-Some.ensures in
     let many = drop.variant.0 refl in
-    lowering_more c.args.limit c.args.ring.now before.ring c.drop_oldest.new.self c.args.assembly.now before.assembly c.hide.new.self c.in-Some.gone before.invariant
-    drop.limit drop.ids drop.seen drop.room many.0 many.1 drop.gone c.hide.ensures.spots c.hide.ensures.used c.hide.ensures.room
+    lowering_more c.args.limit c.args.shown.now before.shown c.drop_oldest.new.self c.in-Some._gone.trace before.invariant
+    drop.limit drop.ids many.0 many.1 drop.gone drop.spots drop.used drop.room

@@ -20,7 +20,7 @@ use Rattle.span_store.proofs.store.SpanStore.add.Goals as goal
 pub follow-requires-clause-within : goal.follow-requires-clause-within
 follow-requires-clause-within c =
     let was = c.self.inside in
-    kept_within was.journal.held was.ring was.assembly was.names was.reported c.self.invariant
+    kept_within was.journal.held was.shown was.names was.reported c.self.invariant
 
 pub follow-requires-clause-fits : goal.follow-requires-clause-fits
 follow-requires-clause-fits c =
@@ -30,20 +30,12 @@ follow-requires-clause-fits c =
     let fits : length (spans_brought e.work) < 2 ^ 32 = spans_fit was.journal.held e may in
     search rules
 
-pub follow-requires-clause-ring_room : goal.follow-requires-clause-ring_room
-follow-requires-clause-ring_room c =
+pub follow-requires-clause-room : goal.follow-requires-clause-room
+follow-requires-clause-room c =
     let was = c.self.inside in
     let e : Entry = c.args.entry in
     let may : admission_by was.journal.held e ≡ Ok Added = ap (λ (v : Held). admission_by v e) c.self.view_is ∙ c.requires in
-    let room : length was.ring.seen + length (spans_brought e.work) ≤ was.ring.room = (kept_room was.journal.held e was.ring was.assembly was.names was.reported c.self.invariant may).0 in
-    search rules
-
-pub follow-requires-clause-assembly_room : goal.follow-requires-clause-assembly_room
-follow-requires-clause-assembly_room c =
-    let was = c.self.inside in
-    let e : Entry = c.args.entry in
-    let may : admission_by was.journal.held e ≡ Ok Added = ap (λ (v : Held). admission_by v e) c.self.view_is ∙ c.requires in
-    let room : was.assembly.used + length (spans_brought e.work) ≤ was.assembly.room = (kept_room was.journal.held e was.ring was.assembly was.names was.reported c.self.invariant may).1 in
+    let room : was.shown.used + length (spans_brought e.work) ≤ was.shown.room = kept_room was.journal.held e was.shown was.names was.reported c.self.invariant may in
     search rules
 
 pub invariant_of-self : goal.invariant_of-self
@@ -55,16 +47,11 @@ invariant_of-self c =
     let n = was.journal.held.limits.traces in
     let h = was.journal.held.entries in
     let here = c.follow.ensures.follows n h place c.self.invariant.follows in
-    let follows : Follows n (located_events (h ++ e ∷ [])) c.follow.new.ring (spots_of c.follow.new.assembly) =
-    subst (λ (x : Entry). Follows n (located_events (h ++ x ∷ [])) c.follow.new.ring (spots_of c.follow.new.assembly)) (c.deref.ensures ∙ c.entry.ensures) here in
-    let seen : length c.follow.new.ring.seen ≤ length was.ring.seen + length (spans_brought e.work) = search rules in
-    let used : c.follow.new.assembly.used ≡ was.assembly.used + length (spans_brought e.work) = search rules in
-    let grows : Grows was.ring c.follow.new.ring was.assembly c.follow.new.assembly (length (spans_brought e.work)) = record {
-      room = c.follow.ensures.ring_room;
-      seen = seen;
-      spots_room = c.follow.ensures.assembly_room;
-      spots_used = used;
-    } in
+    let after = c.follow.new.shown in
+    let follows : Follows n (located_events (h ++ e ∷ [])) after.newest (spots_of after) =
+    subst (λ (x : Entry). Follows n (located_events (h ++ x ∷ [])) after.newest (spots_of after)) (c.deref.ensures ∙ c.entry.ensures) here in
+    let used : after.used ≡ was.shown.used + length (spans_brought e.work) = search rules in
+    let grows : Grows was.shown after (length (spans_brought e.work)) = record { room = c.follow.ensures.room; used = used } in
     let list : map (arc_value {X = Entry} {Z = Global}) c.entries-entries.result.now ≡ was.journal.held.entries ++ e ∷ [] = c.entries-entries.ensures ∙ ap (λ (v : Held). v.entries) held in
     let named = c.self.invariant.named in
     let names : IsNamed (followed_by was.journal.held e) c.add-2.new.self = record {
@@ -77,7 +64,7 @@ invariant_of-self c =
       kept = subst (λ (h : List Entry). PlacesKept h c.add.new.self) list c.add.ensures.kept;
       batches = c.add.ensures.batches ∙ c.self.invariant.placed.batches;
     } in
-    kept_more was.journal.held c.append_prepared.new.self.held e was.ring c.follow.new.ring was.assembly c.follow.new.assembly was.names c.add-2.new.self was.reported c.add.new.self c.self.invariant held grows follows names placed
+    kept_more was.journal.held c.append_prepared.new.self.held e was.shown after was.names c.add-2.new.self was.reported c.add.new.self c.self.invariant held grows follows names placed
 
 pub add-requires-2-clause-numbers : goal.add-requires-2-clause-numbers
 add-requires-2-clause-numbers c =

@@ -21,22 +21,22 @@ use Rattle.span_store.proofs.store.SpanStore.candidates_met.Goals as goal
 pub spots_along-requires : goal.spots_along-requires
 spots_along-requires c =
     let was = c.self.inside in
-    subst NoneTwice (sym (kept_ring was.journal.held was.ring was.assembly was.names was.reported c.self.invariant)) (ring_once was.journal.held.limits.traces (events was.journal.held.entries))
+    subst NoneTwice (sym (kept_ring was.journal.held was.shown was.names was.reported c.self.invariant)) (ring_once was.journal.held.limits.traces (events was.journal.held.entries))
 
 pub returns : goal.returns
 returns c =
     let was = c.self.inside in
     let h = was.journal.held in
     let q = c.args.wanted.now in
-    let spots = spots_of was.assembly in
+    let spots = spots_of was.shown in
     let f : TraceId → List Placed = spans_of_trace h.limits.traces (events h.entries) in
-    let stands = trace_stands h.limits.traces h.entries spots (kept_spots h was.ring was.assembly was.names was.reported c.self.invariant) in
-    let ids : List TraceId = filter (reaches (met_along q h.entries c.places_of-places.result)) was.ring.ids in
+    let stands = trace_stands h.limits.traces h.entries spots (kept_spots h was.shown was.names was.reported c.self.invariant) in
+    let ids : List TraceId = filter (reaches (met_along q h.entries c.places_of-places.result)) was.shown.newest.ids in
     let at : c.places_of-places.result ≡ places_of h.entries q.service = c.places_of-places.ensures ∙ (λ i. places_of (c.entries.ensures i) (c.as_str.ensures.value i)) ∙ ap (λ (f : Find). places_of h.entries f.service) c.query-query.ensures in
     let all : found_in q (traces_named h.entries c.in_ok-spots.spots.items) ≡ found_in q (traces h.limits.traces (events h.entries)) =
     ap (λ ss. found_in q (map (spans_named h.entries) ss)) c.in_ok-spots.ensures
     ∙ ap (found_in q) (map_map (spans_named h.entries) spots ids ∙ (λ i. map (λ t. stands t i) ids))
-    ∙ ap (λ (ps : List ℕ). found_in q (map f (filter (reaches (met_along q h.entries ps)) was.ring.ids))) at
-    ∙ found_among q h.limits.traces h.entries q.service was.ring.ids refl
-    ∙ ap (found_in q) (kept_traces h was.ring was.assembly was.names was.reported c.self.invariant) in
+    ∙ ap (λ (ps : List ℕ). found_in q (map f (filter (reaches (met_along q h.entries ps)) was.shown.newest.ids))) at
+    ∙ found_among q h.limits.traces h.entries q.service was.shown.newest.ids refl
+    ∙ ap (found_in q) (kept_traces h was.shown was.names was.reported c.self.invariant) in
     subst (λ (v : Held). found_in q (traces_named v.entries c.in_ok-spots.spots.items) ≡ found_in q (traces v.limits.traces (events v.entries))) c.self.view_is all

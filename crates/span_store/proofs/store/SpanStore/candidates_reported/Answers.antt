@@ -31,14 +31,14 @@ returns c =
     let was = c.self.inside in
     let h = was.journal.held in
     let q = c.args.query.now in
-    let spots = spots_of was.assembly in
+    let spots = spots_of was.shown in
     let f : TraceId → List Placed = spans_of_trace h.limits.traces (events h.entries) in
-    let stands = trace_stands h.limits.traces h.entries spots (kept_spots h was.ring was.assembly was.names was.reported c.self.invariant) in
-    let ids : List TraceId = filter (λ t. are_reported h.entries was.reported.groups c.args.service (spots t)) was.ring.ids in
+    let stands = trace_stands h.limits.traces h.entries spots (kept_spots h was.shown was.names was.reported c.self.invariant) in
+    let ids : List TraceId = filter (λ t. are_reported h.entries was.reported.groups c.args.service (spots t)) was.shown.newest.ids in
     let known : Some c.args.service ≡ group_of h.entries q.service = c.requires ∙ sym (ap (λ (v : Held). group_of v.entries q.service) c.self.view_is) in
     let all : found_in q (traces_named h.entries c.in_ok-spots.spots.items) ≡ found_in q (traces h.limits.traces (events h.entries)) =
     ap (λ ss. found_in q (map (spans_named h.entries) ss)) c.in_ok-spots.ensures
     ∙ ap (found_in q) (map_map (spans_named h.entries) spots ids ∙ (λ i. map (λ t. stands t i) ids))
-    ∙ found_reported q h.entries was.reported.groups c.args.service c.self.invariant.placed.kept.grouped known h.limits.traces spots was.ring.ids stands
-    ∙ ap (found_in q) (kept_traces h was.ring was.assembly was.names was.reported c.self.invariant) in
+    ∙ found_reported q h.entries was.reported.groups c.args.service c.self.invariant.placed.kept.grouped known h.limits.traces spots was.shown.newest.ids stands
+    ∙ ap (found_in q) (kept_traces h was.shown was.names was.reported c.self.invariant) in
     subst (λ (v : Held). found_in q (traces_named v.entries c.in_ok-spots.spots.items) ≡ found_in q (traces v.limits.traces (events v.entries))) c.self.view_is all

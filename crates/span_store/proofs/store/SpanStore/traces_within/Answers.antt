@@ -6,6 +6,7 @@ use Rattle.trace_model.specs.Held.{Held}
 use Rattle.trace_model.specs.Histories.{events}
 use Rattle.trace_model.specs.Linking.{in_window, links}
 use Rattle.trace_model.specs.Searching.{traces}
+use Rattle.trace_ring.specs.Windows.{Window}
 use Rattle.trace_assembly.specs.Rows.{spots_of}
 use Rattle.service_places.specs.Reported.{service_at, group_in}
 use Rattle.journal_traces.specs.Given.{given_traces}
@@ -23,14 +24,14 @@ returns-clause-links c =
     let l = to_z-of_z w64 c.args.lookback_ms c.ranges.lookback_ms in
     let end_ms = c.args.end_ms in
     let lookback_ms = c.args.lookback_ms in
-    let spots = spots_of was.assembly in
-    let stands = trace_stands h.limits.traces h.entries spots (kept_spots h was.ring was.assembly was.names was.reported c.self.invariant) in
-    let ids : c.deref.result.now ≡ was.ring.ids = c.deref.ensures.value ∙ c.in_ok-ids.ensures in
+    let spots = spots_of was.shown in
+    let stands = trace_stands h.limits.traces h.entries spots (kept_spots h was.shown was.names was.reported c.self.invariant) in
+    let ids : c.deref.result.now ≡ was.shown.newest.ids = c.deref.ensures.value ∙ c.in_ok-ids.ensures ∙ ap (λ (w : Window). w.ids) c.ring.ensures in
     let seen : given_traces c.in_ok-traces.traces.items ≡ filter (list_any (in_window end_ms lookback_ms)) (map (trace_named h.entries spots) c.deref.result.now) = rw (e, l) at c.in_ok-traces.ensures.given_span in
     let all : links end_ms lookback_ms (given_traces c.in_ok-traces.traces.items) ≡ links end_ms lookback_ms (traces h.limits.traces (events h.entries)) =
     ap (links end_ms lookback_ms) seen ∙ links_within end_ms lookback_ms (map (trace_named h.entries spots) c.deref.result.now)
     ∙ ap (λ (r : List TraceId). links end_ms lookback_ms (map (trace_named h.entries spots) r)) ids
-    ∙ ap (links end_ms lookback_ms) ((λ i. map (λ t. stands t i) was.ring.ids) ∙ kept_traces h was.ring was.assembly was.names was.reported c.self.invariant) in
+    ∙ ap (links end_ms lookback_ms) ((λ i. map (λ t. stands t i) was.shown.newest.ids) ∙ kept_traces h was.shown was.names was.reported c.self.invariant) in
     subst (λ (v : Held). links end_ms lookback_ms (given_traces c.in_ok-traces.traces.items) ≡ links end_ms lookback_ms (traces v.limits.traces (events v.entries))) c.self.view_is all
 
 pub returns-clause-numbered : goal.returns-clause-numbered
