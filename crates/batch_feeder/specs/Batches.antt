@@ -1,12 +1,14 @@
 -- A batch of which some bytes have come.
 use Rattle.std.specs.Prelude.{Some, Ok}
 use Rattle.thrift_binary.specs.Reading.{◌>>=◌}
+use Rattle.jaeger_model.specs.declared.batch.Process.{Process}
 use Rattle.batch_codec.specs.declared.batch.BatchSlots.{BatchSlots}
 use Rattle.batch_codec.specs.Decoding.{Reading}
 use Rattle.batch_codec.specs.Gathered.{no_span}
 use Rattle.batch_codec.specs.ProcessReading.{process_from, take_process}
 use Rattle.batch_codec.specs.SpanReading.{take_span, span_from}
 use Rattle.batch_feeder.specs.declared.batch.BatchHeld.{BatchHeld}
+use Rattle.batch_feeder.specs.declared.batch.SharedPart.{SharedPart}
 use Rattle.batch_feeder.specs.declared.batch.BatchHeld.TheVariants as held
 use Rattle.batch_feeder.specs.Values.{i64_part, skip_part}
 use Rattle.batch_feeder.specs.Fields.{struct_at, struct_from}
@@ -14,8 +16,12 @@ use Rattle.batch_feeder.specs.Lists.{list_from}
 use Rattle.batch_feeder.specs.Processes.{process_continues}
 use Rattle.batch_feeder.specs.Spans.{span_continues}
 
+-- sharing it makes no other process of it
+abbrev pub shared_part : SharedPart → Reading Process
+shared_part p = struct_from take_process process_continues process_from p.process.slots p.process.step
+
 abbrev pub batch_continues : BatchSlots → BatchHeld → Reading BatchSlots
-batch_continues s (held.Process p) w = struct_from take_process process_continues process_from p.slots p.step w >>= λ x. Ok (record s { process = Some x.0 }, x.1)
+batch_continues s (held.Process p) w = shared_part p w >>= λ x. Ok (record s { process = Some x.0 }, x.1)
 batch_continues s (held.Spans p) w = list_from (struct_at take_span no_span span_from) (λ q. struct_from take_span span_continues span_from q.slots q.step) p.items.items p.left p.head p.one w >>= λ x. Ok (record s { spans = Some x.0 }, x.1)
 batch_continues s (held.SeqNo p) w = i64_part p w >>= λ x. Ok (record s { seq_no = Some x.0 }, x.1)
 batch_continues s (held.Skip p) w = skip_part s p w

@@ -46,10 +46,10 @@ Places holding old new before after piece left (Ok false) = NeedsMore (Wire Trun
 Places holding old new before after piece left (Err e) = Faults old piece e
 
 -- a value that began and was put into its place: whole, or the part of it that has come, or a fault
-abbrev pub Lays : {A P : Type 0} → Reading A → (P → Reading A) → A → A → List ℕ → List ℕ → Result (Option P) DecodeError → Type 0
-Lays reads resumes before after piece left (Ok None) = Comes reads (λ w. Ok (after, w)) piece left
-Lays reads resumes before after piece left (Ok (Some p)) = NeedsMore (Wire Truncated) reads (resumes p) piece left × (after ≡ before)
-Lays reads resumes before after piece left (Err e) = Faults reads piece e
+abbrev pub Lays : {A P S : Type 0} → (A → S) → Reading A → (P → Reading A) → S → S → List ℕ → List ℕ → Result (Option P) DecodeError → Type 0
+Lays {A = A} holding reads resumes before after piece left (Ok None) = (x : A) × (after ≡ holding x) × Comes reads (λ w. Ok (x, w)) piece left
+Lays holding reads resumes before after piece left (Ok (Some p)) = NeedsMore (Wire Truncated) reads (resumes p) piece left × (after ≡ before)
+Lays holding reads resumes before after piece left (Err e) = Faults reads piece e
 
 -- a value that began: whole, or the part of it that has come, or a fault
 abbrev pub BeginsValue : {A P : Type 0} → Reading A → (P → Reading A) → Option P → List ℕ → List ℕ → Result (Option A) DecodeError → Type 0

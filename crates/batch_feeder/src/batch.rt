@@ -1,12 +1,6 @@
-ghost use Rattle.std.specs.Prelude.{◌≡◌, ◌≤◌, Some, length, OnOk};
-ghost use Rattle.batch_codec.specs.ProcessReading.{take_process, process_from};
-ghost use Rattle.batch_feeder.specs.Continuing.{Places};
-ghost use Rattle.batch_feeder.specs.Fields.{struct_from};
-ghost use Rattle.batch_codec.specs.BatchReading.{take_batch};
-ghost use Rattle.batch_feeder.specs.Batches.{batch_continues};
-ghost use Rattle.batch_feeder.specs.Processes.{process_continues};
+ghost use Rattle.batch_feeder.specs.Batches.{shared_part};
 
-use crate::fields::{Fields, Slots, Step, enter_slowly};
+use crate::fields::{Fields, Slots};
 use crate::items::ListPart;
 use crate::partial::{Partial, place};
 use crate::process::ProcessParts;
@@ -26,31 +20,28 @@ const LEAST_BATCH: usize = 20;
 /// The value of a field of a batch, of which some bytes have come.
 #[derive(Drop)]
 pub(crate) enum BatchHeld {
-    Process(Struct<ProcessParts>),
+    Process(SharedPart),
     Spans(ListPart<Struct<SpanSlots>>),
     SeqNo(I64Part),
     Skip(SkipPart),
 }
 
-/// Continues over a piece inside the process, and puts it into its place to be shared.
-fn share(
-    part: &mut Struct<ProcessParts>,
-    slot: &mut Option<SharedProcess>,
-    alloc: Global,
-    piece: &mut Piece<'_>,
-) -> Decoded<bool>
-    ensures continues { Places Some
-        (struct_from take_process process_continues process_from part.old.slots part.old.step)
-        (struct_from take_process process_continues process_from part.new.slots part.new.step)
-        slot.old slot.new piece.old piece.new result }
-    ensures no_longer { OnOk result (length piece.new ≤ length piece.old) }
-{
-    match part.more(alloc, piece) {
-        Err(error) => Err(error),
-        Ok(None) => Ok(false),
-        Ok(Some(process)) => {
-            *slot = Some(SharedProcess::new(alloc, process)?);
-            Ok(true)
+/// A process of which some bytes have come, and which is to be shared.
+#[derive(Drop)]
+pub(crate) struct SharedPart {
+    process: Struct<ProcessParts>,
+}
+
+impl Partial for SharedPart {
+    type Value = SharedProcess;
+
+    ghost resumes = { shared_part };
+
+    fn more(&mut self, alloc: Global, piece: &mut Piece<'_>) -> Decoded<Option<SharedProcess>> {
+        match self.process.more(alloc, piece) {
+            Err(error) => Err(error),
+            Ok(None) => Ok(None),
+            Ok(Some(process)) => Ok(Some(SharedProcess::new(alloc, process)?)),
         }
     }
 }
@@ -96,7 +87,9 @@ impl Slots for BatchSlots {
     #[tactic(auto, unfolding(batch_codec::specs::BatchReading::take_batch, batch_codec::specs::ProcessReading::process_at, batch_codec::specs::SpanReading::span_at))]
     fn begin(&self, code: u8, id: i16, alloc: Global) -> BatchHeld {
         match (code, id) {
-            (STRUCT, 1) => BatchHeld::Process(Struct::new(alloc)),
+            (STRUCT, 1) => BatchHeld::Process(SharedPart {
+                process: Struct::new(alloc),
+            }),
             (LIST, 2) => BatchHeld::Spans(ListPart::new(alloc)),
             (I64, 3) => BatchHeld::SeqNo(I64Part::new()),
             _ => BatchHeld::Skip(SkipPart::new(alloc, code)),
@@ -110,7 +103,7 @@ impl Slots for BatchSlots {
         piece: &mut Piece<'_>,
     ) -> Decoded<bool> {
         match held {
-            BatchHeld::Process(part) => share(part, &mut self.process, alloc, piece),
+            BatchHeld::Process(part) => place(part, &mut self.process, alloc, piece),
             BatchHeld::Spans(part) => part.place(&mut self.spans, alloc, piece),
             BatchHeld::SeqNo(part) => place(part, &mut self.seq_no, alloc, piece),
             BatchHeld::Skip(part) => place(part, &mut (), alloc, piece),
@@ -119,7 +112,7 @@ impl Slots for BatchSlots {
 
     fn is_between_fields(held: &BatchHeld) -> bool {
         match held {
-            BatchHeld::Process(part) => part.is_between(),
+            BatchHeld::Process(part) => part.process.is_between(),
             BatchHeld::Spans(part) => part.is_between_fields(),
             _ => false,
         }
@@ -137,20 +130,4 @@ impl Slots for BatchSlots {
     ghost short = { take_batch_short };
 }
 
-impl Fields for BatchSlots {
-    fn enter(
-        &mut self,
-        next: &mut Option<Step<BatchHeld>>,
-        code: u8,
-        id: i16,
-        alloc: Global,
-        piece: &mut Piece<'_>,
-    ) -> Decoded<bool> {
-        enter_slowly(self, next, code, id, alloc, piece)
-    }
-
-    #[inline(always)]
-    fn read_whole(_alloc: Global, _cursor: &mut Cursor<'_>) -> Decoded<Option<Batch>> {
-        Ok(None)
-    }
-}
+impl Fields for BatchSlots {}

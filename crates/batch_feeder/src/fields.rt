@@ -92,13 +92,20 @@ pub(crate) trait Fields: Slots {
         requires { is_code code ≡ true }
         ensures continues { Opens (Self.takes self.old code id) (Self.resumes self.new)
             self.new next.new piece.old piece.new result }
-        ensures no_longer { OnOk result (length piece.new ≤ length piece.old) };
+        ensures no_longer { OnOk result (length piece.new ≤ length piece.old) }
+    {
+        enter_slowly(self, next, code, id, alloc, piece)
+    }
 
     /// Reads the struct where it is whole, or leaves it to the way that continues over pieces.
-    fn read_whole(alloc: Global, cursor: &mut Cursor<'_>) -> Decoded<Option<Self::Output>>
+    #[inline(always)]
+    fn read_whole(_alloc: Global, _cursor: &mut Cursor<'_>) -> Decoded<Option<Self::Output>>
         ensures attempts { Attempts (struct_at Self.takes Self.none Self.makes)
-            cursor.old cursor.new result }
-        ensures no_longer { OnOk result (length cursor.new ≤ length cursor.old) };
+            _cursor.old _cursor.new result }
+        ensures no_longer { OnOk result (length _cursor.new ≤ length _cursor.old) }
+    {
+        Ok(None)
+    }
 }
 
 /// Where the fields of a struct have come to.

@@ -155,12 +155,12 @@ impl<P: Item> ListPart<P> {
 
     /// Begins a list over a piece, and puts it into its place: the part of it that has come, where it isn't whole.
     #[inline(always)]
-    pub(crate) fn begin(
-        slot: &mut Seq<P::Value>,
+    pub(crate) fn begin<S: Slot<Seq<P::Value>>>(
+        slot: &mut S,
         alloc: Global,
         piece: &mut Piece<'_>,
     ) -> Decoded<Option<Self>>
-        ensures continues { Lays (list_of wire 12 P.reads)
+        ensures continues { Lays S.holding (list_of wire 12 P.reads)
             (λ p. list_from P.reads P.Partial.resumes p.items.items p.left p.head p.one)
             slot.old slot.new piece.old piece.new result }
         ensures no_longer { OnOk result (length piece.new ≤ length piece.old) }

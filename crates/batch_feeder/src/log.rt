@@ -38,17 +38,10 @@ fn enter_log_fields(
         next.new piece.old piece.new result }
     ensures no_longer { OnOk result (length piece.new ≤ length piece.old) }
 {
-    let mut part = ListPart::new(alloc);
-    match part.place(&mut slots.fields, alloc, piece) {
-        Err(error) => {
-            drop(part);
-            Err(error)
-        }
-        Ok(true) => {
-            drop(part);
-            Ok(true)
-        }
-        Ok(false) => {
+    match ListPart::begin(&mut slots.fields, alloc, piece) {
+        Err(error) => Err(error),
+        Ok(None) => Ok(true),
+        Ok(Some(part)) => {
             hold_next(next, Step::Value(LogHeld::Fields(part)));
             Ok(false)
         }
@@ -142,10 +135,5 @@ impl Fields for LogSlots {
             (LIST, 2) => enter_log_fields(self, next, alloc, piece),
             _ => enter_slowly(self, next, code, id, alloc, piece),
         }
-    }
-
-    #[inline(always)]
-    fn read_whole(_alloc: Global, _cursor: &mut Cursor<'_>) -> Decoded<Option<Log>> {
-        Ok(None)
     }
 }

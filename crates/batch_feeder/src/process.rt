@@ -172,9 +172,4 @@ impl Fields for ProcessParts {
             _ => enter_slowly(self, next, code, id, alloc, piece),
         }
     }
-
-    #[inline(always)]
-    fn read_whole(_alloc: Global, _cursor: &mut Cursor<'_>) -> Decoded<Option<Process>> {
-        Ok(None)
-    }
 }

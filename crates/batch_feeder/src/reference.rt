@@ -1,5 +1,5 @@
 use crate::enums::KindPart;
-use crate::fields::{Fields, Slots, Step, enter_slowly};
+use crate::fields::{Fields, Slots};
 use crate::partial::place;
 use crate::skipped::SkipPart;
 use crate::values::IdPart;
@@ -103,20 +103,4 @@ impl Slots for ReferenceSlots {
     ghost short = { take_reference_short };
 }
 
-impl Fields for ReferenceSlots {
-    fn enter(
-        &mut self,
-        next: &mut Option<Step<ReferenceHeld>>,
-        code: u8,
-        id: i16,
-        alloc: Global,
-        piece: &mut Piece<'_>,
-    ) -> Decoded<bool> {
-        enter_slowly(self, next, code, id, alloc, piece)
-    }
-
-    #[inline(always)]
-    fn read_whole(_alloc: Global, _cursor: &mut Cursor<'_>) -> Decoded<Option<SpanRef>> {
-        Ok(None)
-    }
-}
+impl Fields for ReferenceSlots {}

@@ -1,7 +1,7 @@
 ghost use Rattle.std.specs.Prelude.{◌≡◌};
 
 use crate::enums::TypePart;
-use crate::fields::{Fields, Slots, Step, enter_slowly};
+use crate::fields::{Fields, Slots};
 use crate::partial::place;
 use crate::reads::{read_binary, read_text};
 use crate::skipped::SkipPart;
@@ -175,20 +175,4 @@ impl Slots for TagParts {
     ghost short = { take_tag_short };
 }
 
-impl Fields for TagParts {
-    fn enter(
-        &mut self,
-        next: &mut Option<Step<TagHeld>>,
-        code: u8,
-        id: i16,
-        alloc: Global,
-        piece: &mut Piece<'_>,
-    ) -> Decoded<bool> {
-        enter_slowly(self, next, code, id, alloc, piece)
-    }
-
-    #[inline(always)]
-    fn read_whole(_alloc: Global, _cursor: &mut Cursor<'_>) -> Decoded<Option<Tag>> {
-        Ok(None)
-    }
-}
+impl Fields for TagParts {}

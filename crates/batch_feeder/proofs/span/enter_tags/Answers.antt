@@ -12,7 +12,9 @@ returns-in-Err-clause-continues c = faults-inside (λ x. Ok (record c.args.slots
 
 pub returns-in-Ok-None-clause-continues : goal.returns-in-Ok-None-clause-continues
 unfolding take_span tag_at
-returns-in-Ok-None-clause-continues c = comes-inside (λ x. Ok (record c.args.slots.now { tags = x.0 }, x.1)) (rw c.in-Ok-None.field-0-is at c.in-Ok-None.ensures.continues)
+returns-in-Ok-None-clause-continues c =
+    let h = rw c.in-Ok-None.field-0-is at c.in-Ok-None.ensures.continues in
+    rw h.1 (comes-inside (λ x. Ok (record c.args.slots.now { tags = x.0 }, x.1)) h.2)
 
 pub returns-in-Ok-Some-clause-continues : goal.returns-in-Ok-Some-clause-continues
 unfolding take_span tag_at

@@ -7,7 +7,7 @@ returns-in-Err-clause-continues g c = same-faults _ _ c.new-part.ensures.fresh _
 pub returns-in-Ok-true-clause-continues : goal.returns-in-Ok-true-clause-continues
 returns-in-Ok-true-clause-continues g c =
     let h = rw c.in-Ok-true.field-0-test at c.in-Ok-true.ensures.continues in
-    rw h.1 (same-comes _ _ c.new-part.ensures.fresh _ _ _ h.2)
+    (h.0, h.1, same-comes _ _ c.new-part.ensures.fresh _ _ _ h.2)
 
 pub returns-in-Ok-false-clause-continues : goal.returns-in-Ok-false-clause-continues
 returns-in-Ok-false-clause-continues g c =

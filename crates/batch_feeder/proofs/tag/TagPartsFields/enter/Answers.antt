@@ -6,4 +6,4 @@ use Rattle.batch_feeder.proofs.tag.TagPartsFields.enter.Goals as goal
 pub returns-clause-continues : goal.returns-clause-continues
 returns-clause-continues c =
     let f : SFits w16 c.args.id = search rules in
-    simp to_z-of_z at c.enter_slowly.ensures.continues
+    simp to_z-of_z at c.enter.ensures.continues
