@@ -1,17 +1,11 @@
 -- The sixteen digits of an id are those of its eight bytes.
-use Rattle.std.proofs.Common.{◌≡◌, ℕ, zero, suc, ◌*◌, ◌/◌, ◌%◌, ◌^◌, ◌<◌, Bool, true, false, [], ◌∷◌, ◌++◌, refl, sym, ap, ap₂, ◌∙◌, arith, length, length-append, slice_index}
+use Rattle.std.proofs.Common.{◌≡◌, ℕ, zero, suc, ◌*◌, ◌/◌, ◌%◌, ◌^◌, Bool, true, false, [], ◌∷◌, ◌++◌, refl, sym, ap, ap₂, ◌∙◌, arith}
 use Rattle.std.specs.Prelude.{◌==◌, if◌then◌else◌}
 use Rattle.std.proofs.Math.Nat.{div-div-eq-div-mul, div-one, pow-suc}
-use Rattle.std.proofs.lemmas.Bool.Decides.{nat_tests}
-use Rattle.std.proofs.lemmas.Str.{IsAscii-append}
-use Rattle.std.proofs.lemmas.Str.Ascii.{IsAscii-cons, IsAscii-nil}
-use Rattle.std.specs.Str.{IsAscii}
 use Rattle.std.specs.Int.{byte_at, bytes_high_first, to_be_bytes, w64}
-use Rattle.hex.specs.Hex.{encode_lower}
 use Rattle.jaeger_model.specs.declared.ids.TraceId.{TraceId}
 use Rattle.jaeger_model.specs.Ids.{hex_digit, low_digits, trace_text}
 use Rattle.jaeger_model.specs.Tags.{hex_text}
-use Rattle.jaeger_model.proofs.Digits.{encoded}
 
 -- the digit in front
 low_digits-front : (k n : ℕ) → low_digits (suc k) n ≡ hex_digit (n / 16 ^ k % 16) ∷ low_digits k n
@@ -55,35 +49,8 @@ hex_text-bytes (suc k) n =
     ∙ ap (λ ds. hex_digit (n / 16 ^ suc (twice k) % 16) ∷ ds) (sym (low_digits-front (twice k) n))
     ∙ sym (low_digits-front (suc (twice k)) n)
 
-byte_small : (k n : ℕ) → byte_at k n < 256
-byte_small zero n = omega arith
-byte_small (suc k) n = omega arith
-
-bytes_small : (k n i : ℕ) → slice_index (bytes_high_first k n) i < 256
-bytes_small zero n i = omega arith
-bytes_small (suc k) n zero = byte_small k n
-bytes_small (suc k) n (suc i) = bytes_small k n i
-
-pub digits_of_bytes : (n : ℕ) → encode_lower (to_be_bytes w64 n) ≡ low_digits 16 n
-digits_of_bytes n = encoded (to_be_bytes w64 n) (bytes_small 8 n) ∙ hex_text-bytes 8 n
-
 pub hex_text-number : (n : ℕ) → hex_text (to_be_bytes w64 n) ≡ low_digits 16 n
 hex_text-number n = hex_text-bytes 8 n
-
--- ---- ASCII
-
-hex_digit_small : (d : ℕ) → d < 16 → hex_digit d < 128
-hex_digit_small d small = grind (arith, nat_tests)
-
-pub low_digits_ascii : (k n : ℕ) → IsAscii (low_digits k n)
-unfolding low_digits
-low_digits_ascii zero n = IsAscii-nil
-low_digits_ascii (suc k) n = IsAscii-append (low_digits k (n / 16)) (hex_digit (n % 16) ∷ []) (low_digits_ascii k (n / 16)) (IsAscii-cons (hex_digit (n % 16)) [] (hex_digit_small (n % 16) (omega arith)) IsAscii-nil)
-
-length-low_digits : (k n : ℕ) → length (low_digits k n) ≡ k
-unfolding low_digits
-length-low_digits zero n = refl
-length-low_digits (suc k) n = length-append (low_digits k (n / 16)) (hex_digit (n % 16) ∷ []) ∙ omega (arith, length-low_digits k (n / 16))
 
 -- ---- a trace's id
 

@@ -1,9 +1,9 @@
 -- What is put on a page, piece behind piece.
-use Rattle.std.proofs.Common.{◌≡◌, ◌<◌, ◌≤◌, ◌+◌, ℕ, Bool, true, false, List, [], ◌∷◌, ◌++◌, length, length-append, map, drop, get_or, refl, sym, ap, subst, ◌∙◌, append_assoc, append-nil, arith, true≢false, Result, Ok, Err, Vec, Global, IfOk, Some, None, inl, inr}
+use Rattle.std.proofs.Common.{◌≡◌, ◌<◌, ◌≤◌, ◌+◌, ℕ, Bool, true, false, List, [], ◌∷◌, ◌++◌, length, length-append, map, drop, get_or, refl, sym, ap, subst, ◌∙◌, append_assoc, append-nil, arith, true≢false, Result, Ok, Err, Vec, Global, IfOk, Some}
 use Rattle.std.specs.Str.{IsUtf8}
 use Rattle.std.specs.Prelude.{slice_get, vec_capacity}
-use Rattle.std.proofs.lemmas.List.{drop_all, drop_more}
-use Rattle.std.proofs.lemmas.Option.{get_or_from_slice_get, slice_get_cases}
+use Rattle.std.proofs.lemmas.List.{drop_all, drop_more, get_or-map, length-map}
+use Rattle.std.proofs.lemmas.Option.{get_or_from_slice_get}
 use Rattle.std.proofs.lemmas.Str.{IsUtf8-append, IsUtf8-nil}
 use Rattle.json.specs.Print.{quoted}
 use Rattle.serde_json.specs.Data.{Data, null, boolean, number, string, array, object, Members, no_members, member}
@@ -159,25 +159,9 @@ list_begun f {x = x} {left = left} e p = record {
   text = ap (λ (l : List ℕ). 91 ∷ (compact_text (f x) ++ l)) (items_rest f left) ∙ sym (ap (λ ys. compact_text (list (map f ys))) e);
 }
 
--- the same of a list that is read by index
-pub within_from_get : {X : Type 0} (xs : List X) (i : ℕ) (x : X) → slice_get xs i ≡ Some x → i < length xs
-within_from_get {X = X} xs i x e = elim (slice_get_cases xs i).1 [
-  | inl w ↦ w.1
-  | inr w ↦ absurd (none (sym w.1 ∙ e))
-]
-  where
-    none : None ≡ Some x → ⊥
-    none h = cc h
-
-pub indexed_begun : {X : Type 0} (f : X → Data) {old now : Page} (xs : List X) (x : X) → slice_get xs 0 ≡ Some x → Puts old now ((91 ∷ []) ++ compact_text (f x))
-    → Going (λ y. compact_text (f y)) 93 old now (drop 1 xs) (compact_text (list (map f xs)))
-indexed_begun f xs x e p =
-    let here : xs ≡ x ∷ drop 1 xs = drop_more xs 0 x (within_from_get xs 0 x e) ∙ ap (λ y. y ∷ drop 1 xs) (get_or_from_slice_get xs 0 x x e) in
-    list_begun f here p
-
-pub indexed_more : {X : Type 0} {f : X → List ℕ} {close : ℕ} {old now next : Page} (xs : List X) (i : ℕ) (x : X) {whole : List ℕ}
-    → Going f close old now (drop i xs) whole → slice_get xs i ≡ Some x → Puts now next (44 ∷ f x) → Going f close old next (drop (i + 1) xs) whole
-indexed_more xs i x g e p = Going-at xs i x g (within_from_get xs i x e) (sym (get_or_from_slice_get xs i x x e)) p
+-- the tree of an item that stands at the index
+pub tree_at : {X : Type 0} (f : X → Data) (xs : List X) (i : ℕ) (x : X) → i < length (map f xs) → slice_get xs i ≡ Some x → f x ≡ get_or (map f xs) i null
+tree_at f xs i x below e = sym (get_or-map f xs i x null (omega (arith, below, length-map xs f)) ∙ ap f (get_or_from_slice_get xs i x x e))
 
 -- the first of some processes is put
 pub members_begun : {old now : Page} {ps : List NamedProcess} {p : NamedProcess} {left : List NamedProcess} → ps ≡ p ∷ left → Puts old now ((123 ∷ []) ++ named_text p)

@@ -8,8 +8,8 @@
 //! * `span`: a span with its logs and what is said of it.
 //! * `trace`: a trace with its spans.
 //! * `answer`: what stands around an answer's items, and errors.
-ghost use Rattle.std.specs.Prelude.{map};
-ghost use Rattle.serde_json.specs.Data.{Data, string};
+ghost use Rattle.std.specs.Prelude.{◌≡◌, ◌<◌, List, get_or, length, map};
+ghost use Rattle.serde_json.specs.Data.{Data, null, string};
 ghost use Rattle.serde_json.specs.Written.{compact_text};
 ghost use Rattle.query_json.specs.Page.{Puts};
 ghost use Rattle.query_json.specs.Trees.{list};
@@ -36,19 +36,45 @@ pub(crate) trait WriteJson {
         ensures { Puts out.old out.new (compact_text (tree self.now)) };
 }
 
+/// Items that are written as one list, each by its index.
+pub(crate) trait WriteItems {
+    ghost trees: { Self → List Data };
+
+    /// The number of items.
+    fn count(&self) -> usize
+        ensures { result ≡ length (trees self.now) };
+
+    fn write_item(&self, out: &mut Page, index: usize)
+        requires { index < length (trees self.now) }
+        ensures { Puts out.old out.new (compact_text (get_or (trees self.now) index null)) };
+}
+
+impl<T: WriteJson> WriteItems for &[T] {
+    ghost trees = { λ items. map T.tree items.now };
+
+    fn count(&self) -> usize {
+        self.len()
+    }
+
+    fn write_item(&self, out: &mut Page, index: usize) {
+        self[index].write(out);
+    }
+}
+
 /// The items as one list.
-fn write_list<T: WriteJson>(out: &mut Page, items: &[T])
-    ensures { Puts out.old out.new (compact_text (list (map T.tree items.now))) }
+fn write_list<L: WriteItems + Drop>(out: &mut Page, items: L)
+    ensures { Puts out.old out.new (compact_text (list (L.trees items))) }
 {
-    let Some((first, rest)) = items.split_first() else {
+    let count = items.count();
+    if count == 0 {
         out.put("[]");
         return;
-    };
+    }
     out.put("[");
-    first.write(out);
-    for item in rest {
+    items.write_item(out, 0);
+    for index in 1..count {
         out.put(",");
-        item.write(out);
+        items.write_item(out, index);
     }
     out.put("]");
 }

@@ -5,11 +5,11 @@ ghost use Rattle.serde_json.specs.Written.{compact_text};
 ghost use Rattle.jaeger_model.specs.declared.batch.Process.{Process as ProcessValue};
 ghost use Rattle.trace_adjust.specs.Lending.{lent_log, warning_text, warning_texts};
 ghost use Rattle.query_json.specs.Page.{Puts};
-ghost use Rattle.query_json.specs.Trees.{flags_number, list, log_tree, reference_tree, span_tree, warnings_tree};
+ghost use Rattle.query_json.specs.Trees.{flags_number, log_tree, reference_tree, span_tree, warnings_tree};
 ghost use Rattle.query_json.specs.Writing.{process_place};
 
 use super::processes::write_name;
-use super::{Page, WriteJson, write_list};
+use super::{Page, WriteItems, WriteJson, write_list};
 use crate::values::flags_number;
 use trace_adjust::{LentLog, LentLogs, LentSpan, Warning};
 
@@ -25,39 +25,32 @@ impl<'a> WriteJson for LentLog<'a> {
     }
 }
 
-/// The logs as one list.
-fn write_logs(out: &mut Page, logs: &LentLogs)
-    ensures { Puts out.old out.new (compact_text (list (map log_tree logs.now))) }
-{
-    if logs.is_empty() {
-        out.put("[]");
-        return;
+impl<'a> WriteItems for LentLogs<'a> {
+    ghost trees = { λ logs. map log_tree logs };
+
+    fn count(&self) -> usize {
+        self.len()
     }
-    out.put("[");
-    logs.log(0).write(out);
-    for index in 1..logs.len() {
-        out.put(",");
-        logs.log(index).write(out);
+
+    fn write_item(&self, out: &mut Page, index: usize) {
+        self.log(index).write(out);
     }
-    out.put("]");
 }
 
-/// The references of a span as one list.
-fn write_references(out: &mut Page, span: &LentSpan)
-    ensures { Puts out.old out.new
-        (compact_text (list (map reference_tree span.now.placed.span.references))) }
-{
-    if span.reference_count() == 0 {
-        out.put("[]");
-        return;
+/// The references of a span, as they are shown.
+#[derive(Clone, Copy)]
+struct References<'s, 'a>(&'s LentSpan<'a>);
+
+impl<'s, 'a> WriteItems for References<'s, 'a> {
+    ghost trees = { λ r. map reference_tree r.0.now.placed.span.references };
+
+    fn count(&self) -> usize {
+        self.0.reference_count()
     }
-    out.put("[");
-    span.reference(0).write(out);
-    for index in 1..span.reference_count() {
-        out.put(",");
-        span.reference(index).write(out);
+
+    fn write_item(&self, out: &mut Page, index: usize) {
+        self.0.reference(index).write(out);
     }
-    out.put("]");
 }
 
 /// What is said of a span's clock.
@@ -117,13 +110,13 @@ pub(super) fn write_span(out: &mut Page, number: u64, lent: &LentSpan)
     out.put(r#","flags":"#);
     write_flags(out, &span.flags);
     out.put(r#","logs":"#);
-    write_logs(out, &lent.logs());
+    write_list(out, lent.logs());
     out.put(r#","operationName":"#);
     out.string(span.operation.as_str());
     out.put(r#","processID":"#);
     write_name(out, number);
     out.put(r#","references":"#);
-    write_references(out, lent);
+    write_list(out, References(lent));
     out.put(r#","spanID":"#);
     span.id.write(out);
     out.put(r#","startTime":"#);

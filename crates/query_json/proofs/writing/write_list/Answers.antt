@@ -1,13 +1,27 @@
-use Rattle.query_json.proofs.Pages.{◌▸◌, Going-at, Going-over, list_begun}
+use Rattle.std.proofs.Common.{◌<◌, ap, arith, length}
+use Rattle.std.proofs.lemmas.List.{drop_more, map-id}
+use Rattle.serde_json.specs.Data.{Data, null}
+use Rattle.serde_json.specs.Written.{compact_text}
+use Rattle.query_json.specs.Trees.{list}
+use Rattle.query_json.proofs.Pages.{◌▸◌, Going-over, Puts-is, list_begun}
+use Rattle.query_json.proofs.Walking.{Going-next}
 use Rattle.query_json.proofs.writing.write_list.Goals as goal
 
-pub loop-item-init : goal.loop-item-init
-loop-item-init g c = list_begun g.T.WriteJson.tree c.in-Some.ensures.cases.0 (c.put-2.ensures ▸ c.write.ensures)
+pub loop-index-init : goal.loop-index-init
+loop-index-init g c =
+    let ds = g.L.WriteItems.trees c.args.items in
+    let some : 0 < length ds = omega (arith, c.count-count.ensures, c.if-count-eq0.false) in
+    list_begun (λ (d : Data). d) (drop_more ds 0 null some) (c.put-2.ensures ▸ c.write_item.ensures)
 
-pub loop-item-preserved : goal.loop-item-preserved
-loop-item-preserved g c =
-    let l = c.loop-item in
-    Going-at c.in-Some.rest.now l.item-index c.item-item.result l.invariant c.loop-item-test.true c.item-item.is (c.put-in-loop-item.ensures ▸ c.write-in-loop-item.ensures)
+pub loop-index-preserved : goal.loop-index-preserved
+loop-index-preserved g c =
+    let l = c.loop-index in
+    let ds = g.L.WriteItems.trees c.args.items in
+    let within : l.index < length ds = omega (arith, c.count-count.ensures, c.loop-index-test.true) in
+    Going-next (drop_more ds l.index null within) l.invariant (c.put-in-loop-index.ensures ▸ c.write_item-in-loop-index.ensures)
 
 pub returns : goal.returns
-returns g c = Going-over c.in-Some.rest.now c.loop-item.item-index c.loop-item.invariant c.loop-item-test.false c.put-3.ensures
+returns g c =
+    let ds = g.L.WriteItems.trees c.args.items in
+    Puts-is (Going-over ds c.loop-index.index c.loop-index.invariant (omega (arith, c.loop-index-test.false, c.count-count.ensures)) c.put-3.ensures)
+    (ap (λ ts. compact_text (list ts)) (map-id ds))

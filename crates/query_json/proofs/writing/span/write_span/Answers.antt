@@ -16,16 +16,16 @@ returns c = λ ps is.
     let lent = c.span-span.ensures in
     let duration = Puts-is c.integer_at.ensures (ap signed_decimal lent.duration ∙ sym (integer_text span.duration)) in
     let flags = Puts-is c.write_flags.ensures (ap (λ f. decimal (flags_number f)) lent.flags) in
-    let logs = Puts-is c.write_logs.ensures (ap (λ ls. compact_text (list (map log_tree ls))) c.logs.ensures) in
+    let logs = Puts-is c.write_list.ensures (ap (λ ls. compact_text (list (map log_tree ls))) c.logs.ensures) in
     let operation = Puts-is c.string.ensures (ap quoted (c.as_str.ensures.value ∙ lent.operation)) in
     let name = Puts-is c.write_name.ensures (ap (λ n. quoted (112 ∷ decimal n)) is) in
     let id = Puts-is c.write.ensures (ap (λ i. quoted (span_text i)) lent.id) in
     let read : to_z w64 (of_z w64 c.start.result) ≡ span.start = search rules in
     let start = Puts-is c.integer.ensures (ap signed_decimal read ∙ sym (integer_text span.start)) in
-    let tags = Puts-is c.write_list.ensures (ap (λ ts. compact_text (list (map tag_tree ts))) (c.as_slice.ensures ∙ lent.tags)) in
+    let tags = Puts-is c.write_list-3.ensures (ap (λ ts. compact_text (list (map tag_tree ts))) (c.as_slice.ensures ∙ lent.tags)) in
     let trace = Puts-is c.write-2.ensures (ap (λ t. quoted (trace_text t)) lent.trace) in
     let warnings = Puts-is c.write_warnings.ensures (ap (λ ws. compact_text (warnings_tree ws)) (sym c.warning.ensures)) in
     Puts-is
     (c.put.ensures ▸ duration ▸ c.put-2.ensures ▸ flags ▸ c.put-3.ensures ▸ logs ▸ c.put-4.ensures ▸ operation ▸ c.put-5.ensures ▸ name ▸ c.put-6.ensures
-    ▸ c.write_references.ensures ▸ c.put-7.ensures ▸ id ▸ c.put-8.ensures ▸ start ▸ c.put-9.ensures ▸ tags ▸ c.put-10.ensures ▸ trace ▸ c.put-11.ensures ▸ warnings ▸ c.put-12.ensures)
+    ▸ c.write_list-2.ensures ▸ c.put-7.ensures ▸ id ▸ c.put-8.ensures ▸ start ▸ c.put-9.ensures ▸ tags ▸ c.put-10.ensures ▸ trace ▸ c.put-11.ensures ▸ warnings ▸ c.put-12.ensures)
     (put_tree-text (span_tree ps shown))
