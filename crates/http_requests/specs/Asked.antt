@@ -1,7 +1,7 @@
 -- What a head asks of a session.
-use Rattle.std.specs.Prelude.{ℕ, ◌+◌, ◌*◌, ◌-◌, ◌==◌, ◌&&◌, ◌||◌, ◌≤◌, Bool, false, List, [], ◌∷◌, length, fold, map, if◌then◌else◌, nat_lt, nat_le, codes}
-use Rattle.std.specs.List.{list_all, before_first}
-use Rattle.std.specs.Char.{is_ascii_digit}
+use Rattle.std.specs.Prelude.{ℕ, ◌==◌, ◌&&◌, ◌||◌, ◌≤◌, Bool, false, List, [], ◌∷◌, map, if◌then◌else◌, nat_le, codes}
+use Rattle.std.specs.List.{before_first}
+use Rattle.decimal_digits.specs.Digits.{is_digits, number_of}
 use Rattle.jaeger_model.specs.Texts.{same_text}
 use Rattle.httparse.specs.Grammar.{RequestHead, trim_ows}
 use Rattle.httparse.specs.Spans.{name_and_value}
@@ -19,26 +19,14 @@ pairs_of h = map name_and_value h.fields
 abbrev pub method_of : List ℕ → Method
 method_of text = if same_text text (codes "GET") then Get else if same_text text (codes "POST") then Post else Other
 
--- 1 to 19 digits
-abbrev pub is_number : List ℕ → Bool
-is_number text = nat_lt 0 (length text) && nat_le (length text) 19 && list_all is_ascii_digit text
-
--- the value of a decimal digit, 0 of any other byte
-abbrev pub digit : ℕ → ℕ
-digit c = if nat_le 48 c && nat_le c 57 then c - 48 else 0
-
--- the number that decimal digits spell
-abbrev pub number_of : List ℕ → ℕ
-number_of digits = fold (λ n c. n * 10 + digit c) 0 digits
-
 -- a body of so many bytes, where that is no more than a session takes
 abbrev pub body_of_size : ℕ → BodyLength
 body_of_size n = if nat_le n MOST_BODY_BYTES then Bytes n else TooLarge
 
--- the body's length by the values of Content-Length; none is a body of no bytes
+-- the body's length by the values of Content-Length, in 1 to 19 digits; none is a body of no bytes
 abbrev pub length_by : List (List ℕ) → BodyLength
 length_by [] = Bytes 0
-length_by (v ∷ []) = if is_number v then body_of_size (number_of v) else Unreadable
+length_by (v ∷ []) = if is_digits 19 v then body_of_size (number_of v) else Unreadable
 length_by (v ∷ w ∷ more) = Unreadable
 
 -- the same by the values of Transfer-Encoding first: one that is `chunked`, in any ASCII case, and stands alone

@@ -1,13 +1,12 @@
-ghost use Rattle.std.specs.Prelude.{◌≡◌, ◌==◌, ◌||◌, ◌<◌, ◌≤◌, length, codes};
-ghost use Rattle.std.specs.List.{list_all};
-ghost use Rattle.std.specs.Char.{is_ascii_digit};
-ghost use Rattle.http_requests.specs.Asked.{method_of, digit, number_of, is_number, body_of_size, length_by, body_by, IsBounded, closes_by, media_type, is_thrift, has_batch_type};
+ghost use Rattle.std.specs.Prelude.{◌≡◌, ◌==◌, ◌||◌, codes};
+ghost use Rattle.http_requests.specs.Asked.{method_of, body_of_size, length_by, body_by, IsBounded, closes_by, media_type, is_thrift, has_batch_type};
 ghost use Rattle.http_requests.specs.Fields.{values_of};
 ghost use Rattle.http_requests.specs.Framing.{Frames};
 ghost use Rattle.http_requests.specs.Heads.{IsWholeHead};
 
 use crate::fields::{Fields, Values, cut, is_named, trimmed};
 use crate::head::beginning_of;
+use decimal_digits::{is_number, value_of};
 use httparse::spans::{HeaderSpan, RequestSpans, Span};
 
 /// How many bytes a body has at most, as its data: a limit of a session's own.
@@ -67,42 +66,6 @@ fn method_of(method: &[u8]) -> Method
     }
 }
 
-/// The value of a decimal digit, 0 of any other byte.
-fn digit_of(byte: u8) -> u8
-    ensures value { result ≡ digit byte }
-    ensures small { result < 10 }
-{
-    match byte {
-        b'0'..=b'9' => byte - b'0',
-        _ => 0,
-    }
-}
-
-/// The number that decimal digits spell.
-fn value_of(digits: &[u8]) -> u64
-    requires { length digits.now ≤ 19 }
-    ensures { result ≡ number_of digits.now }
-{
-    let mut number: u64 = 0;
-    for byte in digits {
-        number = number * 10 + u64::from(digit_of(*byte));
-    }
-    number
-}
-
-fn are_digits(text: &[u8]) -> bool
-    ensures { result ≡ list_all is_ascii_digit text.now }
-{
-    text.iter().all(|byte| byte.is_ascii_digit())
-}
-
-/// 1 to 19 digits.
-fn is_number(text: &[u8]) -> bool
-    ensures { result ≡ is_number text.now }
-{
-    !text.is_empty() && text.len() <= 19 && are_digits(text)
-}
-
 fn body_of_size(size: u64) -> BodyLength
     ensures length { result ≡ body_of_size size }
     ensures bound { IsBounded result }
@@ -121,7 +84,7 @@ fn length_by(fields: &Fields<'_>) -> BodyLength
 {
     match fields.values("content-length") {
         Values::None => BodyLength::Bytes(0),
-        Values::One(value) if is_number(value) => body_of_size(value_of(value)),
+        Values::One(value) if is_number(value, 19) => body_of_size(value_of(value)),
         Values::One(_) | Values::Many => BodyLength::Unreadable,
     }
 }

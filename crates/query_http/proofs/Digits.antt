@@ -22,10 +22,10 @@ ten_small k le =
     (omega (arith, low), pow-le-pow_right ten le)
 
 -- a duration in microseconds fits 128 bits
-pub fits_scaled : (whole ten part unit : ℕ) → whole < 10 ^ 19 → ten ≤ 10 ^ 9 → part < 10 ^ 19 → unit ≤ 3600000000 → (whole * ten + part) * unit < 2 ^ 128
+pub fits_scaled : (whole ten part unit : ℕ) → whole < 2 ^ 64 → ten ≤ 10 ^ 9 → part < 2 ^ 64 → unit ≤ 3600000000 → (whole * ten + part) * unit < 2 ^ 128
 fits_scaled whole ten part unit w t p u =
-    let w' : whole ≤ 10 ^ 19 = omega arith in
-    let one : whole * ten ≤ 10 ^ 19 * 10 ^ 9 = mul-le-mul w' t in
+    let w' : whole ≤ 2 ^ 64 = omega arith in
+    let one : whole * ten ≤ 2 ^ 64 * 10 ^ 9 = mul-le-mul w' t in
     let sum : whole * ten + part ≤ 2 * 10 ^ 28 = omega (arith, one) in
     let all : (whole * ten + part) * unit ≤ (2 * 10 ^ 28) * 3600000000 = mul-le-mul sum u in
     below ((whole * ten + part) * unit) all

@@ -1,20 +1,9 @@
 -- Numbers and durations as a query's parameters spell them.
-use Rattle.std.specs.Prelude.{ℕ, ◌+◌, ◌*◌, ◌-◌, ◌/◌, ◌^◌, ◌==◌, List, [], ◌∷◌, length, drop, fold, Bool, not, ◌&&◌, Option, Some, None, option_and_then, if◌then◌else◌, nat_lt, nat_le, codes}
-use Rattle.std.specs.List.{list_all, before_first}
+use Rattle.std.specs.Prelude.{ℕ, ◌+◌, ◌*◌, ◌/◌, ◌^◌, ◌==◌, List, [], ◌∷◌, length, drop, Bool, not, Option, Some, None, option_and_then, if◌then◌else◌, nat_lt, codes}
+use Rattle.std.specs.List.{before_first}
 use Rattle.std.specs.Char.{is_ascii_digit}
+use Rattle.decimal_digits.specs.Digits.{is_digits, number_of}
 use Rattle.jaeger_model.specs.Texts.{same_text}
-
--- the value of a decimal digit, 0 of any other byte
-abbrev pub digit : ℕ → ℕ
-digit c = if nat_le 48 c && nat_le c 57 then c - 48 else 0
-
--- the number that decimal digits spell
-abbrev pub number_of : List ℕ → ℕ
-number_of digits = fold (λ n c. n * 10 + digit c) 0 digits
-
--- so many digits and nothing else
-abbrev pub is_digits : ℕ → List ℕ → Bool
-is_digits most text = nat_lt 0 (length text) && nat_le (length text) most && list_all is_ascii_digit text
 
 abbrev pub up_to_limit : ℕ → Option ℕ
 up_to_limit n = if nat_lt n (2 ^ 63) then Some n else None

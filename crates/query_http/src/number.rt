@@ -1,44 +1,9 @@
-ghost use Rattle.std.specs.Prelude.{◌≡◌, ◌^◌, ◌<◌, ◌≤◌, length, position, option_map, IfSome};
+ghost use Rattle.std.specs.Prelude.{◌≡◌, ◌^◌, ◌≤◌, length, position, option_map, IfSome};
 ghost use Rattle.query_http.specs.Queries.{time_of};
-ghost use Rattle.std.specs.List.{list_all, position_or_len};
-ghost use Rattle.std.specs.Char.{is_ascii_digit};
-ghost use Rattle.query_http.specs.Numbers.{digit, is_other, number_of, is_digits, read_number, unit_of, front_digits, behind_digits, fraction, microseconds, read_duration};
+ghost use Rattle.std.specs.List.{position_or_len};
+ghost use Rattle.query_http.specs.Numbers.{is_other, read_number, unit_of, front_digits, behind_digits, fraction, microseconds, read_duration};
 
-/// The value of a decimal digit, 0 of any other byte.
-fn digit_of(c: u8) -> u8
-    ensures value { result ≡ digit c }
-    ensures small { result < 10 }
-{
-    match c {
-        48..=57 => c - 48,
-        _ => 0,
-    }
-}
-
-fn are_digits(text: &[u8]) -> bool
-    ensures { result ≡ list_all is_ascii_digit text.now }
-{
-    text.iter().all(|c| c.is_ascii_digit())
-}
-
-fn is_number(text: &[u8], most: usize) -> bool
-    ensures { result ≡ is_digits most text.now }
-{
-    !text.is_empty() && text.len() <= most && are_digits(text)
-}
-
-/// The number that decimal digits spell.
-fn value_of(digits: &[u8]) -> u128
-    requires { length digits.now ≤ 19 }
-    ensures value { result ≡ number_of digits.now }
-    ensures small { result < 10 ^ 19 }
-{
-    let mut n: u128 = 0;
-    for c in digits {
-        n = n * 10 + u128::from(digit_of(*c));
-    }
-    n
-}
+use decimal_digits::{is_number, value_of};
 
 /// A number of 1 to 19 digits, of at most 9223372036854775807.
 #[tactic(auto, unfolding(crate::specs::Numbers::read_number))]
@@ -124,7 +89,7 @@ fn scaled(whole: &[u8], part: &[u8], unit: u64) -> u128
     ensures { result ≡ microseconds whole.now part.now unit }
 {
     let ten = power_of_ten(part.len());
-    (value_of(whole) * ten + value_of(part)) * u128::from(unit) / ten
+    (u128::from(value_of(whole)) * ten + u128::from(value_of(part))) * u128::from(unit) / ten
 }
 
 /// A duration in microseconds, cut to a whole number: 1 to 19 digits, perhaps a point and 1 to 9

@@ -1,6 +1,6 @@
 use Rattle.std.proofs.Common.{◌≡◌, take, ◌^◌, ◌<◌}
-use Rattle.http_requests.specs.Asked.{number_of}
-use Rattle.http_requests.proofs.asked.value_of.Given as goal
+use Rattle.decimal_digits.specs.Digits.{number_of}
+use Rattle.decimal_digits.proofs.value_of.Given as goal
 
 abbrev pub invariant-loop-byte : goal.invariant-loop-byte
 invariant-loop-byte l = (l.number ≡ number_of (take l.byte-index l.digits)) × (l.number < 10 ^ l.byte-index)

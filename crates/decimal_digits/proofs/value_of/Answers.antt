@@ -1,6 +1,6 @@
 use Rattle.std.proofs.Common.{ℕ, ◌<◌, ◌≤◌, ◌+◌, ◌*◌, ◌^◌, arith, zero}
 use Rattle.std.proofs.Math.Nat.{pow-le-pow_right}
-use Rattle.http_requests.proofs.asked.value_of.Goals as goal
+use Rattle.decimal_digits.proofs.value_of.Goals as goal
 
 room : (n i : ℕ) → n < 10 ^ i → i < 19 → n * 10 + 9 < 10 ^ 19
 room n i lt small =
