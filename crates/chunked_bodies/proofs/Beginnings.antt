@@ -10,12 +10,12 @@ use Rattle.chunked_bodies.specs.declared.trailer.TheConstants.{MOST_TRAILER_BYTE
 use Rattle.chunked_bodies.specs.Chunks.{IsSizeLine, IsSomeSizeLine, IsTrailer, HasNone, NeverHas}
 
 -- the bytes, and more, as the first n and the rest
-split_beginning : (n : ℕ) (bytes beginning more : List ℕ) → beginning ≡ take n bytes → bytes ++ more ≡ beginning ++ (drop n bytes ++ more)
+pub split_beginning : (n : ℕ) (bytes beginning more : List ℕ) → beginning ≡ take n bytes → bytes ++ more ≡ beginning ++ (drop n bytes ++ more)
 split_beginning n bytes beginning more f =
     ap (λ l. l ++ more) (sym (take-append-drop n bytes)) ∙ append_assoc (take n bytes) (drop n bytes) more ∙ ap (λ l. l ++ (drop n bytes ++ more)) (sym f)
 
 -- a text that begins a longer one begins its first bytes
-begins_first : (beginning more text rest : List ℕ) → beginning ++ more ≡ text ++ rest → length text ≤ length beginning → beginning ≡ text ++ drop (length text) beginning
+pub begins_first : (beginning more text rest : List ℕ) → beginning ++ more ≡ text ++ rest → length text ≤ length beginning → beginning ≡ text ++ drop (length text) beginning
 begins_first beginning more text rest e fits =
     let same : take (length text) beginning ≡ text =
     sym (take-append-le (length text) beginning more fits) ∙ ap (take (length text)) e ∙ take-append_seam text rest in

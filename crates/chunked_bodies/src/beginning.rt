@@ -1,7 +1,7 @@
 ghost use Rattle.std.specs.Prelude.{◌≡◌, take};
 
 /// The first bytes, at most so many.
-pub(crate) fn beginning_of(bytes: &[u8], most: usize) -> &[u8]
+pub fn beginning_of(bytes: &[u8], most: usize) -> &[u8]
     ensures { result.now ≡ take most bytes.now }
 {
     if bytes.len() < most {

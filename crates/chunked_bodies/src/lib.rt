@@ -5,7 +5,7 @@
 //!
 //! * `line`: the line with a chunk's size.
 //! * `trailer`: the fields behind the last chunk, up to an empty line.
-//! * `beginning`: the beginning of bytes.
+//! * `beginning`: the first bytes, at most so many.
 //! * `laws`: facts about the definition.
 #![tactic(auto)]
 
@@ -14,5 +14,6 @@ pub mod laws;
 mod line;
 mod trailer;
 
+pub use beginning::beginning_of;
 pub use line::{MOST_LINE_BYTES, SizeLine, look_for_size};
 pub use trailer::{MOST_TRAILER_BYTES, Trailer, look_for_trailer};

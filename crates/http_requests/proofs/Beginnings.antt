@@ -1,28 +1,15 @@
 -- A head in the first bytes is the head of all bytes that begin so.
 use Rattle.std.proofs.Common.{◌≡◌, ℕ, ◌≤◌, ◌<◌, List, ◌++◌, length, take, drop, sym, ap, ◌∙◌, subst, arith, append_assoc}
-use Rattle.std.proofs.lemmas.List.{take-append-drop, take-append-le, take_all, length-take-le, length-take, length-map}
-use Rattle.std.proofs.Math.Seq.{take-append_seam, drop-append_seam}
+use Rattle.std.proofs.lemmas.List.{take-append-drop, take_all, length-take-le, length-take, length-map}
+use Rattle.std.proofs.Math.Seq.{drop-append_seam}
 use Rattle.httparse.specs.Grammar.{RequestHead, ReadsRequest, print_request, HasNoRequest}
 use Rattle.httparse.specs.Spans.{IsRequestAt, IsRequestWithin, IsRequestOf, RequestOverflows, header_bytes, name_and_value}
 use Rattle.httparse.specs.declared.spans.RequestSpans.{RequestSpans}
 use Rattle.httparse.specs.declared.spans.HeaderSpan.{HeaderSpan}
 use Rattle.httparse.proofs.GrammarLemmas.{request_unique, ReadsRequest-append}
+use Rattle.chunked_bodies.proofs.Beginnings.{split_beginning, begins_first}
 use Rattle.http_requests.specs.declared.head.TheConstants.{MOST_HEAD_BYTES, MOST_FIELDS}
 use Rattle.http_requests.specs.Heads.{HasNoHead, NeverHasHead, IsWholeHead}
-
--- the bytes, and more, as the first n and the rest
-split_more : (n : ℕ) (bytes more : List ℕ) → bytes ++ more ≡ take n bytes ++ (drop n bytes ++ more)
-split_more n bytes more = ap (λ l. l ++ more) (sym (take-append-drop n bytes)) ∙ append_assoc (take n bytes) (drop n bytes) more
-
-split_beginning : (n : ℕ) (bytes beginning more : List ℕ) → beginning ≡ take n bytes → bytes ++ more ≡ beginning ++ (drop n bytes ++ more)
-split_beginning n bytes beginning more f = split_more n bytes more ∙ ap (λ l. l ++ (drop n bytes ++ more)) (sym f)
-
--- a text that begins a longer one begins its first bytes
-begins_first : (beginning more text rest : List ℕ) → beginning ++ more ≡ text ++ rest → length text ≤ length beginning → beginning ≡ text ++ drop (length text) beginning
-begins_first beginning more text rest e fits =
-    let same : take (length text) beginning ≡ text =
-    sym (take-append-le (length text) beginning more fits) ∙ ap (take (length text)) e ∙ take-append_seam text rest in
-    sym (take-append-drop (length text) beginning) ∙ ap (λ l. l ++ drop (length text) beginning) same
 
 pub never_when_full : (bytes beginning : List ℕ) → beginning ≡ take MOST_HEAD_BYTES bytes → MOST_HEAD_BYTES ≤ length bytes → HasNoRequest beginning → NeverHasHead bytes
 never_when_full bytes beginning f full none more h rest takes =

@@ -5,7 +5,8 @@ ghost use Rattle.http_requests.specs.Framing.{Frames};
 ghost use Rattle.http_requests.specs.Heads.{IsWholeHead};
 
 use crate::fields::{Fields, Values, cut, is_named, trimmed};
-use crate::head::beginning_of;
+use crate::head::MOST_HEAD_BYTES;
+use chunked_bodies::beginning_of;
 use decimal_digits::{is_number, value_of};
 use httparse::spans::{HeaderSpan, RequestSpans, Span};
 
@@ -159,7 +160,7 @@ pub(crate) fn frame(
     requires { IsWholeHead bytes.now headers.now spans }
     ensures { Frames bytes.now spans.len result.0 result.1 }
 {
-    let beginning = beginning_of(bytes);
+    let beginning = beginning_of(bytes, MOST_HEAD_BYTES);
     let fields = Fields::new(beginning, &headers[..spans.headers]);
     let request = Request {
         method: method_of(spans.method.of(beginning)),

@@ -2,6 +2,7 @@ ghost use Rattle.std.specs.Prelude.{◌≡◌, ◌≤◌, length, take};
 ghost use Rattle.http_requests.specs.Heads.{AwaitsHead, Looks};
 
 use crate::line_ends::has_line_end;
+use chunked_bodies::beginning_of;
 use httparse::Status;
 use httparse::spans::{HeaderSpan, RequestSpans, parse_request};
 
@@ -22,23 +23,12 @@ pub(crate) enum Look {
     Never,
 }
 
-/// The bytes that a head may take.
-pub(crate) fn beginning_of(bytes: &[u8]) -> &[u8]
-    ensures { result.now ≡ take MOST_HEAD_BYTES bytes.now }
-{
-    if bytes.len() < MOST_HEAD_BYTES {
-        bytes
-    } else {
-        &bytes[..MOST_HEAD_BYTES]
-    }
-}
-
 /// Looks for a head at the beginning of the bytes.
 pub(crate) fn look_for_head(bytes: &[u8], headers: &mut [HeaderSpan]) -> Look
     requires { MOST_FIELDS ≤ length headers.old }
     ensures { Looks bytes.now headers.new result }
 {
-    match parse_request(beginning_of(bytes), headers) {
+    match parse_request(beginning_of(bytes, MOST_HEAD_BYTES), headers) {
         Ok(Status::Complete(spans)) => {
             if spans.headers > MOST_FIELDS {
                 Look::Never
