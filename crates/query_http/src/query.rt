@@ -16,7 +16,7 @@ use percent_encoding::{DecodeError, percent_decode};
 use std::alloc::{AllocError, Global};
 use trace_model::{Find, Query};
 
-/// A bound on starts in microseconds, where it is given.
+/// A number, where it is given: for a bound on starts the microseconds.
 #[tactic(auto, unfolding(crate::specs::Queries::time_at))]
 fn time_bound(pairs: &[Pair], parameter: Parameter) -> Result<Option<i64>, QueryFault>
     ensures { Asks (λ n. n) result (time_at parameter pairs.now) }
@@ -24,10 +24,8 @@ fn time_bound(pairs: &[Pair], parameter: Parameter) -> Result<Option<i64>, Query
     let Some(text) = find_parameter(pairs, parameter.name()) else {
         return Ok(None);
     };
-    match read_number(text) {
-        Some(number) => Ok(Some(number)),
-        None => Err(QueryFault::Bad(parameter)),
-    }
+    let number = read_number(text).ok_or(QueryFault::Bad(parameter))?;
+    Ok(Some(number))
 }
 
 /// A bound on durations in microseconds, 0 where it is absent.
@@ -35,27 +33,19 @@ fn time_bound(pairs: &[Pair], parameter: Parameter) -> Result<Option<i64>, Query
 fn duration_bound(pairs: &[Pair], parameter: Parameter) -> Result<i64, QueryFault>
     ensures { Asks (λ n. n) result (length_at parameter pairs.now) }
 {
-    let Some(text) = find_parameter(pairs, parameter.name()) else {
-        return Ok(0);
-    };
-    match read_duration(text) {
-        Some(duration) => Ok(duration),
-        None => Err(QueryFault::Bad(parameter)),
+    match find_parameter(pairs, parameter.name()) {
+        Some(text) => read_duration(text).ok_or(QueryFault::Bad(parameter)),
+        None => Ok(0),
     }
 }
 
 /// How many traces are asked for.
-#[tactic(auto, unfolding(crate::specs::Queries::limit_at))]
+#[tactic(auto, unfolding(crate::specs::Queries::limit_at, crate::specs::Queries::time_at))]
 fn asked_limit(pairs: &[Pair]) -> Result<u64, QueryFault>
     ensures { Asks (λ n. n) result (limit_at pairs.now) }
 {
-    let Some(text) = find_parameter(pairs, "limit") else {
-        return Ok(100);
-    };
-    match read_number(text) {
-        Some(number) => Ok(number.unsigned_abs()),
-        None => Err(QueryFault::Bad(Parameter::Limit)),
-    }
+    let limit = time_bound(pairs, Parameter::Limit)?;
+    Ok(limit.unwrap_or(100).unsigned_abs())
 }
 
 /// A parameter that has to be there.
@@ -63,10 +53,8 @@ fn asked_limit(pairs: &[Pair]) -> Result<u64, QueryFault>
 fn required_text(alloc: Global, pairs: &[Pair], parameter: Parameter) -> Result<Text, QueryFault>
     ensures { Asks (λ t. t) result (required parameter pairs.now) }
 {
-    match find_parameter(pairs, parameter.name()) {
-        Some(text) => Ok(copied(alloc, text)?),
-        None => Err(QueryFault::Bad(parameter)),
-    }
+    let text = find_parameter(pairs, parameter.name()).ok_or(QueryFault::Bad(parameter))?;
+    Ok(copied(alloc, text)?)
 }
 
 /// A parameter of any text, empty where it is absent.
