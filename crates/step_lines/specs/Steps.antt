@@ -63,25 +63,21 @@ read_of words = do
   query ← query_in target
   Ok (Read r query)
 
--- a reader and a publish
-unfoldable pub learn_of : List (List ℕ) → Result Step StepFault
-learn_of words = do
+-- both numbers, where two words follow
+unfoldable pub two_numbers : List (List ℕ) → Result (ℕ × ℕ) StepFault
+two_numbers words = do
   both ← two_words words
-  r ← number_in both.0
-  k ← number_in both.1
-  Ok (Learn r k)
-
--- a seat and a limit
-unfoldable pub limit_of : List (List ℕ) → Result Step StepFault
-limit_of words = do
-  both ← two_words words
-  s ← number_in both.0
-  n ← number_in both.1
-  Ok (Limit s n)
+  first ← number_in both.0
+  second ← number_in both.1
+  Ok (first, second)
 
 -- the step of a number
 abbrev pub with_number : (ℕ → Step) → Result ℕ StepFault → Result Step StepFault
 with_number step number = number >>= λ n. Ok (step n)
+
+-- the step of two numbers
+abbrev pub with_both : (ℕ → ℕ → Step) → Result (ℕ × ℕ) StepFault → Result Step StepFault
+with_both step numbers = numbers >>= λ both. Ok (step both.0 both.1)
 
 -- the first word of a step
 abbrev pub verb_in : List ℕ → Result Verb StepFault
@@ -99,12 +95,12 @@ verb_in word =
 -- the step of a first word and the words behind it
 abbrev pub step_by : Verb → List (List ℕ) → Result Step StepFault
 step_by verb.Put words = put_of words
-step_by verb.Limit words = limit_of words
+step_by verb.Limit words = with_both Limit (two_numbers words)
 step_by verb.Take words = alone Take words
 step_by verb.Publish words = alone Publish words
 step_by verb.Enter words = with_number Enter (one_number words)
 step_by verb.Read words = read_of words
-step_by verb.Learn words = learn_of words
+step_by verb.Learn words = with_both Learn (two_numbers words)
 step_by verb.Leave words = with_number Leave (one_number words)
 
 abbrev pub step_of : List (List ℕ) → Result Step StepFault

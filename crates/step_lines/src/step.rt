@@ -2,7 +2,7 @@
 ghost use Rattle.std.specs.Prelude.{◌≡◌, IfOk, map};
 ghost use Rattle.std.specs.List.{concat};
 ghost use Rattle.query_http.specs.Paths.{endpoint_rows};
-ghost use Rattle.step_lines.specs.Steps.{alone, if_any, limit_of, put_of, one_number, read_of, learn_of, step_by, step_of, step_in, two_words};
+ghost use Rattle.step_lines.specs.Steps.{alone, if_any, put_of, one_number, read_of, step_by, step_of, step_in, two_numbers, two_words};
 ghost use Rattle.step_lines.specs.Reading.{Reads};
 ghost use Rattle.step_lines.specs.Words.{words_of as words_in};
 
@@ -42,17 +42,6 @@ fn read_put(alloc: Global, words: &[&[u8]]) -> Result<Step, Stop>
     Ok(Step::Put { seat, batch })
 }
 
-/// A limit that a seat hands in.
-#[tactic(auto, unfolding(crate::specs::Steps::limit_of))]
-fn read_limit(words: &[&[u8]]) -> Result<Step, Stop>
-    ensures { Reads (λ s. s) result (limit_of (map (λ w. w.now) words.now)) }
-{
-    let (seat, limit) = two_words(words)?;
-    let seat = read_number(seat)?;
-    let limit = read_number(limit)?;
-    Ok(Step::Limit { seat, limit })
-}
-
 /// A step of one word, with no word behind it.
 fn read_alone(step: Step, words: &[&[u8]]) -> Result<Step, StepFault>
     ensures { result ≡ alone step (map (λ w. w.now) words.now) }
@@ -84,6 +73,17 @@ fn two_words<'l>(words: &[&'l [u8]]) -> Result<(&'l [u8], &'l [u8]), Stop>
     }
 }
 
+/// The numbers that are the only two words.
+#[tactic(auto, unfolding(crate::specs::Steps::two_numbers))]
+fn two_numbers(words: &[&[u8]]) -> Result<(u32, u32), Stop>
+    ensures { Reads (λ p. p) result (two_numbers (map (λ w. w.now) words.now)) }
+{
+    let (first, second) = two_words(words)?;
+    let first = read_number(first)?;
+    let second = read_number(second)?;
+    Ok((first, second))
+}
+
 /// The query that a reader asks.
 #[tactic(auto, unfolding(crate::specs::Steps::read_of))]
 fn read_read(alloc: Global, router: &Router<Endpoint>, words: &[&[u8]]) -> Result<Step, Stop>
@@ -95,17 +95,6 @@ fn read_read(alloc: Global, router: &Router<Endpoint>, words: &[&[u8]]) -> Resul
     let target = read_target(target)?;
     let query = read_query(alloc, router, target)?;
     Ok(Step::Read { reader, query })
-}
-
-/// The publish that a reader learns of.
-#[tactic(auto, unfolding(crate::specs::Steps::learn_of))]
-fn read_learn(words: &[&[u8]]) -> Result<Step, Stop>
-    ensures { Reads (λ s. s) result (learn_of (map (λ w. w.now) words.now)) }
-{
-    let (reader, publish) = two_words(words)?;
-    let reader = read_number(reader)?;
-    let publish = read_number(publish)?;
-    Ok(Step::Learn { reader, publish })
 }
 
 /// The step that a first word names with the words behind it.
@@ -120,7 +109,10 @@ fn read_by(
 {
     match verb {
         Verb::Put => read_put(alloc, words),
-        Verb::Limit => read_limit(words),
+        Verb::Limit => {
+            let (seat, limit) = two_numbers(words)?;
+            Ok(Step::Limit { seat, limit })
+        }
         Verb::Take => Ok(read_alone(Step::Take, words)?),
         Verb::Publish => Ok(read_alone(Step::Publish, words)?),
         Verb::Enter => {
@@ -128,7 +120,10 @@ fn read_by(
             Ok(Step::Enter { reader })
         }
         Verb::Read => read_read(alloc, router, words),
-        Verb::Learn => read_learn(words),
+        Verb::Learn => {
+            let (reader, publish) = two_numbers(words)?;
+            Ok(Step::Learn { reader, publish })
+        }
         Verb::Leave => {
             let reader = read_reader(words)?;
             Ok(Step::Leave { reader })
