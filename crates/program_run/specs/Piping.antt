@@ -14,10 +14,6 @@ cause_status Reading = 4
 cause_status Writing = 4
 cause_status Memory = 5
 
--- neither device has failed
-abbrev pub AreWorking : Bool → Bool → Type 0
-AreWorking in_failed out_failed = (in_failed ≡ false) × (out_failed ≡ false)
-
 -- a session from an empty store that ended; no device had failed
 pub record PipesToTheEnd (in0 in1 out0 out1 : Option (List ℕ)) (in_failed out_failed : Bool) (limits : Limits) : Type 0 where
   pub answered : ℕ

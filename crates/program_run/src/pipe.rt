@@ -1,6 +1,7 @@
 //! `pipe`: a session over standard input and output.
 ghost use Rattle.std.specs.Prelude.{◌≡◌};
-ghost use Rattle.program_run.specs.Piping.{AreWorking, Pipes, cause_status};
+ghost use Rattle.text_lines.specs.RunErrors.{BothWork};
+ghost use Rattle.program_run.specs.Piping.{Pipes, cause_status};
 
 use direct_store::Direct;
 use http_session::SessionErrorKind;
@@ -30,7 +31,7 @@ pub fn run_pipe<R: Input, W: Output>(
     output: &mut W,
     limits: Limits,
 ) -> u8
-    requires { AreWorking (R.has_failed input.old) (W.has_failed output.old) }
+    requires { BothWork (R.has_failed input.old) (W.has_failed output.old) }
     ensures { Pipes (R.remaining input.old) (R.remaining input.new) (W.contents output.old)
         (W.contents output.new) (R.has_failed input.new) (W.has_failed output.new) limits result }
 {
