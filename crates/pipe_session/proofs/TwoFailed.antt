@@ -30,9 +30,6 @@ stops_behind : (s : Held) (x y : Exchange) (rest more : List ℕ) (ys : List Exc
 stops_behind s x y rest more ys d same behind stops =
     subst (λ (z : Exchange). Stops rest (held_after s z.verdict) ys d) (sym same) (subst (λ (l : List ℕ). Stops l (held_after s y.verdict) ys d) (sym behind) stops)
 
-meant_due : (x : Exchange) → meant [] (due x) ≡ response_to x
-meant_due x = refl
-
 -- what is due at the first exchange, beside a session that went on
 due_begins : (bytes : List ℕ) (s : Held) (d : Due) (x : Exchange) (xs : List Exchange) (e : Due) → Stops bytes s [] d → Stops bytes s (x ∷ xs) e → IsPrefix (meant [] d) (meant (x ∷ xs) e)
 due_begins bytes s none_yet x xs e stops other = (meant (x ∷ xs) e, refl)
