@@ -1,16 +1,16 @@
 -- The workers' seats, before and after their work, and how they are taken in.
-use Rattle.std.proofs.Common.{◌≡◌, ℕ, zero, suc, ◌+◌, ◌<◌, List, [], ◌∷◌, ◌++◌, length, map, get_or, refl, sym, ap, ◌∙◌, arith, append_assoc, subst, true, Option, Some, Result, Ok, Err, IfOk, IfSome}
-use Rattle.std.proofs.lemmas.List.{append-nil, length-map, map-append}
+use Rattle.std.proofs.Common.{◌≡◌, ℕ, suc, ◌+◌, ◌<◌, List, [], ◌∷◌, ◌++◌, length, map, get_or, refl, sym, ap, ◌∙◌, arith, append_assoc, subst, true, Some, Result, Ok, Err, IfOk}
+use Rattle.std.proofs.lemmas.List.{length-map, map-append}
 use Rattle.std.specs.List.{All, range_with_len}
-use Rattle.std.proofs.lemmas.List.Elements.{All-nil, All-cons, All-pop}
+use Rattle.std.proofs.lemmas.List.Elements.{All-cons, All-pop}
 use Rattle.std.proofs.lemmas.List.FromFn.{length-range_with_len}
 use Rattle.atomic_table.specs.Seated.{TableId}
 use Rattle.trace_model.specs.declared.entry.Entry.{Entry}
 use Rattle.trace_model.specs.declared.limits.Limits.{Limits}
 use Rattle.intake.specs.declared.account.Account.{Account}
 use Rattle.intake.specs.declared.queue.EndedSeat.{EndedSeat}
-use Rattle.intake.specs.Seats.{SeatValue, IsNewSeat}
-use Rattle.intake.specs.Books.{AllTaken, HasEnded, MovesFor, StillEnded, StaysTaken, Balances}
+use Rattle.intake.specs.Seats.{SeatValue}
+use Rattle.intake.specs.Books.{AllTaken, HasEnded, MovesFor, StillEnded, StaysTaken}
 use Rattle.live_store.specs.Sharing.{GoesOn}
 use Rattle.trace_server.specs.Serving.{ClosesBooks}
 use Rattle.trace_server.specs.WorkerSeats.{AreNew, AreOpen, GoOn, Each, HasJudged, Moves, AreTaken}
@@ -68,9 +68,6 @@ pub record SomeTakenIn (seats waiting : List SeatValue) (ended : List EndedSeat)
   pub split : seats ≡ waiting ++ others
   pub each : All (IsTakenIn ended taken) others
 
-pub none_taken_in : (seats : List SeatValue) (ended : List EndedSeat) (taken : List Entry) → SomeTakenIn seats seats ended taken
-none_taken_in seats ended taken = record { others = []; split = sym (append-nil seats); each = All-nil (IsTakenIn ended taken) }
-
 pub one_taken_in : (seats waiting fewer : List SeatValue) (s : SeatValue) (ended ended' : List EndedSeat) (taken taken' : List Entry) → SomeTakenIn seats waiting ended taken
     → waiting ≡ fewer ++ s ∷ [] → StillEnded ended ended' → StaysTaken ended taken taken' → HasEnded ended' s.seat s.jobs → AllTaken s.seat s.jobs taken' → SomeTakenIn seats fewer ended' taken'
 one_taken_in seats waiting fewer s ended ended' taken taken' h last still stays here whole = record {
@@ -79,14 +76,6 @@ one_taken_in seats waiting fewer s ended ended' taken taken' h last still stays 
   each = All-cons (IsTakenIn ended' taken') s h.others (here, whole)
       (λ k d lt. let t = h.each k d lt in let o = get_or h.others k d in (still o.seat o.jobs t.0, stays o.seat o.jobs t.0 t.1));
 }
-
-pub all_taken_in : (seats waiting : List SeatValue) (ended : List EndedSeat) (taken : List Entry) → SomeTakenIn seats waiting ended taken → waiting ≡ [] → AreTaken taken seats
-all_taken_in seats waiting ended taken h none =
-    let same : h.others ≡ seats = sym (h.split ∙ ap (λ z. z ++ h.others) none) in
-    subst (λ z. AreTaken taken z) same (λ k d lt. (h.each k d lt).1)
-
-pub moves_none : (taken left : List Entry) → Moves taken left taken left
-moves_none taken left = ([], sym (append-nil taken), sym (append-nil left))
 
 pub moves_more : (s : ℕ) (js t0 l0 t1 l1 t2 l2 : List Entry) → Moves t0 l0 t1 l1 → MovesFor s js t1 l1 t2 l2 → Moves t0 l0 t2 l2
 moves_more s js t0 l0 t1 l1 t2 l2 a b = (
@@ -111,17 +100,10 @@ open_at here there seats is free = subst (λ (d : TableId). AreOpen d seats) (sy
 pub as_many : {X : Type 0} (f : X → ℕ) (xs : List X) (n : ℕ) → map f xs ≡ range_with_len 0 n → length xs ≡ n
 as_many f xs n e = sym (length-map xs f) ∙ (ap length e ∙ length-range_with_len 0 n)
 
-pub all_new : (desk : TableId) (capacity : ℕ) (made seats : List SeatValue) → All (IsNewSeat desk capacity) made → seats ≡ made → AreNew desk seats
-all_new desk capacity made seats each is = subst (λ (z : List SeatValue). AreNew desk z) (sym is) (λ k d lt. let n = each k d lt in (n.0, n.3, n.2))
-
 pub new_open : (desk : TableId) (seats : List SeatValue) → AreNew desk seats → AreOpen desk seats
 new_open desk seats each = λ k d lt. let n = each k d lt in (n.0, n.1)
 
 -- ---- the books
-
-pub balanced : (limits : Limits) (taken : List Entry) (accounts : List Account) (left : List Entry) (a r : ℕ) → HasJudged limits taken accounts a r → left ≡ [] → Balances taken accounts left
-balanced limits taken accounts left a r h none =
-    record { judged_jobs = taken; each = h.ran.each; taken_is = sym (append-nil taken) ∙ ap (λ z. taken ++ z) (sym none) }
 
 pub books_closed : (limits : Limits) (seats : List SeatValue) (judged : List Entry) (accounts : List Account) (before taken left : List Entry) (a0 r0 a r l : ℕ)
     → HasJudged limits judged accounts a0 r0 → a ≡ a0 → r ≡ r0 → before ≡ [] → Moves judged before taken left → AreTaken taken seats → l ≡ length left → ClosesBooks limits seats a r l
@@ -141,9 +123,6 @@ books_closed limits seats judged accounts before taken left a0 r0 a r l h aa rr 
 
 pub if_ok : {X E : Type 0} (P : X → Type 0) (r : Result X E) (x : X) → r ≡ Ok x → IfOk r P → P x
 if_ok P r x is h = subst (λ z. IfOk z P) is h
-
-pub if_some : {X : Type 0} (P : X → Type 0) (r : Option X) (x : X) → r ≡ Some x → IfSome r P → P x
-if_some P r x is h = subst (λ z. IfSome z P) is h
 
 pub if_ok_both : {X E : Type 0} (r : Result X E) (P Q S : X → Type 0) → ((x : X) → P x → Q x → S x) → IfOk r P → IfOk r Q → IfOk r S
 if_ok_both (Ok x) P Q S both p q = both x p q
