@@ -16,10 +16,9 @@ use Rattle.trace_model.specs.Refusals.{place_of}
 use Rattle.trace_model.specs.Resending.{is_sent}
 use Rattle.trace_model.proofs.Admissions.{IsSaid, admission_says}
 use Rattle.trace_model.proofs.Prefixes.{prefix_get}
-use Rattle.read_side.specs.Keepers.{Lists, accepted, after_admission, admission_after, refusal_after, TurnsAway}
+use Rattle.read_side.specs.Keepers.{Lists, Answers, accepted, after_admission, admission_after, refusal_after, TurnsAway}
 use Rattle.read_side.specs.Receipts.{StandsAt, AnsweredAt}
 use Rattle.intake.specs.Seats.{IsUnacknowledged}
-use Rattle.intake.specs.Turns.{JudgesEntry}
 use Rattle.intake.specs.Books.{is_accepted, AnsweredIfPlaced}
 
 -- whatever a keeper turns an entry away for, without accepting it, is one of four refusals
@@ -54,7 +53,7 @@ accepted-after limits k j (Resent place) s =
     subst P (sym s.sent) (sym (append-nil (accepted k)))
 
 -- the accepted list grows by the entry where it was accepted and was not there before
-pub judged-accepted : (limits : Limits) (k : Lists) (j : Entry) (r : Result ℕ Refusal) (m : Lists) → JudgesEntry limits k j r m → accepted m ≡ accepted k ++ (if is_accepted r && not (is_sent (accepted k) j) then j ∷ [] else [])
+pub judged-accepted : (limits : Limits) (k : Lists) (j : Entry) (r : Result ℕ Refusal) (m : Lists) → Answers limits k j r m → accepted m ≡ accepted k ++ (if is_accepted r && not (is_sent (accepted k) j) then j ∷ [] else [])
 judged-accepted limits k j (Ok place) m g =
     ap accepted g.2 ∙ (append-nil (accepted (after_admission k j g.0)) ∙ accepted-after limits k j g.0 (said limits k j g.0 g.1))
 judged-accepted limits k j (Err why) m g = ⊎_elim
@@ -71,7 +70,7 @@ shown-after : (k : Lists) (j : Entry) (a : Admission) → (after_admission k j a
 shown-after k j Added = refl
 shown-after k j (Resent place) = refl
 
-pub judged-shown : (limits : Limits) (k : Lists) (j : Entry) (r : Result ℕ Refusal) (m : Lists) → JudgesEntry limits k j r m → IsPrefix k.published m.published
+pub judged-shown : (limits : Limits) (k : Lists) (j : Entry) (r : Result ℕ Refusal) (m : Lists) → Answers limits k j r m → IsPrefix k.published m.published
 judged-shown limits k j (Ok place) m g =
     let behind = (after_admission k j g.0).pending in
     (behind, ap (λ z. z ++ behind) (sym (shown-after k j g.0)) ∙ sym (ap (λ (z : Lists). z.published) g.2))
@@ -109,7 +108,7 @@ pub answered-on : (list more : List Entry) (place : ℕ) (j : Entry) → IsPrefi
 answered-on list more place j p s = (s.0, (s.1.0, prefix_get list more (place - 1) s.0 p s.1.1), s.2)
 
 -- an entry answers for each acknowledged one at its place of each later list
-pub judged-answered : (limits : Limits) (k : Lists) (j : Entry) (r : Result ℕ Refusal) (m : Lists) (list : List Entry) → JudgesEntry limits k j r m → IsPrefix m.published list → AnsweredIfPlaced list j r
+pub judged-answered : (limits : Limits) (k : Lists) (j : Entry) (r : Result ℕ Refusal) (m : Lists) (list : List Entry) → Answers limits k j r m → IsPrefix m.published list → AnsweredIfPlaced list j r
 judged-answered limits k j (Err why) m list g p = tt
 judged-answered limits k j (Ok place) m list g p =
     let a = g.0 in

@@ -8,18 +8,18 @@ use Rattle.trace_model.specs.declared.limits.Limits.{Limits}
 use Rattle.trace_model.specs.declared.refusal.Refusal.{Refusal}
 use Rattle.trace_model.specs.Resending.{is_sent}
 use Rattle.trace_model.proofs.Prefixes.{prefix_trans}
-use Rattle.read_side.specs.Keepers.{Lists, accepted}
+use Rattle.read_side.specs.Keepers.{Lists, Answers, accepted}
 use Rattle.intake.specs.declared.account.Account.{Account}
 use Rattle.intake.specs.declared.clerk.Turn.{Turn}
 use Rattle.intake.specs.declared.clerk.Turn.TheVariants.{Idle, Served, Ended}
 use Rattle.intake.specs.declared.queue.EndedSeat.{EndedSeat}
-use Rattle.intake.specs.Turns.{ClerkValue, Accounted, JudgesEntry, Serves, IfServed, IfNotServed, IfNoJob, WasEmpty, account_of}
+use Rattle.intake.specs.Turns.{ClerkValue, Accounted, Serves, IfServed, IfNotServed, IfNoJob, WasEmpty, account_of}
 use Rattle.intake.specs.Books.{JudgedInTurn, is_accepted, gained_jobs, AllAnswered, Ran}
 use Rattle.intake.proofs.Accounting.{accounted-snoc}
 use Rattle.intake.proofs.Judging.{judged-accepted, judged-shown, judged-answered}
 
-pub judged-snoc : (limits : Limits) (k : Lists) (js : List Entry) (bs : List Account) (m : Lists) (j : Entry) (a : Account) (end : Lists) → JudgedInTurn limits k js bs m → JudgesEntry limits m j a.answer end → JudgedInTurn limits k (js ++ j ∷ []) (bs ++ a ∷ []) end
-judged-snoc limits k [] [] m j a end r g = (end, subst (λ (z : Lists). JudgesEntry limits z j a.answer end) r g, refl)
+pub judged-snoc : (limits : Limits) (k : Lists) (js : List Entry) (bs : List Account) (m : Lists) (j : Entry) (a : Account) (end : Lists) → JudgedInTurn limits k js bs m → Answers limits m j a.answer end → JudgedInTurn limits k (js ++ j ∷ []) (bs ++ a ∷ []) end
+judged-snoc limits k [] [] m j a end r g = (end, subst (λ (z : Lists). Answers limits z j a.answer end) r g, refl)
 judged-snoc limits k [] (b ∷ bs) m j a end r g = absurd r
 judged-snoc limits k (x ∷ xs) [] m j a end r g = absurd r
 judged-snoc limits k (x ∷ xs) (b ∷ bs) m j a end r g = (r.0, r.1, judged-snoc limits r.0 xs bs m j a end r.2 g)

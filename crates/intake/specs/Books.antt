@@ -6,18 +6,18 @@ use Rattle.trace_model.specs.declared.limits.Limits.{Limits}
 use Rattle.trace_model.specs.declared.refusal.Refusal.{Refusal}
 use Rattle.trace_model.specs.declared.refusal.Refusal.TheVariants.{Deferred}
 use Rattle.trace_model.specs.Resending.{is_sent}
-use Rattle.read_side.specs.Keepers.{Lists, accepted}
+use Rattle.read_side.specs.Keepers.{Lists, Answers, accepted}
 use Rattle.read_side.specs.Receipts.{AnsweredAt}
 use Rattle.intake.specs.declared.account.Account.{Account}
 use Rattle.intake.specs.declared.queue.EndedSeat.{EndedSeat}
 use Rattle.intake.specs.Queues.{jobs_of, CountUp}
-use Rattle.intake.specs.Turns.{Accounted, JudgesEntry}
+use Rattle.intake.specs.Turns.{Accounted}
 
 -- these jobs were judged one after the other, with these answers
 abbrev pub JudgedInTurn : Limits → Lists → List Entry → List Account → Lists → Type 0
 JudgedInTurn limits k [] [] end = end ≡ k
 JudgedInTurn limits k (j ∷ js) (a ∷ rest) end =
-    (m : Lists) × JudgesEntry limits k j a.answer m × JudgedInTurn limits m js rest end
+    (m : Lists) × Answers limits k j a.answer m × JudgedInTurn limits m js rest end
 JudgedInTurn limits k _ _ end = ⊥
 
 -- the entry was acknowledged, or it waits for a publish

@@ -4,7 +4,7 @@ use Rattle.atomic_table.specs.Seated.{TableId}
 use Rattle.trace_model.specs.declared.entry.Entry.{Entry}
 use Rattle.trace_model.specs.declared.limits.Limits.{Limits}
 use Rattle.trace_model.specs.declared.refusal.Refusal.{Refusal}
-use Rattle.read_side.specs.Keepers.{Lists, Admits, TurnsAway}
+use Rattle.read_side.specs.Keepers.{Lists, Answers}
 use Rattle.intake.specs.declared.account.Account.{Account}
 use Rattle.intake.specs.declared.clerk.Turn.{Turn}
 use Rattle.intake.specs.declared.clerk.Turn.TheVariants.{Idle, Served, Ended}
@@ -53,11 +53,6 @@ abbrev pub place_or_refusal : {A : Type 0} → (A → ℕ) → Result A Refusal 
 place_or_refusal place (Ok a) = Ok (place a)
 place_or_refusal place (Err why) = Err why
 
--- what one admit of the entry answers and leaves
-abbrev pub JudgesEntry : Limits → Lists → Entry → Result ℕ Refusal → Lists → Type 0
-JudgesEntry limits old e (Ok place) new = Admits limits old e place new
-JudgesEntry limits old e (Err why) new = TurnsAway limits old e why new
-
 abbrev pub account_of : Entry → Result ℕ Refusal → Account
 account_of job answer = record { seat = job.seat; number = job.number; answer = answer }
 
@@ -70,7 +65,7 @@ with_account c job answer =
 abbrev pub Serves : Limits → ClerkValue → Lists → ℕ → ℕ → ClerkValue → Lists → Type 0
 Serves limits old lists seat number new lists' =
     (job : Entry) × (answer : Result ℕ Refusal) × (job.seat ≡ seat) × (job.number ≡ number)
-    × (new ≡ with_account old job answer) × JudgesEntry limits lists job answer lists'
+    × (new ≡ with_account old job answer) × Answers limits lists job answer lists'
 
 -- a job was served, by its seat and number
 abbrev pub IfServed : Result Turn Refusal → (ℕ → ℕ → Type 0) → Type 0

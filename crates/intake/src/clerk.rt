@@ -3,9 +3,10 @@
 ghost use Rattle.std.specs.Prelude.{◌≡◌, ◌≤◌, ◌^◌, map, [], length, IfOk, IfErr, OnErr};
 ghost use Rattle.std.specs.Arc.{arc_value};
 ghost use Rattle.trace_model.specs.declared.refusal.Refusal.TheVariants.{NoMemory};
+ghost use Rattle.read_side.specs.Keepers.{Answers};
 ghost use Rattle.read_side.specs.Receipts.{AnsweredAt};
 ghost use Rattle.intake.specs.Seats.{IsUnacknowledged};
-ghost use Rattle.intake.specs.Turns.{IsNewInbox, IsNewClerk, Accounted, JudgesEntry, place_or_refusal, Serves, IfServed, IfNotServed, IfNoJob, WasEmpty};
+ghost use Rattle.intake.specs.Turns.{IsNewInbox, IsNewClerk, Accounted, place_or_refusal, Serves, IfServed, IfNotServed, IfNoJob, WasEmpty};
 ghost use Rattle.intake.specs.Books.{Ran, Balances, acknowledged, refused};
 
 use crate::account::Account;
@@ -92,7 +93,7 @@ fn judge_entry<N: StoreName, R: Wait>(
     keeper: &mut Keeper<N>,
     entry: OutlinedEntry,
 ) -> Result<Ack<N>, Refusal>
-    ensures judged { JudgesEntry N.limits keeper.old entry
+    ensures judged { Answers N.limits keeper.old entry
         (place_or_refusal (λ a. a.place) result) keeper.new }
     ensures answered { IfOk result (λ a.
         AnsweredAt (arc_value a.receipt).entries a.place entry) }
