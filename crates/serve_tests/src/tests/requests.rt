@@ -74,9 +74,5 @@ pub const CONFLICT: &[u8] =
 
 /// The parts behind each other.
 pub fn joined(alloc: Global, parts: &[&[u8]]) -> Result<Vec<u8>, AllocError> {
-    let mut bytes = Vec::new(alloc);
-    for part in parts {
-        bytes.extend_from_slice(part)?;
-    }
-    Ok(bytes)
+    parts.concat(alloc)
 }

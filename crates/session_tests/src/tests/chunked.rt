@@ -23,11 +23,7 @@ const TOO_LARGE: &[u8] =
     b"HTTP/1.1 413 Content Too Large\r\nContent-Type: application/json\r\nContent-Length: 91\r\nConnection: close\r\n\r\n{\"data\":null,\"errors\":[{\"code\":413,\"msg\":\"body too large\"}],\"limit\":0,\"offset\":0,\"total\":0}";
 
 fn joined(alloc: Global, parts: &[&[u8]]) -> Result<Vec<u8>, Fail> {
-    let mut bytes = Vec::new(alloc);
-    for part in parts {
-        bytes.extend_from_slice(part)?;
-    }
-    Ok(bytes)
+    Ok(parts.concat(alloc)?)
 }
 
 /// The same bytes so many times.
