@@ -251,9 +251,6 @@ listed_again names numbers n g held below known =
     ∙ sym (known_by_key labels (labels.at n) names.at (same_listed (names.at n)) numbers (service_alone []) (operations_keyed names g n below) (record { held = held.held }))
     ∙ lt-ltb (row_of labels numbers (labels.at n)) (length numbers) known))
 
-pub listed_new : (names : Names) (numbers : List ℕ) (n : ℕ) → sorted_set listed_cmp (map names.at (numbers ++ n ∷ [])) ≡ insert_once listed_cmp (sorted_set listed_cmp (map names.at numbers)) (names.at n)
-listed_new names numbers n = ap (sorted_set listed_cmp) (map_push names.at numbers n) ∙ fold_push (insert_once listed_cmp) [] (map names.at numbers) (names.at n)
-
 pub indexed_own : (names : Names) (g : IsGrouped names) (old : Index) (operations services : Table) (newest earlier : List ℕ) (n s row used room : ℕ) → n < names.count → IsIndexed names old → IsNamed (operation_labels names) operations → IsNamed (group_labels names) services
     → operations.numbers ≡ with_number (operation_labels names) old.operations.numbers n → row ≡ row_of (operation_labels names) old.operations.numbers ((operation_labels names).at n) → length old.operations.numbers ≤ row
     → services.numbers ≡ with_number (group_labels names) old.services.numbers n → s ≡ row_of (group_labels names) old.services.numbers (group_alone (names.group n)) → s < length old.services.numbers
