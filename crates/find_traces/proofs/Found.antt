@@ -9,7 +9,8 @@ use Rattle.jaeger_model.specs.declared.placed.Placed.{Placed}
 use Rattle.trace_model.specs.declared.query.Find.{Find}
 use Rattle.trace_model.specs.Searching.{matches, matching, first_start, first_id, ids_of, ranked_by_start, cut, found_in}
 use Rattle.trace_model.proofs.Ranking.{ranked-permutation, ranked-map}
-use Rattle.find_traces.specs.Places.{numbered, is_hit, start_of, hits, hit_of, place_of, places_found, trace_at, id_at}
+use Rattle.find_traces.specs.Places.{numbered, is_hit, start_of, hits, places_found, trace_at, id_at}
+use Rattle.find_traces.specs.Keys.{reverse_key_of, reverse_key_place}
 
 abbrev place : ℕ × List Placed → ℕ
 place e = e.0
@@ -37,9 +38,9 @@ map_agree f g (x ∷ xs) h =
     λ i. first i ∷ rest i
 
 -- what the sorted and cut hits name
-pub places_of_hits : (q : Find) (ts : List (List Placed)) → map place_of (cut q.limit (map hit_of (ranked_by_start start_of (hits q ts)))) ≡ places_found q ts
+pub places_of_hits : (q : Find) (ts : List (List Placed)) → map reverse_key_place (cut q.limit (map reverse_key_of (ranked_by_start start_of (hits q ts)))) ≡ places_found q ts
 places_of_hits q ts =
-    ap (map place_of) (sym (map_cut hit_of q.limit (ranked_by_start start_of (hits q ts)))) ∙ map_twice place_of hit_of (cut q.limit (ranked_by_start start_of (hits q ts)))
+    ap (map reverse_key_place) (sym (map_cut reverse_key_of q.limit (ranked_by_start start_of (hits q ts)))) ∙ map_twice reverse_key_place reverse_key_of (cut q.limit (ranked_by_start start_of (hits q ts)))
 
 -- ---- each number leads back to its trace
 found_at : (before : List (List Placed)) (t : List Placed) (rest : List (List Placed)) → trace_at (before ++ t ∷ rest) (length before) ≡ t
@@ -109,12 +110,12 @@ made_read f ts i h = ap (map f) (numbered_read ts i h) ∙ map_push f (numbered 
 hits_read : (q : Find) (ts : List (List Placed)) (i : ℕ) → i < length ts → hits q (take (i + 1) ts) ≡ hits q (take i ts) ++ cond (list_any (matches q) (trace_at ts i)) ((i, trace_at ts i) ∷ []) []
 hits_read q ts i h = ap (filter (is_hit q)) (numbered_read ts i h) ∙ filter-append (is_hit q) (numbered 0 (take i ts)) ((i, trace_at ts i) ∷ [])
 
-pub hits_hit : (q : Find) (ts : List (List Placed)) (i : ℕ) → i < length ts → list_any (matches q) (trace_at ts i) ≡ true → map hit_of (hits q (take (i + 1) ts)) ≡ map hit_of (hits q (take i ts)) ++ hit_of (i, trace_at ts i) ∷ []
+pub hits_hit : (q : Find) (ts : List (List Placed)) (i : ℕ) → i < length ts → list_any (matches q) (trace_at ts i) ≡ true → map reverse_key_of (hits q (take (i + 1) ts)) ≡ map reverse_key_of (hits q (take i ts)) ++ reverse_key_of (i, trace_at ts i) ∷ []
 hits_hit q ts i h m =
-    ap (map hit_of) (hits_read q ts i h ∙ ap (λ b. hits q (take i ts) ++ cond b ((i, trace_at ts i) ∷ []) []) m) ∙ map_push hit_of (hits q (take i ts)) (i, trace_at ts i)
+    ap (map reverse_key_of) (hits_read q ts i h ∙ ap (λ b. hits q (take i ts) ++ cond b ((i, trace_at ts i) ∷ []) []) m) ∙ map_push reverse_key_of (hits q (take i ts)) (i, trace_at ts i)
 
-pub hits_miss : (q : Find) (ts : List (List Placed)) (i : ℕ) → i < length ts → list_any (matches q) (trace_at ts i) ≡ false → map hit_of (hits q (take (i + 1) ts)) ≡ map hit_of (hits q (take i ts))
-hits_miss q ts i h m = ap (map hit_of) (hits_read q ts i h ∙ ap (λ b. hits q (take i ts) ++ cond b ((i, trace_at ts i) ∷ []) []) m ∙ append-nil (hits q (take i ts)))
+pub hits_miss : (q : Find) (ts : List (List Placed)) (i : ℕ) → i < length ts → list_any (matches q) (trace_at ts i) ≡ false → map reverse_key_of (hits q (take (i + 1) ts)) ≡ map reverse_key_of (hits q (take i ts))
+hits_miss q ts i h m = ap (map reverse_key_of) (hits_read q ts i h ∙ ap (λ b. hits q (take i ts) ++ cond b ((i, trace_at ts i) ∷ []) []) m ∙ append-nil (hits q (take i ts)))
 
 pub kept_some : {X Y : Type 0} (f : X → Option Y) (xs : List X) (x : X) (y : Y) → f x ≡ Some y → filter_map f (xs ++ x ∷ []) ≡ filter_map f xs ++ y ∷ []
 kept_some f xs x y e = filter_map-append f xs (x ∷ []) ∙ ap (λ o. filter_map f xs ++ cons_option o []) e

@@ -10,10 +10,10 @@ use Rattle.trace_model.specs.declared.query.Find.{Find}
 use Rattle.trace_model.specs.Searching.{matches, ranked_by_start, cut}
 use Rattle.trace_model.proofs.Ranking.{ranked-permutation}
 use Rattle.find_traces.specs.Places.{numbered, is_hit, start_of, hits, places_found, trace_at}
-use Rattle.find_traces.specs.declared.best.Key.{Key}
+use Rattle.find_traces.specs.declared.key.Key.{Key}
 use Rattle.find_traces.specs.Keys.{found_at, key_of, key_place, key_judged, best_cmp}
 use Rattle.find_traces.proofs.Choosing.{ranked-filter}
-use Rattle.find_traces.proofs.Order.{ranked_rises, strict_keys}
+use Rattle.find_traces.proofs.Order.{ranked_rises, strict_map}
 use Rattle.find_traces.proofs.Found.{Leads, all_lead, map_cut, map_twice}
 use Rattle.find_traces.proofs.Walking.{answer}
 
@@ -35,7 +35,7 @@ abbrev pub ranking : List (List Placed) → List Key
 ranking ts = map key_of (ranked_by_start start_of (numbered 0 ts))
 
 pub ranking_rises : (ts : List (List Placed)) → IsStrictlySortedBy best_cmp (ranking ts)
-ranking_rises ts = strict_keys (ranked_by_start start_of (numbered 0 ts)) (ranked_rises start_of ts)
+ranking_rises ts = strict_map key_of best_cmp (ranked_by_start start_of (numbered 0 ts)) (ranked_rises start_of ts)
 
 -- what has the keys of all has the ranking
 pub ranking_moved : (ts : List (List Placed)) (keys left : List Key) → keys ≡ map key_of (numbered 0 ts) → IsPermutation keys left → IsPermutation (ranking ts) left

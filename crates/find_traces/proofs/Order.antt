@@ -4,6 +4,7 @@ use Rattle.std.specs.Prelude.{if◌then◌else◌, ◌==◌, int_lt}
 use Rattle.std.specs.List.{AllByRecursion}
 use Rattle.std.specs.List.Sorted.{IsStrictlySortedBy}
 use Rattle.std.specs.declared.cmp.Ordering.{Ordering}
+use Rattle.std.specs.declared.cmp.Reverse.{Reverse}
 use Rattle.std.specs.declared.cmp.Ordering.TheVariants.{Less, Equal, Greater}
 use Rattle.std.specs.Ordering.{ordering_then, int_cmp, nat_cmp}
 use Rattle.std.specs.Cmp.{IsTotalOrder, on_total}
@@ -12,28 +13,17 @@ use Rattle.std.proofs.lemmas.Cmp.{then_total, back_total, int_cmp_total, nat_cmp
 use Rattle.std.proofs.lemmas.Bool.{lt-ltb}
 use Rattle.std.proofs.lemmas.List.Elements.{All-from_recursion, recursion_from_All}
 use Rattle.std.proofs.lemmas.List.Sorted.{All-permutation}
-use Rattle.jaeger_model.specs.declared.placed.Placed.{Placed}
 use Rattle.trace_model.specs.Searching.{put_by_start, ranked_by_start}
 use Rattle.trace_model.proofs.Ranking.{ranked-permutation}
 use Rattle.trace_model.proofs.Rising.{Below}
-use Rattle.find_traces.specs.declared.matched.Hit.{Hit}
-use Rattle.find_traces.specs.declared.best.Key.{Key}
-use Rattle.find_traces.specs.Places.{numbered, start_of, hit_of, hit_cmp}
-use Rattle.find_traces.specs.Keys.{key_of, best_cmp}
+use Rattle.find_traces.specs.declared.key.Key.{Key}
+use Rattle.find_traces.specs.Places.{numbered}
+use Rattle.find_traces.specs.Keys.{best_cmp, reverse_key_cmp}
 
 both_equal : {P : Type 0} (a b : Ordering) → ordering_then a b ≡ Equal → (a ≡ Equal → b ≡ Equal → P) → P
 both_equal Less b e k = absurd cc
 both_equal Equal b e k = k refl e
 both_equal Greater b e k = absurd cc
-
-pub hit_total : IsTotalOrder hit_cmp
-hit_total = then_total (on_total (λ (h : Hit). h.start.0) (back_total int_cmp_total)) (on_total (λ (h : Hit). h.place.0) (back_total nat_cmp_total))
-
-pub hit_exact : IsAntisymmetric hit_cmp
-hit_exact a b e = both_equal (int_cmp b.start.0 a.start.0) (nat_cmp b.place.0 a.place.0) e (λ s p.
-    let ss : b.start.0 ≡ a.start.0 = int_cmp-IsAntisymmetric b.start.0 a.start.0 s in
-    let ps : b.place.0 ≡ a.place.0 = nat_cmp-IsAntisymmetric b.place.0 a.place.0 p in
-    λ i. record { start = record { 0 = sym ss i }; place = record { 0 = sym ps i } })
 
 pub best_total : IsTotalOrder best_cmp
 best_total = then_total (on_total (λ (k : Key). k.start) (back_total int_cmp_total)) (on_total (λ (k : Key). k.place) (back_total nat_cmp_total))
@@ -43,6 +33,12 @@ best_exact a b e = both_equal (int_cmp b.start a.start) (nat_cmp b.place a.place
     let ss : b.start ≡ a.start = int_cmp-IsAntisymmetric b.start a.start s in
     let ps : b.place ≡ a.place = nat_cmp-IsAntisymmetric b.place a.place p in
     λ i. record { start = sym ss i; place = sym ps i })
+
+pub reverse_total : IsTotalOrder reverse_key_cmp
+reverse_total = on_total (λ (r : Reverse Key). r.0) best_total
+
+pub reverse_exact : IsAntisymmetric reverse_key_cmp
+reverse_exact a b e = λ i. record { 0 = best_exact a.0 b.0 e i }
 
 module _ {X : Type 0} (start : ℕ × X → ℤ) where
   -- latest start first, and of equal starts the later place first
@@ -117,21 +113,16 @@ module _ {X : Type 0} (start : ℕ × X → ℤ) where
   pub ranked_rises : (xs : List X) → IsStrictlySortedBy rank_cmp (ranked_by_start start (numbered 0 xs))
   ranked_rises xs = strict_ranked (numbered 0 xs) (places_rise 0 xs)
 
--- ---- and so do their keys
-below_hits : (x : ℕ × List Placed) (es : List (ℕ × List Placed)) → Below (rank_cmp start_of) x es → Below hit_cmp (hit_of x) (map hit_of es)
-below_hits x [] h = tt
-below_hits x (y ∷ es) h = (h.0, below_hits x es h.1)
+-- ---- and so does what they are mapped to, where that is in the same order
+module _ {X Y : Type 0} (f : X → Y) (cmp : Y → Y → Ordering) where
+  abbrev through : X → X → Ordering
+  through a b = cmp (f a) (f b)
 
-pub strict_hits : (es : List (ℕ × List Placed)) → IsStrictlySortedBy (rank_cmp start_of) es → IsStrictlySortedBy hit_cmp (map hit_of es)
-unfolding IsStrictlySortedBy
-strict_hits [] h = tt
-strict_hits (x ∷ es) h = (below_hits x es h.0, strict_hits es h.1)
+  below_map : (x : X) (xs : List X) → Below through x xs → Below cmp (f x) (map f xs)
+  below_map x [] h = tt
+  below_map x (y ∷ ys) h = (h.0, below_map x ys h.1)
 
-below_keys : (x : ℕ × List Placed) (es : List (ℕ × List Placed)) → Below (rank_cmp start_of) x es → Below best_cmp (key_of x) (map key_of es)
-below_keys x [] h = tt
-below_keys x (y ∷ es) h = (h.0, below_keys x es h.1)
-
-pub strict_keys : (es : List (ℕ × List Placed)) → IsStrictlySortedBy (rank_cmp start_of) es → IsStrictlySortedBy best_cmp (map key_of es)
-unfolding IsStrictlySortedBy
-strict_keys [] h = tt
-strict_keys (x ∷ es) h = (below_keys x es h.0, strict_keys es h.1)
+  pub strict_map : (xs : List X) → IsStrictlySortedBy through xs → IsStrictlySortedBy cmp (map f xs)
+  unfolding IsStrictlySortedBy
+  strict_map [] h = tt
+  strict_map (x ∷ xs) h = (below_map x xs h.0, strict_map xs h.1)

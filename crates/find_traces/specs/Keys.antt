@@ -1,12 +1,13 @@
--- What stands in a heap in place of the traces.
+-- What stands in place of the traces while they are put in order.
 use Rattle.std.specs.Prelude.{ℕ, Bool, List, ◌&&◌, ◌==◌, not, nat_le}
 use Rattle.std.specs.List.{list_any}
 use Rattle.std.specs.declared.cmp.Ordering.{Ordering}
+use Rattle.std.specs.declared.cmp.Reverse.{Reverse}
 use Rattle.std.specs.Ordering.{ordering_then, int_cmp, nat_cmp}
 use Rattle.jaeger_model.specs.declared.placed.Placed.{Placed}
 use Rattle.trace_model.specs.declared.query.Find.{Find}
 use Rattle.trace_model.specs.Searching.{matches}
-use Rattle.find_traces.specs.declared.best.Key.{Key}
+use Rattle.find_traces.specs.declared.key.Key.{Key}
 use Rattle.find_traces.specs.Places.{start_of, trace_at}
 
 -- so many are as many as the limit lets through
@@ -25,6 +26,16 @@ key_cmp a b = ordering_then (int_cmp a.start b.start) (nat_cmp a.place b.place)
 -- the greatest first
 abbrev pub best_cmp : Key → Key → Ordering
 best_cmp a b = key_cmp b a
+
+-- the same in an order whose least is the best
+abbrev pub reverse_key_of : ℕ × List Placed → Reverse Key
+reverse_key_of e = record { 0 = key_of e }
+
+abbrev pub reverse_key_place : Reverse Key → ℕ
+reverse_key_place r = key_place r.0
+
+abbrev pub reverse_key_cmp : Reverse Key → Reverse Key → Ordering
+reverse_key_cmp a b = best_cmp a.0 b.0
 
 -- the trace at the place matches
 abbrev pub found_at : Find → List (List Placed) → ℕ → Bool

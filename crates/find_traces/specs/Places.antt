@@ -1,12 +1,9 @@
 -- The places of the traces that a search finds.
 use Rattle.std.specs.Prelude.{ℕ, ℤ, Bool, ◌+◌, List, [], ◌∷◌, map, filter, slice_index_or, Option}
 use Rattle.std.specs.List.{list_any}
-use Rattle.std.specs.declared.cmp.Ordering.{Ordering}
-use Rattle.std.specs.Ordering.{ordering_then, int_cmp, nat_cmp}
 use Rattle.jaeger_model.specs.declared.ids.TraceId.{TraceId}
 use Rattle.jaeger_model.specs.declared.placed.Placed.{Placed}
 use Rattle.trace_model.specs.declared.query.Find.{Find}
-use Rattle.find_traces.specs.declared.matched.Hit.{Hit}
 use Rattle.trace_model.specs.Searching.{matches, first_start, ranked_by_start, cut, first_id}
 
 -- each with its place, where the first stands at n
@@ -27,17 +24,6 @@ hits q ts = filter (is_hit q) (numbered 0 ts)
 -- the places of the answer, in its order
 abbrev pub places_found : Find → List (List Placed) → List ℕ
 places_found q ts = map (λ (e : ℕ × List Placed). e.0) (cut q.limit (ranked_by_start start_of (hits q ts)))
-
--- what is sorted
-abbrev pub hit_of : ℕ × List Placed → Hit
-hit_of e = record { start = record { 0 = start_of e }; place = record { 0 = e.0 } }
-
-abbrev pub place_of : Hit → ℕ
-place_of h = h.place.0
-
--- latest start first, and of equal starts the later place first
-abbrev pub hit_cmp : Hit → Hit → Ordering
-hit_cmp a b = ordering_then (int_cmp b.start.0 a.start.0) (nat_cmp b.place.0 a.place.0)
 
 abbrev pub trace_at : List (List Placed) → ℕ → List Placed
 trace_at ts i = slice_index_or ts i []

@@ -5,29 +5,13 @@ ghost use Rattle.std.specs.Prelude.{◌≡◌, IfOk, List, map, filter};
 ghost use Rattle.std.specs.List.Sorted.{IsPermutation, IsStrictlySortedBy};
 ghost use Rattle.std.specs.BinaryHeap.{heap_items, IsHeap};
 ghost use Rattle.trace_model.specs.Searching.{cut};
-ghost use Rattle.find_traces.specs.Places.{trace_at, places_found, numbered};
+ghost use Rattle.find_traces.specs.Places.{places_found, numbered};
 ghost use Rattle.find_traces.specs.Keys.{is_full, key_of, key_place, key_cmp, best_cmp, key_judged};
 
+use crate::key::{Key, key_at};
 use crate::searched::Searched;
 use std::alloc::{AllocError, Global};
 use std::collections::BinaryHeap;
-
-/// A trace that may match. The one with the latest first start is the greatest, and of equal starts
-/// the one at the later place, which was opened later.
-#[derive(Clone, Copy, Debug, PartialEq, Eq, PartialOrd, Ord)]
-struct Key {
-    start: i64,
-    place: usize,
-}
-
-fn key_at<T: Searched>(traces: &T, place: usize) -> Key
-    ensures { result ≡ key_of (place, trace_at (T.traces traces.now) place) }
-{
-    Key {
-        start: traces.start_at(place),
-        place,
-    }
-}
 
 /// A key for each trace.
 fn all_keys<T: Searched>(alloc: Global, traces: &T) -> Result<Vec<Key>, AllocError>

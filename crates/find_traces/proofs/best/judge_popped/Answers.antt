@@ -1,7 +1,7 @@
 use Rattle.std.proofs.Common.{rules, ◌≡◌, ℕ, Bool, true, false, List, [], ◌∷◌, ◌++◌, length, refl, sym, ap, ◌∙◌, arith, append_assoc, heap_items}
 use Rattle.std.proofs.lemmas.List.{append-nil, nil_from_length}
 use Rattle.jaeger_model.specs.declared.placed.Placed.{Placed}
-use Rattle.find_traces.specs.declared.best.Key.{Key}
+use Rattle.find_traces.specs.declared.key.Key.{Key}
 use Rattle.find_traces.specs.Keys.{is_full, key_place, best_cmp, key_judged}
 use Rattle.find_traces.proofs.Order.{best_total, best_exact}
 use Rattle.find_traces.proofs.Walking.{answer, answer_none, answer_hit, answer_miss, answer_full}

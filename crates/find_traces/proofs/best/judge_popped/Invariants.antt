@@ -1,6 +1,6 @@
 use Rattle.std.proofs.Common.{◌≡◌, List, ◌++◌, heap_items, heap_len}
 use Rattle.std.specs.BinaryHeap.{IsHeap}
-use Rattle.find_traces.specs.declared.best.Key.{Key}
+use Rattle.find_traces.specs.declared.key.Key.{Key}
 use Rattle.find_traces.specs.Keys.{key_place, key_cmp, best_cmp, key_judged}
 use Rattle.find_traces.proofs.Walking.{answer}
 use Rattle.find_traces.proofs.Popped.{Leaves}
