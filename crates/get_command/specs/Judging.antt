@@ -1,10 +1,8 @@
 -- What becomes of a line of input.
 use Rattle.std.specs.Prelude.{ℕ, ◌+◌, ◌==◌, ◌&&◌, Bool, not, List, filter, length, Option, Some, None, Result, Ok, Err, if◌then◌else◌}
-use Rattle.hex.specs.Hex.{decode_of}
-use Rattle.hex.specs.declared.error.FromHexError.{FromHexError}
 use Rattle.jaeger_model.specs.declared.batch.Batch.{Batch}
-use Rattle.batch_codec.specs.declared.fault.DecodeError.{DecodeError}
-use Rattle.batch_codec.specs.BatchReading.{decoded}
+use Rattle.hex_batches.specs.declared.fault.HexFault.{HexFault}
+use Rattle.hex_batches.specs.Spelling.{batch_in}
 use Rattle.trace_model.specs.declared.admission.Admission.{Admission}
 use Rattle.trace_model.specs.declared.entry.Entry.{Entry}
 use Rattle.trace_model.specs.declared.entry.Work.TheVariants as brings
@@ -12,7 +10,7 @@ use Rattle.trace_model.specs.declared.refusal.Refusal.{Refusal}
 use Rattle.trace_model.specs.Held.{Held}
 use Rattle.trace_model.specs.Refusals.{admission, with_admitted}
 use Rattle.get_command.specs.declared.line_fault.LineFault.{LineFault}
-use Rattle.get_command.specs.declared.line_fault.LineFault.TheVariants.{BadHex, Undecodable, Refused}
+use Rattle.get_command.specs.declared.line_fault.LineFault.TheVariants.{NoBatch, Refused}
 
 -- neither a space nor a tab
 abbrev pub is_written : ℕ → Bool
@@ -22,20 +20,8 @@ is_written c = not (c == 32) && not (c == 9)
 abbrev pub without_blanks : List ℕ → List ℕ
 without_blanks line = filter is_written line
 
-abbrev pub of_batch : Result Batch DecodeError → Result Batch LineFault
-of_batch (Ok batch) = Ok batch
-of_batch (Err fault) = Err (Undecodable fault)
-
-abbrev pub of_bytes : Result (List ℕ) FromHexError → Result Batch LineFault
-of_bytes (Ok bytes) = of_batch (decoded bytes)
-of_bytes (Err fault) = Err BadHex
-
--- the batch that hexadecimal text spells
-unfoldable pub batch_in : List ℕ → Result Batch LineFault
-batch_in text = of_bytes (decode_of text)
-
 -- what a line says: nothing where it is empty but for spaces and tabs
-abbrev pub batch_on : List ℕ → Option (Result Batch LineFault)
+abbrev pub batch_on : List ℕ → Option (Result Batch HexFault)
 batch_on line = if length (without_blanks line) == 0 then None else Some (batch_in (without_blanks line))
 
 -- all entries come from seat 0, and are numbered from 1
@@ -55,9 +41,9 @@ fault_by (Err refusal) = Some (Refused refusal)
 abbrev pub admitted : Held → Entry → Result Admission Refusal → JudgedLine
 admitted held entry answer = record { fault = fault_by answer; held = with_admitted held entry answer }
 
-abbrev pub taken_in : Held → Option (Result Batch LineFault) → JudgedLine
+abbrev pub taken_in : Held → Option (Result Batch HexFault) → JudgedLine
 taken_in held None = record { fault = None; held = held }
-taken_in held (Some (Err fault)) = record { fault = Some fault; held = held }
+taken_in held (Some (Err fault)) = record { fault = Some (NoBatch fault); held = held }
 taken_in held (Some (Ok batch)) = admitted held (next_entry held batch) (admission held.limits held.entries (next_entry held batch))
 
 -- a refused batch leaves what is held, and so does one that was sent before

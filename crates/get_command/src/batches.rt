@@ -1,12 +1,11 @@
 //! A store that takes a batch from each line.
-ghost use Rattle.std.specs.Prelude.{◌≡◌, ◌≢◌, ◌++◌, IfOk, OnOk, Some};
+ghost use Rattle.std.specs.Prelude.{◌≡◌, ◌++◌, IfOk, OnOk, Some};
 ghost use Rattle.trace_model.specs.Refusals.{admission};
-ghost use Rattle.get_command.specs.Judging.{admitted, batch_in, is_written, judged_line, next_entry, without_blanks};
+ghost use Rattle.get_command.specs.Judging.{admitted, is_written, judged_line, next_entry, without_blanks};
 ghost use Rattle.get_command.specs.Runs.{fault_line, nothing_held};
 
 use crate::line_fault::LineFault;
-use batch_codec::{DecodeError, decode};
-use hex::FromHexError;
+use hex_batches::decode_hex;
 use jaeger_model::Batch;
 use span_store::SpanStore;
 use std::alloc::{AllocError, Global};
@@ -16,42 +15,6 @@ use std::marker::Model;
 use std::sync::Arc;
 use text_lines::LineTaker;
 use trace_model::{Entry, Limits, Work};
-
-/// The fault of text that isn't hexadecimal.
-fn bad_hex(error: FromHexError) -> Result<LineFault, AllocError>
-    ensures { IfOk result (λ fault. (fault ≡ LineFault.BadHex)
-        × (error ≢ FromHexError.OutOfMemory)) }
-{
-    match error {
-        FromHexError::OutOfMemory => Err(AllocError),
-        _ => Ok(LineFault::BadHex),
-    }
-}
-
-/// The fault of bytes that are no batch.
-fn undecodable(error: DecodeError) -> Result<LineFault, AllocError>
-    ensures { IfOk result (λ fault. (fault ≡ LineFault.Undecodable error)
-        × (error ≢ DecodeError.Memory)) }
-{
-    match error {
-        DecodeError::Memory => Err(AllocError),
-        _ => Ok(LineFault::Undecodable(error)),
-    }
-}
-
-/// The batch that hexadecimal text spells.
-fn read_batch(alloc: Global, text: &[u8]) -> Result<Result<Batch, LineFault>, AllocError>
-    ensures { IfOk result (λ r. r ≡ batch_in text.now) }
-{
-    let bytes = match hex::decode(alloc, text) {
-        Ok(bytes) => bytes,
-        Err(error) => return Ok(Err(bad_hex(error)?)),
-    };
-    match decode(alloc, bytes.as_slice()) {
-        Ok(batch) => Ok(Ok(batch)),
-        Err(error) => Ok(Err(undecodable(error)?)),
-    }
-}
 
 /// Hands the batch to the store, as seat 0's next entry. Where it was sent before, nothing is added.
 fn admit(
@@ -106,9 +69,9 @@ fn take_batch(
     if line.is_empty() {
         return Ok(None);
     }
-    match read_batch(alloc, line.as_slice())? {
+    match decode_hex(alloc, line.as_slice())? {
         Ok(batch) => admit(alloc, store, batch),
-        Err(fault) => Ok(Some(fault)),
+        Err(fault) => Ok(Some(LineFault::NoBatch(fault))),
     }
 }
 

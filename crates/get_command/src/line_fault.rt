@@ -1,17 +1,15 @@
 //! Why a line of input can't be used.
 ghost use Rattle.std.specs.Prelude.{Some};
 
-use batch_codec::DecodeError;
+use hex_batches::HexFault;
 use std::fmt;
 use trace_model::Refusal;
 
 /// Why a line of `get` is no batch of the store.
 #[derive(Clone, Copy, Debug, PartialEq, Eq)]
 pub enum LineFault {
-    /// It isn't hexadecimal text, or has an odd number of digits.
-    BadHex,
-    /// Its bytes are no batch.
-    Undecodable(DecodeError),
+    /// Its text spells no batch.
+    NoBatch(HexFault),
     /// The store didn't take the batch.
     Refused(Refusal),
 }
@@ -23,8 +21,7 @@ impl fmt::Display for LineFault {
 
     fn fmt<W: fmt::Write>(&self, f: &mut fmt::Formatter<W>) -> fmt::Result {
         match self {
-            LineFault::BadHex => f.write_str("bad hex"),
-            LineFault::Undecodable(fault) => write!(f, "refused {fault}"),
+            LineFault::NoBatch(fault) => write!(f, "{fault}"),
             LineFault::Refused(refusal) => write!(f, "refused {refusal}"),
         }
     }

@@ -1,13 +1,12 @@
 -- Why a line is no step, as text.
 use Rattle.std.specs.Prelude.{ℕ, List, ◌++◌, codes}
-use Rattle.batch_codec.specs.Faults.{fault_text as decode_text}
+use Rattle.hex_batches.specs.FaultTexts.{fault_text as hex_fault_text}
 use Rattle.query_http.specs.Faults.{parameter_name}
 use Rattle.step_lines.specs.declared.fault.StepFault.{StepFault}
-use Rattle.step_lines.specs.declared.fault.StepFault.TheVariants.{BadStep, BadHex, Undecodable, NoSuchPath, BadParameter}
+use Rattle.step_lines.specs.declared.fault.StepFault.TheVariants.{BadStep, NoBatch, NoSuchPath, BadParameter}
 
 abbrev pub fault_text : StepFault → List ℕ
 fault_text BadStep = codes "bad step"
-fault_text BadHex = codes "bad hex"
-fault_text (Undecodable fault) = codes "refused " ++ decode_text fault
+fault_text (NoBatch fault) = hex_fault_text fault
 fault_text NoSuchPath = codes "no such path"
 fault_text (BadParameter parameter) = codes "bad parameter " ++ parameter_name parameter

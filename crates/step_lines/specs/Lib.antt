@@ -1,5 +1,4 @@
 pub mod Words
-pub mod Batches
 pub mod Targets
 pub mod Steps
 pub mod Reading

@@ -2,15 +2,17 @@
 use Rattle.std.specs.Prelude.{ℕ, ◌==◌, ◌&&◌, not, List, [], ◌∷◌, length, Result, Ok, Err, if◌then◌else◌, codes}
 use Rattle.std.specs.List.{concat}
 use Rattle.std.specs.Str.{is_utf8}
+use Rattle.jaeger_model.specs.declared.batch.Batch.{Batch}
 use Rattle.jaeger_model.specs.Texts.{same_text}
+use Rattle.hex_batches.specs.declared.fault.HexFault.{HexFault}
+use Rattle.hex_batches.specs.Spelling.{batch_in}
 use Rattle.schedule_core.specs.declared.step.Step.{Step}
 use Rattle.schedule_core.specs.declared.step.Step.TheVariants.{Put, Limit, Take, Publish, Enter, Read, Learn, Leave}
 use Rattle.step_lines.specs.declared.fault.StepFault.{StepFault}
-use Rattle.step_lines.specs.declared.fault.StepFault.TheVariants.{BadStep}
+use Rattle.step_lines.specs.declared.fault.StepFault.TheVariants.{BadStep, NoBatch}
 use Rattle.step_lines.specs.declared.verb.Verb.{Verb}
 use Rattle.step_lines.specs.declared.verb.Verb.TheVariants as verb
 use Rattle.step_lines.specs.Words.{words_of, number_in}
-use Rattle.step_lines.specs.Batches.{batch_in}
 use Rattle.step_lines.specs.Targets.{query_in}
 
 infixl 10 ◌>>=◌
@@ -26,12 +28,17 @@ if_any text = if not (length text == 0) then Ok text else Err BadStep
 abbrev pub target_in : List ℕ → Result (List ℕ) StepFault
 target_in word = if not (length word == 0) && is_utf8 word then Ok word else Err BadStep
 
+-- a batch as a part of a step
+abbrev pub as_batch : Result Batch HexFault → Result Batch StepFault
+as_batch (Ok batch) = Ok batch
+as_batch (Err fault) = Err (NoBatch fault)
+
 -- a seat and hexadecimal text
 unfoldable pub put_by : List ℕ → List ℕ → Result Step StepFault
 put_by seat hex = do
   s ← number_in seat
   text ← if_any hex
-  batch ← batch_in text
+  batch ← as_batch (batch_in text)
   Ok (Put s batch)
 
 -- all words behind the seat are one text: its spaces don't count

@@ -1,7 +1,7 @@
 //! Why a line is no step.
 ghost use Rattle.std.specs.Prelude.{Some};
 
-use batch_codec::DecodeError;
+use hex_batches::HexFault;
 use query_http::Parameter;
 use std::fmt;
 
@@ -10,10 +10,8 @@ use std::fmt;
 pub enum StepFault {
     /// Its words are none of a step's.
     BadStep,
-    /// The batch isn't hexadecimal text, or has an odd number of digits.
-    BadHex,
-    /// The bytes are no batch: their first fault.
-    Undecodable(DecodeError),
+    /// Its text spells no batch.
+    NoBatch(HexFault),
     /// No endpoint has the target's path.
     NoSuchPath,
     /// The target's first parameter that can't be read.
@@ -28,8 +26,7 @@ impl fmt::Display for StepFault {
     fn fmt<W: fmt::Write>(&self, f: &mut fmt::Formatter<W>) -> fmt::Result {
         match self {
             StepFault::BadStep => f.write_str("bad step"),
-            StepFault::BadHex => f.write_str("bad hex"),
-            StepFault::Undecodable(fault) => write!(f, "refused {fault}"),
+            StepFault::NoBatch(fault) => write!(f, "{fault}"),
             StepFault::NoSuchPath => f.write_str("no such path"),
             StepFault::BadParameter(parameter) => {
                 let name = parameter.name();

@@ -163,9 +163,8 @@ fn read_text(
 /// The step that a line names, or why it names none. The line is without its end, and can be any bytes;
 /// bytes that are no UTF-8 are a bad step, whichever word is the first.
 ///
-/// [`StepFault::BadStep`] is reported before the other faults; then of a batch [`StepFault::BadHex`] before
-/// [`StepFault::Undecodable`], and of a target [`StepFault::NoSuchPath`] before
-/// [`StepFault::BadParameter`].
+/// [`StepFault::BadStep`] is reported before the other faults; then of a target [`StepFault::NoSuchPath`]
+/// before [`StepFault::BadParameter`].
 ///
 /// # Errors
 ///

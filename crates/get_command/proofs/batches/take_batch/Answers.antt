@@ -1,6 +1,7 @@
 use Rattle.std.proofs.Common.{rules, ◌≡◌, ◌==◌, ◌∙◌, length, true, false, Ok, Err}
 use Rattle.std.proofs.lemmas.Result.{IfOk-weaker}
-use Rattle.get_command.specs.Judging.{without_blanks, batch_in}
+use Rattle.hex_batches.specs.Spelling.{batch_in}
+use Rattle.get_command.specs.Judging.{without_blanks}
 use Rattle.get_command.proofs.Judgings.{line_skipped, line_refused, line_judged}
 use Rattle.get_command.proofs.batches.take_batch.Goals as goal
 

@@ -5,16 +5,16 @@ use Rattle.hex.specs.declared.error.FromHexError.{FromHexError}
 use Rattle.jaeger_model.specs.declared.batch.Batch.{Batch}
 use Rattle.batch_codec.specs.declared.fault.DecodeError.{DecodeError}
 use Rattle.batch_codec.specs.BatchReading.{decoded}
-use Rattle.step_lines.specs.declared.fault.StepFault.{StepFault}
-use Rattle.step_lines.specs.declared.fault.StepFault.TheVariants.{BadHex, Undecodable}
+use Rattle.hex_batches.specs.declared.fault.HexFault.{HexFault}
+use Rattle.hex_batches.specs.declared.fault.HexFault.TheVariants.{BadHex, Undecodable}
 
-abbrev pub of_batch : Result Batch DecodeError → Result Batch StepFault
+abbrev pub of_batch : Result Batch DecodeError → Result Batch HexFault
 of_batch (Ok batch) = Ok batch
 of_batch (Err fault) = Err (Undecodable fault)
 
-abbrev pub of_bytes : Result (List ℕ) FromHexError → Result Batch StepFault
+abbrev pub of_bytes : Result (List ℕ) FromHexError → Result Batch HexFault
 of_bytes (Ok bytes) = of_batch (decoded bytes)
 of_bytes (Err fault) = Err BadHex
 
-unfoldable pub batch_in : List ℕ → Result Batch StepFault
+unfoldable pub batch_in : List ℕ → Result Batch HexFault
 batch_in text = of_bytes (decode_of text)

@@ -1,0 +1,27 @@
+//! Why text spells no batch.
+ghost use Rattle.std.specs.Prelude.{Some};
+
+use batch_codec::DecodeError;
+use std::fmt;
+
+/// Why text spells no batch. Running out of memory is no such fault.
+#[derive(Clone, Copy, Debug, PartialEq, Eq)]
+pub enum HexFault {
+    /// It isn't hexadecimal text, or has an odd number of digits.
+    BadHex,
+    /// Its bytes are no batch: their first fault.
+    Undecodable(DecodeError),
+}
+
+impl fmt::Display for HexFault {
+    ghost use Rattle.hex_batches.specs.FaultTexts.{fault_text};
+
+    ghost output = { λ f. Some (fault_text f) };
+
+    fn fmt<W: fmt::Write>(&self, f: &mut fmt::Formatter<W>) -> fmt::Result {
+        match self {
+            HexFault::BadHex => f.write_str("bad hex"),
+            HexFault::Undecodable(fault) => write!(f, "refused {fault}"),
+        }
+    }
+}

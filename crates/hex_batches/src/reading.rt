@@ -1,0 +1,31 @@
+//! The batch of a text.
+ghost use Rattle.std.specs.Prelude.{◌≡◌, IfOk};
+ghost use Rattle.hex_batches.specs.Spelling.{batch_in};
+
+use crate::fault::HexFault;
+use batch_codec::{DecodeError, decode};
+use hex::FromHexError;
+use jaeger_model::Batch;
+use std::alloc::{AllocError, Global};
+
+/// The batch that hexadecimal text spells, or why it spells none: [`HexFault::BadHex`] before
+/// [`HexFault::Undecodable`].
+///
+/// # Errors
+///
+/// Out of memory, and nothing else.
+#[tactic(auto, unfolding(crate::specs::Spelling::batch_in))]
+pub fn decode_hex(alloc: Global, text: &[u8]) -> Result<Result<Batch, HexFault>, AllocError>
+    ensures { IfOk result (λ batch. batch ≡ batch_in text.now) }
+{
+    let bytes = match hex::decode(alloc, text) {
+        Ok(bytes) => bytes,
+        Err(FromHexError::OutOfMemory) => return Err(AllocError),
+        Err(_) => return Ok(Err(HexFault::BadHex)),
+    };
+    match decode(alloc, bytes.as_slice()) {
+        Ok(batch) => Ok(Ok(batch)),
+        Err(DecodeError::Memory) => Err(AllocError),
+        Err(fault) => Ok(Err(HexFault::Undecodable(fault))),
+    }
+}
