@@ -12,9 +12,9 @@ use Rattle.jaeger_model.specs.Texts.{same_text, text_cmp}
 use Rattle.jaeger_model.specs.Tags.{first_text}
 use Rattle.trace_model.specs.Adjusting.{host_of, spans_of, unadjusted, with_parent_first, new_delta, clock_at, clock_below}
 use Rattle.trace_adjust.specs.declared.clock.HostClock.{HostClock}
-use Rattle.trace_adjust.specs.Settling.{near, is_unset, written, delta_at, delta_or_none}
+use Rattle.trace_adjust.specs.Settling.{near, is_unset, written, clock_delta, delta_at, delta_or_none}
 use Rattle.trace_model.specs.Sharing.{ShareProcesses}
-use Rattle.trace_adjust.specs.Hosts.{hosts_of, number_in, hosted, all_hosted, AreNumbers, IsNumber, IsNumbered, AreNumbered, clock_by, below_by, near_by, delta_of, delta_by}
+use Rattle.trace_adjust.specs.Hosts.{hosts_of, number_in, hosted, all_hosted, AreNumbers, IsNumber, IsNumbered, AreNumbered, clock_by, below_by, near_by, host_delta, delta_by}
 
 -- ---- processes
 first_process : (ps : List Placed) (k : ℕ) (d : Placed) → (get_or (spans_of (map unadjusted (map with_parent_first ps))) k d).process ≡ (get_or ps k d).process
@@ -138,12 +138,12 @@ written_numbered hosts cs i o known here = elim (is_unset (get_or cs i None)) as
     set_numbered (c ∷ cs) (suc i) known (suc k) = set_numbered cs i (λ j. known (suc j)) k
 
 -- ---- deltas by numbers
-delta_hosted : (hosts : List (List ℕ)) (c : Option HostClock) → delta_of c ≡ delta_or_none (option_map (hosted hosts) c)
+delta_hosted : (hosts : List (List ℕ)) (c : Option HostClock) → delta_or_none host_delta c ≡ delta_or_none clock_delta (option_map (hosted hosts) c)
 delta_hosted hosts None = refl
 delta_hosted hosts (Some c) = refl
 
 pub same_delta : (hosts : List (List ℕ)) (first : ℕ → Option ℕ) (cs : List (Option HostClock)) (i id : ℕ) → delta_by first cs i id ≡ delta_at first (all_hosted hosts cs) i id
-same_delta hosts first cs i id = ap (λ d. if unwrap_or (first id) i == i then d else pos 0) (delta_hosted hosts (get_or cs i None) ∙ ap delta_or_none (sym (hosted_at (hosted hosts) cs i)))
+same_delta hosts first cs i id = ap (λ d. if unwrap_or (first id) i == i then d else pos 0) (delta_hosted hosts (get_or cs i None) ∙ ap (delta_or_none clock_delta) (sym (hosted_at (hosted hosts) cs i)))
 
 -- ---- the table of numbers, with one more host
 or_none : {X : Type 0} (o : Option X) → option_or o None ≡ o

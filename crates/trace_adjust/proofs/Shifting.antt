@@ -8,14 +8,14 @@ use Rattle.trace_model.specs.declared.answer.Shown.{Shown}
 use Rattle.trace_model.specs.declared.clock.Clock.{Clock}
 use Rattle.trace_model.specs.Linking.{has_id}
 use Rattle.trace_model.specs.Adjusting.{clock_of, unadjusted, shifted, shifted_by, shown_after, skew_adjusted_after, skew_adjusted, spans_of, said_after, shown_adjusted_after, shown_adjusted}
-use Rattle.trace_adjust.specs.Settling.{first_at, delta_at, delta_or_none, AreClocks}
+use Rattle.trace_adjust.specs.Settling.{first_at, clock_delta, delta_at, delta_or_none, AreClocks}
 use Rattle.trace_adjust.proofs.Places.{is_first, as_many, placed_at}
 
-by_delta : (m : ℕ) (p : Placed) (o : Option Clock) → shifted m (delta_or_none o) p ≡ shifted_by m p o
+by_delta : (m : ℕ) (p : Placed) (o : Option Clock) → shifted m (delta_or_none clock_delta o) p ≡ shifted_by m p o
 by_delta m p None = refl
 by_delta m p (Some c) = refl
 
-by_test : (m : ℕ) (p : Placed) (o : Option Clock) (taken : Bool) → shifted m (if not taken then delta_or_none o else pos 0) p ≡ (if taken then unadjusted p else shifted_by m p o)
+by_test : (m : ℕ) (p : Placed) (o : Option Clock) (taken : Bool) → shifted m (if not taken then delta_or_none clock_delta o else pos 0) p ≡ (if taken then unadjusted p else shifted_by m p o)
 by_test m p o true = refl
 by_test m p o false = by_delta m p o
 
@@ -25,8 +25,8 @@ one_shifted m all cs g i p l e known first =
     let test : (unwrap_or (g p.span.id.0) i == i) ≡ not (list_any (has_id p.span.id) (take i all)) =
     ap (λ o. unwrap_or o i == i) (first p.span.id.0) ∙ ap (λ q. unwrap_or (first_at q.span.id.0 all) i == i) e ∙ is_first all i p l ∙ ap (λ q. not (list_any (has_id q.span.id) (take i all))) (sym e) in
     let clock : get_or cs i None ≡ clock_of m all p = known.1 i p l ∙ ap (clock_of m all) (sym e) in
-    ap (λ b. shifted m (if b then delta_or_none (get_or cs i None) else pos 0) p) test
-    ∙ ap (λ c. shifted m (if not (list_any (has_id p.span.id) (take i all)) then delta_or_none c else pos 0) p) clock
+    ap (λ b. shifted m (if b then delta_or_none clock_delta (get_or cs i None) else pos 0) p) test
+    ∙ ap (λ c. shifted m (if not (list_any (has_id p.span.id) (take i all)) then delta_or_none clock_delta c else pos 0) p) clock
     ∙ by_test m p (clock_of m all p) (list_any (has_id p.span.id) (take i all))
 
 as_many_shown : (m : ℕ) (all before : List Placed) (ss : List Shown) → length (shown_adjusted_after m all before ss) ≡ length ss

@@ -1,11 +1,11 @@
 -- The hosts of the spans of a trace by numbers, and clocks that name them so.
-use Rattle.std.specs.Prelude.{◌≡◌, ℕ, suc, pos, List, [], ◌∷◌, get_or, map, not, ◌||◌, ◌==◌, Option, Some, None, option_map, unwrap_or, ℤ, if◌then◌else◌}
+use Rattle.std.specs.Prelude.{◌≡◌, ℕ, suc, pos, List, [], ◌∷◌, get_or, map, not, ◌||◌, ◌==◌, Option, Some, None, option_map, ℤ, if◌then◌else◌}
 use Rattle.jaeger_model.specs.declared.placed.Placed.{Placed}
 use Rattle.jaeger_model.specs.declared.span.Span.{Span}
 use Rattle.jaeger_model.specs.Texts.{same_text}
 use Rattle.trace_model.specs.declared.clock.Clock.{Clock}
 use Rattle.trace_model.specs.Adjusting.{host_of, start_at, delta_between}
-use Rattle.trace_adjust.specs.Settling.{AreRight}
+use Rattle.trace_adjust.specs.Settling.{near_in, delta_in, AreRight}
 use Rattle.trace_adjust.specs.declared.clock.HostClock.{HostClock}
 
 -- the hosts of the spans, behind the empty one
@@ -51,12 +51,10 @@ abbrev pub below_by : ℕ → HostClock → ℕ → Span → HostClock
 below_by max_skew c n s = if (n == 0) || not (n == c.host) then clock_by max_skew n (delta_between c.start c.duration s.start s.duration) s else clock_by max_skew c.host c.delta s
 
 abbrev pub near_by : ℕ → List (Option HostClock) → ℕ → Span → Option ℕ → Option HostClock
-near_by max_skew cs n s None = Some (clock_by max_skew n (pos 0) s)
-near_by max_skew cs n s (Some j) = option_map (λ above. below_by max_skew above n s) (get_or cs j None)
+near_by max_skew cs n s o = near_in (clock_by max_skew n (pos 0) s) (λ (above : HostClock). below_by max_skew above n s) cs o
 
-abbrev pub delta_of : Option HostClock → ℤ
-delta_of None = pos 0
-delta_of (Some c) = c.delta
+abbrev pub host_delta : HostClock → ℤ
+host_delta c = c.delta
 
 abbrev pub delta_by : (ℕ → Option ℕ) → List (Option HostClock) → ℕ → ℕ → ℤ
-delta_by first cs i id = if unwrap_or (first id) i == i then delta_of (get_or cs i None) else pos 0
+delta_by first cs i id = delta_in host_delta first cs i id

@@ -14,10 +14,14 @@ first_at id (p ∷ ps) = cond (p.span.id.0 == id) (Some 0) (option_map suc (firs
 abbrev pub place_in : List Placed → Placed → Option ℕ
 place_in trace p = if (parent p.span).0 == 0 then None else first_at (parent p.span).0 trace
 
+-- a root's clock, or the one below the clock at a place, where that is known
+abbrev pub near_in : {C : Type 0} → C → (C → C) → List (Option C) → Option ℕ → Option C
+near_in root below cs None = Some root
+near_in root below cs (Some j) = option_map below (get_or cs j None)
+
 -- the clock of a span by that of the span at the place, where that is known
 abbrev pub near : ℕ → List (Option Clock) → Placed → Option ℕ → Option Clock
-near max_skew cs p None = Some (clock_at max_skew (host_of p) (pos 0) p.span)
-near max_skew cs p (Some j) = option_map (λ above. clock_below max_skew above p) (get_or cs j None)
+near max_skew cs p o = near_in (clock_at max_skew (host_of p) (pos 0) p.span) (λ (above : Clock). clock_below max_skew above p) cs o
 
 abbrev pub is_unset : {X : Type 0} → Option X → Bool
 is_unset o = not (is_some o)
@@ -53,10 +57,16 @@ unset_count cs = count_by is_unset cs
 abbrev pub parent_at : (ℕ → Option ℕ) → Placed → Option ℕ
 parent_at first p = if (parent p.span).0 == 0 then None else first (parent p.span).0
 
-abbrev pub delta_or_none : Option Clock → ℤ
-delta_or_none None = pos 0
-delta_or_none (Some c) = c.delta
+abbrev pub delta_or_none : {C : Type 0} → (C → ℤ) → Option C → ℤ
+delta_or_none delta None = pos 0
+delta_or_none delta (Some c) = delta c
 
 -- the delta of a span: its clock's where it is the first of its id
+abbrev pub delta_in : {C : Type 0} → (C → ℤ) → (ℕ → Option ℕ) → List (Option C) → ℕ → ℕ → ℤ
+delta_in delta first cs i id = if unwrap_or (first id) i == i then delta_or_none delta (get_or cs i None) else pos 0
+
+abbrev pub clock_delta : Clock → ℤ
+clock_delta c = c.delta
+
 abbrev pub delta_at : (ℕ → Option ℕ) → List (Option Clock) → ℕ → ℕ → ℤ
-delta_at first cs i id = if unwrap_or (first id) i == i then delta_or_none (get_or cs i None) else pos 0
+delta_at first cs i id = delta_in clock_delta first cs i id
