@@ -1,18 +1,18 @@
 -- Calls by a table of services, and the table as it grows.
-use Rattle.std.proofs.Common.{◌≡◌, ℕ, ◌+◌, ◌<◌, ℤ, Bool, true, false, cond, List, [], ◌∷◌, ◌++◌, take, length, get_or, refl, sym, ap, ◌∙◌, append_assoc, eqb-true}
-use Rattle.std.specs.Prelude.{Option, Some, None, option_map, is_some, find, ◌==◌, if◌then◌else◌}
+use Rattle.std.proofs.Common.{◌≡◌, ℕ, ◌+◌, ◌<◌, Bool, true, false, cond, List, [], ◌∷◌, ◌++◌, take, length, get_or, refl, sym, ap, ◌∙◌, append_assoc, eqb-true}
+use Rattle.std.specs.Prelude.{Option, Some, None, option_map, is_some, find, ◌==◌}
 use Rattle.std.specs.Option.{option_or}
-use Rattle.std.specs.List.{filter_map, cons_option, list_any}
+use Rattle.std.specs.List.{filter_map, cons_option}
 use Rattle.std.specs.Ordering.{nat_cmp, is_eq}
 use Rattle.std.specs.Cmp.{unsigned_ties}
 use Rattle.std.proofs.lemmas.Bool.{false≢true}
 use Rattle.std.proofs.lemmas.List.{map-append, take_more, append-nil}
 use Rattle.std.proofs.lemmas.List.Elements.{filter_map-append}
 use Rattle.std.proofs.lemmas.List.Folds.{find-append}
-use Rattle.trace_model.specs.Linking.{has_id, in_window}
+use Rattle.trace_model.specs.Linking.{has_id}
 use Rattle.call_links.specs.declared.calls.Service.{Service}
 use Rattle.call_links.specs.declared.numbered.NumberedSpan.{NumberedSpan}
-use Rattle.call_links.specs.Seen.{NumberedService, numbered_service, service_in, span_of, service_of, SeenCall, NumberedCall, numbered_call, numbered_calls, call_by, calls_in_trace, calls_in_window}
+use Rattle.call_links.specs.Seen.{NumberedService, numbered_service, service_in, span_of, service_of, SeenCall, NumberedCall, numbered_call, numbered_calls, call_by, calls_in_trace}
 
 abbrev has_number : ℕ → NumberedSpan → Bool
 has_number q s = has_id (record { 0 = q }) (span_of s)
@@ -101,7 +101,3 @@ same_call_by t u h x = λ i. call_by (λ id. h id i) x
 
 pub gathered_calls : (t : ℕ → Option NumberedService) (xs : List NumberedSpan) → ((id : ℕ) → t id ≡ service_of id xs) → gathered t xs ≡ calls_in_trace xs
 gathered_calls t xs h = same_filter_map (call_by t) (call_by (λ id. service_of id xs)) (same_call_by t (λ id. service_of id xs) h) xs
-
--- ---- the window
-pub within : (e l : ℤ) (xs : List NumberedSpan) (b : Bool) → b ≡ list_any (λ s. in_window e l (span_of s)) xs → calls_in_window e l xs ≡ (if b then calls_in_trace xs else [])
-within e l xs b h = ap (λ t. if t then calls_in_trace xs else []) (sym h)

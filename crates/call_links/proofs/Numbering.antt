@@ -1,18 +1,17 @@
 -- Numbers tell services apart, so calls by numbers are calls by texts.
-use Rattle.std.proofs.Common.{◌≡◌, ℕ, ℤ, Bool, true, false, ◌||◌, cond, List, [], ◌∷◌, ◌++◌, map, refl, sym, ap, ◌∙◌, eqb-true, eq-eqb}
-use Rattle.std.specs.Prelude.{Option, Some, None, option_map, find, filter_map, ◌==◌, if◌then◌else◌, Vec}
+use Rattle.std.proofs.Common.{◌≡◌, ℕ, Bool, true, false, cond, List, [], ◌∷◌, ◌++◌, map, refl, sym, ap, ◌∙◌, eqb-true, eq-eqb}
+use Rattle.std.specs.Prelude.{Option, Some, None, option_map, find, filter_map, flat_map, ◌==◌, if◌then◌else◌, Vec}
 use Rattle.std.specs.Global.{Global}
-use Rattle.std.specs.List.{All, AllByRecursion, cons_option, list_any}
+use Rattle.std.specs.List.{All, AllByRecursion, cons_option}
 use Rattle.std.specs.Cmp.Lexicographic.{bytes_decides}
 use Rattle.std.proofs.lemmas.List.{map-append}
 use Rattle.std.proofs.lemmas.List.Elements.{All-head, All-tail}
 use Rattle.jaeger_model.specs.declared.ids.SpanId.{SpanId}
-use Rattle.jaeger_model.specs.declared.placed.Placed.{Placed}
 use Rattle.jaeger_model.specs.Parents.{parent}
 use Rattle.jaeger_model.specs.Texts.{same_text}
-use Rattle.trace_model.specs.Linking.{has_id, parent_in, call_from, calls_of, calls_within, calls, in_window}
+use Rattle.trace_model.specs.Linking.{has_id, parent_in, call_from, calls_of}
 use Rattle.call_links.specs.declared.numbered.NumberedSpan.{NumberedSpan}
-use Rattle.call_links.specs.Seen.{NumberedService, NumberedCall, service_in, span_of, service_of, call_between, call_by, calls_in_trace, calls_in_window, calls_in_traces, seen_all, seen_traces, texts_called, StandsFor, AreCallsNumberedBy, AreNumberedBy}
+use Rattle.call_links.specs.Seen.{NumberedService, NumberedCall, service_in, span_of, service_of, call_between, call_by, calls_in_trace, calls_in_traces, seen_all, seen_traces, texts_called, StandsFor, AreCallsNumberedBy, AreNumberedBy}
 
 pub same_is : (t u : List ℕ) → same_text t u ≡ true → t ≡ u
 same_is t u e = (bytes_decides t u).0 e
@@ -113,18 +112,6 @@ module _ (text : ℕ → List ℕ) (number : List ℕ → ℕ) where
       cons_texts (call_by (λ id. service_of id t) s) (filter_map (call_by (λ id. service_of id t)) ss)
       ∙ (λ i. cons_option (texts_by t s a p.0 i) (gathered_texts t ss a p.1 i))
 
-  any_seen : (p : Placed → Bool) (ss : List NumberedSpan) → list_any (λ s. p (span_of s)) ss ≡ list_any p (seen_all ss)
-  any_seen p [] = refl
-  any_seen p (s ∷ ss) = ap (λ b. p (span_of s) || b) (any_seen p ss)
-
-  within_texts : (e l : ℤ) (t : List NumberedSpan) → AllByRecursion Named t → map texts_called (calls_in_window e l t) ≡ calls_within e l (seen_all t)
-  within_texts e l t a =
-      ap (λ b. map texts_called (if b then calls_in_trace t else [])) (any_seen (in_window e l) t)
-      ∙ elim (list_any (in_window e l) (seen_all t)) as (λ b. map texts_called (if b then calls_in_trace t else []) ≡ (if b then calls_of (seen_all t) else [])) [ true ↦ gathered_texts t t a a | false ↦ refl ]
-
-  within_stand : (e l : ℤ) (t : List NumberedSpan) → AllByRecursion Named t → AllByRecursion CallStands (calls_in_window e l t)
-  within_stand e l t a = elim (list_any (λ s. in_window e l (span_of s)) t) as (λ b. AllByRecursion CallStands (if b then calls_in_trace t else [])) [ true ↦ gathered_stand t t a a | false ↦ tt ]
-
   both_stand : (cs ds : List NumberedCall) → AllByRecursion CallStands cs → AllByRecursion CallStands ds → AllByRecursion CallStands (cs ++ ds)
   both_stand [] ds p q = q
   both_stand (c ∷ cs) ds p q = (p.0, both_stand cs ds p.1 q)
@@ -135,19 +122,22 @@ module _ (text : ℕ → List ℕ) (number : List ℕ → ℕ) where
   abbrev NamedAll : Vec NumberedSpan Global → Type 0
   NamedAll t = All Named t.items
 
-  all_texts : (e l : ℤ) (ts : List (Vec NumberedSpan Global)) → AllByRecursion NamedAll ts → map texts_called (calls_in_traces e l (map items_of ts)) ≡ calls e l (seen_traces ts)
-  all_texts e l [] a = refl
-  all_texts e l (t ∷ ts) a =
-      map-append texts_called (calls_in_window e l t.items) (calls_in_traces e l (map items_of ts))
-      ∙ (λ i. within_texts e l t.items (by_recursion Named t.items a.0) i ++ all_texts e l ts a.1 i)
+  all_texts : (ts : List (Vec NumberedSpan Global)) → AllByRecursion NamedAll ts → map texts_called (calls_in_traces (map items_of ts)) ≡ flat_map calls_of (seen_traces ts)
+  all_texts [] a = refl
+  all_texts (t ∷ ts) a =
+      let named = by_recursion Named t.items a.0 in
+      map-append texts_called (calls_in_trace t.items) (calls_in_traces (map items_of ts))
+      ∙ (λ i. gathered_texts t.items t.items named named i ++ all_texts ts a.1 i)
 
-  all_stand : (e l : ℤ) (ts : List (Vec NumberedSpan Global)) → AllByRecursion NamedAll ts → AllByRecursion CallStands (calls_in_traces e l (map items_of ts))
-  all_stand e l [] a = tt
-  all_stand e l (t ∷ ts) a = both_stand (calls_in_window e l t.items) (calls_in_traces e l (map items_of ts)) (within_stand e l t.items (by_recursion Named t.items a.0)) (all_stand e l ts a.1)
+  all_stand : (ts : List (Vec NumberedSpan Global)) → AllByRecursion NamedAll ts → AllByRecursion CallStands (calls_in_traces (map items_of ts))
+  all_stand [] a = tt
+  all_stand (t ∷ ts) a =
+      let named = by_recursion Named t.items a.0 in
+      both_stand (calls_in_trace t.items) (calls_in_traces (map items_of ts)) (gathered_stand t.items t.items named named) (all_stand ts a.1)
 
   -- the calls of all traces
-  pub calls_stand : (e l : ℤ) (ts : List (Vec NumberedSpan Global)) → AreNumberedBy text number ts → AreCallsNumberedBy text number (calls_in_traces e l (map (λ (t : Vec NumberedSpan Global). t.items) ts))
-  calls_stand e l ts a = all_stand e l ts (by_recursion NamedAll ts a)
+  pub calls_stand : (ts : List (Vec NumberedSpan Global)) → AreNumberedBy text number ts → AreCallsNumberedBy text number (calls_in_traces (map (λ (t : Vec NumberedSpan Global). t.items) ts))
+  calls_stand ts a = all_stand ts (by_recursion NamedAll ts a)
 
-  pub calls_by_texts : (e l : ℤ) (ts : List (Vec NumberedSpan Global)) → AreNumberedBy text number ts → map texts_called (calls_in_traces e l (map (λ (t : Vec NumberedSpan Global). t.items) ts)) ≡ calls e l (seen_traces ts)
-  calls_by_texts e l ts a = all_texts e l ts (by_recursion NamedAll ts a)
+  pub calls_by_texts : (ts : List (Vec NumberedSpan Global)) → AreNumberedBy text number ts → map texts_called (calls_in_traces (map (λ (t : Vec NumberedSpan Global). t.items) ts)) ≡ flat_map calls_of (seen_traces ts)
+  calls_by_texts ts a = all_texts ts (by_recursion NamedAll ts a)

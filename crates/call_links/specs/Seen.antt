@@ -1,10 +1,11 @@
 -- Services and calls that are looked at, each service with the number that stands for it.
-use Rattle.std.specs.Prelude.{◌≡◌, ℕ, ℤ, List, [], map, flat_map, filter_map, find, Option, Some, None, option_map, if◌then◌else◌, ◌==◌, Vec}
+use Rattle.std.specs.Prelude.{◌≡◌, ℕ, List, map, flat_map, filter_map, find, Option, Some, None, option_map, if◌then◌else◌, ◌==◌, Vec}
 use Rattle.std.specs.Global.{Global}
-use Rattle.std.specs.List.{All, AllByRecursion, list_any}
+use Rattle.std.specs.List.{All, AllByRecursion}
 use Rattle.jaeger_model.specs.declared.placed.Placed.{Placed}
 use Rattle.jaeger_model.specs.Parents.{parent}
-use Rattle.trace_model.specs.Linking.{has_id, in_window}
+use Rattle.trace_model.specs.declared.answer.Link.{Link}
+use Rattle.trace_model.specs.Linking.{has_id, calls_of, counted}
 use Rattle.trace_model.specs.Seeing.{seen}
 use Rattle.call_links.specs.declared.calls.Service.{Service}
 use Rattle.call_links.specs.declared.numbered.NumberedSpan.{NumberedSpan}
@@ -48,15 +49,16 @@ call_between (Some caller) callee = if caller.0 == callee.0 then None else Some 
 abbrev pub call_by : (ℕ → Option NumberedService) → NumberedSpan → Option NumberedCall
 call_by service s = if (parent (span_of s).span).0 == 0 then None else call_between (service (parent (span_of s).span).0) (service_in s)
 
--- ---- the calls of a trace, of one with a span in the window, and of all such traces
+-- ---- the calls of a trace, and of traces
 abbrev pub calls_in_trace : List NumberedSpan → List NumberedCall
 calls_in_trace ss = filter_map (call_by (λ id. service_of id ss)) ss
 
-abbrev pub calls_in_window : ℤ → ℤ → List NumberedSpan → List NumberedCall
-calls_in_window end_ms lookback_ms ss = if list_any (λ s. in_window end_ms lookback_ms (span_of s)) ss then calls_in_trace ss else []
+abbrev pub calls_in_traces : List (List NumberedSpan) → List NumberedCall
+calls_in_traces ts = flat_map calls_in_trace ts
 
-abbrev pub calls_in_traces : ℤ → ℤ → List (List NumberedSpan) → List NumberedCall
-calls_in_traces end_ms lookback_ms ts = flat_map (calls_in_window end_ms lookback_ms) ts
+-- how often each service of the traces called each other one
+abbrev pub links_in : List (List Placed) → List Link
+links_in ts = counted (flat_map calls_of ts)
 
 -- ---- what is looked at
 abbrev pub seen_all : List NumberedSpan → List Placed

@@ -1,17 +1,13 @@
-//! The calls of a trace.
+//! The calls of traces.
 
 ghost use Rattle.std.specs.Prelude.{◌≡◌, ℕ, ◌++◌, IfOk, OnOk, map, option_map};
-ghost use Rattle.std.specs.List.{list_any};
 ghost use Rattle.std.specs.Ordering.{nat_cmp};
 ghost use Rattle.std.specs.BTreeMap.{get};
-ghost use Rattle.trace_model.specs.Linking.{in_window};
-ghost use Rattle.trace_model.specs.Seeing.{seen};
 ghost use Rattle.call_links.specs.Seen.{numbered_service, numbered_call, numbered_calls, service_of, service_in, call_by};
-ghost use Rattle.call_links.specs.Seen.{calls_in_trace, calls_in_window, calls_in_traces};
+ghost use Rattle.call_links.specs.Seen.{calls_in_trace, calls_in_traces};
 
 use crate::numbered::NumberedSpan;
 use jaeger_model::{Text, parent_of};
-use span_steps::is_in_window;
 use std::alloc::{AllocError, Global};
 use std::collections::BTreeMap;
 
@@ -88,49 +84,17 @@ fn add_calls<'a>(
     Ok(())
 }
 
-fn starts_within(span: NumberedSpan<'_>, end_ms: i64, lookback_ms: i64) -> bool
-    ensures { result ≡ in_window end_ms lookback_ms (seen span.entry.seen) }
-{
-    is_in_window(span.seen.span.start, end_ms, lookback_ms)
-}
-
-/// Some span of the trace starts strictly between the bounds.
-fn reaches_window(trace: &[NumberedSpan<'_>], end_ms: i64, lookback_ms: i64) -> bool
-    ensures { result ≡ list_any (λ s. in_window end_ms lookback_ms (seen s.seen)) trace.now }
-{
-    trace.iter().any(|s| starts_within(*s, end_ms, lookback_ms))
-}
-
-/// The same for a trace with a span in the window; another one adds nothing.
-fn add_calls_within<'a>(
-    alloc: Global,
-    calls: &mut Vec<Call<'a>>,
-    trace: &[NumberedSpan<'a>],
-    end_ms: i64,
-    lookback_ms: i64,
-) -> Result<(), AllocError>
-    ensures { OnOk result (numbered_calls calls.new.items ≡
-        numbered_calls calls.old.items ++ calls_in_window end_ms lookback_ms trace.now) }
-{
-    if reaches_window(trace, end_ms, lookback_ms) {
-        add_calls(alloc, calls, trace)?;
-    }
-    Ok(())
-}
-
-/// The calls of the traces that have a span in the window.
+/// The calls of the traces.
 pub(crate) fn all_calls<'a>(
     alloc: Global,
     traces: &[Vec<NumberedSpan<'a>>],
-    end_ms: i64,
-    lookback_ms: i64,
 ) -> Result<Vec<Call<'a>>, AllocError>
     ensures { IfOk result (λ v. numbered_calls v.items ≡
-        calls_in_traces end_ms lookback_ms (map (λ t. t.items) traces.now)) }
+        calls_in_traces (map (λ t. t.items) traces.now)) }
 {
     let mut calls = Vec::new(alloc);
     for trace in traces {
-        add_calls_within(alloc, &mut calls, trace, end_ms, lookback_ms)?;
+        add_calls(alloc, &mut calls, trace)?;
     }
     Ok(calls)
 }

@@ -1,19 +1,17 @@
 -- What a search and calls say does not depend on whether a span has its parent among its references.
-use Rattle.std.proofs.Common.{◌≡◌, ℤ, Bool, true, false, ◌||◌, cond, List, [], ◌∷◌, ◌++◌, map, refl, sym, ap, ◌∙◌, Option, Some, None}
+use Rattle.std.proofs.Common.{◌≡◌, ℤ, Bool, true, false, cond, List, [], ◌∷◌, ◌++◌, map, refl, sym, ap, ◌∙◌, Option, Some, None}
 use Rattle.std.specs.Prelude.{filter_map, flat_map, find, option_map, Vec, if◌then◌else◌, ◌==◌}
 use Rattle.std.specs.Global.{Global}
-use Rattle.std.specs.List.{list_any}
 use Rattle.jaeger_model.specs.declared.ids.SpanId.{SpanId}
 use Rattle.jaeger_model.specs.declared.span.Span.{Span}
 use Rattle.jaeger_model.specs.declared.placed.Placed.{Placed}
 use Rattle.jaeger_model.specs.Parents.{needs_no_reference, parent_reference, parent}
 use Rattle.trace_model.specs.declared.query.Find.{Find}
 use Rattle.trace_model.specs.Searching.{matches}
-use Rattle.trace_model.specs.Linking.{has_id, parent_in, call_from, calls_of, in_window, calls_within, counted, links}
-use Rattle.trace_model.proofs.NameLaws.{any_map}
+use Rattle.trace_model.specs.Linking.{has_id, parent_in, call_from, calls_of, in_window, counted}
 use Rattle.jaeger_model.proofs.Referred.{same_parent}
 use Rattle.call_links.specs.declared.numbered.NumberedSpan.{NumberedSpan}
-use Rattle.call_links.specs.Seen.{span_of, seen_traces}
+use Rattle.call_links.specs.Seen.{span_of, seen_traces, links_in}
 use Rattle.journal_traces.specs.Given.{adopted, given_traces}
 
 abbrev with_if : Bool → Span → Span
@@ -23,10 +21,6 @@ abbrev placed_if : Bool → Placed → Placed
 placed_if b p = record { process = p.process; span = with_if b p.span }
 
 -- ---- lists
-any_same : {X : Type 0} (p q : X → Bool) → ((x : X) → p x ≡ q x) → (xs : List X) → list_any p xs ≡ list_any q xs
-any_same p q h [] = refl
-any_same p q h (x ∷ xs) = λ i. h x i || any_same p q h xs i
-
 pub map_map : {X Y Z : Type 0} (f : Y → Z) (g : X → Y) (xs : List X) → map f (map g xs) ≡ map (λ x. f (g x)) xs
 map_map f g [] = refl
 map_map f g (x ∷ xs) = ap (λ l. f (g x) ∷ l) (map_map f g xs)
@@ -75,18 +69,13 @@ calls_of-adopted t =
 pub window-adopted : (end_ms lookback_ms : ℤ) (p : Placed) → in_window end_ms lookback_ms (adopted p) ≡ in_window end_ms lookback_ms p
 window-adopted end_ms lookback_ms p = elim (needs_no_reference p.span) as (λ b. in_window end_ms lookback_ms (placed_if b p) ≡ in_window end_ms lookback_ms p) [ true ↦ refl | false ↦ refl ]
 
-within-adopted : (end_ms lookback_ms : ℤ) (t : List Placed) → calls_within end_ms lookback_ms (map adopted t) ≡ calls_within end_ms lookback_ms t
-within-adopted end_ms lookback_ms t =
-    ap (λ b. if b then calls_of (map adopted t) else []) (any_map (in_window end_ms lookback_ms) adopted t ∙ any_same (λ p. in_window end_ms lookback_ms (adopted p)) (in_window end_ms lookback_ms) (window-adopted end_ms lookback_ms) t)
-    ∙ ap (λ cs. if list_any (in_window end_ms lookback_ms) t then cs else []) (calls_of-adopted t)
-
-pub links-adopted : (end_ms lookback_ms : ℤ) (ts : List (List Placed)) → links end_ms lookback_ms (map (map adopted) ts) ≡ links end_ms lookback_ms ts
-links-adopted end_ms lookback_ms ts = ap counted (flat_map_same (calls_within end_ms lookback_ms) (calls_within end_ms lookback_ms) (map adopted) (within-adopted end_ms lookback_ms) ts)
+pub links-adopted : (ts : List (List Placed)) → links_in (map (map adopted) ts) ≡ links_in ts
+links-adopted ts = ap counted (flat_map_same calls_of calls_of (map adopted) calls_of-adopted ts)
 
 -- ---- the traces that are looked at
 given-seen : (ts : List (Vec NumberedSpan Global)) → given_traces ts ≡ map (map adopted) (seen_traces ts)
 given-seen [] = refl
 given-seen (t ∷ ts) = λ i. sym (map_map adopted span_of t.items) i ∷ given-seen ts i
 
-pub links-given : (end_ms lookback_ms : ℤ) (ts : List (Vec NumberedSpan Global)) → links end_ms lookback_ms (seen_traces ts) ≡ links end_ms lookback_ms (given_traces ts)
-links-given end_ms lookback_ms ts = sym (ap (links end_ms lookback_ms) (given-seen ts) ∙ links-adopted end_ms lookback_ms (seen_traces ts))
+pub links-given : (ts : List (Vec NumberedSpan Global)) → links_in (seen_traces ts) ≡ links_in (given_traces ts)
+links-given ts = sym (ap links_in (given-seen ts) ∙ links-adopted (seen_traces ts))

@@ -25,6 +25,7 @@ use Rattle.jaeger_model.proofs.Referred.{trace_stays}
 use Rattle.trace_assembly.specs.declared.spot.Spot.{Spot}
 use Rattle.trace_assembly.specs.Located.{span_at}
 use Rattle.trace_model.specs.Seeing.{placed_by_its_entry}
+use Rattle.call_links.specs.Seen.{links_in}
 use Rattle.journal_traces.specs.Standing.{batch_at, spans_named, traces_named}
 use Rattle.journal_traces.proofs.Adopting.{start-adopted}
 
@@ -121,18 +122,18 @@ pub no_trace : (ps : List Placed) → ◌≡◌ {A = Option Placed} None (slice_
 no_trace [] e = refl
 no_trace (p ∷ ps) e = absurd cc
 
--- ---- a trace with no span in the window adds no call
-within_only : (end_ms lookback_ms : ℤ) (ts : List (List Placed)) → flat_map (calls_within end_ms lookback_ms) (filter (list_any (in_window end_ms lookback_ms)) ts) ≡ flat_map (calls_within end_ms lookback_ms) ts
-within_only e l [] = refl
-within_only e l (t ∷ ts) =
-    let rest = within_only e l ts in
-    elim (list_any (in_window e l) t) as (λ b. list_any (in_window e l) t ≡ b → flat_map (calls_within e l) (if b then t ∷ filter (list_any (in_window e l)) ts else filter (list_any (in_window e l)) ts) ≡ calls_within e l t ++ flat_map (calls_within e l) ts) [
-      | true ↦ λ _. ap (λ cs. calls_within e l t ++ cs) rest
-      | false ↦ λ none. rest ∙ ap (λ b. (if b then calls_of t else []) ++ flat_map (calls_within e l) ts) (sym none)
-    ] refl
+-- ---- the calls of a window are those of the traces with a span in it
+calls_chosen : (end_ms lookback_ms : ℤ) (ts : List (List Placed)) → flat_map calls_of (filter (list_any (in_window end_ms lookback_ms)) ts) ≡ flat_map (calls_within end_ms lookback_ms) ts
+calls_chosen e l [] = refl
+calls_chosen e l (t ∷ ts) =
+    let rest = calls_chosen e l ts in
+    elim (list_any (in_window e l) t) as (λ b. flat_map calls_of (if b then t ∷ filter (list_any (in_window e l)) ts else filter (list_any (in_window e l)) ts) ≡ (if b then calls_of t else []) ++ flat_map (calls_within e l) ts) [
+      | true ↦ ap (λ cs. calls_of t ++ cs) rest
+      | false ↦ rest
+    ]
 
-pub links_within : (end_ms lookback_ms : ℤ) (ts : List (List Placed)) → links end_ms lookback_ms (filter (list_any (in_window end_ms lookback_ms)) ts) ≡ links end_ms lookback_ms ts
-links_within e l ts = ap counted (within_only e l ts)
+pub links_chosen : (end_ms lookback_ms : ℤ) (ts : List (List Placed)) → links_in (filter (list_any (in_window end_ms lookback_ms)) ts) ≡ links end_ms lookback_ms ts
+links_chosen e l ts = ap counted (calls_chosen e l ts)
 
 -- ---- traces that pass a test, one by one
 module _ (w : List Placed → Bool) (f : TraceId → List Placed) (ids : List TraceId) (i : ℕ) (d : TraceId) (le : i < length ids) where

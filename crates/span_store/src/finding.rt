@@ -2,9 +2,8 @@
 
 ghost use Rattle.std.specs.Prelude.{◌≡◌, [], IfOk, map, slice_index_or};
 ghost use Rattle.trace_model.specs.Adjusting.{adjusted};
-ghost use Rattle.trace_model.specs.Linking.{links};
 ghost use Rattle.trace_model.specs.Searching.{found_in, ids_of};
-ghost use Rattle.call_links.specs.Seen.{AreNumbered};
+ghost use Rattle.call_links.specs.Seen.{links_in, AreNumbered};
 ghost use Rattle.journal_traces.specs.Given.{given_traces};
 ghost use Rattle.journal_traces.specs.Looked.{traces_of, query_of};
 
@@ -83,12 +82,10 @@ pub(crate) fn find_ids(alloc: Global, traces: &Candidates<'_>) -> Result<Vec<Tra
 pub(crate) fn links(
     alloc: Global,
     traces: &[Vec<NumberedSpan<'_>>],
-    end_ms: i64,
-    lookback_ms: i64,
 ) -> Result<Vec<Link>, AllocError>
     requires { AreNumbered traces.now }
-    ensures { IfOk result (λ v. v.items ≡ links end_ms lookback_ms (given_traces traces.now)) }
+    ensures { IfOk result (λ v. v.items ≡ links_in (given_traces traces.now)) }
 {
-    let links = call_links::links(alloc, traces, end_ms, lookback_ms)?;
+    let links = call_links::links(alloc, traces)?;
     Ok(links)
 }

@@ -12,7 +12,7 @@ ghost use Rattle.trace_model.specs.declared.admission.Admission.TheVariants.{Add
 ghost use Rattle.trace_model.specs.Refusals.{followed_by, with_admitted};
 ghost use Rattle.arrival_journal.specs.Journals.{admission_by, place_by};
 ghost use Rattle.trace_assembly.specs.Located.{located_events, shown_spots};
-ghost use Rattle.call_links.specs.Seen.{AreNumbered};
+ghost use Rattle.call_links.specs.Seen.{links_in, AreNumbered};
 ghost use Rattle.journal_traces.specs.Given.{given_traces};
 ghost use Rattle.journal_traces.specs.Standing.{traces_named};
 ghost use Rattle.service_places.specs.Reported.{group_of};
@@ -385,7 +385,7 @@ impl SpanStore {
         end_ms: i64,
         lookback_ms: i64,
     ) -> Result<Vec<Vec<NumberedSpan<'_>>>, AllocError>
-        ensures links { IfOk result (λ v. links end_ms lookback_ms (given_traces v.items) ≡
+        ensures links { IfOk result (λ v. links_in (given_traces v.items) ≡
             links end_ms lookback_ms (traces self.now.limits.traces (events self.now.entries))) }
         ensures numbered { IfOk result (λ v. AreNumbered v.items) }
     {
@@ -409,7 +409,7 @@ impl SpanStore {
             (ask.Links end_ms lookback_ms)) }
     {
         let traces = self.traces_within(end_ms, lookback_ms)?;
-        let links = finding::links(self.alloc, &traces, end_ms, lookback_ms)?;
+        let links = finding::links(self.alloc, &traces)?;
         Ok(Answer::Links(Seq::from_vec(links)))
     }
 

@@ -3,9 +3,8 @@ use Rattle.std.proofs.lemmas.Int.{to_z-of_z}
 use Rattle.std.specs.Prelude.{Vec}
 use Rattle.std.specs.Global.{Global}
 use Rattle.trace_model.specs.declared.answer.Answer.TheVariants as say
-use Rattle.trace_model.specs.Linking.{links}
 use Rattle.call_links.specs.declared.numbered.NumberedSpan.{NumberedSpan}
-use Rattle.call_links.specs.Seen.{AreNumbered}
+use Rattle.call_links.specs.Seen.{links_in, AreNumbered}
 use Rattle.journal_traces.specs.Given.{given_traces}
 use Rattle.span_store.proofs.store.SpanStore.links.Goals as goal
 
@@ -15,8 +14,7 @@ returns c =
     let l = to_z-of_z w64 c.args.lookback_ms c.ranges.lookback_ms in
     ap say.Links (
     c.from_vec.ensures ∙ c.in_ok-links.ensures
-    ∙ (λ i. links (e i) (l i) (given_traces c.deref.result.now))
-    ∙ ap (λ (ts : List (Vec NumberedSpan Global)). links c.args.end_ms c.args.lookback_ms (given_traces ts)) c.deref.ensures.value
+    ∙ ap (λ (ts : List (Vec NumberedSpan Global)). links_in (given_traces ts)) c.deref.ensures.value
     ∙ (rw (e, l) at c.in_ok-traces.ensures.links)
     )
 

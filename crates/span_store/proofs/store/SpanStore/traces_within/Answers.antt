@@ -9,11 +9,12 @@ use Rattle.trace_model.specs.Searching.{traces}
 use Rattle.trace_ring.specs.Windows.{Window}
 use Rattle.trace_assembly.specs.Rows.{spots_of}
 use Rattle.service_places.specs.Reported.{service_at, group_in}
+use Rattle.call_links.specs.Seen.{links_in}
 use Rattle.journal_traces.specs.Given.{given_traces}
 use Rattle.journal_traces.specs.Standing.{trace_named}
 use Rattle.span_store.proofs.Following.{trace_stands}
 use Rattle.span_store.proofs.Keeping.{kept_spots, kept_traces}
-use Rattle.journal_traces.proofs.Spots.{links_within}
+use Rattle.journal_traces.proofs.Spots.{links_chosen}
 use Rattle.span_store.proofs.store.SpanStore.traces_within.Goals as goal
 
 pub returns-clause-links : goal.returns-clause-links
@@ -28,11 +29,11 @@ returns-clause-links c =
     let stands = trace_stands h.limits.traces h.entries spots (kept_spots h was.shown was.names was.reported c.self.invariant) in
     let ids : c.deref.result.now ≡ was.shown.newest.ids = c.deref.ensures.value ∙ c.in_ok-ids.ensures ∙ ap (λ (w : Window). w.ids) c.ring.ensures in
     let seen : given_traces c.in_ok-traces.traces.items ≡ filter (list_any (in_window end_ms lookback_ms)) (map (trace_named h.entries spots) c.deref.result.now) = rw (e, l) at c.in_ok-traces.ensures.given_span in
-    let all : links end_ms lookback_ms (given_traces c.in_ok-traces.traces.items) ≡ links end_ms lookback_ms (traces h.limits.traces (events h.entries)) =
-    ap (links end_ms lookback_ms) seen ∙ links_within end_ms lookback_ms (map (trace_named h.entries spots) c.deref.result.now)
+    let all : links_in (given_traces c.in_ok-traces.traces.items) ≡ links end_ms lookback_ms (traces h.limits.traces (events h.entries)) =
+    ap links_in seen ∙ links_chosen end_ms lookback_ms (map (trace_named h.entries spots) c.deref.result.now)
     ∙ ap (λ (r : List TraceId). links end_ms lookback_ms (map (trace_named h.entries spots) r)) ids
     ∙ ap (links end_ms lookback_ms) ((λ i. map (λ t. stands t i) was.shown.newest.ids) ∙ kept_traces h was.shown was.names was.reported c.self.invariant) in
-    subst (λ (v : Held). links end_ms lookback_ms (given_traces c.in_ok-traces.traces.items) ≡ links end_ms lookback_ms (traces v.limits.traces (events v.entries))) c.self.view_is all
+    subst (λ (v : Held). links_in (given_traces c.in_ok-traces.traces.items) ≡ links end_ms lookback_ms (traces v.limits.traces (events v.entries))) c.self.view_is all
 
 pub returns-clause-numbered : goal.returns-clause-numbered
 returns-clause-numbered c =
