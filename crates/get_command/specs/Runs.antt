@@ -1,5 +1,5 @@
 -- What `get` writes for an input.
-use Rattle.std.specs.Prelude.{◌≡◌, ℕ, ◌+◌, Bool, ◌||◌, true, false, List, [], ◌∷◌, ◌++◌, flat_map, Option, Some, None, is_some, Result, Ok, Err, codes}
+use Rattle.std.specs.Prelude.{◌≡◌, ℕ, Bool, true, false, List, [], ◌++◌, flat_map, Option, Some, None, is_some, Result, Ok, Err, codes}
 use Rattle.std.specs.Fmt.{decimal, signed_decimal}
 use Rattle.jaeger_model.specs.declared.ids.TraceId.{TraceId}
 use Rattle.jaeger_model.specs.declared.placed.Placed.{Placed}
@@ -13,36 +13,27 @@ use Rattle.text_lines.specs.declared.run_error.RunError.{RunError}
 use Rattle.text_lines.specs.Lines.{lines_of}
 use Rattle.text_lines.specs.RunErrors.{Finishes, StopsShort, status_by as status_of_error}
 use Rattle.text_lines.specs.Taking.{Said, Takes}
+use Rattle.text_lines.specs.Results.{LineResult, result_of_lines}
 use Rattle.get_command.specs.LineFaults.{fault_text}
 use Rattle.get_command.specs.declared.line_fault.LineFault.{LineFault}
 use Rattle.get_command.specs.Judging.{JudgedLine, judged_line}
 
 -- ---- the lines
 
--- what is held after the lines
-abbrev pub held_after : Held → List (List ℕ) → Held
-held_after held [] = held
-held_after held (line ∷ rest) = held_after (judged_line held line).held rest
-
 abbrev pub fault_line : ℕ → Option LineFault → List ℕ
 fault_line n None = []
 fault_line n (Some fault) = codes "line " ++ decimal n ++ codes ": " ++ fault_text fault ++ codes "\n"
-
--- a line for each that can't be used, where the first has the number n
-abbrev pub fault_lines : ℕ → Held → List (List ℕ) → List ℕ
-fault_lines n held [] = []
-fault_lines n held (line ∷ rest) = fault_line n (judged_line held line).fault ++ fault_lines (n + 1) (judged_line held line).held rest
-
-abbrev pub has_fault : Held → List (List ℕ) → Bool
-has_fault held [] = false
-has_fault held (line ∷ rest) = is_some (judged_line held line).fault || has_fault (judged_line held line).held rest
 
 -- what is said to a line
 abbrev pub said_to : ℕ → JudgedLine → Said
 said_to n j = record { text = fault_line n j.fault; faulty = is_some j.fault }
 
+-- what the line with the number n comes to
+abbrev pub line_result : ℕ → Held → List ℕ → LineResult Held
+line_result n held line = record { said = said_to n (judged_line held line); held = (judged_line held line).held }
+
 abbrev pub TakesBatch : Takes Held
-TakesBatch held n line said after = (after ≡ (judged_line held line).held) × (said ≡ said_to n (judged_line held line))
+TakesBatch held n line said after = (after ≡ (line_result n held line).held) × (said ≡ (line_result n held line).said)
 
 -- ---- the trace
 
@@ -74,11 +65,15 @@ found_in held id = trace_found held.limits.traces (events held.entries) id
 abbrev pub nothing_held : Limits → Held
 nothing_held limits = record { limits = limits; entries = [] }
 
--- the fault lines, and then the spans of the trace
+-- what the lines come to
+abbrev pub all_lines : Limits → List (List ℕ) → LineResult Held
+all_lines limits lines = result_of_lines line_result 1 (nothing_held limits) lines
+
+-- a line for each that can't be used, and then the spans of the trace
 abbrev pub output_of : Limits → TraceId → List ℕ → List ℕ
 output_of limits id input =
-    let lines = lines_of input in
-    fault_lines 1 (nothing_held limits) lines ++ trace_lines (found_in (held_after (nothing_held limits) lines) id)
+    let all = all_lines limits (lines_of input) in
+    all.said.text ++ trace_lines (found_in all.held id)
 
 -- 3 where a line couldn't be used, else 0 where the trace was found, else 1
 abbrev pub status_by : Bool → Bool → ℕ
@@ -88,8 +83,8 @@ status_by false false = 1
 
 abbrev pub status_of : Limits → TraceId → List ℕ → ℕ
 status_of limits id input =
-    let lines = lines_of input in
-    status_by (has_fault (nothing_held limits) lines) (is_some (found_in (held_after (nothing_held limits) lines) id))
+    let all = all_lines limits (lines_of input) in
+    status_by all.said.faulty (is_some (found_in all.held id))
 
 -- A run of `get` gave a status: that of the whole input, with its output; or, where it stopped short, that of the error.
 abbrev pub RunsGet : Limits → TraceId → (in0 in1 out0 out1 : Option (List ℕ)) → Bool → Bool → Result ℕ RunError → Type 0

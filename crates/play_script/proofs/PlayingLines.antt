@@ -2,6 +2,7 @@
 use Rattle.std.proofs.Common.{◌≡◌, ℕ, ◌==◌, ◌++◌, Bool, true, false, List, [], length, Option, Some, None, Result, Ok, Err, inl, inr, refl, sym, ap, ◌∙◌, subst, codes}
 use Rattle.std.specs.Prelude.{◌≢◌, if◌then◌else◌}
 use Rattle.text_lines.specs.Taking.{Said}
+use Rattle.text_lines.specs.Results.{LineResult}
 use Rattle.trace_model.specs.declared.refusal.Refusal.TheVariants.{NoMemory}
 use Rattle.schedule_core.specs.declared.step.Step.{Step}
 use Rattle.schedule_core.specs.declared.outcome.Outcome.{Outcome}
@@ -12,7 +13,7 @@ use Rattle.schedule_core.specs.Worlds.{Steps}
 use Rattle.step_lines.specs.declared.fault.StepFault.{StepFault}
 use Rattle.step_lines.specs.OutcomeLines.{outcome_line}
 use Rattle.step_lines.specs.Steps.{step_in}
-use Rattle.play_script.specs.Playing.{IsMade, MakesStep, Played, StandsAt, TakesStep, played, played_as, said_of, step_fault_line}
+use Rattle.play_script.specs.Playing.{IsMade, MakesStep, StandsAt, TakesStep, played, played_as, skipped, step_fault_line}
 
 pub is_made : (w0 : Option Machine) (s : Step) (o : Outcome) (w1 : Option Machine) → Steps w0 s o w1 → o ≢ Refused NoMemory → IsMade w0 s o w1
 is_made None s o w1 e other = absurd (other e.0)
@@ -33,9 +34,6 @@ made_and_said said0 said1 w0 w1 s o made said = record {
 abbrev said_by : List ℕ → Bool → Said
 said_by text faulty = record { text = text; faulty = faulty }
 
-abbrev skipped : Machine → Played
-skipped m = record { text = []; faulty = false; machine = m }
-
 played_empty : (n : ℕ) (m : Machine) (line : List ℕ) → (length line == 0) ≡ true → played n m line ≡ skipped m
 unfolding played
 played_empty n m line e = ap (λ b. if b then skipped m else played_as n m (step_in line)) e
@@ -45,10 +43,10 @@ unfolding played
 played_step n m line r e is =
     ap (λ b. if b then skipped m else played_as n m (step_in line)) e ∙ ap (λ x. played_as n m x) (sym is)
 
-takes_as : (w1 : Option Machine) (n : ℕ) (line : List ℕ) (m : Machine) (said : Said) (p : Played) → played n m line ≡ p → StandsAt w1 p.machine → said ≡ said_of p
-    → StandsAt w1 (played n m line).machine × (said ≡ said_of (played n m line))
+takes_as : (w1 : Option Machine) (n : ℕ) (line : List ℕ) (m : Machine) (said : Said) (p : LineResult Machine) → played n m line ≡ p → StandsAt w1 p.held → said ≡ p.said
+    → StandsAt w1 (played n m line).held × (said ≡ (played n m line).said)
 takes_as w1 n line m said p e stands says =
-    (subst (λ (x : Played). StandsAt w1 x.machine) (sym e) stands, subst (λ (x : Played). said ≡ said_of x) (sym e) says)
+    (subst (λ (x : LineResult Machine). StandsAt w1 x.held) (sym e) stands, subst (λ (x : LineResult Machine). said ≡ x.said) (sym e) says)
 
 said_as : (text : List ℕ) (faulty : Bool) (said : List ℕ) → said ≡ text → record { text = said; faulty = faulty } ≡ said_by text faulty
 said_as text faulty said e = ap (λ t. said_by t faulty) e
@@ -78,7 +76,7 @@ line_played w0 w1 n line said0 said1 s none e is made m stands =
     let same : made.machine ≡ m = sym (same_machine w0 m made.machine made.was stands) in
     takes_as w1 n line m (record { text = said1; faulty = false }) (played_as n m (Ok s)) (played_step n m line (Ok s) e is)
     (inl (made.is ∙ ap (λ k. Some (stepped k s).machine) same))
-    (said_as (played_as n m (Ok s)).text false said1
+    (said_as (played_as n m (Ok s)).said.text false said1
     (said_first said0 said1 _ none made.says ∙ ap (λ k. outcome_line (stepped k s).outcome ++ codes "\n") same))
 
 pub line_faulty : (w : Option Machine) (n : ℕ) (line said0 said1 : List ℕ) (fault : StepFault) → said0 ≡ [] → (length line == 0) ≡ false → Err fault ≡ step_in line

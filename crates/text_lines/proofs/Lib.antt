@@ -4,3 +4,4 @@ pub mod Taking
 pub mod Pages
 pub mod Progress
 pub mod Wholes
+pub mod LineResults
