@@ -1,6 +1,6 @@
 -- How the operations of a service lead to one another, and what the index answers from them.
 use Rattle.std.proofs.Common.{◌≡◌, ℕ, suc, zero, ◌+◌, ◌-◌, ◌<◌, ◌≤◌, Bool, true, false, ◌||◌, ◌&&◌, not, cond, nat_lt, List, [], ◌∷◌, ◌++◌, map, length, get_or, drop, refl, sym, ap, subst, ◌∙◌, inl, inr, arith, length-append}
-use Rattle.std.specs.Prelude.{◌==◌, filter, Some, None}
+use Rattle.std.specs.Prelude.{◌==◌, filter, Some, None, if◌then◌else◌}
 use Rattle.std.specs.List.{list_any, position_or_len}
 use Rattle.std.proofs.Math.ListN.{set}
 use Rattle.std.proofs.Math.Seq.{drop-cons}
@@ -16,6 +16,7 @@ use Rattle.trace_model.proofs.NameLaws.{text_total, text_exact, operation_total,
 use Rattle.service_index.specs.Listing.{Listed, listed_cmp, same_listed, services_in, operations_of, names_of}
 use Rattle.service_index.specs.Naming.{Names, IsGrouped, IsGroupOf, service_alone, LabelValue, same_label, Labelling, group_alone, operation_labels, group_labels}
 use Rattle.service_index.specs.Probes.{Table, no_label, label_at, AreNumbers, IsNamed, row_of, with_number}
+use Rattle.service_index.specs.LinkedRows.{newest_with}
 use Rattle.service_index.specs.Indexes.{Index, listing_by, service_row, has_service, owners, IsNewest, IsChain, IsLinked, IsIndexed}
 use Rattle.service_index.proofs.Known.{known_again}
 use Rattle.service_index.proofs.Sets.{same_set, set_more, listed_total, listed_exact}
@@ -237,6 +238,13 @@ linked_empty = record {
   same = λ p. refl;
   last = λ s below. absurd (omega arith);
 }
+
+-- the newest rows with one of a service that has rows, and with one of the next service
+pub newest_known : (newest : List ℕ) (s row : ℕ) → s < length newest → newest_with newest s row ≡ set newest s row
+newest_known newest s row below = ap (λ b. if b then set newest s row else newest ++ row ∷ []) (lt-ltb s (length newest) below)
+
+pub newest_fresh : (newest : List ℕ) (s row : ℕ) → length newest ≤ s → newest_with newest s row ≡ newest ++ row ∷ []
+newest_fresh newest s row past = ap (λ b. if b then set newest s row else newest ++ row ∷ []) (not_lt s (length newest) past)
 
 -- ---- one more number
 pub row_within : (labels : Labelling) (numbers : List ℕ) (label : LabelValue) → row_of labels numbers label ≤ length numbers

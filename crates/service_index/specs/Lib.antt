@@ -1,4 +1,5 @@
 pub mod Listing
 pub mod Naming
 pub mod Probes
+pub mod LinkedRows
 pub mod Indexes

@@ -8,6 +8,7 @@ ghost use Rattle.service_index.specs.Indexes.{listing_by, listing_with, service_
 ghost use Rattle.service_index.specs.Indexes.{owners, AreFrom, IsChain, IsIndexed};
 
 use crate::labels::Label;
+use crate::links::Links;
 use crate::name_table::NameTable;
 use crate::operation_sets::{names_alone, operations_in_order, texts_in_order};
 use crate::texts::{GroupLabels, OperationLabels, Texts};
@@ -32,23 +33,20 @@ pub struct ServiceIndex {
     operations: NameTable,
     /// A number for each service, found by its group.
     services: NameTable,
-    /// For each service the row of its newest operation and one more.
-    newest: Vec<u32>,
-    /// For each operation the row of the one of its service that was added before it and one more, 0
-    /// where it is the first.
-    earlier: Vec<u32>,
+    /// The rows of the operations, of each service along.
+    links: Links,
 }
 
 impl Model for ServiceIndex {
-    ghost use Rattle.std.specs.Prelude.{vec_capacity, ◌≤◌};
+    ghost use Rattle.std.specs.Prelude.{◌≡◌};
     ghost use Rattle.service_index.specs.Indexes.{Index, IsSized};
 
     ghost Value = { Index };
 
-    ghost view = { λ i. record { operations = i.operations; services = i.services; newest = i.newest.items; earlier = i.earlier.items; used = i.used; room = i.room } };
+    ghost view = { λ i. record { operations = i.operations; services = i.services; newest = i.links.newest; earlier = i.links.earlier; used = i.used; room = i.room } };
 
-    ghost invariant = { λ i. (i.room ≤ vec_capacity i.newest) × (i.room ≤ vec_capacity i.earlier)
-        × IsSized i.used i.room i.operations i.services i.newest.items i.earlier.items };
+    ghost invariant = { λ i. (i.links.room ≡ i.room)
+        × IsSized i.used i.room i.operations i.services i.links.newest i.links.earlier };
 }
 
 impl ServiceIndex {
@@ -66,16 +64,14 @@ impl ServiceIndex {
     {
         let operations = NameTable::with_room(alloc, keys, room)?;
         let services = NameTable::with_room(alloc, keys, room)?;
-        let newest = Vec::with_capacity(alloc, room as usize)?;
-        let earlier = Vec::with_capacity(alloc, room as usize)?;
+        let links = Links::with_room(alloc, room)?;
         Ok(ServiceIndex {
             alloc,
             room,
             used: 0,
             operations,
             services,
-            newest,
-            earlier,
+            links,
         })
     }
 
@@ -108,17 +104,11 @@ impl ServiceIndex {
     {
         self.used += 1;
         let row = self.operations.add(&OperationLabels { texts }, n);
-        if (row as usize) < self.earlier.len() {
+        if (row as usize) < self.links.rows() {
             return;
         }
-        let service = self.services.add(&GroupLabels { texts }, n) as usize;
-        if service < self.newest.len() {
-            self.earlier.push_reserved(self.newest[service]);
-            self.newest[service] = row + 1;
-        } else {
-            self.earlier.push_reserved(0);
-            self.newest.push_reserved(row + 1);
-        }
+        let service = self.services.add(&GroupLabels { texts }, n);
+        self.links.add_row(service as usize);
     }
 
     /// Whether a span of the service was added.
@@ -126,7 +116,7 @@ impl ServiceIndex {
         requires { IsIndexed (T.names texts.now) self.now }
         ensures { result ≡ has_service service.now (listing_by (T.names texts.now) self.now) }
     {
-        (self.service_row(texts, service) as usize) < self.newest.len()
+        (self.service_row(texts, service) as usize) < self.links.services()
     }
 
     /// Whether a span of the service with this operation and kind was added.
@@ -154,7 +144,7 @@ impl ServiceIndex {
             kind,
         };
         let row = self.operations.row_of(&OperationLabels { texts }, label);
-        (row as usize) < self.earlier.len()
+        (row as usize) < self.links.rows()
     }
 
     /// The services, each once, in the order of their bytes.
@@ -216,7 +206,7 @@ impl ServiceIndex {
             Some(group) => self
                 .services
                 .row_of(&GroupLabels { texts }, group_label(group)),
-            None => self.newest.len() as u32,
+            None => self.links.services() as u32,
         }
     }
 
@@ -231,11 +221,17 @@ impl ServiceIndex {
             own_operations service.now (listing_by (T.names texts.now) self.now)) }
     {
         let row = self.service_row(texts, service) as usize;
-        if row >= self.newest.len() {
+        if row >= self.links.services() {
             return Ok(Vec::new(self.alloc));
         }
         let numbers = self.operations.numbers();
-        operations_along(self.alloc, texts, numbers, &self.earlier, self.newest[row])
+        operations_along(
+            self.alloc,
+            texts,
+            numbers,
+            self.links.earlier_rows(),
+            self.links.newest_row(row),
+        )
     }
 }
 

@@ -21,6 +21,7 @@
 //! * `name_table`: numbers by labels: the [`NameTable`].
 //! * `guesses`: in which rows labels were found last.
 //! * `sought_label`: a label that is sought in the places of its row.
+//! * `links`: the rows of each service, from the newest on: the [`Links`].
 //! * `operation_sets`: the operations of one service, as a set in order.
 //! * `laws`: facts about the definitions of `specs/`.
 #![tactic(auto)]
@@ -29,6 +30,7 @@ mod guesses;
 mod index;
 mod labels;
 pub mod laws;
+mod links;
 mod name_table;
 mod operation_sets;
 mod sought_label;
@@ -36,5 +38,6 @@ mod texts;
 
 pub use index::ServiceIndex;
 pub use labels::{Label, Labels};
+pub use links::Links;
 pub use name_table::NameTable;
 pub use texts::Texts;

@@ -7,7 +7,7 @@ ghost use Rattle.service_places.specs.Reported.{service_label, service_labels};
 
 use crate::along::Places;
 use crate::reporters::{Reporters, service_label};
-use service_index::NameTable;
+use service_index::{Links, NameTable};
 use std::alloc::{AllocError, Global};
 use std::hash::RandomState;
 use std::marker::Model;
@@ -21,24 +21,21 @@ pub struct ServicePlaces {
     batches: u32,
     /// For each service how many entries stand before the first one of it.
     services: NameTable,
-    /// For each service the place of its newest entry.
-    newest: Vec<u32>,
-    /// For each entry the place of the one of its service before it, 0 where it is the first.
-    earlier: Vec<u32>,
+    /// The places of the entries, of each service along.
+    links: Links,
     /// For each entry the number of its service.
     groups: Vec<u32>,
 }
 
 impl Model for ServicePlaces {
-    ghost use Rattle.std.specs.Prelude.{vec_capacity, ◌≤◌};
+    ghost use Rattle.std.specs.Prelude.{◌≡◌, ◌≤◌, vec_capacity};
     ghost use Rattle.service_places.specs.Reported.{Reported};
 
     ghost Value = { Reported };
 
-    ghost view = { λ p. record { services = p.services; newest = p.newest.items; earlier = p.earlier.items; groups = p.groups.items; batches = p.batches } };
+    ghost view = { λ p. record { services = p.services; newest = p.links.newest; earlier = p.links.earlier; groups = p.groups.items; batches = p.batches } };
 
-    ghost invariant = { λ p. (p.batches ≤ vec_capacity p.newest)
-        × (p.batches ≤ vec_capacity p.earlier) × (p.batches ≤ vec_capacity p.groups) };
+    ghost invariant = { λ p. (p.links.room ≡ p.batches) × (p.batches ≤ vec_capacity p.groups) };
 }
 
 impl ServicePlaces {
@@ -53,14 +50,12 @@ impl ServicePlaces {
         ensures batches { IfOk result (λ places. places.batches ≡ batches) }
     {
         let services = NameTable::with_room(alloc, keys, batches)?;
-        let newest = Vec::with_capacity(alloc, batches as usize)?;
-        let earlier = Vec::with_capacity(alloc, batches as usize)?;
+        let links = Links::with_room(alloc, batches)?;
         let groups = Vec::with_capacity(alloc, batches as usize)?;
         Ok(ServicePlaces {
             batches,
             services,
-            newest,
-            earlier,
+            links,
             groups,
         })
     }
@@ -76,13 +71,7 @@ impl ServicePlaces {
         let before = (entries.len() - 1) as u32;
         let service = self.services.add(&Reporters { entries }, before) as usize;
         self.groups.push_reserved(self.services.numbers()[service]);
-        if service < self.newest.len() {
-            self.earlier.push_reserved(self.newest[service]);
-            self.newest[service] = before + 1;
-        } else {
-            self.earlier.push_reserved(0);
-            self.newest.push_reserved(before + 1);
-        }
+        self.links.add_row(service);
     }
 
     /// The places of a service's entries, the newest first.
@@ -91,14 +80,9 @@ impl ServicePlaces {
         ensures { result ≡ places_of (map arc_value entries.now) service.now }
     {
         let row = self.row_of(entries, service);
-        let at = if row < self.newest.len() {
-            self.newest[row]
-        } else {
-            0
-        };
         Places {
-            earlier: &self.earlier,
-            at,
+            earlier: self.links.earlier_rows(),
+            at: self.links.newest_row(row),
         }
     }
 

@@ -1,4 +1,4 @@
-use Rattle.std.proofs.Common.{◌≡◌, length, ap, subst, arith, ◌∙◌}
+use Rattle.std.proofs.Common.{◌≡◌, length, ap, subst, ◌∙◌}
 use Rattle.service_index.specs.Naming.{IsGroupOf, group_alone, group_labels}
 use Rattle.service_index.specs.Probes.{row_of}
 use Rattle.service_index.specs.Indexes.{Index}
@@ -17,5 +17,5 @@ pub returns-in-None : goal.returns-in-None
 returns-in-None g c =
     let names = g.T.Texts.names c.args.texts.now in
     let none = subst (IsGroupOf names c.args.service.now) c.in-None.is c.group_of.ensures in
-    let rows : c.len.result ≡ length c.args.self.now.services.numbers = (omega arith) ∙ c.self.invariant.2.newest_rows ∙ ap (λ (i : Index). length i.services.numbers) c.self.view_is in
+    let rows : c.services.result ≡ length c.args.self.now.services.numbers = c.services.ensures ∙ c.self.invariant.1.newest_rows ∙ ap (λ (i : Index). length i.services.numbers) c.self.view_is in
     rows ∙ service_missing names c.args.self.now c.args.service.now c.requires none

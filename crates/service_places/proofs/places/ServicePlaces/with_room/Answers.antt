@@ -14,9 +14,9 @@ returns-clause-kept c =
       few = omega arith;
       named = c.in_ok-services.ensures.leads (service_labels []);
       linked =
-          subst (λ (ns : List ℕ). IsLinked [] (map (service_at []) ns) c.in_ok-newest.newest.items c.in_ok-earlier.earlier.items) (sym numbers)
-          (subst (λ (x : List ℕ). IsLinked [] [] x c.in_ok-earlier.earlier.items) (sym c.in_ok-newest.ensures.items)
-          (subst (λ (x : List ℕ). IsLinked [] [] [] x) (sym c.in_ok-earlier.ensures.items) linked_empty));
+          subst (λ (ns : List ℕ). IsLinked [] (map (service_at []) ns) c.in_ok-links.links.newest c.in_ok-links.links.earlier) (sym numbers)
+          (subst (λ (x : List ℕ). IsLinked [] [] x c.in_ok-links.links.earlier) (sym c.in_ok-links.ensures.newest)
+          (subst (λ (x : List ℕ). IsLinked [] [] [] x) (sym c.in_ok-links.ensures.earlier) linked_empty));
       first = λ r below. absurd (omega arith);
       grouped = subst (AreGroups []) (sym c.in_ok-groups.ensures.items) (record { as_many = refl; each = λ n below. absurd (omega arith) });
     }

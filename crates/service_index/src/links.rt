@@ -1,0 +1,103 @@
+//! Rows of services, each leading to the one of its service before it.
+
+ghost use Rattle.std.specs.Prelude.{◌≡◌, ◌+◌, ◌<◌, ◌≤◌, [], ◌∷◌, ◌++◌, length, get_or, IfOk};
+ghost use Rattle.service_index.specs.LinkedRows.{newest_with};
+
+use std::alloc::{AllocError, Global};
+use std::marker::Model;
+
+/// Rows in the order of their adding, each of one service, in room that is taken once. From the newest
+/// row of a service the others are found, one after the other. A row is given with one more, so that 0 is
+/// none; services are numbered from 0 in the order of their first rows.
+#[derive(Drop)]
+pub struct Links {
+    room: u32,
+    /// For each service its newest row.
+    newest: Vec<u32>,
+    /// For each row the one of its service before it.
+    earlier: Vec<u32>,
+}
+
+impl Model for Links {
+    ghost use Rattle.std.specs.Prelude.{vec_capacity, ◌≤◌};
+    ghost use Rattle.service_index.specs.LinkedRows.{LinkedRows};
+
+    ghost Value = { LinkedRows };
+
+    ghost view = { λ l. record { newest = l.newest.items; earlier = l.earlier.items; room = l.room } };
+
+    ghost invariant = { λ l. (l.room ≤ vec_capacity l.newest) × (l.room ≤ vec_capacity l.earlier) };
+}
+
+impl Links {
+    /// No row, with room for so many.
+    ///
+    /// # Errors
+    ///
+    /// Out of memory, and nothing else.
+    pub fn with_room(alloc: Global, room: u32) -> Result<Self, AllocError>
+        ensures newest { IfOk result (λ links. links.newest ≡ []) }
+        ensures earlier { IfOk result (λ links. links.earlier ≡ []) }
+        ensures room { IfOk result (λ links. links.room ≡ room) }
+    {
+        let newest = Vec::with_capacity(alloc, room as usize)?;
+        let earlier = Vec::with_capacity(alloc, room as usize)?;
+        Ok(Links {
+            room,
+            newest,
+            earlier,
+        })
+    }
+
+    /// Adds a row of a service, which has rows or is the next one. It takes no memory.
+    pub fn add_row(&mut self, service: usize)
+        requires fewer { length self.old.newest ≤ length self.old.earlier }
+        requires room { length self.old.earlier < self.old.room }
+        ensures newest { self.new.newest ≡
+            newest_with self.old.newest service (length self.old.earlier + 1) }
+        ensures earlier { self.new.earlier ≡
+            self.old.earlier ++ get_or self.old.newest service 0 ∷ [] }
+        ensures room { self.new.room ≡ self.old.room }
+    {
+        let row = self.earlier.len() as u32 + 1;
+        let before = self.newest_row(service);
+        self.earlier.push_reserved(before);
+        if service < self.newest.len() {
+            self.newest[service] = row;
+        } else {
+            self.newest.push_reserved(row);
+        }
+    }
+
+    /// The newest row of a service; 0 where there is no such service.
+    pub fn newest_row(&self, service: usize) -> u32
+        ensures { result ≡ get_or self.now.newest service 0 }
+    {
+        if service < self.newest.len() {
+            self.newest[service]
+        } else {
+            0
+        }
+    }
+
+    /// For each row the one of its service before it.
+    pub fn earlier_rows(&self) -> &[u32]
+        ensures { result.now ≡ self.now.earlier }
+    {
+        &self.earlier
+    }
+
+    /// How many services have a row.
+    pub fn services(&self) -> usize
+        ensures { result ≡ length self.now.newest }
+    {
+        self.newest.len()
+    }
+
+    /// How many rows there are.
+    pub fn rows(&self) -> usize
+        ensures { result ≡ length self.now.earlier }
+    {
+        self.earlier.len()
+    }
+}
