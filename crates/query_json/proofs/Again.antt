@@ -4,19 +4,11 @@ use Rattle.std.proofs.lemmas.List.{get_or-map, map_push}
 use Rattle.jaeger_model.specs.declared.placed.Placed.{Placed}
 use Rattle.trace_model.specs.declared.answer.Shown.{Shown}
 use Rattle.trace_model.specs.Adjusting.{spans_of}
-use Rattle.trace_model.specs.Sharing.{GoesOn, ShareProcesses}
+use Rattle.trace_model.specs.Sharing.{GoesOn}
 use Rattle.query_json.specs.Naming.{among, place}
 use Rattle.query_json.specs.Trees.{processes_of}
-use Rattle.query_json.specs.Writing.{process_place, OfOneEntry}
+use Rattle.query_json.specs.Writing.{process_place}
 use Rattle.query_json.proofs.Distinct.{added_known, among_itself, processes_more}
-
--- spans of one entry have one process
-pub goes_on : (trace : List Placed) (entries : List ℕ) (i : ℕ) → ShareProcesses trace entries → OfOneEntry entries i → GoesOn trace i
-goes_on trace entries i shares one =
-    let next : (i - 1) + 1 ≡ i = let some = one.0 in omega arith in
-    let same : get_or entries (i - 1) 0 ≡ get_or entries ((i - 1) + 1) 0 = one.2 ∙ ap (λ k. get_or entries k 0) (sym next) in
-    let within : (i - 1) + 1 < length entries = let below = one.1 in omega arith in
-    (one.0, λ d. shares (i - 1) d within same ∙ ap (λ k. (get_or trace k d).process) next)
 
 -- the process of the span before the index is known, and this is its place
 abbrev pub IsLast : List Shown → ℕ → ℕ → Type 0

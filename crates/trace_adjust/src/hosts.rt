@@ -1,6 +1,6 @@
 //! The hosts of the spans of a trace by numbers, so that no clock has a host's text.
 
-ghost use Rattle.std.specs.Prelude.{◌≡◌, ◌+◌, ◌<◌, ◌-◌, ℕ, List, IsTrue, true, get_or, length, IfOk, OnOk, cond, Some, None, unwrap_or};
+ghost use Rattle.std.specs.Prelude.{◌≡◌, ℕ, List, IfOk, OnOk, cond, Some, unwrap_or};
 ghost use Rattle.std.specs.BTreeMap.{get};
 ghost use Rattle.std.specs.Option.{option_or};
 ghost use Rattle.jaeger_model.specs.Texts.{same_text, text_cmp};
@@ -12,6 +12,7 @@ use crate::lent_placed::LentPlaced;
 use jaeger_model::Text;
 use std::alloc::{AllocError, Global};
 use std::collections::BTreeMap;
+use trace_model::same_entry;
 
 /// The number of a host, which gets the fresh one where it has none.
 fn number_of(
@@ -28,14 +29,6 @@ fn number_of(
     }
     numbers.insert(host, fresh)?;
     Ok(fresh)
-}
-
-/// The span at an index and the one before it were brought by one entry.
-fn goes_on(places: &[u64], index: usize) -> bool
-    ensures { IsTrue result → (0 < index) × (index < length places.now)
-        × (get_or places.now (index - 1) 0 ≡ get_or places.now index 0) }
-{
-    0 < index && index < places.len() && places[index - 1] == places[index]
 }
 
 /// The number of the host of each span: one more than the index of the first span that has it, and
@@ -55,7 +48,7 @@ pub(crate) fn host_numbers(
     let mut hosts = Vec::new(alloc);
     let mut last = NO_HOST;
     for (index, placed) in trace.iter().enumerate() {
-        if !goes_on(places, index) {
+        if !same_entry(places, index) {
             last = number_of(&mut numbers, placed.host(alloc)?, index + 1)?;
         }
         hosts.push(last)?;

@@ -6,6 +6,10 @@ use Rattle.jaeger_model.specs.declared.placed.Placed.{Placed}
 abbrev pub ShareProcesses : List Placed → List ℕ → Type 0
 ShareProcesses trace places = (k : ℕ) (d : Placed) → k + 1 < length places → get_or places k 0 ≡ get_or places (k + 1) 0 → (get_or trace k d).process ≡ (get_or trace (k + 1) d).process
 
+-- the entries of the span at the index and of the one before it stand at one place
+abbrev pub OfOneEntry : List ℕ → ℕ → Type 0
+OfOneEntry places i = (0 < i) × (i < length places) × (get_or places (i - 1) 0 ≡ get_or places i 0)
+
 -- the span at the index has the process of the one before it
 abbrev pub GoesOn : List Placed → ℕ → Type 0
 GoesOn trace i = (0 < i) × ((d : Placed) → (get_or trace (i - 1) d).process ≡ (get_or trace i d).process)

@@ -28,4 +28,4 @@ pub use entry::{Entry, Work};
 pub use limits::Limits;
 pub use query::{Find, Query};
 pub use refusal::Refusal;
-pub use shown_trace::ShownTrace;
+pub use shown_trace::{ShownTrace, same_entry};

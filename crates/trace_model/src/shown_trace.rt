@@ -2,12 +2,20 @@
 
 ghost use Rattle.std.specs.Prelude.{◌≡◌, ◌==◌, IsTrue, length};
 ghost use Rattle.trace_model.specs.Adjusting.{spans_of};
-ghost use Rattle.trace_model.specs.Sharing.{ShareProcesses, GoesOn};
+ghost use Rattle.trace_model.specs.Sharing.{ShareProcesses, OfOneEntry, GoesOn};
 
 use crate::answer::Shown;
 use jaeger_model::Seq;
 use std::alloc::Global;
 use std::marker::Model;
+
+/// The entries of the span at the index and of the one before it stand at one place, by the places of the
+/// entries that brought the first spans of a trace.
+pub fn same_entry(places: &[u64], index: usize) -> bool
+    ensures { IsTrue result → OfOneEntry places.now index }
+{
+    0 < index && index < places.len() && places[index - 1] == places[index]
+}
 
 /// The spans of a trace as they are shown, and the places of the entries that brought them, as far as those are
 /// known: spans that stand together and have one place have one process, which need not be compared. Contracts see
@@ -55,11 +63,11 @@ impl ShownTrace {
     }
 
     /// It is known that the span at the index has the process of the one before it.
+    #[tactic(auto, using(crate::proofs::Shared::goes_on))]
     pub fn goes_on(&self, index: usize) -> bool
         ensures { IsTrue result → GoesOn (spans_of self.now) index }
     {
-        let places = &self.places;
-        0 < index && index < places.len() && places[index - 1] == places[index]
+        same_entry(&self.places, index)
     }
 
     /// The number of spans.

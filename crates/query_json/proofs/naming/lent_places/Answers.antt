@@ -5,8 +5,10 @@ use Rattle.trace_model.specs.Adjusting.{spans_of}
 use Rattle.query_json.specs.Naming.{place}
 use Rattle.query_json.specs.Numbering.{IsByPlace, numbered}
 use Rattle.query_json.specs.Trees.{processes_of}
-use Rattle.query_json.specs.Writing.{process_place, OfOneEntry}
-use Rattle.query_json.proofs.Again.{goes_on, goes_on_known, goes_on_place, last_is, places_more, IsLast}
+use Rattle.trace_model.specs.Sharing.{OfOneEntry}
+use Rattle.trace_model.proofs.Shared.{goes_on}
+use Rattle.query_json.specs.Writing.{process_place}
+use Rattle.query_json.proofs.Again.{goes_on_known, goes_on_place, last_is, places_more, IsLast}
 use Rattle.query_json.proofs.Distinct.{place_stays, processes_more}
 use Rattle.query_json.proofs.Walking.{next_within, next_is, left_then, none_left}
 use Rattle.query_json.proofs.naming.lent_places.Goals as goal
