@@ -7,13 +7,17 @@
 //! * `processes`: the processes of batches that come one after the other, of which two that are the same are kept once.
 #![tactic(auto)]
 
-ghost use Rattle.std.specs.Prelude.{◌≡◌, ◌⊎◌};
+ghost use Rattle.std.specs.Prelude.{◌≡◌, ◌⊎◌, OnOk, OnErr, IfOk, IfErr};
+ghost use Rattle.std.specs.Arc.{arc_value};
 ghost use mathlib.Core.List.{IsPrefix};
-ghost use Rattle.live_store.specs.Sharing.{LiveSubmits};
+ghost use Rattle.trace_model.specs.declared.entry.Work.TheVariants as brings;
+ghost use Rattle.trace_model.specs.Histories.{IsLegal};
+ghost use Rattle.intake.specs.Seats.{IsNotTaken, next_job};
+ghost use Rattle.live_store.specs.Sharing.{HandsIn, LiveSubmits};
 
 mod processes;
 
-use intake::{DeskName, Seat, SharedClerk};
+use intake::{Ack, DeskName, Seat, SharedClerk, Ticket};
 use jaeger_model::{Batch, SharedProcess};
 use processes::share_process;
 use read_side::{Pass, Receipt, StoreName};
@@ -79,15 +83,43 @@ impl<N: StoreName> Live<N> {
     ) -> Result<u64, Refusal>
         ensures { LiveSubmits N.limits self.old batch result self.new }
     {
+        let ticket = self.hand_in(rt, alloc, batch)?;
+        let ack = clerk.answer(rt, ticket)?;
+        Ok(self.learn_ack(ack))
+    }
+
+    /// Hands a batch in by the seat, with the process of the batch before where it has the same, and gives its ticket.
+    fn hand_in<R: Wait>(
+        &mut self,
+        rt: &R,
+        alloc: Global,
+        batch: Batch,
+    ) -> Result<Ticket<N>, Refusal>
+        ensures known { self.new.known ≡ self.old.known }
+        ensures job { IfOk result (λ ticket.
+            ticket ≡ next_job self.old.seat (brings.Batch batch)) }
+        ensures handed_in { OnOk result (HandsIn self.old.seat batch self.new.seat) }
+        ensures unchanged { OnErr result (self.new.seat ≡ self.old.seat) }
+        ensures reason { IfErr result (IsNotTaken self.old.seat) }
+    {
         let batch = share_process(&mut self.process, batch);
-        let ticket = match self.seat.submit(rt, alloc, batch) {
-            Ok(ticket) => ticket,
-            Err((refusal, _)) => return Err(refusal),
-        };
-        let answered = clerk.answer(rt, ticket)?;
-        let _front = answered.receipt.front();
-        self.pass.learn(&answered.receipt);
-        Ok(answered.place)
+        match self.seat.submit(rt, alloc, batch) {
+            Ok(ticket) => Ok(ticket),
+            Err((refusal, _)) => Err(refusal),
+        }
+    }
+
+    /// Takes in the list of an acknowledgement's receipt, which is legal, and gives the place in it.
+    fn learn_ack(&mut self, ack: Ack<N>) -> u64
+        ensures place { result ≡ ack.place }
+        ensures seat { self.new.seat ≡ self.old.seat }
+        ensures old { IsPrefix self.old.known self.new.known }
+        ensures learnt { IsPrefix (arc_value ack.receipt).entries self.new.known }
+        ensures legal { IsLegal N.limits (arc_value ack.receipt).entries }
+    {
+        let _front = ack.receipt.front();
+        self.pass.learn(&ack.receipt);
+        ack.place
     }
 
     /// The seat, and the pass with all that it knew.
@@ -117,15 +149,9 @@ impl<N: StoreName, R: Wait> Backend<R> for Live<N> {
     ghost read_knows = { read_knows N.limits };
 
     fn submit(&mut self, rt: &R, alloc: Global, batch: Batch) -> Result<u64, Refusal> {
-        let batch = share_process(&mut self.process, batch);
-        let ticket = match self.seat.submit(rt, alloc, batch) {
-            Ok(ticket) => ticket,
-            Err((why, _batch)) => return Err(why),
-        };
+        let ticket = self.hand_in(rt, alloc, batch)?;
         let ack = ticket.wait(rt)?;
-        let _front = ack.receipt.front();
-        self.pass.learn(&ack.receipt);
-        Ok(ack.place)
+        Ok(self.learn_ack(ack))
     }
 
     fn read(&mut self, _alloc: Global, query: &Query) -> Result<Answer, Refusal> {
