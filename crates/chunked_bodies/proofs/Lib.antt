@@ -2,3 +2,4 @@ pub mod Beginnings
 pub mod Once
 pub mod Behind
 pub mod Sizes
+pub mod Found

@@ -1,25 +1,32 @@
 -- What a look at the beginning of bytes finds.
-use Rattle.std.specs.Prelude.{◌≡◌, ℕ, ◌==◌, ◌<◌, ◌≤◌, false, List, length, take}
+use Rattle.std.specs.Prelude.{◌≡◌, ℕ, ◌==◌, ◌<◌, ◌≤◌, ◌⊎◌, false, List, length, take, Result, Ok, Err}
 use Rattle.std.specs.List.{list_any}
 use Rattle.httparse.specs.Ascii.{line_feed}
+use Rattle.httparse.specs.declared.Status.{Status}
+use Rattle.httparse.specs.declared.Status.TheVariants.{Complete, Partial}
 use Rattle.chunked_bodies.specs.Chunks.{IsSizeLine, IsSomeSizeLine, IsTrailer, HasNone, NeverHas}
 use Rattle.chunked_bodies.specs.declared.line.TheConstants.{MOST_LINE_BYTES}
-use Rattle.chunked_bodies.specs.declared.line.SizeLine.{SizeLine}
-use Rattle.chunked_bodies.specs.declared.line.SizeLine.TheVariants as line
+use Rattle.chunked_bodies.specs.declared.looks.Look.{Look}
+use Rattle.chunked_bodies.specs.declared.looks.Look.TheVariants.{Whole, More, Never}
 use Rattle.chunked_bodies.specs.declared.trailer.TheConstants.{MOST_TRAILER_BYTES}
-use Rattle.chunked_bodies.specs.declared.trailer.Trailer.{Trailer}
-use Rattle.chunked_bodies.specs.declared.trailer.Trailer.TheVariants as trailer
+
+-- What was parsed of the first of so many bytes, at most as many as a text has: it has ended; it hasn't, and there are
+-- fewer bytes; or it can't, which is so too where it hasn't in as many.
+abbrev pub LooksBy : {T E : Type 0} → Result (Status T) E → ℕ → ℕ → Look T → Type 0
+LooksBy parsed count most (Whole found) = parsed ≡ Ok (Complete found)
+LooksBy parsed count most More = (parsed ≡ Ok Partial) × (count < most)
+LooksBy {T} {E} parsed count most Never = ((e : E) × (parsed ≡ Err e)) ⊎ ((parsed ≡ Ok Partial) × (most ≤ count))
 
 -- no line ends in the bytes
 abbrev pub EndsNoLine : List ℕ → Type 0
 EndsNoLine bytes = list_any (λ b. b == line_feed) bytes ≡ false
 
-abbrev pub LooksAtLine : List ℕ → SizeLine → Type 0
-LooksAtLine bytes (line.Whole len size) = IsSizeLine (take len bytes) size × (len ≤ length bytes)
-LooksAtLine bytes line.More = HasNone IsSomeSizeLine bytes × (length bytes < MOST_LINE_BYTES) × EndsNoLine bytes
-LooksAtLine bytes line.Never = NeverHas IsSomeSizeLine bytes
+abbrev pub LooksAtLine : List ℕ → Look (ℕ × ℕ) → Type 0
+LooksAtLine bytes (Whole found) = IsSizeLine (take found.0 bytes) found.1 × (found.0 ≤ length bytes)
+LooksAtLine bytes More = HasNone IsSomeSizeLine bytes × (length bytes < MOST_LINE_BYTES) × EndsNoLine bytes
+LooksAtLine bytes Never = NeverHas IsSomeSizeLine bytes
 
-abbrev pub LooksAtTrailer : List ℕ → Trailer → Type 0
-LooksAtTrailer bytes (trailer.Whole len) = IsTrailer (take len bytes) × (len ≤ length bytes)
-LooksAtTrailer bytes trailer.More = HasNone IsTrailer bytes × (length bytes < MOST_TRAILER_BYTES)
-LooksAtTrailer bytes trailer.Never = NeverHas IsTrailer bytes
+abbrev pub LooksAtTrailer : List ℕ → Look ℕ → Type 0
+LooksAtTrailer bytes (Whole len) = IsTrailer (take len bytes) × (len ≤ length bytes)
+LooksAtTrailer bytes More = HasNone IsTrailer bytes × (length bytes < MOST_TRAILER_BYTES)
+LooksAtTrailer bytes Never = NeverHas IsTrailer bytes

@@ -1,15 +1,17 @@
 -- A head and a trailer end with a line, and so does nothing new where no line has ended.
-use Rattle.std.proofs.Common.{◌≡◌, ℕ, ◌==◌, ◌||◌, ◌-◌, ◌≤◌, ◌<◌, Bool, true, false, List, [], ◌∷◌, ◌++◌, length, take, drop, IsTrue, refl, sym, ap, ◌∙◌, subst, arith, inl, inr, append_assoc, append-nil, length-append}
+use Rattle.std.proofs.Common.{◌≡◌, ℕ, ◌==◌, ◌||◌, ◌≤◌, nat_le, ◌<◌, Bool, true, false, List, [], ◌∷◌, ◌++◌, length, take, drop, IsTrue, refl, sym, ap, ◌∙◌, subst, arith, inl, inr, append_assoc, append-nil, length-append}
 use Rattle.std.specs.List.{list_any, flat_map}
 use Rattle.std.proofs.lemmas.Bool.Decides.{nat_tests}
-use Rattle.std.proofs.lemmas.List.{take-append-drop, take_all, length-drop}
+use Rattle.std.proofs.lemmas.List.{take-append-drop, take_all}
 use Rattle.std.proofs.lemmas.List.Folds.{list_any-append, list_any_none}
 use Rattle.std.proofs.Math.Seq.{take-append_seam}
 use Rattle.httparse.specs.Grammar.{LineEnd.{crlf, lf}, LineEnd, Field, RequestHead, AllPass, is_token_byte, is_uri_byte, print_end, print_field, print_section, print_blank, print_version, print_request, HasNoRequest, NeverHasRequest, MayBecomeRequest, EndsInTarget}
 use Rattle.httparse.proofs.GrammarLemmas.{print_request-append}
 use Rattle.chunked_bodies.specs.Chunks.{IsTrailer, HasNone}
+use Rattle.chunked_bodies.specs.declared.trailer.TheConstants.{MOST_TRAILER_BYTES}
 use Rattle.http_requests.specs.declared.head.TheConstants.{MOST_HEAD_BYTES}
 use Rattle.http_requests.specs.Heads.{EndsLine, AwaitsHead}
+use Rattle.http_requests.specs.LineEnds.{is_due}
 use Rattle.http_requests.proofs.Beginnings.{more_when_short}
 use Rattle.http_requests.proofs.Once.{some_head, some_with, some_behind, token_quiet, head_is_some}
 
@@ -87,20 +89,24 @@ head_longer seen part awaits new short = record {
       awaits.may lines cut.0 cut.1 ends;
 }
 
--- the bytes behind the seen ones
-abbrev unseen : List ℕ → ℕ → List ℕ
-unseen bytes seen = take (length bytes - seen) (drop seen bytes)
+-- where no such text is due there are fewer bytes, and no line ended behind the seen ones
+not_due : (bytes : List ℕ) (seen most : ℕ) → is_due bytes seen most ≡ false → (length bytes < most) × (has_feed (drop seen bytes) ≡ false)
+not_due bytes seen most not = by (nat_le most (length bytes)) refl not
+  where
+    by : (full : Bool) → full ≡ nat_le most (length bytes) → (full || has_feed (drop seen bytes)) ≡ false → (length bytes < most) × (has_feed (drop seen bytes) ≡ false)
+    by true is e = absurd (cc e)
+    by false is e = (grind (arith, nat_tests, is), e)
 
-together : (bytes : List ℕ) (seen : ℕ) → take seen bytes ++ unseen bytes seen ≡ bytes
-together bytes seen = ap (λ l. take seen bytes ++ l) (take_all (length bytes - seen) (drop seen bytes) (omega (arith, length-drop seen bytes))) ∙ take-append-drop seen bytes
+pub head_not_due : (bytes : List ℕ) (seen : ℕ) → AwaitsHead (take seen bytes) → is_due bytes seen MOST_HEAD_BYTES ≡ false → AwaitsHead bytes
+head_not_due bytes seen awaits not =
+    let new = not_due bytes seen MOST_HEAD_BYTES not in
+    let all = take-append-drop seen bytes in
+    subst AwaitsHead all (head_longer (take seen bytes) (drop seen bytes) awaits new.1 (omega (arith, new.0, ap length all)))
 
-pub head_not_due : (bytes : List ℕ) (seen : ℕ) → AwaitsHead (take seen bytes) → has_feed (unseen bytes seen) ≡ false → length bytes < MOST_HEAD_BYTES → AwaitsHead bytes
-head_not_due bytes seen awaits new short =
-    let all = together bytes seen in
-    subst AwaitsHead all (head_longer (take seen bytes) (unseen bytes seen) awaits new (omega (arith, short, ap length all)))
-
-pub trailer_not_due : (bytes : List ℕ) (seen : ℕ) → HasNone IsTrailer (take seen bytes) → has_feed (unseen bytes seen) ≡ false → HasNone IsTrailer bytes
-trailer_not_due bytes seen none new = subst (HasNone IsTrailer) (together bytes seen) (none_longer IsTrailer (take seen bytes) (unseen bytes seen) trailer_ends none new)
+pub trailer_not_due : (bytes : List ℕ) (seen : ℕ) → HasNone IsTrailer (take seen bytes) → is_due bytes seen MOST_TRAILER_BYTES ≡ false → HasNone IsTrailer bytes × (length bytes < MOST_TRAILER_BYTES)
+trailer_not_due bytes seen none not =
+    let new = not_due bytes seen MOST_TRAILER_BYTES not in
+    (subst (HasNone IsTrailer) (take-append-drop seen bytes) (none_longer IsTrailer (take seen bytes) (drop seen bytes) trailer_ends none new.1), new.0)
 
 -- what held of the bytes seen holds of them among more
 pub seen_stays : (P : List ℕ → Type 0) (bytes old new more : List ℕ) → bytes ≡ old → new ≡ old ++ more → P bytes → P (take (length bytes) new)

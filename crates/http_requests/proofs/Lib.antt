@@ -8,3 +8,4 @@ pub mod Ends
 pub mod Awaiting
 pub mod Rooms
 pub mod Awaited
+pub mod Found

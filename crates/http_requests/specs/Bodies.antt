@@ -1,11 +1,9 @@
 -- What reading a body does to the bytes received and to the sink.
-use Rattle.std.specs.Prelude.{◌≡◌, ℕ, ◌+◌, ◌<◌, ◌≤◌, ◌==◌, ◌&&◌, Bool, true, false, List, [], ◌∷◌, ◌++◌, length, take, All, Option, Some, None, Result, Ok, Err}
+use Rattle.std.specs.Prelude.{◌≡◌, ℕ, ◌+◌, ◌<◌, ◌==◌, ◌&&◌, Bool, true, false, List, [], ◌∷◌, ◌++◌, length, All, Option, Some, None, Result, Ok, Err}
 use Rattle.std.specs.Io.KnownBytes.{IsAtEnd}
 use Rattle.httparse.specs.Ascii.{crlf_bytes}
-use Rattle.chunked_bodies.specs.Chunks.{IsSizeLine, IsSomeSizeLine, IsTrailer, IsContent, Chunk, IsChunk, texts, contents, HasNone, NeverHas, Lacks}
+use Rattle.chunked_bodies.specs.Chunks.{IsSizeLine, IsSomeSizeLine, IsTrailer, IsContent, Chunk, IsChunk, texts, contents, HasNone, Lacks}
 use Rattle.chunked_bodies.specs.Looks.{EndsNoLine}
-use Rattle.chunked_bodies.specs.declared.trailer.Trailer.{Trailer}
-use Rattle.chunked_bodies.specs.declared.trailer.Trailer.TheVariants as trailer
 use Rattle.http_requests.specs.declared.asked.TheConstants.{MOST_BODY_BYTES}
 use Rattle.http_requests.specs.Requests.{HasBody, BodyBreaks, IsShorter, AwaitsBody}
 use Rattle.http_requests.specs.Waiting.{Source}
@@ -41,12 +39,6 @@ TakesSize source s t old new None = Misses source AwaitsLine s t old new IsSomeS
 abbrev pub TakesOrMisses : {R : Type 0} → Source R → (List ℕ → Type 0) → R → R → ReadBuffer → ReadBuffer → (List ℕ → Type 0) → Bool → Type 0
 TakesOrMisses source Awaits s t old new Is true = Takes source Awaits s t old new Is
 TakesOrMisses source Awaits s t old new Is false = Misses source Awaits s t old new Is
-
--- a look for a trailer in bytes of which some were seen before
-abbrev pub TrailerWhenDue : List ℕ → Trailer → Type 0
-TrailerWhenDue bytes (trailer.Whole len) = IsTrailer (take len bytes) × (len ≤ length bytes)
-TrailerWhenDue bytes trailer.More = HasNone IsTrailer bytes
-TrailerWhenDue bytes trailer.Never = NeverHas IsTrailer bytes
 
 abbrev pub IsLineEnd : List ℕ → Type 0
 IsLineEnd text = text ≡ crlf_bytes

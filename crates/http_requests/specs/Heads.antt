@@ -6,8 +6,8 @@ use Rattle.httparse.specs.declared.spans.RequestSpans.{RequestSpans}
 use Rattle.httparse.specs.declared.spans.HeaderSpan.{HeaderSpan}
 use Rattle.httparse.specs.Spans.{IsRequestAt, IsRequestWithin}
 use Rattle.http_requests.specs.declared.head.TheConstants.{MOST_HEAD_BYTES, MOST_FIELDS}
-use Rattle.http_requests.specs.declared.head.Look.{Look}
-use Rattle.http_requests.specs.declared.head.Look.TheVariants.{Whole, More, Never}
+use Rattle.chunked_bodies.specs.declared.looks.Look.{Look}
+use Rattle.chunked_bodies.specs.declared.looks.Look.TheVariants.{Whole, More, Never}
 
 -- Bytes are a head that a session takes, and then rest. The limits are a session's own: RFC 9112 sets none.
 pub record TakesHead (bytes : List ℕ) (h : RequestHead) (rest : List ℕ) : Type 0 where
@@ -43,7 +43,7 @@ pub record IsWholeHead (bytes : List ℕ) (headers : List HeaderSpan) (spans : R
   pub at : IsRequestAt beginning headers spans head
   pub within : IsRequestWithin beginning headers spans
 
-abbrev pub Looks : List ℕ → List HeaderSpan → Look → Type 0
+abbrev pub Looks : List ℕ → List HeaderSpan → Look RequestSpans → Type 0
 Looks bytes headers (Whole spans) = IsWholeHead bytes headers spans
 Looks bytes headers More = AwaitsHead bytes
 Looks bytes headers Never = NeverHasHead bytes

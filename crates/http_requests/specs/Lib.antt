@@ -9,3 +9,4 @@ pub mod Pieces
 pub mod Receiving
 pub mod Searching
 pub mod Bodies
+pub mod LineEnds

@@ -1,16 +1,17 @@
 ghost use Rattle.std.specs.Prelude.{◌≡◌, ◌≤◌, IfOk, IfErr, length, take};
 ghost use Rattle.chunked_bodies.specs.Chunks.{IsTrailer, IsContent, HasNone};
+ghost use Rattle.chunked_bodies.specs.Looks.{LooksAtTrailer};
 ghost use Rattle.http_requests.specs.Requests.{IsShorter, AwaitsBody};
 ghost use Rattle.http_requests.specs.Waiting.{source_of};
 ghost use Rattle.http_requests.specs.Receiving.{KnowsItsEnd, StopsWhile, SameUnlessReading};
-ghost use Rattle.http_requests.specs.Bodies.{TrailerWhenDue, TakesSize, TakesOrMisses, AwaitsLine, AwaitsRest, IsLineEnd, begins_line_end, may_begin_line_end, Gathers, TakesContentOr, ReadsBody};
+ghost use Rattle.http_requests.specs.Bodies.{TakesSize, TakesOrMisses, AwaitsLine, AwaitsRest, IsLineEnd, begins_line_end, may_begin_line_end, Gathers, TakesContentOr, ReadsBody};
 ghost use Rattle.http_requests.specs.declared.asked.BodyLength.TheVariants.{Chunked};
 
 use crate::asked::{BodyLength, Breach, MOST_BODY_BYTES};
-use crate::line_ends::has_line_end;
+use crate::line_ends::is_due;
 use crate::read_buffer::{ReadBuffer, ReadError};
 use crate::sink::Sink;
-use chunked_bodies::{MOST_TRAILER_BYTES, SizeLine, Trailer, look_for_size, look_for_trailer};
+use chunked_bodies::{Look, MOST_TRAILER_BYTES, look_for_size, look_for_trailer};
 use session_devices::Input;
 
 /// Takes so many bytes and puts them into the sink as they come, or all up to the end of the input. Whether
@@ -97,12 +98,12 @@ fn take_size<R: Input>(input: &mut R, received: &mut ReadBuffer) -> Result<Optio
 {
     'looks: loop {
         match look_for_size(received.as_slice()) {
-            SizeLine::Whole(length, size) => {
+            Look::Whole((length, size)) => {
                 received.take(length);
                 return Ok(Some(size));
             }
-            SizeLine::Never => return Ok(None),
-            SizeLine::More => {}
+            Look::Never => return Ok(None),
+            Look::More => {}
         }
         if received.has_ended() {
             return Ok(None);
@@ -113,15 +114,15 @@ fn take_size<R: Input>(input: &mut R, received: &mut ReadBuffer) -> Result<Optio
 
 /// Looks for a trailer where one may have ended in what wasn't seen, or none can end later. In front of what
 /// was seen none stood.
-fn trailer_when_due(bytes: &[u8], seen: usize) -> Trailer
+fn trailer_when_due(bytes: &[u8], seen: usize) -> Look<usize>
     requires seen { seen ≤ length bytes.now }
     requires before { HasNone IsTrailer (take seen bytes.now) }
-    ensures { TrailerWhenDue bytes.now result }
+    ensures { LooksAtTrailer bytes.now result }
 {
-    if bytes.len() >= MOST_TRAILER_BYTES || has_line_end(&bytes[seen..]) {
+    if is_due(bytes, seen, MOST_TRAILER_BYTES) {
         look_for_trailer(bytes)
     } else {
-        Trailer::More
+        Look::More
     }
 }
 
@@ -138,12 +139,12 @@ fn take_trailer<R: Input>(input: &mut R, received: &mut ReadBuffer) -> Result<bo
     'looks: loop {
         let bytes = received.as_slice();
         match trailer_when_due(bytes, seen) {
-            Trailer::Whole(length) => {
+            Look::Whole(length) => {
                 received.take(length);
                 return Ok(true);
             }
-            Trailer::Never => return Ok(false),
-            Trailer::More => {}
+            Look::Never => return Ok(false),
+            Look::More => {}
         }
         if received.has_ended() {
             return Ok(false);

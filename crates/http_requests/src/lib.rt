@@ -13,7 +13,7 @@
 //! * `bodies`: taking a body, by its length or in chunks.
 //! * `read_buffer`: the bytes that were read and are not taken yet.
 //! * `room`: the room that they lie in, which is used again.
-//! * `line_ends`: whether a line ends in bytes.
+//! * `line_ends`: when a text that ends with a line is looked for.
 //! * `reading`: the head of the next request of an input.
 //! * `sink`: what a body is put into.
 //! * `laws`: facts about what stands at the beginning of bytes.

@@ -6,8 +6,9 @@ ghost use Rattle.http_requests.specs.Receiving.{KnowsItsEnd, ReadsOnWhile, Stops
 ghost use Rattle.http_requests.specs.Searching.{SearchFinds};
 
 use crate::asked::{BodyLength, Request, frame};
-use crate::head::{Look, head_when_due};
+use crate::head::head_when_due;
 use crate::read_buffer::{ReadBuffer, ReadError};
+use chunked_bodies::Look;
 use httparse::spans::{EMPTY_HEADER_SPAN, HeaderSpan, RequestSpans};
 use session_devices::Input;
 

@@ -14,13 +14,13 @@ pub looks-preserved : goal.looks-preserved
 looks-preserved g c =
     let so = c.looks.invariant in
     let read = c.in_ok-read_on.ensures.read in (
-      reads_more (source_of g.R.Input.remaining g.R.Input.gives) (HasNone IsTrailer) _ _ _ _ _ _ _ so.0 c.as_slice-bytes.ensures c.in-More.ensures c.in_ok-read_on.ensures.ok read,
+      reads_more (source_of g.R.Input.remaining g.R.Input.gives) (HasNone IsTrailer) _ _ _ _ _ _ _ so.0 c.as_slice-bytes.ensures c.in-More.ensures.0 c.in_ok-read_on.ensures.ok read,
       c.in_ok-read_on.ensures.same ∙ so.1,
       fits_still _ _ _ read.0 c.as_slice-bytes.ensures read.2,
-      seen_stays (HasNone IsTrailer) _ _ _ read.0 c.as_slice-bytes.ensures read.2 c.in-More.ensures,
+      seen_stays (HasNone IsTrailer) _ _ _ read.0 c.as_slice-bytes.ensures read.2 c.in-More.ensures.0,
     )
 
 pub returns-in_err-read_on-clause-err : goal.returns-in_err-read_on-clause-err
 returns-in_err-read_on-clause-err g c =
     let p = err_from_is_err_and c.from_residual.result c.from_residual.ensures.1 in
-    rw (p.1, p.2) (stops_there (source_of g.R.Input.remaining g.R.Input.gives) (HasNone IsTrailer) _ _ _ _ _ _ _ _ c.looks.invariant.0 c.as_slice-bytes.ensures c.in-More.ensures c.in_err-read_on.ensures.err)
+    rw (p.1, p.2) (stops_there (source_of g.R.Input.remaining g.R.Input.gives) (HasNone IsTrailer) _ _ _ _ _ _ _ _ c.looks.invariant.0 c.as_slice-bytes.ensures c.in-More.ensures.0 c.in_err-read_on.ensures.err)

@@ -1,0 +1,19 @@
+-- Where a look finds that no head can come.
+use Rattle.std.proofs.Common.{◌≡◌, ℕ, ◌≤◌, List, length, take, Result, OnErr, inl, inr}
+use Rattle.httparse.specs.Grammar.{HasNoRequest}
+use Rattle.httparse.specs.Outcome.{OnPartial}
+use Rattle.httparse.specs.Spans.{RequestOverflows}
+use Rattle.httparse.specs.declared.Error.{Error}
+use Rattle.httparse.specs.declared.Status.{Status}
+use Rattle.httparse.specs.declared.spans.RequestSpans.{RequestSpans}
+use Rattle.chunked_bodies.specs.Looks.{LooksBy}
+use Rattle.chunked_bodies.specs.declared.looks.Look.TheVariants.{Never}
+use Rattle.http_requests.specs.declared.head.TheConstants.{MOST_HEAD_BYTES, MOST_FIELDS}
+use Rattle.http_requests.specs.Heads.{NeverHasHead}
+use Rattle.http_requests.proofs.Beginnings.{never_when_full, never_in_room}
+
+pub never_found : (bytes beginning : List ℕ) (room : ℕ) (parsed : Result (Status RequestSpans) Error) → beginning ≡ take MOST_HEAD_BYTES bytes → MOST_FIELDS ≤ room
+    → OnPartial parsed (HasNoRequest beginning) → OnErr parsed (RequestOverflows room beginning)
+    → LooksBy parsed (length bytes) MOST_HEAD_BYTES Never → NeverHasHead bytes
+never_found bytes beginning room parsed f wide partial no_room (inl (e, is)) = never_in_room bytes beginning room f wide (rw is at no_room)
+never_found bytes beginning room parsed f wide partial no_room (inr (is, full)) = never_when_full bytes beginning f full (rw is at partial)
