@@ -10,8 +10,7 @@
 //! * `queue`: the queue, and the rule that holds between any two steps.
 //! * `job`: what is queued. `cell`: where its answer is laid down. `ticket`: the [`Ticket`].
 //! * `seat`: the [`Seat`]. `inbox`: the clerk's end of the queue.
-//! * `account`: what became of a job. `accounts`: the same of all. `clerk`: the [`Clerk`]. `books`: what it leaves; `books_alone`: the same but for the
-//!   keeper.
+//! * `account`: what became of a job. `accounts`: the same of all. `clerk`: the [`Clerk`]. `books`: what it leaves.
 //! * `shared_clerk`: a clerk without a thread of its own, whose work is done by whoever waits.
 //! * `shared`: what all of them share. `bell`: how a sleeper is woken.
 //! * `opening`: [`desk`]. `closing`: the [`Desk`], which closes the queue.
@@ -21,7 +20,6 @@ mod account;
 mod accounts;
 mod bell;
 mod books;
-mod books_alone;
 mod cell;
 mod clerk;
 mod closing;
@@ -37,7 +35,6 @@ mod ticket;
 pub use account::Account;
 pub use accounts::Accounts;
 pub use books::Books;
-pub use books_alone::BooksAlone;
 pub use clerk::{Clerk, Turn};
 pub use closing::Desk;
 pub use inbox::Inbox;

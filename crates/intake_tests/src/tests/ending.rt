@@ -8,7 +8,7 @@ ghost use Rattle.intake.specs.Seats.{IsNewSeat};
 ghost use Rattle.intake_tests.specs.Seats.{AllMayHandIn, Stays};
 
 use crate::tests::fixture::{batch, close_books};
-use intake::{Books, BooksAlone, Clerk, Desk, Seat, Ticket, Turn, desk};
+use intake::{Books, Clerk, Desk, Seat, Ticket, Turn, desk};
 use read_side::{Keeper, Opened, StoreName, open};
 use std::alloc::Global;
 use std::hash::RandomState;
@@ -222,28 +222,28 @@ fn all_hand_in<N: StoreName + Send + Sync, R: Threads + Wait + Sync>(
 struct Office<N: StoreName> {
     clerk: Option<Clerk<N>>,
     keeper: Option<Keeper<N>>,
-    books_alone: Option<BooksAlone<N>>,
+    books: Option<Books<N>>,
 }
 
 /// Has the clerk serve until the desk is closed.
 fn keep<N: StoreName, R: Wait>(rt: &R, office: &mut Office<N>)
     ensures desk { IfSome office.old.clerk (λ k.
-        IfSome office.new.books_alone (λ l. l.inbox.desk ≡ k.desk)) }
-    ensures books { IfSome office.new.books_alone (λ l.
+        IfSome office.new.books (λ l. l.inbox.desk ≡ k.desk)) }
+    ensures books { IfSome office.new.books (λ l.
         Balances l.inbox.taken l.accounts (map arc_value l.left.items)) }
 {
-    office.books_alone = None;
+    if let Some(earlier) = office.books.take() {
+        close_books(rt, earlier);
+    }
     let Some(clerk) = office.clerk.take() else {
         return;
     };
     let Some(keeper) = office.keeper.take() else {
         return;
     };
-    let (keeper, books_alone) = clerk.run(rt, keeper).split();
-    if let Some(other) = office.keeper.replace(keeper) {
-        other.close(rt);
+    if let Some(earlier) = office.books.replace(clerk.run(rt, keeper)) {
+        close_books(rt, earlier);
     }
-    office.books_alone = Some(books_alone);
 }
 
 /// The clerk serves, the seats hand in, and the desk is closed.
@@ -254,8 +254,8 @@ fn all_day<N: StoreName + Send + Sync, R: Threads + Wait + Sync>(
     floor: &mut Floor<N>,
 )
     ensures desk { IfSome office.old.clerk (λ k.
-        IfSome office.new.books_alone (λ l. l.inbox.desk ≡ k.desk)) }
-    ensures books { IfSome office.new.books_alone (λ l.
+        IfSome office.new.books (λ l. l.inbox.desk ≡ k.desk)) }
+    ensures books { IfSome office.new.books (λ l.
         Balances l.inbox.taken l.accounts (map arc_value l.left.items)) }
     ensures a { Stays floor.old.four.a.seat floor.new.four.a.seat }
     ensures b { Stays floor.old.four.b.seat floor.new.four.b.seat }
@@ -442,25 +442,22 @@ fn races<N: StoreName + Send + Sync, R: Threads + Wait + Sync>(
     let mut office = Office {
         clerk: Some(clerk),
         keeper: Some(keeper),
-        books_alone: None,
+        books: None,
     };
     all_day(rt, alloc, &mut office, &mut floor);
     let Office {
         clerk: _clerk,
         keeper,
-        books_alone,
+        books,
     } = office;
-    match (keeper, books_alone) {
-        (Some(keeper), Some(books_alone)) => {
-            let begun = have_begun(&floor.four);
-            left_over(rt, alloc, books_alone.with(keeper), floor.four).is_some() && begun
-        }
-        (Some(keeper), None) => {
-            keeper.close(rt);
-            false
-        }
-        (None, _) => false,
+    if let Some(keeper) = keeper {
+        keeper.close(rt);
     }
+    let Some(books) = books else {
+        return false;
+    };
+    let begun = have_begun(&floor.four);
+    left_over(rt, alloc, books, floor.four).is_some() && begun
 }
 
 /// How a desk ends.
