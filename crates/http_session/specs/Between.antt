@@ -3,7 +3,7 @@ use Rattle.std.specs.Prelude.{ℕ, Bool, List, ◌++◌, Option}
 use Rattle.trace_model.specs.declared.limits.Limits.{Limits}
 use Rattle.store_backend.specs.Knowing.{History}
 use Rattle.http_requests.specs.Waiting.{Gives, Source, source_of}
-use Rattle.http_session.specs.Sessions.{Submits, Reads, EndsAs, FailsAs, last_of, exchange_due}
+use Rattle.http_session.specs.Sessions.{Submits, Reads, Exchange, EndsAs, FailsAs, last_of, exchange_due}
 use Rattle.http_session.specs.InTurn.{ReadsInTurn, ReadsInTurnUpTo}
 use Rattle.http_session.specs.InOrder.{Line, EndsOver, FailsOver}
 use Rattle.http_session.specs.Related.{Related, nothing_seen}
@@ -31,20 +31,30 @@ abbrev pub devices_of : {R W : Type 0} → (R → Option (List ℕ)) → Gives R
 devices_of remaining gives in_failed contents out_failed =
     record { source = source_of remaining gives; in_failed = in_failed; contents = contents; out_failed = out_failed }
 
--- A session between an input and an output that ended: what was read and written, that its answers are those of one growing
--- history, and that it read only while the next request was awaited.
+-- A session between an input and an output that ended, over a store that does this: what was read and written, what is said of
+-- its exchanges, and that it read only while the next request was awaited.
+abbrev pub EndsWith : {S R W : Type 0} → Submits S → Reads S → (List Exchange → Type 0) → Devices R W → R → R → W → W → S → S → Ended → Type 0
+EndsWith submits reads Says devices in0 in1 out0 out1 s t ended =
+    (ends : EndsAs submits reads (devices.source.remaining in0) (devices.source.remaining in1) (devices.contents out0) (devices.contents out1) s t ended.answered ended.clean)
+    × Says (ends.opens ++ last_of ends.ending)
+    × ReadsInTurn devices.source.gives in0 in1 ends.opens ends.taken
+
+-- the same of one that failed
+abbrev pub FailsWith : {S R W : Type 0} → Submits S → Reads S → (List Exchange → Type 0) → Devices R W → R → R → W → W → S → S → SessionError → Type 0
+FailsWith submits reads Says devices in0 in1 out0 out1 s t error =
+    (fails : FailsAs submits reads (devices.source.remaining in0) (devices.source.remaining in1) (devices.contents out0) (devices.contents out1) s t (devices.in_failed in1) (devices.out_failed out1) error)
+    × Says (fails.opens ++ exchange_due fails.next)
+    × ReadsInTurnUpTo devices.source in0 in1 (devices.in_failed in1) fails.opens fails.taken fails.made
+
+-- a session that ended, whose answers are those of one growing history
 abbrev pub EndsBetween : {S R W : Type 0} → Store S → Devices R W → R → R → W → W → S → S → Ended → Type 0
 EndsBetween store devices in0 in1 out0 out1 s t ended =
-    (ends : EndsAs store.submits store.reads (devices.source.remaining in0) (devices.source.remaining in1) (devices.contents out0) (devices.contents out1) s t ended.answered ended.clean)
-    × Related (store.knows s) (store.limits s) nothing_seen (ends.opens ++ last_of ends.ending)
-    × ReadsInTurn devices.source.gives in0 in1 ends.opens ends.taken
+    EndsWith store.submits store.reads (λ xs. Related (store.knows s) (store.limits s) nothing_seen xs) devices in0 in1 out0 out1 s t ended
 
 -- the same of one that failed
 abbrev pub FailsBetween : {S R W : Type 0} → Store S → Devices R W → R → R → W → W → S → S → SessionError → Type 0
 FailsBetween store devices in0 in1 out0 out1 s t error =
-    (fails : FailsAs store.submits store.reads (devices.source.remaining in0) (devices.source.remaining in1) (devices.contents out0) (devices.contents out1) s t (devices.in_failed in1) (devices.out_failed out1) error)
-    × Related (store.knows s) (store.limits s) nothing_seen (fails.opens ++ exchange_due fails.next)
-    × ReadsInTurnUpTo devices.source in0 in1 (devices.in_failed in1) fails.opens fails.taken fails.made
+    FailsWith store.submits store.reads (λ xs. Related (store.knows s) (store.limits s) nothing_seen xs) devices in0 in1 out0 out1 s t error
 
 -- A session over a connection that ended: the same, and that the responses to all requests before were written before each
 -- read.

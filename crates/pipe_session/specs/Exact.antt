@@ -1,5 +1,5 @@
 -- What a store that one owner has answers to a session's requests, as a function of them.
-use Rattle.std.specs.Prelude.{◌≡◌, ◌≢◌, List, [], ◌∷◌, ◌++◌, map, All, Option, Some, None}
+use Rattle.std.specs.Prelude.{◌≡◌, ◌≢◌, List, [], ◌∷◌, map, All, Option, Some, None}
 use Rattle.trace_model.specs.declared.refusal.Refusal.{Refusal}
 use Rattle.trace_model.specs.declared.refusal.Refusal.TheVariants.{NoMemory}
 use Rattle.trace_model.specs.Held.{Held}
@@ -7,9 +7,8 @@ use Rattle.trace_model.specs.Refusals.{with_admitted}
 use Rattle.trace_model.specs.Answers.{answer}
 use Rattle.arrival_journal.specs.Journals.{admission_by, refusal_by}
 use Rattle.direct_store.specs.Exactly.{next_entry, DirectSubmits, DirectReads}
-use Rattle.http_session.specs.Between.{Devices}
-use Rattle.http_session.specs.InTurn.{ReadsInTurn, ReadsInTurnUpTo}
-use Rattle.http_session.specs.Sessions.{Exchange, EndsAs, FailsAs, last_of, exchange_due}
+use Rattle.http_session.specs.Between.{Devices, EndsWith, FailsWith}
+use Rattle.http_session.specs.Sessions.{Exchange}
 use Rattle.http_session.specs.declared.exchanges.Ended.{Ended}
 use Rattle.http_session.specs.declared.exchanges.SessionError.{SessionError}
 use Rattle.http_session.specs.declared.verdict.Verdict.{Verdict}
@@ -53,17 +52,10 @@ verdicts xs = map (λ (x : Exchange). x.verdict) xs
 abbrev pub IsExact : Held → List Exchange → Held → Type 0
 IsExact s xs t = HasMemory xs → (map (λ (x : Exchange). x.reply) xs ≡ replies_at s (verdicts xs)) × (t ≡ held_at_last s (verdicts xs))
 
--- A session between an input and an output that ended: what was read and written, that the store answered exactly so, and
--- that it read only while the next request was awaited.
+-- a session between an input and an output that ended, in which the store answered exactly so
 abbrev pub EndsExactly : {R W : Type 0} → Devices R W → R → R → W → W → Held → Held → Ended → Type 0
-EndsExactly devices in0 in1 out0 out1 s t ended =
-    (ends : EndsAs DirectSubmits DirectReads (devices.source.remaining in0) (devices.source.remaining in1) (devices.contents out0) (devices.contents out1) s t ended.answered ended.clean)
-    × IsExact s (ends.opens ++ last_of ends.ending) t
-    × ReadsInTurn devices.source.gives in0 in1 ends.opens ends.taken
+EndsExactly devices in0 in1 out0 out1 s t ended = EndsWith DirectSubmits DirectReads (λ xs. IsExact s xs t) devices in0 in1 out0 out1 s t ended
 
 -- the same of one that failed
 abbrev pub FailsExactly : {R W : Type 0} → Devices R W → R → R → W → W → Held → Held → SessionError → Type 0
-FailsExactly devices in0 in1 out0 out1 s t error =
-    (fails : FailsAs DirectSubmits DirectReads (devices.source.remaining in0) (devices.source.remaining in1) (devices.contents out0) (devices.contents out1) s t (devices.in_failed in1) (devices.out_failed out1) error)
-    × IsExact s (fails.opens ++ exchange_due fails.next) t
-    × ReadsInTurnUpTo devices.source in0 in1 (devices.in_failed in1) fails.opens fails.taken fails.made
+FailsExactly devices in0 in1 out0 out1 s t error = FailsWith DirectSubmits DirectReads (λ xs. IsExact s xs t) devices in0 in1 out0 out1 s t error
