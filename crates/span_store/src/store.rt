@@ -1,4 +1,4 @@
-ghost use Rattle.std.specs.Prelude.{◌≡◌, ◌+◌, ◌==◌, [], map, length, Ok, IfOk, IfErr, IfSome, Some};
+ghost use Rattle.std.specs.Prelude.{◌≡◌, ◌+◌, ◌==◌, [], map, length, Ok, IfOk, IfErr, IfSome, Some, if◌then◌else◌};
 ghost use Rattle.std.specs.Arc.{arc_value};
 ghost use Rattle.std.specs.Bool.{OnFalse};
 ghost use Rattle.trace_model.specs.declared.query.Query.TheVariants as ask;
@@ -219,8 +219,8 @@ impl SpanStore {
             Query::Services => Ok(self.services()?),
             Query::OperationNames { service } => Ok(self.operation_names(service)?),
             Query::Operations { service, kind } => Ok(self.operations(service, kind)?),
-            Query::Find(find) => Ok(self.find(find)?),
-            Query::FindIds(find) => Ok(self.find_ids(find)?),
+            Query::Find(find) => Ok(self.search(find, false)?),
+            Query::FindIds(find) => Ok(self.search(find, true)?),
             Query::Links {
                 end_ms,
                 lookback_ms,
@@ -345,10 +345,10 @@ impl SpanStore {
         }
     }
 
-    /// The traces that a search finds, as they are shown.
-    fn find(&self, query: &Find) -> Result<Answer, AllocError>
+    /// What a search finds: the traces as they are shown, or their ids alone.
+    fn search(&self, query: &Find, ids_alone: bool) -> Result<Answer, AllocError>
         ensures { IfOk result (λ a. a ≡ answer self.now.limits self.now.entries
-            (ask.Find query.now)) }
+            (if ids_alone then ask.FindIds query.now else ask.Find query.now)) }
     {
         let wanted = Wanted::new(self.alloc, query)?;
         let spots = self.candidates(&wanted)?;
@@ -357,24 +357,12 @@ impl SpanStore {
             wanted: &wanted,
             spots: &spots,
         };
+        if ids_alone {
+            let ids = finding::find_ids(self.alloc, &traces)?;
+            return Ok(Answer::Ids(Seq::from_vec(ids)));
+        }
         let found = finding::find(self.alloc, &traces, self.limits())?;
         Ok(Answer::Traces(Seq::from_vec(found)))
-    }
-
-    /// The ids of the traces that a search finds.
-    fn find_ids(&self, query: &Find) -> Result<Answer, AllocError>
-        ensures { IfOk result (λ a. a ≡ answer self.now.limits self.now.entries
-            (ask.FindIds query.now)) }
-    {
-        let wanted = Wanted::new(self.alloc, query)?;
-        let spots = self.candidates(&wanted)?;
-        let traces = Candidates {
-            journal: &self.journal,
-            wanted: &wanted,
-            spots: &spots,
-        };
-        let ids = finding::find_ids(self.alloc, &traces)?;
-        Ok(Answer::Ids(Seq::from_vec(ids)))
     }
 
     /// The shown traces that have a span in a window of time, the one opened longest ago first: those
