@@ -8,7 +8,7 @@ use Rattle.jaeger_model.specs.declared.ids.TraceId.{TraceId}
 use Rattle.trace_model.specs.declared.limits.Limits.{Limits}
 use Rattle.command_words.specs.Words.{Makes, are_taken, get_app, pipe_app, play_app, serve_app}
 use Rattle.command_words.specs.Asked.{Takes, subcommand_of}
-use Rattle.command_words.specs.declared.serve_options.ServeOptions.{ServeOptions}
+use Rattle.serve_options.specs.declared.options.ServeOptions.{ServeOptions}
 use Rattle.command_words.specs.declared.words.Command.{Command}
 use Rattle.command_words.specs.declared.words.Command.TheVariants.{Get, Pipe, Play, Serve}
 

@@ -6,7 +6,7 @@ use Rattle.clap.specs.declared.parser.matches.Found.{Found}
 use Rattle.clap.proofs.WalkLemmas.{one_text-rows, first_value-rows}
 use Rattle.jaeger_model.specs.declared.ids.TraceId.{TraceId}
 use Rattle.command_words.specs.Words.{HasLimits, HasNumber, HasServeOptions, HasTrace, trace_in}
-use Rattle.command_words.specs.declared.serve_options.ServeOptions.{ServeOptions}
+use Rattle.serve_options.specs.declared.options.ServeOptions.{ServeOptions}
 use Rattle.trace_model.specs.declared.limits.Limits.{Limits}
 
 -- what `get_one` reads is the number that the option's text spells

@@ -1,3 +1,2 @@
-pub mod ServeOptions
 pub mod Words
 pub mod Asked

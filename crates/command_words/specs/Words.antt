@@ -8,7 +8,7 @@ use Rattle.clap.specs.declared.builder.value_parser.ValueParser.TheVariants as p
 use Rattle.jaeger_model.specs.declared.ids.TraceId.{TraceId}
 use Rattle.jaeger_model.specs.Ids.{read_trace}
 use Rattle.trace_model.specs.declared.limits.Limits.{Limits}
-use Rattle.command_words.specs.declared.serve_options.ServeOptions.{ServeOptions}
+use Rattle.serve_options.specs.declared.options.ServeOptions.{ServeOptions}
 
 -- an option that takes a number, with the number that stands for it where it isn't given
 abbrev pub number_rule : Text → ValueParser → Text → Rule

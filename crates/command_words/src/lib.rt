@@ -4,13 +4,10 @@
 //! ask for none.
 //!
 //! * `words`: what the words ask for, and what is said to words that ask for nothing;
-//! * `serve`: the subcommand `serve`, whose options are more than those that each subcommand has;
-//! * `serve_options`: those options, within their ranges.
+//! * `serve`: the subcommand `serve`, whose options are more than those that each subcommand has.
 #![tactic(auto)]
 
 mod serve;
-mod serve_options;
 mod words;
 
-pub use serve_options::ServeOptions;
 pub use words::{Command, read_words};

@@ -1,14 +1,14 @@
 //! The subcommand `serve`: its options, and what its words ask for.
 ghost use Rattle.std.specs.Prelude.{◌≡◌, IfErr, IfOk, IfSome, IsSome, OnOk, false, map};
 ghost use Rattle.clap.specs.Words.{app_of, found_of, rows_of, rule_of};
-ghost use Rattle.command_words.specs.declared.serve_options.ServeOptions.{ServeOptions as ServeOptionsValue};
+ghost use Rattle.serve_options.specs.declared.options.ServeOptions.{ServeOptions as ServeOptionsValue};
 ghost use Rattle.command_words.specs.declared.words.Command.TheVariants.{Serve};
 ghost use Rattle.command_words.specs.Words.{HasServeOptions, IsFault, Makes, idle_rule, port_rule, queue_rule, serve_app, sessions_rule, with_serving as serving_on, workers_rule};
 ghost use Rattle.command_words.specs.Asked.{Reads, Takes};
 
-use crate::serve_options::ServeOptions;
 use crate::words::{limits_of, matches_of, number, with_limits};
 use clap::{Arg, ArgMatches, value_parser};
+use serve_options::ServeOptions;
 use std::alloc::{AllocError, Global};
 use std::convert::AsStr;
 use std::io::Write;

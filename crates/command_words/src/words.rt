@@ -10,11 +10,11 @@ ghost use Rattle.command_words.specs.Words.{HasLimits, IsFault, IsFaultOf, Makes
 ghost use Rattle.command_words.specs.Asked.{Accepts, Asks, Reads, Takes};
 
 use crate::serve::{read_serve, serve_command};
-use crate::serve_options::ServeOptions;
 use clap::builder::ValueParser;
 use clap::error::ErrorKind;
 use clap::{Arg, ArgMatches, Error, value_parser};
 use jaeger_model::{TraceId, parse_trace};
+use serve_options::ServeOptions;
 use session_devices::Output;
 use std::alloc::{AllocError, Global};
 use std::convert::AsStr;

@@ -2,7 +2,7 @@
 ghost use Rattle.std.specs.Prelude.{◌≡◌, ◌≤◌, false};
 ghost use Rattle.program_run.specs.Serving.{ServesOrNot, TurnsDown};
 
-use command_words::ServeOptions;
+use serve_options::ServeOptions;
 use session_devices::Output;
 use std::alloc::{AllocError, Global};
 use std::hash::RandomState;
@@ -63,13 +63,6 @@ where
         Ok(listener) => listener,
         Err(error) => return turn_down(alloc, output, options.port, &error),
     };
-    let plan = ServerConfig {
-        limits: options.limits,
-        keys,
-        workers: options.workers,
-        queue: options.queue,
-        sessions: options.sessions,
-        idle: options.idle,
-    };
+    let plan = ServerConfig { options, keys };
     serve_with(rt, alloc, &listener, &plan, &NoGate, output)
 }

@@ -6,7 +6,7 @@
 //! history, never before what was vouched for when it began. An error of a connection ends that connection
 //! alone.
 //!
-//! * `config`: how many workers, how long a queue, how many sessions.
+//! * `config`: what it is asked to do, and the keys of its store.
 //! * `gate`: what hears of each call that a worker makes of the store.
 //! * `gated`: a store of whose calls a gate hears.
 //! * `connection`: one connection, from its first byte to its last.

@@ -90,9 +90,9 @@ fn serve_sessions<
             gate: setup.gate,
             notices: &notices,
             clerk: &clerk,
-            sessions: setup.config.sessions,
+            sessions: setup.config.options.sessions,
             claimed: &claimed,
-            idle: setup.config.idle,
+            idle: setup.config.options.idle,
         };
         work_all(rt, &server, lives)
     };
@@ -111,10 +111,10 @@ fn serve_store<
     requires keeper { shared.keeper ≡ no_entries }
     requires clerk { IsNewClerk shared.clerk }
     requires new { AreNew shared.clerk.desk (map (λ p. p.1.seat) shared.lives.items) }
-    requires numbers { OneForEach setup.now.config.now.workers
+    requires numbers { OneForEach setup.now.config.now.options.workers
         (map (λ p. p.1.seat) shared.lives.items) }
     requires output_works { W.has_failed output.old ≡ false }
-    ensures { Reports N.limits setup.now.config.now.workers
+    ensures { Reports N.limits setup.now.config.now.options.workers
         (map (λ p. p.1.seat) shared.lives.items)
         (W.contents output.old) (W.contents output.new) (W.has_failed output.new) result }
 {
@@ -157,10 +157,12 @@ fn serve_named<
 ) -> u8
     requires book { name.seen.book ≡ N.book }
     requires limits { limits ≡ N.limits }
-    requires workers { (1 ≤ setup.now.config.now.workers) × (setup.now.config.now.workers ≤ 64) }
-    requires queue { (1 ≤ setup.now.config.now.queue) × (setup.now.config.now.queue ≤ 4096) }
+    requires workers { (1 ≤ setup.now.config.now.options.workers)
+        × (setup.now.config.now.options.workers ≤ 64) }
+    requires queue { (1 ≤ setup.now.config.now.options.queue)
+        × (setup.now.config.now.options.queue ≤ 4096) }
     requires output_works { W.has_failed output.old ≡ false }
-    ensures { Serves limits setup.now.config.now.workers (W.contents output.old)
+    ensures { Serves limits setup.now.config.now.options.workers (W.contents output.old)
         (W.contents output.new) (W.has_failed output.new) result }
 {
     let Ok(address) = setup.listener.local_addr() else {
@@ -173,7 +175,7 @@ fn serve_named<
         shared.close(rt);
         return error.status();
     }
-    say_limits(rt, &setup.config.limits);
+    say_limits(rt, &setup.config.options.limits);
     serve_store(rt, alloc, shared, setup, output)
 }
 
@@ -197,16 +199,16 @@ pub fn serve_with<G: Gate + Sync, W: Output, R: Threads + Wait + Clock + Eprint 
     gate: &G,
     output: &mut W,
 ) -> u8
-    requires workers { (1 ≤ config.now.workers) × (config.now.workers ≤ 64) }
-    requires queue { (1 ≤ config.now.queue) × (config.now.queue ≤ 4096) }
+    requires workers { (1 ≤ config.now.options.workers) × (config.now.options.workers ≤ 64) }
+    requires queue { (1 ≤ config.now.options.queue) × (config.now.options.queue ≤ 4096) }
     requires output_works { W.has_failed output.old ≡ false }
-    ensures { Serves config.now.limits config.now.workers (W.contents output.old)
+    ensures { Serves config.now.options.limits config.now.options.workers (W.contents output.old)
         (W.contents output.new) (W.has_failed output.new) result }
 {
     if !can_start(rt) {
         return 5;
     }
-    let (name, limits) = (Opened::new(), config.limits);
+    let (name, limits) = (Opened::new(), config.options.limits);
     let setup = ServerSetup {
         listener,
         config,

@@ -53,17 +53,22 @@ fn open_desk<N: StoreName>(
     passes: Vec<read_side::Pass<N>>,
     config: &ServerConfig,
 ) -> Result<DeskEnds<N>, Refusal>
-    requires workers { (1 ≤ config.now.workers) × (config.now.workers ≤ 64) }
-    requires queue { (1 ≤ config.now.queue) × (config.now.queue ≤ 4096) }
-    requires passes { length passes.items ≡ config.now.workers }
+    requires workers { (1 ≤ config.now.options.workers) × (config.now.options.workers ≤ 64) }
+    requires queue { (1 ≤ config.now.options.queue) × (config.now.options.queue ≤ 4096) }
+    requires passes { length passes.items ≡ config.now.options.workers }
     ensures keeper { keeper.new ≡ keeper.old }
     ensures clerk { IfOk result (λ f. IsNewClerk f.1) }
     ensures new { IfOk result (λ f. AreNew f.1.desk (map (λ p. p.1.seat) f.2.items)) }
-    ensures numbers { IfOk result (λ f. OneForEach config.now.workers
+    ensures numbers { IfOk result (λ f. OneForEach config.now.options.workers
         (map (λ p. p.1.seat) f.2.items)) }
 {
     let first = keeper.receipt();
-    let (desk, seats, clerk) = desk(alloc, first, config.queue as usize, config.workers)?;
+    let (desk, seats, clerk) = desk(
+        alloc,
+        first,
+        config.options.queue as usize,
+        config.options.workers,
+    )?;
     let lives = pairs(alloc, seats, passes)?;
     Ok((desk, clerk, lives))
 }
@@ -83,15 +88,15 @@ impl<N: StoreName> SharedStore<N> {
     ) -> Result<SharedStore<N>, Refusal>
         requires book { name.seen.book ≡ N.book }
         requires limits { limits ≡ N.limits }
-        requires workers { (1 ≤ config.now.workers) × (config.now.workers ≤ 64) }
-        requires queue { (1 ≤ config.now.queue) × (config.now.queue ≤ 4096) }
+        requires workers { (1 ≤ config.now.options.workers) × (config.now.options.workers ≤ 64) }
+        requires queue { (1 ≤ config.now.options.queue) × (config.now.options.queue ≤ 4096) }
         ensures keeper { IfOk result (λ h. h.keeper ≡ no_entries) }
         ensures clerk { IfOk result (λ h. IsNewClerk h.clerk) }
         ensures new { IfOk result (λ h. AreNew h.clerk.desk (map (λ p. p.1.seat) h.lives.items)) }
         ensures numbers { IfOk result (λ h.
-            OneForEach config.now.workers (map (λ p. p.1.seat) h.lives.items)) }
+            OneForEach config.now.options.workers (map (λ p. p.1.seat) h.lives.items)) }
     {
-        let workers = config.workers as usize;
+        let workers = config.options.workers as usize;
         let (mut keeper, passes) = open::<N, _>(rt, alloc, config.keys, name, limits, workers)?;
         match open_desk(alloc, &mut keeper, passes, config) {
             Ok((desk, clerk, lives)) => Ok(SharedStore {

@@ -3,6 +3,7 @@
 ghost use Rattle.std.specs.Prelude.{◌≡◌, ◌≤◌};
 
 use crate::tests::guests::Guests;
+use serve_options::ServeOptions;
 use session_devices::MemoryOutput;
 use std::alloc::Global;
 use std::hash::RandomState;
@@ -29,17 +30,14 @@ pub fn config<R: Abort + RandomSource>(
     batches: u32,
 ) -> ServerConfig
     requires { (1 ≤ workers) × (workers ≤ 64) }
-    ensures workers { result.workers ≡ workers }
-    ensures queue { result.queue ≡ 4 }
+    ensures workers { result.options.workers ≡ workers }
+    ensures queue { result.options.queue ≡ 4 }
 {
     let limits = Limits::new(batches, 1000, 0, 0).expect(rt, "limits");
+    let options = ServeOptions::new(limits, 0, workers, 4, sessions, idle).expect(rt, "options");
     ServerConfig {
-        limits,
+        options,
         keys: RandomState::new(rt).expect(rt, "keys"),
-        workers,
-        queue: 4,
-        sessions,
-        idle,
     }
 }
 
@@ -68,8 +66,8 @@ fn serve<G: Gate + Sync, R: Threads + Wait + Clock + Eprint + Sync>(
     config: &ServerConfig,
     gate: &G,
 ) -> (u8, MemoryOutput)
-    requires workers { (1 ≤ config.now.workers) × (config.now.workers ≤ 64) }
-    requires queue { (1 ≤ config.now.queue) × (config.now.queue ≤ 4096) }
+    requires workers { (1 ≤ config.now.options.workers) × (config.now.options.workers ≤ 64) }
+    requires queue { (1 ≤ config.now.options.queue) × (config.now.options.queue ≤ 4096) }
 {
     let mut output = MemoryOutput::new(alloc, 1000, 1000);
     let status = serve_with(rt, alloc, listener, config, gate, &mut output);
@@ -94,8 +92,8 @@ pub fn visited<
         + Abort
         + Sync,
 >(rt: &R, alloc: Global, config: &ServerConfig, gate: &G, guests: Guests) -> Result<Outcome, Fail>
-    requires workers { (1 ≤ config.now.workers) × (config.now.workers ≤ 64) }
-    requires queue { (1 ≤ config.now.queue) × (config.now.queue ≤ 4096) }
+    requires workers { (1 ≤ config.now.options.workers) × (config.now.options.workers ≤ 64) }
+    requires queue { (1 ≤ config.now.options.queue) × (config.now.options.queue ≤ 4096) }
 {
     let any = SocketAddr::V4(SocketAddrV4::new(Ipv4Addr::LOCALHOST, 0));
     let listener = TcpListener::bind(rt, any).expect(rt, "bind");
@@ -103,8 +101,8 @@ pub fn visited<
     let ((status, output), pleased) = join(
         rt,
         || -> (u8, MemoryOutput)
-            requires { (1 ≤ config.now.workers) × (config.now.workers ≤ 64)
-                × (1 ≤ config.now.queue) × (config.now.queue ≤ 4096) }
+            requires { (1 ≤ config.now.options.workers) × (config.now.options.workers ≤ 64)
+                × (1 ≤ config.now.options.queue) × (config.now.options.queue ≤ 4096) }
         { serve(rt, alloc, &listener, config, gate) },
         || guests.visit(rt, alloc, address),
     );

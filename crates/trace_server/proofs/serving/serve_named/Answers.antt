@@ -10,7 +10,7 @@ returns-in-Err g c = inr (inl (unheard _ _ (g.W.Output.has_failed c.say_listenin
 pub returns : goal.returns
 returns g c =
     let failed = g.W.Output.has_failed c.serve_store.new.output in
-    let workers = c.args.setup.now.config.now.workers in
+    let workers = c.args.setup.now.config.now.options.workers in
     let old = g.W.Output.contents c.args.output.now in
     let new = g.W.Output.contents c.serve_store.new.output in
     subst (λ (l : Limits). Serves l workers old new failed c.serve_store.result) (sym c.requires.limits)

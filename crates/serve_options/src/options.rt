@@ -1,6 +1,5 @@
-//! What `serve` is asked to do.
 ghost use Rattle.std.specs.Prelude.{◌≡◌, ◌↔◌, IfSome, IsSome};
-ghost use Rattle.command_words.specs.ServeOptions.{IsWithin};
+ghost use Rattle.serve_options.specs.Ranges.{IsWithin};
 
 use trace_model::Limits;
 
@@ -13,11 +12,12 @@ pub struct ServeOptions {
     pub port: u16,
     /// How many connections are served at a time, 1 to 64.
     pub workers: u16,
-    /// How many batches may wait to be written, 1 to 4,096.
+    /// How many batches may wait for the clerk, 1 to 4,096.
     pub queue: u16,
-    /// After how many connections the program ends; 0 for never.
+    /// After how many connections it ends; 0 is never.
     pub sessions: u32,
-    /// After how many seconds without a byte a connection is closed, up to 86,400; 0 for never.
+    /// For how many seconds a connection may be silent before it is closed, or leave its response unread, up to
+    /// 86,400; 0 is for ever.
     pub idle: u32,
     ghost within: { IsWithin port workers queue sessions idle },
 }
