@@ -39,5 +39,8 @@ pub use process::ProcessSlots;
 pub use reference::{LEAST_REFERENCE, ReferenceSlots, kind_of_number, read_kind};
 pub use span::{LEAST_SPAN, SpanSlots, read_span};
 pub use tag::{LEAST_TAG, TagSlots, TagType, read_type, type_of_number};
-pub use values::{ByteSlice, TextSlice, read_bool, read_double, read_i32, read_i64, read_id};
+pub use values::{
+    ByteSlice, TextSlice, read_bool, read_double, read_i32, read_i64, read_id, read_owned_binary,
+    read_owned_text,
+};
 pub use writer::encode;

@@ -1,11 +1,11 @@
 ghost use Rattle.std.specs.Prelude.{◌≡◌, ◌≤◌, length, OnOk};
-ghost use Rattle.batch_codec.specs.Decoding.{Decodes, text_at};
+ghost use Rattle.batch_codec.specs.Decoding.{Decodes};
 ghost use Rattle.batch_codec.specs.SpanReading.{span_at, span_from};
 
 use crate::fault::{Decoded, Part};
 use crate::fields::{Slots, keep, keep_some, read_fields, required};
 use crate::items::{Element, read_list};
-use crate::values::{read_i32, read_i64, read_id, read_text};
+use crate::values::{read_i32, read_i64, read_id, read_owned_text};
 use jaeger_model::{Log, Seq, Span, SpanId, SpanRef, Tag, Text, TraceId};
 use std::alloc::Global;
 use thrift_binary::Cursor;
@@ -85,14 +85,6 @@ impl SpanSlots {
     }
 }
 
-/// The operation's name, copied from the input.
-fn read_operation(alloc: Global, cursor: &mut Cursor<'_>) -> Decoded<Text>
-    ensures exact { Decodes (λ t. t) text_at cursor.old result cursor.new }
-    ensures no_longer { OnOk result (length cursor.new ≤ length cursor.old) }
-{
-    Ok(read_text(cursor)?.to_text(alloc)?)
-}
-
 impl<'a> Slots<'a> for SpanSlots {
     ghost use Rattle.batch_codec.specs.SpanReading.{take_span};
 
@@ -105,7 +97,7 @@ impl<'a> Slots<'a> for SpanSlots {
             (I64, 2) => keep_some(&mut self.trace_high, read_id(cursor)),
             (I64, 3) => keep_some(&mut self.id, read_id(cursor)),
             (I64, 4) => keep_some(&mut self.parent, read_id(cursor)),
-            (STRING, 5) => keep_some(&mut self.operation, read_operation(alloc, cursor)),
+            (STRING, 5) => keep_some(&mut self.operation, read_owned_text(alloc, cursor)),
             (LIST, 6) => keep(&mut self.references, read_list(alloc, cursor)),
             (I32, 7) => keep_some(&mut self.flags, read_i32(cursor)),
             (I64, 8) => keep_some(&mut self.start, read_i64(cursor)),

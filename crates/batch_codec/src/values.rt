@@ -151,3 +151,29 @@ pub(crate) fn read_binary<'a>(cursor: &mut Cursor<'a>) -> Decoded<ByteSlice<'a>>
 {
     Ok(ByteSlice::new(cursor.read_bytes()?))
 }
+
+/// A string, which has to be UTF-8, copied from the input.
+///
+/// # Errors
+///
+/// The bytes are too few, or no UTF-8, or out of memory.
+#[inline]
+pub fn read_owned_text(alloc: Global, cursor: &mut Cursor<'_>) -> Decoded<Text>
+    ensures exact { Decodes (λ t. t) text_at cursor.old result cursor.new }
+    ensures no_longer { OnOk result (length cursor.new ≤ length cursor.old) }
+{
+    Ok(read_text(cursor)?.to_text(alloc)?)
+}
+
+/// A binary, copied from the input: any bytes.
+///
+/// # Errors
+///
+/// The bytes are too few, or out of memory.
+#[inline]
+pub fn read_owned_binary(alloc: Global, cursor: &mut Cursor<'_>) -> Decoded<Seq<u8>>
+    ensures exact { Decodes (λ b. b) binary_at cursor.old result cursor.new }
+    ensures no_longer { OnOk result (length cursor.new ≤ length cursor.old) }
+{
+    Ok(read_binary(cursor)?.to_seq(alloc)?)
+}

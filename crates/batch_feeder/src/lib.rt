@@ -8,7 +8,6 @@
 //!
 //! - `partial`: values of which some bytes have come, as readings of the bytes still to come (`specs/Continuing.antt`).
 //! - `values`, `texts`, `enums`, `skipped`: single values.
-//! - `reads`: texts and binaries that are whole, read where they stand.
 //! - `fields`, `structs`, `items`: a struct's fields up to its stop byte, a struct, a list of structs.
 //! - `tag`, `log`, `reference`, `process`, `span`, `batch`: one struct of `jaeger.thrift` each.
 //! - `feeder`: the calls.
@@ -22,7 +21,6 @@ mod items;
 mod log;
 mod partial;
 mod process;
-mod reads;
 mod reference;
 mod skipped;
 mod span;

@@ -4,12 +4,11 @@ ghost use Rattle.batch_feeder.specs.Fields.{Opens};
 use crate::fields::{Fields, Slots, Step, enter_slowly, hold_next};
 use crate::items::ListPart;
 use crate::partial::place;
-use crate::reads::read_text;
 use crate::skipped::SkipPart;
 use crate::structs::Struct;
 use crate::tag::TagParts;
 use crate::texts::TextPart;
-use batch_codec::{Decoded, Part, required};
+use batch_codec::{Decoded, Part, read_owned_text, required};
 use jaeger_model::{Process, Seq, Tag, Text};
 use std::alloc::Global;
 use std::marker::Model;
@@ -106,7 +105,7 @@ impl Slots for ProcessParts {
     #[inline(always)]
     fn put(&mut self, code: u8, id: i16, alloc: Global, cursor: &mut Cursor<'_>) -> Decoded<bool> {
         match (code, id) {
-            (STRING, 1) => self.service = Some(read_text(alloc, cursor)?),
+            (STRING, 1) => self.service = Some(read_owned_text(alloc, cursor)?),
             _ => return Ok(false),
         }
         Ok(true)

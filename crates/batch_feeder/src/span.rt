@@ -6,7 +6,6 @@ ghost use Rattle.batch_feeder.specs.Spans.{span_continues};
 use crate::fields::{Fields, Slots, Step, enter_slowly, hold_next};
 use crate::items::ListPart;
 use crate::partial::place;
-use crate::reads::read_text;
 use crate::skipped::SkipPart;
 use crate::structs::Struct;
 use crate::tag::TagParts;
@@ -14,7 +13,7 @@ use crate::texts::TextPart;
 use crate::values::{I32Part, I64Part, IdPart};
 use batch_codec::{
     Decoded, LEAST_SPAN, LogSlots, ReferenceSlots, SpanSlots, read_i32, read_i64, read_id,
-    read_span,
+    read_owned_text, read_span,
 };
 use jaeger_model::Span;
 use std::alloc::Global;
@@ -143,7 +142,7 @@ impl Slots for SpanSlots {
             (I64, 2) => self.trace_high = Some(read_id(cursor)?),
             (I64, 3) => self.id = Some(read_id(cursor)?),
             (I64, 4) => self.parent = Some(read_id(cursor)?),
-            (STRING, 5) => self.operation = Some(read_text(alloc, cursor)?),
+            (STRING, 5) => self.operation = Some(read_owned_text(alloc, cursor)?),
             (I32, 7) => self.flags = Some(read_i32(cursor)?),
             (I64, 8) => self.start = Some(read_i64(cursor)?),
             (I64, 9) => self.duration = Some(read_i64(cursor)?),

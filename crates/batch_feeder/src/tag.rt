@@ -3,12 +3,12 @@ ghost use Rattle.std.specs.Prelude.{◌≡◌};
 use crate::enums::TypePart;
 use crate::fields::{Fields, Slots};
 use crate::partial::place;
-use crate::reads::{read_binary, read_text};
 use crate::skipped::SkipPart;
 use crate::texts::{BinaryPart, TextPart};
 use crate::values::{BoolPart, DoublePart, I64Part};
 use batch_codec::{
-    Decoded, LEAST_TAG, Part, TagType, read_bool, read_double, read_i64, read_type, required,
+    Decoded, LEAST_TAG, Part, TagType, read_bool, read_double, read_i64, read_owned_binary,
+    read_owned_text, read_type, required,
 };
 use jaeger_model::{Seq, Tag, TagValue, Text, Value};
 use std::alloc::Global;
@@ -98,13 +98,13 @@ impl Slots for TagParts {
     #[inline(always)]
     fn put(&mut self, code: u8, id: i16, alloc: Global, cursor: &mut Cursor<'_>) -> Decoded<bool> {
         match (code, id) {
-            (STRING, 1) => self.key = Some(read_text(alloc, cursor)?),
+            (STRING, 1) => self.key = Some(read_owned_text(alloc, cursor)?),
             (I32, 2) => self.kind = Some(read_type(cursor)?),
-            (STRING, 3) => self.text = read_text(alloc, cursor)?,
+            (STRING, 3) => self.text = read_owned_text(alloc, cursor)?,
             (DOUBLE, 4) => self.double = read_double(cursor)?,
             (BOOL, 5) => self.boolean = read_bool(cursor)?,
             (I64, 6) => self.long = read_i64(cursor)?,
-            (STRING, 7) => self.binary = read_binary(alloc, cursor)?,
+            (STRING, 7) => self.binary = read_owned_binary(alloc, cursor)?,
             _ => return Ok(false),
         }
         Ok(true)

@@ -50,8 +50,8 @@ unfolding take_span
 returns-in-11-eq5 c =
     let i : c.args.id ≡ pos 5 = rw c.in-11-eq5.is-1 at (sym (to_z-of_z w16 c.args.id c.ranges.id)) in
     rw (c.in-11-eq5.is-0, i) (record {
-      exact = takes-kept take_span c.args.self.now 11 (pos 5) _ _ text_at (λ x. Some x) (λ slot. record c.args.self.now { operation = slot }) c.read_operation.result c.keep_some-in-11-eq5.result c.keep_some-in-11-eq5.new.slot refl c.read_operation.ensures.exact c.keep_some-in-11-eq5.ensures.kept c.keep_some-in-11-eq5.ensures.same c.keep_some-in-11-eq5.ensures.refused;
-      no_longer = kept-no_longer _ c.read_operation.result c.keep_some-in-11-eq5.result c.read_operation.ensures.no_longer c.keep_some-in-11-eq5.ensures.refused;
+      exact = takes-kept take_span c.args.self.now 11 (pos 5) _ _ text_at (λ x. Some x) (λ slot. record c.args.self.now { operation = slot }) c.read_owned_text.result c.keep_some-in-11-eq5.result c.keep_some-in-11-eq5.new.slot refl c.read_owned_text.ensures.exact c.keep_some-in-11-eq5.ensures.kept c.keep_some-in-11-eq5.ensures.same c.keep_some-in-11-eq5.ensures.refused;
+      no_longer = kept-no_longer _ c.read_owned_text.result c.keep_some-in-11-eq5.result c.read_owned_text.ensures.no_longer c.keep_some-in-11-eq5.ensures.refused;
     })
 
 pub returns-in-15-eq6 : goal.returns-in-15-eq6
