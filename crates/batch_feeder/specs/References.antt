@@ -1,15 +1,16 @@
 -- A reference to a span, of which some bytes have come.
-use Rattle.std.specs.Prelude.{Some, Ok}
+use Rattle.std.specs.Prelude.{◌++◌, Some, Ok}
 use Rattle.thrift_binary.specs.Reading.{◌>>=◌}
 use Rattle.batch_codec.specs.declared.reference.ReferenceSlots.{ReferenceSlots}
-use Rattle.batch_codec.specs.Decoding.{Reading}
+use Rattle.batch_codec.specs.Decoding.{Reading, id_at}
+use Rattle.batch_codec.specs.ReferenceReading.{kind_at}
 use Rattle.batch_feeder.specs.declared.reference.ReferenceHeld.{ReferenceHeld}
 use Rattle.batch_feeder.specs.declared.reference.ReferenceHeld.TheVariants as held
-use Rattle.batch_feeder.specs.Values.{id_part, kind_part, skip_part}
+use Rattle.batch_feeder.specs.Values.{skip_part}
 
 abbrev pub reference_continues : ReferenceSlots → ReferenceHeld → Reading ReferenceSlots
-reference_continues s (held.Kind p) w = kind_part p w >>= λ x. Ok (record s { kind = Some x.0 }, x.1)
-reference_continues s (held.TraceLow p) w = id_part p w >>= λ x. Ok (record s { trace_low = Some x.0 }, x.1)
-reference_continues s (held.TraceHigh p) w = id_part p w >>= λ x. Ok (record s { trace_high = Some x.0 }, x.1)
-reference_continues s (held.Id p) w = id_part p w >>= λ x. Ok (record s { id = Some x.0 }, x.1)
+reference_continues s (held.Kind p) w = kind_at (p.bytes ++ w) >>= λ x. Ok (record s { kind = Some x.0 }, x.1)
+reference_continues s (held.TraceLow p) w = id_at (p.bytes ++ w) >>= λ x. Ok (record s { trace_low = Some x.0 }, x.1)
+reference_continues s (held.TraceHigh p) w = id_at (p.bytes ++ w) >>= λ x. Ok (record s { trace_high = Some x.0 }, x.1)
+reference_continues s (held.Id p) w = id_at (p.bytes ++ w) >>= λ x. Ok (record s { id = Some x.0 }, x.1)
 reference_continues s (held.Skip p) w = skip_part s p w

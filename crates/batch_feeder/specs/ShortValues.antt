@@ -60,6 +60,37 @@ pub type_short : Short 8 type_at
 unfolding type_at
 type_short w h = rw (i32_short w h) refl
 
+-- fewer bytes than n, which each value has, are too few
+abbrev pub Few : {A : Type 0} → ℕ → Reading A → Type 0
+Few n read = (w : List ℕ) → length w < n → read w ≡ Err (Wire Truncated)
+
+past_few : (n : ℕ) (w : List ℕ) → length w < n → past n w ≡ Err Truncated
+past_few n w lt = rw (lt-ltb (length w) n lt) refl
+
+pub double_few : Few 8 double_at
+unfolding least_bytes
+double_few w lt = double_short w (past_few 8 w lt)
+
+pub i32_few : Few 4 i32_at
+unfolding least_bytes
+i32_few w lt = i32_short w (past_few 4 w lt)
+
+pub i64_few : Few 8 i64_at
+unfolding least_bytes
+i64_few w lt = i64_short w (past_few 8 w lt)
+
+pub id_few : Few 8 id_at
+unfolding least_bytes
+id_few w lt = id_short w (past_few 8 w lt)
+
+pub kind_few : Few 4 kind_at
+unfolding least_bytes
+kind_few w lt = kind_short w (past_few 4 w lt)
+
+pub type_few : Few 4 type_at
+unfolding least_bytes
+type_few w lt = type_short w (past_few 4 w lt)
+
 few_of_text : (r : Read (List ℕ)) → ◌≡◌ {A = Read (Unit {0})} (r >>= λ x. Ok (tt, x.1)) (Err Truncated) → r ≡ Err Truncated
 few_of_text (Ok x) h = absurd cc
 few_of_text (Err e) h = let k : e ≡ Truncated = cc in rw k refl

@@ -1,15 +1,15 @@
 -- A span of which some bytes have come.
-use Rattle.std.specs.Prelude.{Some, Ok}
+use Rattle.std.specs.Prelude.{◌++◌, Some, Ok}
 use Rattle.thrift_binary.specs.Reading.{◌>>=◌}
 use Rattle.batch_codec.specs.declared.span.SpanSlots.{SpanSlots}
-use Rattle.batch_codec.specs.Decoding.{Reading}
+use Rattle.batch_codec.specs.Decoding.{Reading, i32_at, i64_at, id_at}
 use Rattle.batch_codec.specs.Gathered.{no_tag, no_log, no_reference}
 use Rattle.batch_codec.specs.TagReading.{take_tag, tag_from}
 use Rattle.batch_codec.specs.LogReading.{take_log, log_from}
 use Rattle.batch_codec.specs.ReferenceReading.{take_reference, reference_from}
 use Rattle.batch_feeder.specs.declared.span.SpanHeld.{SpanHeld}
 use Rattle.batch_feeder.specs.declared.span.SpanHeld.TheVariants as held
-use Rattle.batch_feeder.specs.Values.{i32_part, i64_part, id_part, text_part, skip_part}
+use Rattle.batch_feeder.specs.Values.{text_part, skip_part}
 use Rattle.batch_feeder.specs.Fields.{struct_at, struct_from}
 use Rattle.batch_feeder.specs.Lists.{list_from}
 use Rattle.batch_feeder.specs.Tags.{tag_continues}
@@ -17,15 +17,15 @@ use Rattle.batch_feeder.specs.Logs.{log_continues}
 use Rattle.batch_feeder.specs.References.{reference_continues}
 
 abbrev pub span_continues : SpanSlots → SpanHeld → Reading SpanSlots
-span_continues s (held.TraceLow p) w = id_part p w >>= λ x. Ok (record s { trace_low = Some x.0 }, x.1)
-span_continues s (held.TraceHigh p) w = id_part p w >>= λ x. Ok (record s { trace_high = Some x.0 }, x.1)
-span_continues s (held.Id p) w = id_part p w >>= λ x. Ok (record s { id = Some x.0 }, x.1)
-span_continues s (held.Parent p) w = id_part p w >>= λ x. Ok (record s { parent = Some x.0 }, x.1)
+span_continues s (held.TraceLow p) w = id_at (p.bytes ++ w) >>= λ x. Ok (record s { trace_low = Some x.0 }, x.1)
+span_continues s (held.TraceHigh p) w = id_at (p.bytes ++ w) >>= λ x. Ok (record s { trace_high = Some x.0 }, x.1)
+span_continues s (held.Id p) w = id_at (p.bytes ++ w) >>= λ x. Ok (record s { id = Some x.0 }, x.1)
+span_continues s (held.Parent p) w = id_at (p.bytes ++ w) >>= λ x. Ok (record s { parent = Some x.0 }, x.1)
 span_continues s (held.Operation p) w = text_part p w >>= λ x. Ok (record s { operation = Some x.0 }, x.1)
 span_continues s (held.References p) w = list_from (struct_at take_reference no_reference reference_from) (λ q. struct_from take_reference reference_continues reference_from q.slots q.step) p.items.items p.left p.head p.one w >>= λ x. Ok (record s { references = x.0 }, x.1)
-span_continues s (held.Flags p) w = i32_part p w >>= λ x. Ok (record s { flags = Some x.0 }, x.1)
-span_continues s (held.Start p) w = i64_part p w >>= λ x. Ok (record s { start = Some x.0 }, x.1)
-span_continues s (held.Duration p) w = i64_part p w >>= λ x. Ok (record s { duration = Some x.0 }, x.1)
+span_continues s (held.Flags p) w = i32_at (p.bytes ++ w) >>= λ x. Ok (record s { flags = Some x.0 }, x.1)
+span_continues s (held.Start p) w = i64_at (p.bytes ++ w) >>= λ x. Ok (record s { start = Some x.0 }, x.1)
+span_continues s (held.Duration p) w = i64_at (p.bytes ++ w) >>= λ x. Ok (record s { duration = Some x.0 }, x.1)
 span_continues s (held.Tags p) w = list_from (struct_at take_tag no_tag tag_from) (λ q. struct_from take_tag tag_continues tag_from q.slots q.step) p.items.items p.left p.head p.one w >>= λ x. Ok (record s { tags = x.0 }, x.1)
 span_continues s (held.Logs p) w = list_from (struct_at take_log no_log log_from) (λ q. struct_from take_log log_continues log_from q.slots q.step) p.items.items p.left p.head p.one w >>= λ x. Ok (record s { logs = x.0 }, x.1)
 span_continues s (held.Skip p) w = skip_part s p w

@@ -1,19 +1,20 @@
 -- A tag of which some bytes have come.
-use Rattle.std.specs.Prelude.{Some, Ok}
+use Rattle.std.specs.Prelude.{◌++◌, Some, Ok}
 use Rattle.thrift_binary.specs.Reading.{◌>>=◌}
 use Rattle.batch_codec.specs.declared.tag.TagSlots.{TagSlots}
-use Rattle.batch_codec.specs.Decoding.{Reading}
+use Rattle.batch_codec.specs.Decoding.{Reading, double_at, i64_at}
+use Rattle.batch_codec.specs.TagReading.{type_at}
 use Rattle.batch_feeder.specs.declared.tag.TagHeld.{TagHeld}
 use Rattle.batch_feeder.specs.declared.tag.TagHeld.TheVariants as held
-use Rattle.batch_feeder.specs.Values.{bool_from, double_part, i64_part, text_part, binary_part, type_part, skip_part}
+use Rattle.batch_feeder.specs.Values.{bool_from, text_part, binary_part, skip_part}
 
 -- the value that has begun, and what it makes of what was gathered
 abbrev pub tag_continues : TagSlots → TagHeld → Reading TagSlots
 tag_continues s (held.Key p) w = text_part p w >>= λ x. Ok (record s { key = Some x.0 }, x.1)
-tag_continues s (held.Kind p) w = type_part p w >>= λ x. Ok (record s { kind = Some x.0 }, x.1)
+tag_continues s (held.Kind p) w = type_at (p.bytes ++ w) >>= λ x. Ok (record s { kind = Some x.0 }, x.1)
 tag_continues s (held.Text p) w = text_part p w >>= λ x. Ok (record s { text = x.0 }, x.1)
-tag_continues s (held.Double p) w = double_part p w >>= λ x. Ok (record s { double = x.0 }, x.1)
+tag_continues s (held.Double p) w = double_at (p.bytes ++ w) >>= λ x. Ok (record s { double = x.0 }, x.1)
 tag_continues s (held.Boolean p) w = bool_from p w >>= λ x. Ok (record s { boolean = x.0 }, x.1)
-tag_continues s (held.Long p) w = i64_part p w >>= λ x. Ok (record s { long = x.0 }, x.1)
+tag_continues s (held.Long p) w = i64_at (p.bytes ++ w) >>= λ x. Ok (record s { long = x.0 }, x.1)
 tag_continues s (held.Binary p) w = binary_part p w >>= λ x. Ok (record s { binary = x.0 }, x.1)
 tag_continues s (held.Skip p) w = skip_part s p w

@@ -1,11 +1,17 @@
-ghost use Rattle.std.specs.Prelude.{◌≡◌, ℕ, List};
-ghost use Rattle.batch_codec.specs.Decoding.{bool_at, double_at, i32_at, i64_at, id_at};
-ghost use Rattle.batch_feeder.specs.Values.{bool_from, double_part, i32_part, i64_part, id_part};
+ghost use Rattle.std.specs.Prelude.{◌≡◌, ◌<◌, ℕ, List, ◌++◌, length, Result, Err};
+ghost use Rattle.thrift_binary.specs.declared.fault.WireError.TheVariants.{Truncated};
+ghost use Rattle.batch_codec.specs.declared.fault.DecodeError.{DecodeError};
+ghost use Rattle.batch_codec.specs.declared.fault.DecodeError.TheVariants.{Wire};
+ghost use Rattle.batch_codec.specs.Decoding.{bool_at};
+ghost use Rattle.batch_feeder.specs.Continuing.{ended};
+ghost use Rattle.batch_feeder.specs.Values.{bool_from};
 
 use crate::partial::{Partial, fault_of};
 use batch_codec::Decoded;
+use byteorder::{BigEndian, ByteOrder};
 use std::alloc::Global;
-use wire_pieces::{Bool, Double, I32, I64, Piece};
+use std::marker::PhantomData;
+use wire_pieces::{Bool, Gathered, Piece};
 
 /// A bool.
 #[derive(Drop)]
@@ -36,111 +42,121 @@ impl BoolPart {
     }
 }
 
-/// The eight bytes of a double.
+/// A value that is spelled by N bytes, whatever it is. Some bytes may be a fault.
+pub(crate) trait Fixed<const N: usize>: Drop + Sized {
+    /// What is read of bytes that begin with it.
+    ghost at: { List ℕ → Result (Self × List ℕ) DecodeError };
+
+    /// What the bytes spell.
+    fn of(bytes: &[u8; N]) -> Decoded<Self>
+        ensures spells { (w : List ℕ) → at (bytes.now ++ w) ≡ ended result w }
+        ensures no_want { result ≡ Err (Wire Truncated) → ⊥ };
+
+    /// Fewer bytes are too few.
+    ghost few: { (w : List ℕ) → length w < N → at w ≡ Err (Wire Truncated) };
+}
+
+/// Such a value of which some bytes have come.
 #[derive(Drop)]
-pub(crate) struct DoublePart {
-    part: Double,
+pub(crate) struct FixedPart<V, const N: usize> {
+    bytes: Gathered<N>,
+    value: PhantomData<V>,
 }
 
-impl Partial for DoublePart {
-    type Value = [u8; 8];
+impl<V: Fixed<N>, const N: usize> Partial for FixedPart<V, N> {
+    type Value = V;
 
-    ghost resumes = { double_part };
+    ghost resumes = { λ p w. V.at (p.bytes ++ w) };
 
-    fn more(&mut self, _alloc: Global, piece: &mut Piece<'_>) -> Decoded<Option<[u8; 8]>> {
-        Ok(self.part.more(piece))
-    }
-}
-
-impl DoublePart {
-    /// Before the first byte.
-    #[tactic(auto, unfolding(batch_codec::specs::Decoding::double_at))]
-    pub(crate) fn new() -> Self
-        ensures fresh { (w : List ℕ) → double_part result w ≡ double_at w }
-    {
-        DoublePart {
-            part: Double::new(),
+    fn more(&mut self, _alloc: Global, piece: &mut Piece<'_>) -> Decoded<Option<V>> {
+        match self.bytes.more(piece) {
+            None => Ok(None),
+            Some(bytes) => match V::of(&bytes) {
+                Ok(value) => Ok(Some(value)),
+                Err(error) => Err(error),
+            },
         }
     }
 }
 
-/// A signed number of 32 bits.
-#[derive(Drop)]
-pub(crate) struct I32Part {
-    part: I32,
-}
-
-impl Partial for I32Part {
-    type Value = i32;
-
-    ghost resumes = { i32_part };
-
-    fn more(&mut self, _alloc: Global, piece: &mut Piece<'_>) -> Decoded<Option<i32>> {
-        Ok(self.part.more(piece))
-    }
-}
-
-impl I32Part {
+impl<V: Fixed<N>, const N: usize> FixedPart<V, N> {
     /// Before the first byte.
-    #[tactic(auto, unfolding(batch_codec::specs::Decoding::i32_at))]
     pub(crate) fn new() -> Self
-        ensures fresh { (w : List ℕ) → i32_part result w ≡ i32_at w }
+        requires some { 0 < N }
+        ensures fresh { (w : List ℕ) → V.at (result.bytes ++ w) ≡ V.at w }
     {
-        I32Part { part: I32::new() }
+        FixedPart {
+            bytes: Gathered::new(),
+            value: PhantomData,
+        }
     }
 }
+
+/// The eight bytes of a double.
+pub(crate) type DoublePart = FixedPart<[u8; 8], 8>;
+
+/// A signed number of 32 bits.
+pub(crate) type I32Part = FixedPart<i32, 4>;
 
 /// A signed number of 64 bits.
-#[derive(Drop)]
-pub(crate) struct I64Part {
-    part: I64,
-}
+pub(crate) type I64Part = FixedPart<i64, 8>;
 
-impl Partial for I64Part {
-    type Value = i64;
+/// 64 bits of an id.
+pub(crate) type IdPart = FixedPart<u64, 8>;
 
-    ghost resumes = { i64_part };
+impl Fixed<8> for [u8; 8] {
+    ghost use Rattle.batch_codec.specs.Decoding.{double_at};
+    ghost use Rattle.batch_feeder.specs.ShortValues.{double_few};
 
-    fn more(&mut self, _alloc: Global, piece: &mut Piece<'_>) -> Decoded<Option<i64>> {
-        Ok(self.part.more(piece))
+    ghost at = { double_at };
+
+    #[tactic(auto, unfolding(batch_codec::specs::Decoding::double_at))]
+    fn of(bytes: &[u8; 8]) -> Decoded<[u8; 8]> {
+        Ok(*bytes)
     }
+
+    ghost few = { double_few };
 }
 
-impl I64Part {
-    /// Before the first byte.
+impl Fixed<4> for i32 {
+    ghost use Rattle.batch_codec.specs.Decoding.{i32_at};
+    ghost use Rattle.batch_feeder.specs.ShortValues.{i32_few};
+
+    ghost at = { i32_at };
+
+    #[tactic(auto, unfolding(batch_codec::specs::Decoding::i32_at))]
+    fn of(bytes: &[u8; 4]) -> Decoded<i32> {
+        Ok(BigEndian::read_i32(bytes))
+    }
+
+    ghost few = { i32_few };
+}
+
+impl Fixed<8> for i64 {
+    ghost use Rattle.batch_codec.specs.Decoding.{i64_at};
+    ghost use Rattle.batch_feeder.specs.ShortValues.{i64_few};
+
+    ghost at = { i64_at };
+
     #[tactic(auto, unfolding(batch_codec::specs::Decoding::i64_at))]
-    pub(crate) fn new() -> Self
-        ensures fresh { (w : List ℕ) → i64_part result w ≡ i64_at w }
-    {
-        I64Part { part: I64::new() }
+    fn of(bytes: &[u8; 8]) -> Decoded<i64> {
+        Ok(BigEndian::read_i64(bytes))
     }
+
+    ghost few = { i64_few };
 }
 
-/// 64 bits of an id, which the wire has as a signed number, as an unsigned one.
-#[derive(Drop)]
-pub(crate) struct IdPart {
-    part: I64,
-}
+/// An id, which the wire has as a signed number.
+impl Fixed<8> for u64 {
+    ghost use Rattle.batch_codec.specs.Decoding.{id_at};
+    ghost use Rattle.batch_feeder.specs.ShortValues.{id_few};
 
-impl Partial for IdPart {
-    type Value = u64;
+    ghost at = { id_at };
 
-    ghost resumes = { id_part };
-
-    fn more(&mut self, _alloc: Global, piece: &mut Piece<'_>) -> Decoded<Option<u64>> {
-        let Some(number) = self.part.more(piece) else {
-            return Ok(None);
-        };
-        Ok(Some(number.cast_unsigned()))
-    }
-}
-
-impl IdPart {
-    /// Before the first byte.
     #[tactic(auto, unfolding(batch_codec::specs::Decoding::id_at, batch_codec::specs::Decoding::i64_at))]
-    pub(crate) fn new() -> Self
-        ensures fresh { (w : List ℕ) → id_part result w ≡ id_at w }
-    {
-        IdPart { part: I64::new() }
+    fn of(bytes: &[u8; 8]) -> Decoded<u64> {
+        Ok(BigEndian::read_i64(bytes).cast_unsigned())
     }
+
+    ghost few = { id_few };
 }

@@ -1,101 +1,90 @@
 ghost use Rattle.std.specs.Prelude.{◌≡◌, ◌<◌, ◌≤◌, List, ℕ, [], ◌∷◌, ◌++◌, length, take, MatchOption};
+ghost use Rattle.wire_pieces.specs.Pieces.{Takes};
 
 use crate::piece::Piece;
 use std::marker::Model;
-use std::mem;
 
-/// The bytes of a number or a head that have come, at most 8.
+/// N bytes of which some have come, and not all. Contracts see it as those that have.
 #[derive(Drop)]
-pub(crate) struct Gathered {
-    bytes: [u8; 8],
+pub struct Gathered<const N: usize> {
+    bytes: [u8; N],
     len: usize,
 }
 
-impl Model for Gathered {
+impl<const N: usize> Model for Gathered<N> {
     ghost Value = { List ℕ };
 
     ghost view = { λ g. take g.len g.bytes };
 
-    ghost invariant = { λ g. g.len ≤ 8 };
+    ghost invariant = { λ g. g.len < N };
 }
 
-impl Gathered {
-    pub(crate) fn new() -> Self
-        ensures { result ≡ [] }
+impl<const N: usize> Gathered<N> {
+    /// Before the first byte.
+    #[inline]
+    pub fn new() -> Self
+        requires some { 0 < N }
+        ensures nothing { result ≡ [] }
     {
         Gathered {
-            bytes: [0; 8],
+            bytes: [0; N],
             len: 0,
         }
     }
 
+    #[inline]
     fn len(&self) -> usize
-        ensures { result ≡ length self.now }
+        ensures len { result ≡ length self.now }
+        ensures short { length self.now < N }
     {
         self.len
     }
 
-    fn push(&mut self, byte: u8)
-        requires { length self.old < 8 }
-        ensures { self.new ≡ self.old ++ byte ∷ [] }
+    /// Takes one byte more: all of them where it is the last one, and none is left here then.
+    #[inline]
+    fn push(&mut self, byte: u8) -> Option<[u8; N]>
+        ensures parts { MatchOption result (self.new ≡ self.old ++ byte ∷ [])
+            (λ g. (g ≡ self.old ++ byte ∷ []) × (self.new ≡ [])) }
+        ensures size { MatchOption result (length self.new < N) (λ g. length g ≡ N) }
     {
         self.bytes[self.len] = byte;
-        self.len += 1;
-    }
-
-    pub(crate) fn as_slice(&self) -> &[u8]
-        ensures { result.now ≡ self.now }
-    {
-        &self.bytes[..self.len]
-    }
-
-    /// The bytes of a number or a head that came at once.
-    #[inline]
-    fn of(beginning: &[u8]) -> Self
-        requires { length beginning.now ≤ 8 }
-        ensures { result ≡ beginning.now }
-    {
-        let mut bytes = [0; 8];
-        bytes[..beginning.len()].copy_from_slice(beginning);
-        Gathered {
-            bytes,
-            len: beginning.len(),
+        if self.len + 1 < N {
+            self.len += 1;
+            return None;
         }
+        self.len = 0;
+        Some(self.bytes)
     }
 
-    /// Continues until n bytes have come. They are handed out then, and none is left here.
+    /// Continues over a piece: the bytes once all have come, and none is left here then.
     #[inline]
-    pub(crate) fn fill(&mut self, n: usize, piece: &mut Piece<'_>) -> Option<Gathered>
-        requires short { length self.old < n }
-        requires within { n ≤ 8 }
+    pub fn more(&mut self, piece: &mut Piece<'_>) -> Option<[u8; N]>
         ensures parts { MatchOption result ((self.new ≡ self.old ++ piece.old) × (piece.new ≡ []))
             (λ g. (g ++ piece.new ≡ self.old ++ piece.old) × (self.new ≡ [])) }
-        ensures size { MatchOption result (length self.new < n) (λ g. length g ≡ n) }
-        ensures taken { MatchOption result (length piece.new ≤ length piece.old)
-            (λ _. length piece.new < length piece.old) }
+        ensures size { MatchOption result (length self.new < N) (λ g. length g ≡ N) }
+        ensures taken { Takes piece.old piece.new result }
     {
         if self.len() == 0 {
-            if let Some(beginning) = piece.beginning(n) {
-                return Some(Gathered::of(beginning));
+            if let Some(beginning) = piece.beginning(N) {
+                let mut whole = [0; N];
+                whole.copy_from_slice(beginning);
+                return Some(whole);
             }
         }
-        self.fill_by_bytes(n, piece)
+        self.more_by_bytes(piece)
     }
 
     /// The same, a byte at a time.
-    fn fill_by_bytes(&mut self, n: usize, piece: &mut Piece<'_>) -> Option<Gathered>
-        requires short { length self.old < n }
-        requires within { n ≤ 8 }
+    fn more_by_bytes(&mut self, piece: &mut Piece<'_>) -> Option<[u8; N]>
+        requires short { length self.old < N }
         ensures parts { MatchOption result ((self.new ≡ self.old ++ piece.old) × (piece.new ≡ []))
             (λ g. (g ++ piece.new ≡ self.old ++ piece.old) × (self.new ≡ [])) }
-        ensures size { MatchOption result (length self.new < n) (λ g. length g ≡ n) }
-        ensures taken { MatchOption result (length piece.new ≤ length piece.old)
-            (λ _. length piece.new < length piece.old) }
+        ensures size { MatchOption result (length self.new < N) (λ g. length g ≡ N) }
+        ensures taken { Takes piece.old piece.new result }
     {
         while let Some(byte) = piece.next() {
-            self.push(byte);
-            if self.len() == n {
-                return Some(mem::replace(self, Gathered::new()));
+            if let Some(whole) = self.push(byte) {
+                return Some(whole);
             }
         }
         None

@@ -1,19 +1,34 @@
 ghost use Rattle.std.specs.Prelude.{◌≡◌, true, false, List, ℕ, None, Ok};
+ghost use Rattle.thrift_binary.specs.declared.fault.WireError.TheVariants.{Truncated};
 ghost use Rattle.thrift_binary.specs.Reading.{field_at, list_at};
-ghost use Rattle.wire_pieces.specs.Pieces.{Continues, OkTakes};
+ghost use Rattle.wire_pieces.specs.Pieces.{Reaches, Continues, Takes, OkTakes};
+ghost use Rattle.wire_pieces.specs.Numbers.{i16_from};
 ghost use Rattle.wire_pieces.specs.Heads.{IsTyped, id_from, head_from, typed_size_from, list_head};
 
 use crate::fault::PieceError;
-use crate::numbers::{I16, Size};
+use crate::gathered::Gathered;
+use crate::numbers::Size;
 use crate::piece::Piece;
+use byteorder::{BigEndian, ByteOrder};
 use thrift_binary::WireError;
 use thrift_binary::types::is_code;
+
+/// Continues over a signed number of 16 bits.
+#[inline]
+fn more_i16(bytes: &mut Gathered<2>, piece: &mut Piece<'_>) -> Option<i16>
+    ensures reads { Reaches Truncated (λ x. x) (i16_from bytes.old) (i16_from bytes.new)
+        piece.old piece.new result }
+    ensures taken { Takes piece.old piece.new result }
+{
+    let whole = bytes.more(piece)?;
+    Some(BigEndian::read_i16(&whole))
+}
 
 /// The id behind a field's type.
 #[derive(Drop)]
 pub(crate) struct TypedId {
     code: u8,
-    id: I16,
+    id: Gathered<2>,
 }
 
 impl TypedId {
@@ -24,7 +39,7 @@ impl TypedId {
         ensures taken { OkTakes piece.old piece.new result }
         ensures typed { IsTyped result }
     {
-        let Some(id) = self.id.more(piece) else {
+        let Some(id) = more_i16(&mut self.id, piece) else {
             return Ok(None);
         };
         if !is_code(self.code) {
@@ -86,7 +101,7 @@ impl FieldHead {
                 }
                 let mut part = TypedId {
                     code,
-                    id: I16::new(),
+                    id: Gathered::new(),
                 };
                 let head = part.more(piece)?;
                 self.step = HeadStep::Id(part);

@@ -7,8 +7,8 @@
 //! a fault is reported at the piece that holds its last byte.
 //!
 //! - `piece`: the bytes of a piece that are left.
-//! - `gathered`: the bytes of a number or a head that have come.
-//! - `numbers`: [`I16`], [`I32`], [`I64`], [`Double`], [`Bool`], [`Size`].
+//! - `gathered`: so many bytes, as those of a number, of which some have come ([`Gathered`]).
+//! - `numbers`: [`Bool`], [`Size`].
 //! - `strings`: a string or binary ([`StringPart`]), which grows only by bytes that have come.
 //! - `heads`, `maps`: [`FieldHead`], [`ListHead`], [`MapHead`]. `specs/Heads.antt` and `specs/Lists.antt` say what
 //!   the fields of a struct and the values of a list read from a head or a value on, and
@@ -29,9 +29,10 @@ mod skip;
 mod strings;
 
 pub use fault::PieceError;
+pub use gathered::Gathered;
 pub use heads::{FieldHead, ListHead};
 pub use maps::MapHead;
-pub use numbers::{Bool, Double, I16, I32, I64, Size, size_of};
+pub use numbers::{Bool, Size, size_of};
 pub use piece::Piece;
 pub use skip::Skipping;
 pub use strings::StringPart;

@@ -1,147 +1,12 @@
-ghost use Rattle.std.specs.Prelude.{◌≡◌, ◌<◌, List, ℕ, [], ◌++◌, length, Some, Ok};
-ghost use Rattle.std.specs.Int.{w16, w32, w64};
-ghost use Rattle.thrift_binary.specs.Reading.{bool_at, bytes_at, signed_at, size_at};
-ghost use Rattle.thrift_binary.specs.declared.fault.WireError.TheVariants.{Truncated};
-ghost use Rattle.wire_pieces.specs.Pieces.{Reaches, Continues, Takes, OkTakes};
+ghost use Rattle.std.specs.Prelude.{◌≡◌, List, ℕ, [], ◌++◌, Some, Ok};
+ghost use Rattle.thrift_binary.specs.Reading.{bool_at, size_at};
+ghost use Rattle.wire_pieces.specs.Pieces.{Continues, OkTakes};
 
 use crate::fault::PieceError;
 use crate::gathered::Gathered;
 use crate::piece::Piece;
 use byteorder::{BigEndian, ByteOrder};
 use thrift_binary::WireError;
-
-/// A signed number of 16 bits.
-#[derive(Drop)]
-pub struct I16 {
-    got: Gathered,
-    ghost within: { length got < 2 },
-}
-
-impl I16 {
-    ghost use Rattle.wire_pieces.specs.Numbers.{i16_from};
-
-    /// Before the first byte.
-    #[inline]
-    pub fn new() -> Self
-        ensures fresh { (w : List ℕ) → i16_from result w ≡ signed_at w16 2 w }
-    {
-        I16 {
-            got: Gathered::new(),
-        }
-    }
-
-    /// Continues over a piece.
-    #[inline]
-    pub fn more(&mut self, piece: &mut Piece<'_>) -> Option<i16>
-        ensures reads { Reaches Truncated (λ x. x) (i16_from self.old) (i16_from self.new)
-            piece.old piece.new result }
-        ensures taken { Takes piece.old piece.new result }
-    {
-        let whole = self.got.fill(2, piece)?;
-        let number = BigEndian::read_i16(whole.as_slice());
-        Some(number)
-    }
-}
-
-/// A signed number of 32 bits.
-#[derive(Drop)]
-pub struct I32 {
-    got: Gathered,
-    ghost within: { length got < 4 },
-}
-
-impl I32 {
-    ghost use Rattle.wire_pieces.specs.Numbers.{i32_from};
-
-    /// Before the first byte.
-    #[inline]
-    pub fn new() -> Self
-        ensures fresh { (w : List ℕ) → i32_from result w ≡ signed_at w32 4 w }
-    {
-        I32 {
-            got: Gathered::new(),
-        }
-    }
-
-    /// Continues over a piece.
-    #[inline]
-    pub fn more(&mut self, piece: &mut Piece<'_>) -> Option<i32>
-        ensures reads { Reaches Truncated (λ x. x) (i32_from self.old) (i32_from self.new)
-            piece.old piece.new result }
-        ensures taken { Takes piece.old piece.new result }
-    {
-        let whole = self.got.fill(4, piece)?;
-        let number = BigEndian::read_i32(whole.as_slice());
-        Some(number)
-    }
-}
-
-/// A signed number of 64 bits.
-#[derive(Drop)]
-pub struct I64 {
-    got: Gathered,
-    ghost within: { length got < 8 },
-}
-
-impl I64 {
-    ghost use Rattle.wire_pieces.specs.Numbers.{i64_from};
-
-    /// Before the first byte.
-    #[inline]
-    pub fn new() -> Self
-        ensures fresh { (w : List ℕ) → i64_from result w ≡ signed_at w64 8 w }
-    {
-        I64 {
-            got: Gathered::new(),
-        }
-    }
-
-    /// Continues over a piece.
-    #[inline]
-    pub fn more(&mut self, piece: &mut Piece<'_>) -> Option<i64>
-        ensures reads { Reaches Truncated (λ x. x) (i64_from self.old) (i64_from self.new)
-            piece.old piece.new result }
-        ensures taken { Takes piece.old piece.new result }
-    {
-        let whole = self.got.fill(8, piece)?;
-        let number = BigEndian::read_i64(whole.as_slice());
-        Some(number)
-    }
-}
-
-/// The eight bytes of a double, which are not interpreted.
-#[derive(Drop)]
-pub struct Double {
-    got: Gathered,
-    ghost within: { length got < 8 },
-}
-
-impl Double {
-    ghost use Rattle.wire_pieces.specs.Numbers.{double_from};
-
-    /// Before the first byte.
-    #[inline]
-    pub fn new() -> Self
-        ensures fresh { (w : List ℕ) → double_from result w ≡ bytes_at 8 w }
-    {
-        Double {
-            got: Gathered::new(),
-        }
-    }
-
-    /// Continues over a piece.
-    #[inline]
-    pub fn more(&mut self, piece: &mut Piece<'_>) -> Option<[u8; 8]>
-        ensures reads { Reaches Truncated (λ x. x) (double_from self.old) (double_from self.new)
-            piece.old piece.new result }
-        ensures taken { Takes piece.old piece.new result }
-    {
-        let whole = self.got.fill(8, piece)?;
-        let mut bytes = [0; 8];
-        bytes.copy_from_slice(whole.as_slice());
-        Some(bytes)
-    }
-}
 
 /// A bool: one byte, 1 for true and 0 for false.
 #[derive(Drop)]
@@ -173,8 +38,7 @@ impl Bool {
 /// A length or a size: a number of 32 bits that isn't negative.
 #[derive(Drop)]
 pub struct Size {
-    got: Gathered,
-    ghost within: { length got < 4 },
+    bytes: Gathered<4>,
 }
 
 impl Size {
@@ -186,7 +50,7 @@ impl Size {
         ensures fresh { (w : List ℕ) → size_from result w ≡ size_at w }
     {
         Size {
-            got: Gathered::new(),
+            bytes: Gathered::new(),
         }
     }
 
@@ -197,10 +61,10 @@ impl Size {
             piece.old piece.new result }
         ensures taken { OkTakes piece.old piece.new result }
     {
-        let Some(whole) = self.got.fill(4, piece) else {
+        let Some(whole) = self.bytes.more(piece) else {
             return Ok(None);
         };
-        let number = BigEndian::read_u32(whole.as_slice());
+        let number = BigEndian::read_u32(&whole);
         if number > 0x7fff_ffff {
             return Err(PieceError::Wire(WireError::BadLength));
         }

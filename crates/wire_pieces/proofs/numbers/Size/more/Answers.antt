@@ -10,10 +10,10 @@ returns-in_default-clause-reads c = filled-waits size_at Truncated 4 size-short 
 
 pub returns-then-number-gt2147483647-clause-reads : goal.returns-then-number-gt2147483647-clause-reads
 returns-then-number-gt2147483647-clause-reads c =
-    let large : 2147483647 < big_number 4 c.in-Some.whole = rw (c.read_u32-number.ensures, c.as_slice.ensures) at c.if-number-gt2147483647.true in
+    let large : 2147483647 < big_number 4 c.in-Some.whole = rw c.read_u32-number.ensures at c.if-number-gt2147483647.true in
     filled-refuses size_at Truncated BadLength _ _ _ _ c.in-Some.ensures.parts.0 (λ h. absurd cc) (λ rest. size-bad _ rest c.in-Some.ensures.size large)
 
 pub returns-clause-reads : goal.returns-clause-reads
 returns-clause-reads c =
-    let small : big_number 4 c.in-Some.whole ≤ 2147483647 = rw (c.read_u32-number.ensures, c.as_slice.ensures) at c.if-number-gt2147483647.false in
-    rw (c.read_u32-number.ensures, c.as_slice.ensures) (filled-comes size_at _ _ _ _ _ c.in-Some.ensures.parts.0 (λ rest. size-whole _ rest c.in-Some.ensures.size small))
+    let small : big_number 4 c.in-Some.whole ≤ 2147483647 = rw c.read_u32-number.ensures at c.if-number-gt2147483647.false in
+    rw c.read_u32-number.ensures (filled-comes size_at _ _ _ _ _ c.in-Some.ensures.parts.0 (λ rest. size-whole _ rest c.in-Some.ensures.size small))
