@@ -15,15 +15,11 @@ use Rattle.std.proofs.lemmas.List.Elements.{All-from_recursion, recursion_from_A
 use Rattle.std.proofs.lemmas.List.Sorted.{All-permutation}
 use Rattle.trace_model.specs.Searching.{put_by_start, ranked_by_start}
 use Rattle.trace_model.proofs.Ranking.{ranked-permutation}
+use Rattle.trace_model.proofs.NameLaws.{both_equal}
 use Rattle.trace_model.proofs.Rising.{Below}
 use Rattle.find_traces.specs.declared.key.Key.{Key}
 use Rattle.find_traces.specs.Places.{numbered}
 use Rattle.find_traces.specs.Keys.{best_cmp, reverse_key_cmp}
-
-both_equal : {P : Type 0} (a b : Ordering) → ordering_then a b ≡ Equal → (a ≡ Equal → b ≡ Equal → P) → P
-both_equal Less b e k = absurd cc
-both_equal Equal b e k = k refl e
-both_equal Greater b e k = absurd cc
 
 pub best_total : IsTotalOrder best_cmp
 best_total = then_total (on_total (λ (k : Key). k.start) (back_total int_cmp_total)) (on_total (λ (k : Key). k.place) (back_total nat_cmp_total))

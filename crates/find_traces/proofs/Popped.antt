@@ -10,8 +10,8 @@ use Rattle.std.specs.FinMap.{IsAntisymmetric}
 use Rattle.std.proofs.lemmas.Bool.{false≢true}
 use Rattle.std.proofs.lemmas.List.Sorted.{list_any-IsPermutation}
 use Rattle.std.proofs.lemmas.Map.Keys.{IsDistinct-IsPermutation}
-use Rattle.trace_model.proofs.Rising.{Below, has}
-use Rattle.find_traces.proofs.Rising.{present, absent, not_below, flips, distinct_moved}
+use Rattle.trace_model.proofs.Rising.{Below, has, not_below, absent, present}
+use Rattle.find_traces.proofs.Rising.{flips, distinct_moved}
 
 module _ {K : Type 0} (cmp : K → K → Ordering) where
   -- rest, which rises strictly, has what is left

@@ -1,35 +1,18 @@
 -- A strictly rising list is settled by its members, and so by any list that has its elements in another order.
-use Rattle.std.proofs.Common.{◌≡◌, suc, ◌+◌, true, false, ◌||◌, List, [], ◌∷◌, get_or, refl, sym, ap, subst, ◌∙◌, arith}
+use Rattle.std.proofs.Common.{◌≡◌, suc, ◌+◌, false, List, [], ◌∷◌, get_or, refl, sym, ap, subst, ◌∙◌, arith}
 use Rattle.std.specs.List.{IsDistinct}
 use Rattle.std.specs.List.Sorted.{IsSorted, IsStrictlySortedBy, IsPermutation}
 use Rattle.std.specs.declared.cmp.Ordering.{Ordering}
 use Rattle.std.specs.declared.cmp.Ordering.TheVariants.{Less, Equal, Greater}
 use Rattle.std.specs.Ordering.{eq_by_cmp, is_eq, is_lt, ordering_reverse}
-use Rattle.std.specs.Cmp.{IsTotalOrder, tied_itself}
+use Rattle.std.specs.Cmp.{IsTotalOrder}
 use Rattle.std.specs.FinMap.{IsAntisymmetric}
 use Rattle.std.proofs.lemmas.List.Elements.{All-from_recursion, recursion_from_All}
 use Rattle.std.proofs.lemmas.List.Sorted.{list_any-IsPermutation, ranks_by, sorted_far}
 use Rattle.std.proofs.lemmas.Map.Keys.{IsDistinct-IsPermutation, IsDistinct-from_sorted}
-use Rattle.trace_model.proofs.Rising.{Below, has, rises_same}
+use Rattle.trace_model.proofs.Rising.{rises_same}
 
 module _ {K : Type 0} {cmp : K → K → Ordering} (o : IsTotalOrder cmp) (exact : IsAntisymmetric cmp) where
-  below_chain : (x y : K) (ys : List K) → cmp x y ≡ Less → Below cmp y ys → Below cmp x ys
-  below_chain x y [] e b = tt
-  below_chain x y (z ∷ ys) e b = (o.trans x y z e b.0, below_chain x y ys e b.1)
-
-  pub not_below : (q x : K) (ys : List K) → cmp q x ≡ Equal → Below cmp x ys → has cmp q ys ≡ false
-  not_below q x [] e b = refl
-  not_below q x (y ∷ ys) e b = ap (λ r. is_eq r || has cmp q ys) (o.congr q x y e ∙ b.0) ∙ not_below q x ys e b.1
-
-  itself : (x : K) → cmp x x ≡ Equal
-  itself x = tied_itself o x
-
-  pub absent : (x y : K) (ys : List K) → cmp x y ≡ Less → Below cmp y ys → has cmp x (y ∷ ys) ≡ false
-  absent x y ys l b = ap (λ r. is_eq r || has cmp x ys) l ∙ not_below x x ys (itself x) (below_chain x y ys l b)
-
-  pub present : (x : K) (xs : List K) → has cmp x (x ∷ xs) ≡ true
-  present x xs = ap (λ r. is_eq r || has cmp x xs) (itself x)
-
   less : (r : Ordering) → is_lt (ordering_reverse r) ≡ false → is_eq r ≡ false → r ≡ Less
   less Less l e = refl
   less Equal l e = absurd cc

@@ -1,6 +1,6 @@
 -- Ids among the rows of a table.
-use Rattle.std.proofs.Common.{◌≡◌, ℕ, ◌<◌, ◌≤◌, Bool, true, false, ◌&&◌, cond, nat_lt, List, [], ◌∷◌, ◌++◌, map, length, get_or, Option, Some, None, refl, sym, ap, ◌∙◌, inl, inr, arith, eqb-true, eq-eqb, length-append}
-use Rattle.std.specs.Prelude.{position, ◌==◌}
+use Rattle.std.proofs.Common.{◌≡◌, ℕ, ◌<◌, ◌≤◌, true, false, cond, nat_lt, List, [], ◌∷◌, ◌++◌, map, length, get_or, Option, Some, None, refl, sym, ap, ◌∙◌, inl, inr, arith, length-append}
+use Rattle.std.specs.Prelude.{position}
 use Rattle.std.specs.List.{position_or_len}
 use Rattle.std.proofs.lemmas.Bool.{false≢true, ltb-true, lt-ltb, cases_eq, cases_lt}
 use Rattle.std.proofs.lemmas.List.{get_or-map, get_or_append_left, get_or_push, length-map}
@@ -8,20 +8,16 @@ use Rattle.std.proofs.lemmas.List.Sums.{position_or_len_is, fails_before_first}
 use Rattle.jaeger_model.specs.declared.ids.TraceId.{TraceId}
 use Rattle.std.specs.declared.random_state.RandomState.{RandomState}
 use Rattle.jaeger_model.specs.Parents.{same_trace}
+use Rattle.jaeger_model.specs.SameLaws.{same_trace-decides}
 use Rattle.row_places.specs.Leading.{Found}
 use Rattle.id_table.specs.Rows.{no_id, id_at}
 use Rattle.id_table.specs.Probes.{hash_of, hashes_of, AreOnce}
 
 pub same_is : (a b : TraceId) → same_trace a b ≡ true → a ≡ b
-same_is a b e =
-    both (a.high == b.high) (a.low == b.low) e (λ h l. let hs = eqb-true a.high b.high h in let ls = eqb-true a.low b.low l in λ i. record { high = hs i; low = ls i })
-  where
-    both : {P : Type 0} (x y : Bool) → (x && y) ≡ true → (x ≡ true → y ≡ true → P) → P
-    both true y e k = k refl e
-    both false y e k = absurd (false≢true e)
+same_is a b = (same_trace-decides a b).0
 
 same_self : (a : TraceId) → same_trace a a ≡ true
-same_self a = ap (λ x. x && (a.low == a.low)) (eq-eqb a.high a.high refl) ∙ eq-eqb a.low a.low refl
+same_self a = (same_trace-decides a a).1 refl
 
 pub differs : (a b : TraceId) → (b ≡ a → ⊥) → same_trace a b ≡ false
 differs a b apart = elim (same_trace a b) as (λ t. same_trace a b ≡ t → t ≡ false) [

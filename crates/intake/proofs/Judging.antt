@@ -65,20 +65,6 @@ judged-accepted limits k j (Err why) m g = ⊎_elim
     subst P (sym q.1) (one-of-four P limits k j same (λ l. same) (λ b s. same) (λ place. same)))
     g
 
--- ---- the published list never shrinks
-shown-after : (k : Lists) (j : Entry) (a : Admission) → (after_admission k j a).published ≡ k.published
-shown-after k j Added = refl
-shown-after k j (Resent place) = refl
-
-pub judged-shown : (limits : Limits) (k : Lists) (j : Entry) (r : Result ℕ Refusal) (m : Lists) → Answers limits k j r m → IsPrefix k.published m.published
-judged-shown limits k j (Ok place) m g =
-    let behind = (after_admission k j g.0).pending in
-    (behind, ap (λ z. z ++ behind) (sym (shown-after k j g.0)) ∙ sym (ap (λ (z : Lists). z.published) g.2))
-judged-shown limits k j (Err why) m g = ⊎_elim
-    (λ p. ([], append-nil k.published ∙ sym (ap (λ (z : Lists). z.published) p.1.2 ∙ shown-after k j p.1.0)))
-    (λ q. ([], append-nil k.published ∙ sym (ap (λ (z : Lists). z.published) q.0)))
-    g
-
 -- ---- what stands at the place
 pub snoc_get : (xs : List Entry) (j : Entry) (n : ℕ) → n ≡ length xs → slice_get (xs ++ j ∷ []) n ≡ Some j
 snoc_get [] j zero e = refl

@@ -9,6 +9,7 @@ use Rattle.trace_model.specs.declared.refusal.Refusal.{Refusal}
 use Rattle.trace_model.specs.Resending.{is_sent}
 use Rattle.trace_model.proofs.Prefixes.{prefix_trans}
 use Rattle.read_side.specs.Keepers.{Lists, Answers, accepted}
+use Rattle.read_side.proofs.Growing.{grows}
 use Rattle.intake.specs.declared.account.Account.{Account}
 use Rattle.intake.specs.declared.clerk.Turn.{Turn}
 use Rattle.intake.specs.declared.clerk.Turn.TheVariants.{Idle, Served, Ended}
@@ -16,7 +17,7 @@ use Rattle.intake.specs.declared.queue.EndedSeat.{EndedSeat}
 use Rattle.intake.specs.Turns.{ClerkValue, Accounted, Serves, IfServed, IfNotServed, IfNoJob, WasEmpty, account_of}
 use Rattle.intake.specs.Books.{JudgedInTurn, is_accepted, gained_jobs, AllAnswered, Ran}
 use Rattle.intake.proofs.Accounting.{accounted-snoc}
-use Rattle.intake.proofs.Judging.{judged-accepted, judged-shown, judged-answered}
+use Rattle.intake.proofs.Judging.{judged-accepted, judged-answered}
 
 pub judged-snoc : (limits : Limits) (k : Lists) (js : List Entry) (bs : List Account) (m : Lists) (j : Entry) (a : Account) (end : Lists) → JudgedInTurn limits k js bs m → Answers limits m j a.answer end → JudgedInTurn limits k (js ++ j ∷ []) (bs ++ a ∷ []) end
 judged-snoc limits k [] [] m j a end r g = (end, subst (λ (z : Lists). Answers limits z j a.answer end) r g, refl)
@@ -28,7 +29,7 @@ pub all-shown : (limits : Limits) (k : Lists) (js : List Entry) (bs : List Accou
 all-shown limits k [] [] end r = ([], append-nil k.published ∙ sym (ap (λ (z : Lists). z.published) r))
 all-shown limits k [] (b ∷ bs) end r = absurd r
 all-shown limits k (j ∷ js) [] end r = absurd r
-all-shown limits k (j ∷ js) (b ∷ bs) end r = prefix_trans k.published r.0.published end.published (judged-shown limits k j b.answer r.0 r.1) (all-shown limits r.0 js bs end r.2)
+all-shown limits k (j ∷ js) (b ∷ bs) end r = prefix_trans k.published r.0.published end.published (grows limits k j b.answer r.0 r.1) (all-shown limits r.0 js bs end r.2)
 
 pub all-answered : (limits : Limits) (k : Lists) (js : List Entry) (bs : List Account) (end : Lists) → JudgedInTurn limits k js bs end → AllAnswered end.published js bs
 all-answered limits k [] [] end r = tt

@@ -15,7 +15,7 @@ shown-after k e Added = refl
 shown-after k e (Resent place) = refl
 
 -- one call
-grows : (limits : Limits) (k : Lists) (e : Entry) (r : Result ℕ Refusal) (m : Lists) → Answers limits k e r m → IsPrefix k.published m.published
+pub grows : (limits : Limits) (k : Lists) (e : Entry) (r : Result ℕ Refusal) (m : Lists) → Answers limits k e r m → IsPrefix k.published m.published
 grows limits k e (Ok place) m g =
     let behind = (after_admission k e g.0).pending in
     (behind, ap (λ z. z ++ behind) (sym (shown-after k e g.0)) ∙ sym (ap (λ (z : Lists). z.published) g.2))

@@ -1,10 +1,9 @@
 -- Sets by their members, and the order of what is listed.
-use Rattle.std.proofs.Common.{◌≡◌, Bool, ◌||◌, List, refl, sym, ap, ◌∙◌}
+use Rattle.std.proofs.Common.{◌≡◌, Bool, ◌||◌, List, sym, ap, ◌∙◌}
 use Rattle.std.specs.List.{list_any}
 use Rattle.std.specs.List.Sorted.{IsStrictlySortedBy}
 use Rattle.std.specs.declared.cmp.Ordering.{Ordering}
-use Rattle.std.specs.declared.cmp.Ordering.TheVariants.{Less, Equal, Greater}
-use Rattle.std.specs.Ordering.{ordering_then, eq_by_cmp}
+use Rattle.std.specs.Ordering.{eq_by_cmp}
 use Rattle.std.specs.Cmp.{IsTotalOrder, on_total}
 use Rattle.std.specs.Cmp.Lexicographic.{on_texts}
 use Rattle.std.specs.FinMap.{IsAntisymmetric}
@@ -12,7 +11,7 @@ use Rattle.std.proofs.lemmas.Cmp.{then_total}
 use Rattle.jaeger_model.specs.Texts.{text_cmp, sorted_set, insert_once}
 use Rattle.trace_model.specs.Names.{operation_cmp}
 use Rattle.trace_model.proofs.Rising.{sorted_set-rises, rises_insert, rises_same, any_set, any_insert}
-use Rattle.trace_model.proofs.NameLaws.{text_exact, operation_total, operation_exact}
+use Rattle.trace_model.proofs.NameLaws.{both_equal, text_exact, operation_total, operation_exact}
 use Rattle.service_index.specs.Listing.{Listed, listed_cmp}
 
 -- ---- sets by their members
@@ -32,11 +31,6 @@ module _ {K : Type 0} {cmp : K → K → Ordering} (o : IsTotalOrder cmp) (exact
 
 pub listed_total : IsTotalOrder listed_cmp
 listed_total = then_total (on_texts (λ (l : Listed). l.service)) (on_total (λ (l : Listed). l.operation) operation_total)
-
-both_equal : {P : Type 0} (a b : Ordering) → ordering_then a b ≡ Equal → (a ≡ Equal → b ≡ Equal → P) → P
-both_equal Less b e k = absurd cc
-both_equal Equal b e k = k refl e
-both_equal Greater b e k = absurd cc
 
 pub listed_exact : IsAntisymmetric listed_cmp
 listed_exact a b e = both_equal (text_cmp a.service b.service) (operation_cmp a.operation b.operation) e (λ s t.

@@ -2,7 +2,6 @@
 use Rattle.std.proofs.Common.{◌≡◌, ℕ, suc, zero, ◌-◌, ◌<◌, ◌≤◌, Bool, true, false, cond, List, [], ◌∷◌, ◌++◌, length, drop, map, Some, None, inl, inr, refl, sym, ap, subst, ◌∙◌, arith, length-append}
 use Rattle.std.specs.Prelude.{filter, fold, if◌then◌else◌}
 use Rattle.std.specs.List.{All, IsDistinct, list_all}
-use Rattle.std.specs.Bool.{Decides}
 use Rattle.std.specs.Cmp.{decided}
 use Rattle.std.proofs.lemmas.List.{length-drop}
 use Rattle.std.proofs.lemmas.List.Elements.{filter_passes}
@@ -10,15 +9,13 @@ use Rattle.std.proofs.lemmas.Map.Keys.{IsDistinct-push, IsDistinct-tail}
 use Rattle.jaeger_model.specs.declared.ids.TraceId.{TraceId}
 use Rattle.jaeger_model.specs.declared.placed.Placed.{Placed}
 use Rattle.jaeger_model.specs.Parents.{same_trace}
+use Rattle.jaeger_model.specs.SameLaws.{same_trace-decides}
 use Rattle.trace_model.specs.Rings.{holds, newest, arrive, LimitedRing, ring_step}
 use Rattle.store_laws.specs.Subsequences.{IsSubsequence}
 use Rattle.trace_model.specs.Events.{Event, came, limited, without_limits}
 use Rattle.trace_model.specs.Showing.{trace_of, ring, limit_after, longer_beginnings, lasting_after, stands, shown, spans_of_trace, if_any, trace_found}
 use Rattle.trace_model.proofs.Shows.{by_pushes, ring_came, ring_limited}
-use Rattle.trace_model.proofs.Traces.{same_is, same_self, spans_gone, spans_limited, has_spans}
-
-pub same_trace-decides : (a b : TraceId) → Decides (same_trace a b) (a ≡ b)
-same_trace-decides a b = (same_is a b, λ e. subst (λ x. same_trace a x ≡ true) e (same_self a))
+use Rattle.trace_model.proofs.Traces.{same_is, spans_gone, spans_limited, has_spans}
 
 -- ---- the ring
 distinct_drop : (k : ℕ) (r : List TraceId) → IsDistinct same_trace r → IsDistinct same_trace (drop k r)

@@ -1,6 +1,6 @@
 -- The shown spans of one trace, as they change with one more event.
-use Rattle.std.proofs.Common.{◌≡◌, ℕ, suc, zero, ◌+◌, ◌-◌, ◌<◌, ◌≤◌, Bool, true, false, ◌&&◌, ◌||◌, cond, List, [], ◌∷◌, ◌++◌, length, drop, refl, sym, ap, subst, ◌∙◌, arith, eqb-true, eq-eqb, length-append, append_assoc}
-use Rattle.std.specs.Prelude.{filter, if◌then◌else◌, ◌==◌}
+use Rattle.std.proofs.Common.{◌≡◌, ℕ, suc, zero, ◌+◌, ◌-◌, ◌<◌, ◌≤◌, Bool, true, false, ◌&&◌, ◌||◌, cond, List, [], ◌∷◌, ◌++◌, length, drop, refl, sym, ap, subst, ◌∙◌, arith, eqb-true, length-append, append_assoc}
+use Rattle.std.specs.Prelude.{filter, if◌then◌else◌}
 use Rattle.std.specs.List.{list_any, list_all}
 use Rattle.std.proofs.lemmas.Bool.{false≢true}
 use Rattle.std.proofs.lemmas.List.{drop-append-le, append-nil, length-drop}
@@ -9,6 +9,7 @@ use Rattle.std.proofs.lemmas.List.Folds.{list_any-append}
 use Rattle.jaeger_model.specs.declared.ids.TraceId.{TraceId}
 use Rattle.jaeger_model.specs.declared.placed.Placed.{Placed}
 use Rattle.jaeger_model.specs.Parents.{same_trace}
+use Rattle.jaeger_model.specs.SameLaws.{same_trace-decides}
 use Rattle.trace_model.specs.Events.{Event, came, limited, without_limits}
 use Rattle.trace_model.specs.Limiting.{limits_none, comes_for}
 use Rattle.trace_model.specs.Rings.{holds, newest, arrive}
@@ -17,15 +18,10 @@ use Rattle.trace_model.proofs.Shows.{by_pushes, all_push, in_ring, ring_came, ri
 
 -- the test decides equality
 pub same_is : (a b : TraceId) → same_trace a b ≡ true → a ≡ b
-same_is a b e =
-    both (a.high == b.high) (a.low == b.low) e (λ h l. let hs = eqb-true a.high b.high h in let ls = eqb-true a.low b.low l in λ i. record { high = hs i; low = ls i })
-  where
-    both : {P : Type 0} (x y : Bool) → (x && y) ≡ true → (x ≡ true → y ≡ true → P) → P
-    both true y e k = k refl e
-    both false y e k = absurd (false≢true e)
+same_is a b = (same_trace-decides a b).0
 
 pub same_self : (a : TraceId) → same_trace a a ≡ true
-same_self a = ap (λ x. x && (a.low == a.low)) (eq-eqb a.high a.high refl) ∙ eq-eqb a.low a.low refl
+same_self a = (same_trace-decides a a).1 refl
 
 -- the spans of a trace that are left in a ring: all, or none
 left_other : (t : TraceId) (r : List TraceId) (p : Placed) (ps : List Placed) → same_trace t (trace_of p) ≡ false → of_trace t (in_ring r ps) ≡ (if holds r t then of_trace t ps else [])
