@@ -1,13 +1,15 @@
 //! Values of traces for tests: spans, tags, processes, batches and searches that are alike but for what a
-//! test is about.
+//! test is about, and a batch as bytes with its requests and answers.
 //!
 //! Each constructor says exactly what it makes. A test names what it wants and changes a field where
 //! it wants another value, as `span.start = 900`. Nothing but tests stands on this crate.
 //!
 //! * `parts`: tags, processes, spans, batches of them, and searches.
 //! * `seeing`: spans that are only looked at.
+//! * `exchanges`: requests that hand a batch in and look for it, and what is answered to them, as bytes.
 #![tactic(auto)]
 
+pub mod exchanges;
 mod parts;
 mod seeing;
 

@@ -1,16 +1,17 @@
 //! What clients do of a server.
 
 use crate::tests::clients::{ask, hears, parts};
-use crate::tests::requests::{
-    ACCEPTED, BATCH, CONFLICT, FULL, HUGE, NO_SERVICES, NUMBERED, ONE_SERVICE, ONE_SPAN, POST,
-    POST_NUMBERED, RENUMBERED, SERVICES, TOO_LARGE, TRACE, joined,
-};
+use crate::tests::requests::{FULL, HUGE, joined};
 use std::alloc::Global;
 use std::io;
 use std::io::{Read, Write};
 use std::mem::drop;
 use std::net::{Net, SocketAddr, TcpListener, TcpStream};
 use std::thread::{Threads, join, map_indices};
+use trace_samples::exchanges::{
+    ACCEPTED, BATCH, CONFLICT, NO_SERVICES, NUMBERED, ONE_SERVICE, ONE_SPAN, POST, POST_NUMBERED,
+    RENUMBERED, SERVICES, TOO_LARGE, TRACE,
+};
 
 /// Which clients come.
 #[derive(Clone, Copy)]

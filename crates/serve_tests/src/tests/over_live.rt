@@ -2,10 +2,7 @@
 
 ghost use Rattle.std.specs.Prelude.{◌≡◌};
 
-use crate::tests::requests::{
-    BATCH, CUT, DELETE, NOWHERE, NUMBERED, POST, POST_NUMBERED, RENUMBERED, SERVICES, TRACE,
-    UNTYPED, joined,
-};
+use crate::tests::requests::{CUT, DELETE, NOWHERE, UNTYPED, joined};
 use direct_store::Direct;
 use http_session::session;
 use intake::{Books, Clerk, Desk, desk};
@@ -23,6 +20,7 @@ use std::sync::Wait;
 use std::test::*;
 use std::thread::{Threads, join};
 use trace_model::Limits;
+use trace_samples::exchanges::{BATCH, NUMBERED, POST, POST_NUMBERED, RENUMBERED, SERVICES, TRACE};
 
 /// What a session over a store that one owner has writes.
 fn direct_bytes(

@@ -1,4 +1,4 @@
-use crate::tests::pipes::{ANSWERS, BATCH, SERVICES, Seen, played};
+use crate::tests::pipes::{Seen, joined, played};
 use crate::tests::requests::{LookOutcome, has_end, look};
 use http_requests::{Breach, ReadError};
 use http_session::{Ended, SessionError, SessionErrorKind};
@@ -7,6 +7,7 @@ use std::alloc::Global;
 use std::hash::RandomState;
 use std::mem::drop;
 use std::test::*;
+use trace_samples::exchanges::{ACCEPTED, BATCH, NO_SERVICES, ONE_SERVICE, SERVICES, TOO_LARGE};
 
 const HEAD: &[u8] = b"POST /api/traces HTTP/1.1\r\nTransfer-Encoding: chunked\r\n\r\n";
 
@@ -15,16 +16,6 @@ const POST: &[u8] =
 
 const TRUNCATED: &[u8] =
     b"HTTP/1.1 400 Bad Request\r\nContent-Type: application/json\r\nContent-Length: 103\r\n\r\n{\"data\":null,\"errors\":[{\"code\":400,\"msg\":\"batch refused: 1 Truncated\"}],\"limit\":0,\"offset\":0,\"total\":0}";
-
-const NO_SERVICES: &[u8] =
-    b"HTTP/1.1 200 OK\r\nContent-Type: application/json\r\nContent-Length: 56\r\n\r\n{\"data\":[],\"errors\":null,\"limit\":0,\"offset\":0,\"total\":0}";
-
-const TOO_LARGE: &[u8] =
-    b"HTTP/1.1 413 Content Too Large\r\nContent-Type: application/json\r\nContent-Length: 91\r\nConnection: close\r\n\r\n{\"data\":null,\"errors\":[{\"code\":413,\"msg\":\"body too large\"}],\"limit\":0,\"offset\":0,\"total\":0}";
-
-fn joined(alloc: Global, parts: &[&[u8]]) -> Result<Vec<u8>, Fail> {
-    Ok(parts.concat(alloc)?)
-}
 
 /// The same bytes so many times.
 fn repeated(alloc: Global, bytes: &[u8], count: usize) -> Result<Vec<u8>, Fail> {
@@ -321,6 +312,9 @@ const CLOSED: Ended = Ended {
     clean: false,
 };
 
+/// What is answered to a batch, and then to a look at the services.
+const ANSWERS: &[&[u8]] = &[ACCEPTED, ONE_SERVICE];
+
 /// Whether a batch in two chunks is answered, and then a look at the services.
 fn says_two_chunks(alloc: Global, keys: RandomState, step: usize) -> Result<bool, Fail> {
     let (front, back) = BATCH.split_at(96);
@@ -333,7 +327,7 @@ fn says_two_chunks(alloc: Global, keys: RandomState, step: usize) -> Result<bool
         b"\r\n0\r\n\r\n",
         SERVICES,
     ];
-    says(alloc, keys, parts, step, open(2), &[ANSWERS])
+    says(alloc, keys, parts, step, open(2), ANSWERS)
 }
 
 const NO_CHUNKS: &[&[u8]] = &[POST, b"0\r\n\r\n", SERVICES];
@@ -378,8 +372,10 @@ fn batch_in_chunks(alloc: Global) -> Result<Vec<u8>, Fail> {
 /// time.
 fn is_whole(alloc: Global, keys: RandomState, step: usize) -> Result<bool, Fail> {
     let bytes = batch_in_chunks(alloc)?;
+    let wanted = joined(alloc, ANSWERS)?;
     let played = played(alloc, keys, bytes.as_slice(), (step, 0), (10_000, step))?;
-    Ok(is_written(played.ended, &played.output, (open(2), ANSWERS)) && played.entries == 1)
+    let wanted = (open(2), wanted.as_slice());
+    Ok(is_written(played.ended, &played.output, wanted) && played.entries == 1)
 }
 
 #[test]
@@ -392,12 +388,12 @@ fn chunks_are_answered_as_a_whole_body(rt: HostRuntime) -> Result<(), Fail> {
 }
 
 /// Whether the session ended because it could not read, within no response, and wrote a beginning of the answers.
-fn is_cut_off(played: &Seen) -> bool {
+fn is_cut_off(played: &Seen, answers: &[u8]) -> bool {
     match played.ended {
         Err(error) => {
             error.cause == SessionErrorKind::Reading
                 && error.written == 0
-                && ANSWERS.starts_with(played.output.as_slice())
+                && answers.starts_with(played.output.as_slice())
         }
         Ok(_) => false,
     }
@@ -406,6 +402,7 @@ fn is_cut_off(played: &Seen) -> bool {
 /// Whether a session with that batch ends so, where the input fails at this call.
 fn fails_inside(alloc: Global, keys: RandomState, fails_at: u64) -> Result<bool, Fail> {
     let bytes = batch_in_chunks(alloc)?;
+    let answers = joined(alloc, ANSWERS)?;
     let played = played(
         alloc,
         keys,
@@ -413,7 +410,7 @@ fn fails_inside(alloc: Global, keys: RandomState, fails_at: u64) -> Result<bool,
         (32, fails_at),
         (10_000, 10_000),
     )?;
-    Ok(is_cut_off(&played))
+    Ok(is_cut_off(&played, answers.as_slice()))
 }
 
 #[test]

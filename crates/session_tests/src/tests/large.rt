@@ -1,8 +1,9 @@
-use crate::tests::pipes::{BATCH, played};
+use crate::tests::pipes::played;
 use http_session::{Ended, SessionError, SessionErrorKind};
 use std::alloc::Global;
 use std::hash::RandomState;
 use std::test::*;
+use trace_samples::exchanges::{ACCEPTED, BATCH, SERVICES};
 
 /// How many letters the name of the one service has, so that the answer that lists it is sent in several parts.
 const LETTERS: usize = 40_000;
@@ -10,10 +11,6 @@ const LETTERS: usize = 40_000;
 /// The head of a batch of that service, and what stands in the batch in front of the name.
 const POST: &[u8] =
     b"POST /api/traces HTTP/1.1\r\nContent-Type: application/x-thrift\r\nContent-Length: 40103\r\n\r\n\x0c\x00\x01\x0b\x00\x01\x00\x00\x9c\x40";
-
-const SERVICES: &[u8] = b"GET /api/services HTTP/1.1\r\n\r\n";
-
-const ACCEPTED: &[u8] = b"HTTP/1.1 202 Accepted\r\nContent-Length: 0\r\n\r\n";
 
 /// What stands in front of the name in the response that lists it, and behind it.
 const HEAD: &[u8] =

@@ -10,33 +10,12 @@ use std::mem::drop;
 use std::sync::Arc;
 use std::test::*;
 use trace_model::{Entry, Limits};
+use trace_samples::exchanges::{
+    ACCEPTED, BATCH, CONFLICT, NO_SERVICES, NUMBERED, ONE_SERVICE, ONE_SPAN, POST, POST_NUMBERED,
+    RENUMBERED, SERVICES, TRACE,
+};
 
-/// A batch of service `a` with one span, `op`, of trace 1.
-pub(crate) const BATCH: &[u8] =
-    b"\x0c\x00\x01\x0b\x00\x01\x00\x00\x00\x01a\x00\x0f\x00\x02\x0c\x00\x00\x00\x01\x0a\x00\x01\x00\x00\x00\x00\x00\x00\x00\x01\x0a\x00\x02\x00\x00\x00\x00\x00\x00\x00\x00\x0a\x00\x03\x00\x00\x00\x00\x00\x00\x00\x02\x0a\x00\x04\x00\x00\x00\x00\x00\x00\x00\x00\x0b\x00\x05\x00\x00\x00\x02op\x08\x00\x07\x00\x00\x00\x01\x0a\x00\x08\x00\x00\x00\x00\x00\x00\x03\xe8\x0a\x00\x09\x00\x00\x00\x00\x00\x00\x002\x00\x00";
-
-pub(crate) const POST: &[u8] =
-    b"POST /api/traces HTTP/1.1\r\nContent-Type: application/x-thrift\r\nContent-Length: 104\r\n\r\n";
-
-pub(crate) const SERVICES: &[u8] = b"GET /api/services HTTP/1.1\r\n\r\n";
-
-pub(crate) const ANSWERS: &[u8] =
-    b"HTTP/1.1 202 Accepted\r\nContent-Length: 0\r\n\r\nHTTP/1.1 200 OK\r\nContent-Type: application/json\r\nContent-Length: 59\r\n\r\n{\"data\":[\"a\"],\"errors\":null,\"limit\":0,\"offset\":0,\"total\":1}";
-
-const ACCEPTED: &[u8] = b"HTTP/1.1 202 Accepted\r\nContent-Length: 0\r\n\r\n";
-
-const LISTED: &[u8] =
-    b"HTTP/1.1 200 OK\r\nContent-Type: application/json\r\nContent-Length: 59\r\n\r\n{\"data\":[\"a\"],\"errors\":null,\"limit\":0,\"offset\":0,\"total\":1}";
-
-const NONE_LISTED: &[u8] =
-    b"HTTP/1.1 200 OK\r\nContent-Type: application/json\r\nContent-Length: 56\r\n\r\n{\"data\":[],\"errors\":null,\"limit\":0,\"offset\":0,\"total\":0}";
-
-const TRACE: &[u8] = b"GET /api/traces/1 HTTP/1.1\r\n\r\n";
-
-const SHOWN: &[u8] =
-    b"HTTP/1.1 200 OK\r\nContent-Type: application/json\r\nContent-Length: 351\r\n\r\n{\"data\":[{\"processes\":{\"p1\":{\"serviceName\":\"a\",\"tags\":[]}},\"spans\":[{\"duration\":50,\"flags\":1,\"logs\":[],\"operationName\":\"op\",\"processID\":\"p1\",\"references\":[],\"spanID\":\"0000000000000002\",\"startTime\":1000,\"tags\":[],\"traceID\":\"0000000000000001\",\"warnings\":null}],\"traceID\":\"0000000000000001\",\"warnings\":null}],\"errors\":null,\"limit\":0,\"offset\":0,\"total\":1}";
-
-const NOT_SHOWN: &[u8] =
+const NO_TRACE: &[u8] =
     b"HTTP/1.1 404 Not Found\r\nContent-Type: application/json\r\nContent-Length: 92\r\n\r\n{\"data\":null,\"errors\":[{\"code\":404,\"msg\":\"trace not found\"}],\"limit\":0,\"offset\":0,\"total\":0}";
 
 const NO_MEMORY: &[u8] =
@@ -46,34 +25,32 @@ const NO_MEMORY: &[u8] =
 const REQUESTS: [&[&[u8]]; 3] = [&[POST, BATCH], &[SERVICES], &[TRACE]];
 
 /// What is answered to them.
-const ROW: [&[u8]; 3] = [ACCEPTED, LISTED, SHOWN];
+const ROW: [&[u8]; 3] = [ACCEPTED, ONE_SERVICE, ONE_SPAN];
 
 /// What may be answered to them where memory runs out once.
 const ROWS_SHORT_OF_MEMORY: [[&[u8]; 3]; 4] = [
     ROW,
-    [NO_MEMORY, NONE_LISTED, NOT_SHOWN],
-    [ACCEPTED, NO_MEMORY, SHOWN],
-    [ACCEPTED, LISTED, NO_MEMORY],
+    [NO_MEMORY, NO_SERVICES, NO_TRACE],
+    [ACCEPTED, NO_MEMORY, ONE_SPAN],
+    [ACCEPTED, ONE_SERVICE, NO_MEMORY],
 ];
 
-/// The head of a batch that has a number too.
-const POST_NUMBERED: &[u8] =
-    b"POST /api/traces HTTP/1.1\r\nContent-Type: application/x-thrift\r\nContent-Length: 115\r\n\r\n";
+/// A batch with a number, the same batch, and one with its number and other spans.
+const SENT_AGAIN: &[&[u8]] = &[
+    POST_NUMBERED,
+    NUMBERED,
+    POST_NUMBERED,
+    NUMBERED,
+    POST_NUMBERED,
+    RENUMBERED,
+];
 
-/// What is answered to a batch with a number, the same batch, and one with its number and other spans.
-const TWO_ACCEPTED: &[u8] =
-    b"HTTP/1.1 202 Accepted\r\nContent-Length: 0\r\n\r\nHTTP/1.1 202 Accepted\r\nContent-Length: 0\r\n\r\nHTTP/1.1 409 Conflict\r\nContent-Type: application/json\r\nContent-Length: 85\r\n\r\n{\"data\":null,\"errors\":[{\"code\":409,\"msg\":\"conflict\"}],\"limit\":0,\"offset\":0,\"total\":0}";
+/// What is answered to them.
+const TWO_ACCEPTED: &[&[u8]] = &[ACCEPTED, ACCEPTED, CONFLICT];
 
-/// The batch with the number 1, handed in three times; the last time its span takes 51 microseconds.
-fn sent_again(alloc: Global) -> Result<Vec<u8>, Fail> {
-    let mut bytes = Vec::new(alloc);
-    for duration in [50, 50, 51] {
-        bytes.extend_from_slice(POST_NUMBERED)?;
-        bytes.extend_from_slice(&BATCH[..101])?;
-        bytes.push(duration)?;
-        bytes.extend_from_slice(b"\x00\x0a\x00\x03\x00\x00\x00\x00\x00\x00\x00\x01\x00")?;
-    }
-    Ok(bytes)
+/// The parts behind each other.
+pub(crate) fn joined(alloc: Global, parts: &[&[u8]]) -> Result<Vec<u8>, Fail> {
+    Ok(parts.concat(alloc)?)
 }
 
 /// The bytes of the three requests.
@@ -227,11 +204,12 @@ fn one_byte_a_call(rt: HostRuntime) -> Result<(), Fail> {
 
 /// Whether a session with a batch that is sent again answers it, and keeps one entry.
 fn is_kept_once(alloc: Global, keys: RandomState, step: usize) -> Result<bool, Fail> {
-    let bytes = sent_again(alloc)?;
+    let bytes = joined(alloc, SENT_AGAIN)?;
+    let wanted = joined(alloc, TWO_ACCEPTED)?;
     let played = played(alloc, keys, bytes.as_slice(), (step, 0), (10_000, step))?;
     Ok(
         played.ended == Ok(ALL_ANSWERED)
-            && played.output.as_slice() == TWO_ACCEPTED
+            && played.output.as_slice() == wanted.as_slice()
             && played.entries == 1,
     )
 }

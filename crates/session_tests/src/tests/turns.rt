@@ -1,11 +1,12 @@
 ghost use Rattle.std.specs.Prelude.{None, false};
 
-use crate::tests::pipes::{ANSWERS, BATCH, POST, SERVICES, empty_store};
+use crate::tests::pipes::empty_store;
 use pipe_session::pipe;
 use session_devices::{Failed, Input, Output};
 use std::cell::Cell;
 use std::hash::RandomState;
 use std::test::*;
+use trace_samples::exchanges::{ACCEPTED, BATCH, ONE_SERVICE, POST, SERVICES};
 
 /// A sender that sends the next part only once so many bytes in all were written to it, and fails where it is read
 /// before.
@@ -76,9 +77,9 @@ impl<'a> Output for Counter<'a> {
 #[test]
 fn answers_before_it_reads_on(rt: HostRuntime) -> Result<(), Fail> {
     let alloc = rt.alloc();
-    let accepted = b"HTTP/1.1 202 Accepted\r\nContent-Length: 0\r\n\r\n".len();
-    let looked = ANSWERS.len();
-    let again = looked + (looked - accepted);
+    let accepted = ACCEPTED.len();
+    let looked = accepted + ONE_SERVICE.len();
+    let again = looked + ONE_SERVICE.len();
     let parts: [(usize, &[u8]); 6] = [
         (0, POST),
         (0, BATCH),
