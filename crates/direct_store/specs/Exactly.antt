@@ -1,9 +1,7 @@
 -- What a store that one owner has does, as functions of its entries.
-use Rattle.std.specs.Prelude.{◌≡◌, ℕ, ◌+◌, ◌⊎◌, length, Result, Ok, Err}
+use Rattle.std.specs.Prelude.{◌≡◌, ℕ, ◌⊎◌, Result, Ok, Err}
 use Rattle.jaeger_model.specs.declared.batch.Batch.{Batch}
 use Rattle.trace_model.specs.declared.admission.Admission.{Admission}
-use Rattle.trace_model.specs.declared.entry.Entry.{Entry}
-use Rattle.trace_model.specs.declared.entry.Work.TheVariants as brings
 use Rattle.trace_model.specs.declared.query.Query.{Query}
 use Rattle.trace_model.specs.declared.answer.Answer.{Answer}
 use Rattle.trace_model.specs.declared.refusal.Refusal.{Refusal}
@@ -13,11 +11,8 @@ use Rattle.trace_model.specs.Histories.{IsLegal}
 use Rattle.trace_model.specs.Refusals.{place_of, with_admitted}
 use Rattle.trace_model.specs.Answers.{answer}
 use Rattle.arrival_journal.specs.Journals.{admission_by, turned_away_by}
+use Rattle.span_store.specs.NextEntry.{next_entry}
 use Rattle.store_backend.specs.Knowing.{History, IsBeginning}
-
--- the next entry of seat 0
-abbrev pub next_entry : Held → Batch → Entry
-next_entry s b = record { seat = 0; number = length s.entries + 1; work = brings.Batch b }
 
 abbrev pub DirectKnows : Held → History → Type 0
 DirectKnows s h = IsBeginning h s.entries

@@ -9,8 +9,9 @@ use Rattle.trace_model.specs.declared.refusal.Refusal.{Refusal}
 use Rattle.trace_model.specs.Held.{Held}
 use Rattle.trace_model.specs.Refusals.{with_admitted}
 use Rattle.store_backend.specs.Knowing.{History, HasAt, Keeps, SubmitKnows, ReadKnows}
+use Rattle.span_store.specs.NextEntry.{next_entry}
 use Rattle.direct_store.specs.Behind.{grows, limits_stay, has_batch}
-use Rattle.direct_store.specs.Exactly.{next_entry, DirectKnows, DirectSubmits, DirectReads}
+use Rattle.direct_store.specs.Exactly.{DirectKnows, DirectSubmits, DirectReads}
 
 keeps : (s t : Held) → t ≡ s → Keeps (λ (x : Held). x.limits) DirectKnows s t
 keeps s t e = record { same_limits = ap (λ (x : Held). x.limits) e; knowledge = λ h k. subst (λ (x : Held). DirectKnows x h) (sym e) k }

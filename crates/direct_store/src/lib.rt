@@ -15,10 +15,7 @@ use std::alloc::Global;
 use std::marker::Model;
 use std::sync::Arc;
 use store_backend::Backend;
-use trace_model::{Answer, Entry, Query, Refusal, Work};
-
-/// The seat that hands in every batch.
-const SEAT: u16 = 0;
+use trace_model::{Answer, Query, Refusal};
 
 /// A store that one owner has.
 #[derive(Drop)]
@@ -75,11 +72,7 @@ impl<T> Backend<T> for Direct {
     ghost read_knows = { read_knows };
 
     fn submit(&mut self, _rt: &T, alloc: Global, batch: Batch) -> Result<u64, Refusal> {
-        let entry = Entry {
-            seat: SEAT,
-            number: self.store.len() + 1,
-            work: Work::Batch(batch),
-        };
+        let entry = self.store.next_entry(batch);
         self.store.apply(Arc::new(alloc, entry)?)
     }
 

@@ -5,8 +5,9 @@ use Rattle.hex_batches.specs.declared.fault.HexFault.{HexFault}
 use Rattle.hex_batches.specs.Spelling.{batch_in}
 use Rattle.trace_model.specs.Held.{Held}
 use Rattle.trace_model.specs.Refusals.{admission}
+use Rattle.span_store.specs.NextEntry.{next_entry}
 use Rattle.get_command.specs.declared.line_fault.LineFault.TheVariants.{NoBatch}
-use Rattle.get_command.specs.Judging.{admitted, judged_line, next_entry, without_blanks}
+use Rattle.get_command.specs.Judging.{admitted, judged_line, without_blanks}
 
 pub line_skipped : (held : Held) (line : List ℕ) → (length (without_blanks line) == 0) ≡ true → record { fault = None; held = held } ≡ judged_line held line
 unfolding judged_line

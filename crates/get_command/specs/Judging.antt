@@ -1,14 +1,14 @@
 -- What becomes of a line of input.
-use Rattle.std.specs.Prelude.{ℕ, ◌+◌, ◌==◌, ◌&&◌, Bool, not, List, filter, length, Option, Some, None, Result, Ok, Err, if◌then◌else◌}
+use Rattle.std.specs.Prelude.{ℕ, ◌==◌, ◌&&◌, Bool, not, List, filter, length, Option, Some, None, Result, Ok, Err, if◌then◌else◌}
 use Rattle.jaeger_model.specs.declared.batch.Batch.{Batch}
 use Rattle.hex_batches.specs.declared.fault.HexFault.{HexFault}
 use Rattle.hex_batches.specs.Spelling.{batch_in}
 use Rattle.trace_model.specs.declared.admission.Admission.{Admission}
 use Rattle.trace_model.specs.declared.entry.Entry.{Entry}
-use Rattle.trace_model.specs.declared.entry.Work.TheVariants as brings
 use Rattle.trace_model.specs.declared.refusal.Refusal.{Refusal}
 use Rattle.trace_model.specs.Held.{Held}
 use Rattle.trace_model.specs.Refusals.{admission, with_admitted}
+use Rattle.span_store.specs.NextEntry.{next_entry}
 use Rattle.get_command.specs.declared.line_fault.LineFault.{LineFault}
 use Rattle.get_command.specs.declared.line_fault.LineFault.TheVariants.{NoBatch, Refused}
 
@@ -23,10 +23,6 @@ without_blanks line = filter is_written line
 -- what a line says: nothing where it is empty but for spaces and tabs
 abbrev pub batch_on : List ℕ → Option (Result Batch HexFault)
 batch_on line = if length (without_blanks line) == 0 then None else Some (batch_in (without_blanks line))
-
--- all entries come from seat 0, and are numbered from 1
-abbrev pub next_entry : Held → Batch → Entry
-next_entry held batch = record { seat = 0; number = length held.entries + 1; work = brings.Batch batch }
 
 -- why a line can't be used, if it can't, and what is held after it
 pub record JudgedLine : Type 0 where

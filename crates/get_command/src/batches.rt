@@ -1,7 +1,8 @@
 //! A store that takes a batch from each line.
 ghost use Rattle.std.specs.Prelude.{◌≡◌, ◌++◌, IfOk, OnOk, Some};
 ghost use Rattle.trace_model.specs.Refusals.{admission};
-ghost use Rattle.get_command.specs.Judging.{admitted, is_written, judged_line, next_entry, without_blanks};
+ghost use Rattle.get_command.specs.Judging.{admitted, is_written, judged_line, without_blanks};
+ghost use Rattle.span_store.specs.NextEntry.{next_entry};
 ghost use Rattle.get_command.specs.Runs.{fault_line, nothing_held};
 
 use crate::line_fault::LineFault;
@@ -14,7 +15,7 @@ use std::io::Write;
 use std::marker::Model;
 use std::sync::Arc;
 use text_lines::LineTaker;
-use trace_model::{Entry, Limits, Work};
+use trace_model::Limits;
 
 /// Hands the batch to the store, as seat 0's next entry. Where it was sent before, nothing is added.
 fn admit(
@@ -26,15 +27,7 @@ fn admit(
         ≡ admitted store.old (next_entry store.old batch)
         (admission store.old.limits store.old.entries (next_entry store.old batch))) }
 {
-    let number = store.len() + 1;
-    let Ok(entry) = Arc::new(
-        alloc,
-        Entry {
-            seat: 0,
-            number,
-            work: Work::Batch(batch),
-        },
-    ) else {
+    let Ok(entry) = Arc::new(alloc, store.next_entry(batch)) else {
         return Err(AllocError);
     };
     match store.apply(entry) {

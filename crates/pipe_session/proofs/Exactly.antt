@@ -10,7 +10,8 @@ use Rattle.trace_model.specs.declared.refusal.Refusal.TheVariants.{NoMemory}
 use Rattle.trace_model.specs.Held.{Held}
 use Rattle.trace_model.specs.Refusals.{with_admitted}
 use Rattle.arrival_journal.specs.Journals.{admission_by, turned_away_by}
-use Rattle.direct_store.specs.Exactly.{DirectSubmits, DirectReads, next_entry}
+use Rattle.span_store.specs.NextEntry.{next_entry}
+use Rattle.direct_store.specs.Exactly.{DirectSubmits, DirectReads}
 use Rattle.http_session.specs.Sessions.{Exchange, Step, Run}
 use Rattle.http_session.specs.declared.verdict.Verdict.{Verdict}
 use Rattle.http_session.specs.declared.verdict.Verdict.TheVariants.{Submit, Ask, Say}

@@ -17,6 +17,7 @@ ghost use Rattle.journal_traces.specs.Given.{given_traces};
 ghost use Rattle.journal_traces.specs.Standing.{traces_named};
 ghost use Rattle.service_places.specs.Reported.{group_of};
 ghost use Rattle.span_store.specs.Kept.{IsNamed, IsPlaced};
+ghost use Rattle.span_store.specs.NextEntry.{next_entry};
 
 use crate::arrange::follow;
 use crate::common::{COMMON, are_more, asks_service_alone};
@@ -25,7 +26,7 @@ use arrival_journal::{Journal, OutlinedEntry, PreparedEntry};
 use arrival_names::ArrivalNames;
 use call_links::NumberedSpan;
 use find_traces::Wanted;
-use jaeger_model::{Seq, Text, TraceId};
+use jaeger_model::{Batch, Seq, Text, TraceId};
 use journal_traces::{Candidates, gather, ring_ids, see_within, spots_along, spots_reported};
 use service_places::ServicePlaces;
 use std::alloc::{AllocError, Global};
@@ -34,7 +35,7 @@ use std::marker::Model;
 use std::sync::Arc;
 use trace_assembly::{Assembly, Spots};
 use trace_model::{
-    Admission, Answer, AnsweredTrace, Entry, Find, KeptTrace, Limits, Query, Refusal,
+    Admission, Answer, AnsweredTrace, Entry, Find, KeptTrace, Limits, Query, Refusal, Work,
 };
 
 /// The accepted entries of one store, and quick answers from them.
@@ -128,6 +129,17 @@ impl SpanStore {
         ensures { result ≡ (length self.now.entries == 0) }
     {
         self.journal.is_empty()
+    }
+
+    /// The entry of a batch that comes next where all come from seat 0, numbered in their order.
+    pub fn next_entry(&self, batch: Batch) -> Entry
+        ensures { result ≡ next_entry self.now batch }
+    {
+        Entry {
+            seat: 0,
+            number: self.len() + 1,
+            work: Work::Batch(batch),
+        }
     }
 
     /// Adds an entry at the end and gives its place, the first one being 1. Where its batch was sent before
