@@ -27,7 +27,7 @@ fn numbered_at<'a>(
 ) -> Option<NumberedSpan<'a>>
     requires few { length journal.now.held.entries < 2 ^ 32 }
     requires numbers { AreGroups journal.now.held.entries reported.now.groups }
-    ensures given_span { option_map (λ s. placed_by_its_entry s.seen) result ≡
+    ensures at_spot { option_map (λ s. placed_by_its_entry s.seen) result ≡
         span_at journal.now.held.entries spot }
     ensures numbered { IfSome result (HasNumber journal.now.held.entries) }
 {
@@ -46,7 +46,7 @@ fn see<'a>(
 ) -> Result<Vec<NumberedSpan<'a>>, AllocError>
     requires few { length journal.now.held.entries < 2 ^ 32 }
     requires numbers { AreGroups journal.now.held.entries reported.now.groups }
-    ensures given_span { IfOk result (λ v. given_all v.items ≡
+    ensures at_spots { IfOk result (λ v. given_all v.items ≡
         spans_named journal.now.held.entries spots.entry) }
     ensures numbered { IfOk result (λ v. HaveNumbers journal.now.held.entries v.items) }
 {
@@ -92,7 +92,7 @@ pub fn see_within<'a>(
 ) -> Result<Vec<Vec<NumberedSpan<'a>>>, AllocError>
     requires few { length journal.now.held.entries < 2 ^ 32 }
     requires numbers { AreGroups journal.now.held.entries reported.now.groups }
-    ensures given_span { IfOk result (λ v. given_traces v.items ≡
+    ensures within { IfOk result (λ v. given_traces v.items ≡
         filter (list_any (in_window end_ms lookback_ms))
         (map (trace_named journal.now.held.entries (spots_of assembly.now)) ids.now)) }
     ensures numbered { IfOk result (λ v.

@@ -9,9 +9,9 @@ loop-spot-preserved c =
     let h = c.args.journal.now.held.entries in
     let done = given_all c.loop-spot.spans.items in
     record {
-      given_span = named_none h done c.in-Some.spot c.next.new.self (sym c.in_default.ensures.given_span) ∙ ap (λ l. done ++ spans_named h l) (sym c.in-Some.ensures.steps) ∙ c.loop-spot.invariant.given_span;
+      at_spots = named_none h done c.in-Some.spot c.next.new.self (sym c.in_default.ensures.at_spot) ∙ ap (λ l. done ++ spans_named h l) (sym c.in-Some.ensures.steps) ∙ c.loop-spot.invariant.at_spots;
       numbered = c.loop-spot.invariant.numbered;
     }
 
-pub returns-clause-given_span : goal.returns-clause-given_span
-returns-clause-given_span c = named_end c.args.journal.now.held.entries (given_all c.loop-spot.spans.items) c.loop-spot.spot-iterator c.in-None.ensures.steps.0 ∙ c.loop-spot.invariant.given_span
+pub returns-clause-at_spots : goal.returns-clause-at_spots
+returns-clause-at_spots c = named_end c.args.journal.now.held.entries (given_all c.loop-spot.spans.items) c.loop-spot.spot-iterator c.in-None.ensures.steps.0 ∙ c.loop-spot.invariant.at_spots

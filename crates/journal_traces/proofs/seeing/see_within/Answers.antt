@@ -29,15 +29,15 @@ loop-id-preserved c =
     let e = to_z-of_z w64 c.args.end_ms c.ranges.end_ms in
     let l = to_z-of_z w64 c.args.lookback_ms c.ranges.lookback_ms in
     let determined : c.reaches_window.result ≡ w (f (get_or c.args.ids.now i no_id)) = (rw (e, l) at c.reaches_window.ensures) ∙ ap (λ ss. w (spans_named h ss)) c.again.ensures ∙ ap w spots in
-    let before : given_traces c.loop-id.traces.items ≡ filter w (map f (take i c.args.ids.now)) = rw (e, l) at c.loop-id.invariant.given_span in
+    let before : given_traces c.loop-id.traces.items ≡ filter w (map f (take i c.args.ids.now)) = rw (e, l) at c.loop-id.invariant.within in
     let numbered : Vec NumberedSpan Global → Type 0 = λ t. HaveNumbers h t.items in
     record {
-      given_span = rw (e, l) (elim c.if-reaches_window.branch [
+      within = rw (e, l) (elim c.if-reaches_window.branch [
         | then-reaches_window+in_ok-see+in_ok-push v ↦
             ap (λ (ts : Traces). given_traces ts.items) v.traces-is
             ∙ ap given_traces v.in_ok-push.ensures.items
             ∙ map_push (λ (t : Vec NumberedSpan Global). given_all t.items) c.loop-id.traces.items v.in_ok-see.field-0
-            ∙ (λ j. before j ++ (v.in_ok-see.ensures.given_span ∙ spots) j ∷ [])
+            ∙ (λ j. before j ++ (v.in_ok-see.ensures.at_spots ∙ spots) j ∷ [])
             ∙ sym (kept_more w f c.args.ids.now i no_id c.loop-id-test.true (sym determined ∙ v.if-reaches_window.true))
         | else-reaches_window v ↦
             ap (λ (ts : Traces). given_traces ts.items) v.traces-is ∙ before
@@ -51,10 +51,10 @@ loop-id-preserved c =
       ];
     }
 
-pub returns-clause-given_span : goal.returns-clause-given_span
-returns-clause-given_span c =
+pub returns-clause-within : goal.returns-clause-within
+returns-clause-within c =
     let h = c.args.journal.now.held.entries in
     let e = to_z-of_z w64 c.args.end_ms c.ranges.end_ms in
     let l = to_z-of_z w64 c.args.lookback_ms c.ranges.lookback_ms in
-    (rw (e, l) at c.loop-id.invariant.given_span)
+    (rw (e, l) at c.loop-id.invariant.within)
     ∙ ap (λ ids. filter (list_any (in_window c.args.end_ms c.args.lookback_ms)) (map (trace_named h (spots_of c.args.assembly.now)) ids)) (take_all c.loop-id.id-index c.args.ids.now c.loop-id-test.false)

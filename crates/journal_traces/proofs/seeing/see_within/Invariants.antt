@@ -9,6 +9,6 @@ use Rattle.journal_traces.proofs.seeing.see_within.Given as goal
 
 abbrev pub invariant-loop-id : goal.invariant-loop-id
 invariant-loop-id l = record {
-  given_span : given_traces l.traces.items ≡ filter (list_any (in_window l.end_ms l.lookback_ms)) (map (trace_named l.journal.held.entries (spots_of l.assembly)) (take l.id-index l.ids));
+  within : given_traces l.traces.items ≡ filter (list_any (in_window l.end_ms l.lookback_ms)) (map (trace_named l.journal.held.entries (spots_of l.assembly)) (take l.id-index l.ids));
   numbered : All (λ t. HaveNumbers l.journal.held.entries t.items) l.traces.items;
 }

@@ -28,7 +28,7 @@ returns-clause-links c =
     let spots = spots_of was.shown in
     let stands = trace_stands h.limits.traces h.entries spots (kept_spots h was.shown was.names was.reported c.self.invariant) in
     let ids : c.deref.result.now ≡ was.shown.newest.ids = c.deref.ensures.value ∙ c.in_ok-ids.ensures ∙ ap (λ (w : Window). w.ids) c.ring.ensures in
-    let seen : given_traces c.in_ok-traces.traces.items ≡ filter (list_any (in_window end_ms lookback_ms)) (map (trace_named h.entries spots) c.deref.result.now) = rw (e, l) at c.in_ok-traces.ensures.given_span in
+    let seen : given_traces c.in_ok-traces.traces.items ≡ filter (list_any (in_window end_ms lookback_ms)) (map (trace_named h.entries spots) c.deref.result.now) = rw (e, l) at c.in_ok-traces.ensures.within in
     let all : links_in (given_traces c.in_ok-traces.traces.items) ≡ links end_ms lookback_ms (traces h.limits.traces (events h.entries)) =
     ap links_in seen ∙ links_chosen end_ms lookback_ms (map (trace_named h.entries spots) c.deref.result.now)
     ∙ ap (λ (r : List TraceId). links end_ms lookback_ms (map (trace_named h.entries spots) r)) ids
