@@ -38,7 +38,7 @@ fn queue_option<'a>(alloc: Global) -> Arg<'a>
     ensures own { result.global ≡ false }
 {
     let queue = value_parser!(u16).range(1..=4_096);
-    let help = "How many batches may wait to be written, 1 to 4096";
+    let help = "How many batches may wait to be accepted, 1 to 4096";
     number(alloc, "queue", queue, "256", help)
 }
 

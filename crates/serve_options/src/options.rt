@@ -12,7 +12,7 @@ pub struct ServeOptions {
     pub port: u16,
     /// How many connections are served at a time, 1 to 64.
     pub workers: u16,
-    /// How many batches may wait for the clerk, 1 to 4,096.
+    /// How many batches may wait to be accepted, 1 to 4,096.
     pub queue: u16,
     /// After how many connections it ends; 0 is never.
     pub sessions: u32,
