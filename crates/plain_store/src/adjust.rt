@@ -8,8 +8,9 @@ ghost use Rattle.trace_model.specs.Linking.{has_id};
 ghost use Rattle.trace_model.specs.Adjusting.{parent_first, with_parent_first, clock_of, unadjusted, shifted_by, skew_adjusted, adjusted};
 ghost use Rattle.plain_store.specs.Climbing.{parent_at, path, next_clock, clock_down};
 
+use crate::clock::{clock_below, root_clock, shifted};
 use jaeger_model::{Placed, Seq, Span, SpanId, parent_of, refer_to_parent};
-use span_steps::{clock_below, parent_place, root_clock, shifted, unadjusted};
+use span_steps::{parent_place, unadjusted};
 use std::alloc::{AllocError, Global};
 use trace_model::{Clock, Shown};
 

@@ -8,10 +8,12 @@
 //! * `search`, `ranks`: the traces that a search finds, and their order.
 //! * `links`: calls between services.
 //! * `adjust`: a trace with its clocks put right.
+//! * `clock`: the clock of one span by that of its parent.
 //! * `sets`: an item put among others once.
 #![tactic(auto)]
 
 mod adjust;
+mod clock;
 mod links;
 mod names;
 mod plain;

@@ -1,17 +1,16 @@
-//! How one host's clock runs against another's, and a span moved by the difference.
+//! The host that a process names, and a span moved by the delta of its host's clock.
 
-ghost use Rattle.std.specs.Prelude.{◌≡◌, IfOk, OnOk, OnErr, IsTrue, map, codes, string_bytes, pos, ◌+ℤ◌, [], not, ◌||◌};
+ghost use Rattle.std.specs.Prelude.{◌≡◌, IfOk, OnOk, OnErr, IsTrue, map, codes, string_bytes, ◌+ℤ◌};
 ghost use Rattle.std.specs.List.{list_all};
 ghost use Rattle.jaeger_model.specs.declared.span.Log.{Log as LogValue};
 ghost use Rattle.jaeger_model.specs.Tags.{first_text};
-ghost use Rattle.jaeger_model.specs.Texts.{same_text};
-ghost use Rattle.trace_model.specs.Adjusting.{host_of, fits, all_fit, is_applied, start_at, new_delta, clock_at, is_elsewhere, clock_below, moved, move_log, said_after, warned, past_limit, past_times, adjusted_by, shifted, unadjusted};
+ghost use Rattle.trace_model.specs.Adjusting.{fits, all_fit, is_applied, start_at, moved, move_log, said_after, warned, past_limit, past_times, adjusted_by, shifted, unadjusted};
 
-use crate::skew::{can_move, delta_between, is_within, moved_by};
+use crate::skew::{can_move, is_within, moved_by};
 use jaeger_model::{Log, Placed, Process, Seq, Span, Text, first_text};
 use std::alloc::{AllocError, Global};
 use std::mem;
-use trace_model::{Clock, Shown};
+use trace_model::Shown;
 
 /// The host that a process names: the text of its first tag `ip`, or an empty one.
 ///
@@ -23,17 +22,6 @@ pub fn host_named(alloc: Global, process: &Process) -> Result<Text, AllocError>
 {
     let host = first_text(alloc, process.tags.as_slice(), "ip")?;
     Ok(Text::from_string(host))
-}
-
-/// The host of a span: the one that its process names.
-///
-/// # Errors
-///
-/// Out of memory, and nothing else.
-pub fn host_of(alloc: Global, placed: &Placed) -> Result<Text, AllocError>
-    ensures { IfOk result (λ t. t ≡ host_of placed.now) }
-{
-    host_named(alloc, placed.process.get())
 }
 
 /// Each log time so much later is a time.
@@ -68,67 +56,6 @@ pub fn start_at(max_skew: u64, delta: i128, span: &Span) -> i64
     } else {
         span.start
     }
-}
-
-fn clock_at(max_skew: u64, host: Text, delta: i128, span: &Span) -> Clock
-    ensures { result ≡ clock_at max_skew host delta span.now }
-{
-    Clock {
-        host,
-        delta,
-        start: start_at(max_skew, delta, span),
-        duration: span.duration,
-    }
-}
-
-/// The clock of a span whose parent is not in its trace: its own host's, with no delta.
-///
-/// # Errors
-///
-/// Out of memory, and nothing else.
-pub fn root_clock(alloc: Global, placed: &Placed, max_skew: u64) -> Result<Clock, AllocError>
-    ensures { IfOk result (λ c. c ≡ clock_at max_skew (host_of placed.now) (pos 0)
-        placed.now.span) }
-{
-    let host = host_of(alloc, placed)?;
-    Ok(clock_at(max_skew, host, 0, &placed.span))
-}
-
-/// The host is none, or another than the one whose clock runs there.
-fn is_elsewhere(above: &Clock, host: &Text) -> bool
-    ensures { result ≡ (same_text host.now [] || not (same_text host.now above.now.host)) }
-{
-    host.as_str().is_empty() || *host != above.host
-}
-
-/// What brings the span into the time of its parent, which has this clock.
-fn new_delta(above: &Clock, span: &Span) -> i128
-    ensures { result ≡ new_delta above.now span.now }
-{
-    delta_between(above.start, above.duration, span.start, span.duration)
-}
-
-/// The clock of a span whose parent has this one: the parent's where the span is of the same host,
-/// else its own host's, with a delta that puts the span inside its parent where there is room.
-///
-/// # Errors
-///
-/// Out of memory, and nothing else.
-pub fn clock_below(
-    alloc: Global,
-    above: &Clock,
-    placed: &Placed,
-    max_skew: u64,
-) -> Result<Clock, AllocError>
-    ensures { IfOk result (λ c. c ≡ clock_below max_skew above.now placed.now) }
-{
-    let host = host_of(alloc, placed)?;
-    if is_elsewhere(above, &host) {
-        let delta = new_delta(above, &placed.span);
-        return Ok(clock_at(max_skew, host, delta, &placed.span));
-    }
-    let host = above.host.clone()?;
-    Ok(clock_at(max_skew, host, above.delta, &placed.span))
 }
 
 /// The log so much later.
@@ -251,22 +178,4 @@ pub fn shift(alloc: Global, shown: &mut Shown, delta: i128, max_skew: u64) -> Re
     warn(shown, adjusted_by(alloc, delta)?)?;
     move_span(alloc, delta, &mut shown.placed.span);
     Ok(())
-}
-
-/// The span as it came, moved as by [`shift`].
-///
-/// # Errors
-///
-/// Out of memory, and nothing else.
-pub fn shifted(
-    alloc: Global,
-    placed: Placed,
-    delta: i128,
-    max_skew: u64,
-) -> Result<Shown, AllocError>
-    ensures { IfOk result (λ s. s ≡ shifted max_skew delta placed) }
-{
-    let mut shown = unadjusted(alloc, placed);
-    shift(alloc, &mut shown, delta, max_skew)?;
-    Ok(shown)
 }

@@ -2,7 +2,7 @@
 //!
 //! * `references`: which reference of a span names its parent.
 //! * `window`: whether a span starts in a window of time.
-//! * `clock`: the clock of a span, by that of its parent, and the span moved by it.
+//! * `clock`: the host that a process names, and a span moved by the delta of its host's clock.
 //! * `conditions`: whether a span meets what a search asks of its service, operation, duration and start.
 //! * `skew`: arithmetic on times.
 #![tactic(auto)]
@@ -13,10 +13,7 @@ mod references;
 mod skew;
 mod window;
 
-pub use clock::{
-    all_fit, all_unadjusted, clock_below, host_named, host_of, root_clock, shift, shifted,
-    start_at, unadjusted,
-};
+pub use clock::{all_fit, all_unadjusted, host_named, shift, start_at, unadjusted};
 pub use conditions::{duration_bound, is_at_least, is_at_most, is_named, is_timed};
 pub use references::parent_place;
 pub use skew::{delta_between, is_within, moved_by};
