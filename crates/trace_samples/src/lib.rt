@@ -7,11 +7,13 @@
 //! * `parts`: tags, processes, spans, batches of them, and searches.
 //! * `seeing`: spans that are only looked at.
 //! * `exchanges`: requests that hand a batch in and look for it, and what is answered to them, as bytes.
+//! * `spellings`: batches as hexadecimal digits, as Apache Thrift spells them among them.
 #![tactic(auto)]
 
 pub mod exchanges;
 mod parts;
 mod seeing;
+pub mod spellings;
 
 pub use parts::{batch, host_process, list_of, placed, process, service_find, span, text_tag};
 pub use seeing::{seen_trace, seen_traces};

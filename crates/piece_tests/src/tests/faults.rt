@@ -1,6 +1,5 @@
 //! Where the faults of pieces stand: in the piece that holds their last byte, and from then on.
 
-use crate::tests::samples::{FIRST, SAMPLES};
 use batch_codec::{DecodeError, Part, decode};
 use batch_feeder::Feeder;
 use jaeger_model::Batch;
@@ -8,6 +7,8 @@ use std::alloc::{AllocError, Global};
 use std::mem::drop;
 use std::test::*;
 use thrift_binary::{WireError, types};
+use trace_samples::exchanges::BATCH;
+use trace_samples::spellings::ALL;
 
 /// A batch without spans.
 const WHOLE: &[u8] =
@@ -94,11 +95,10 @@ fn short_beginnings(alloc: Global, bytes: &[u8]) -> usize {
 #[test]
 fn each_beginning_is_truncated(rt: HostRuntime) -> Result<(), Fail> {
     let alloc = rt.alloc();
-    let bytes = hex::decode(alloc, FIRST)?;
-    assert_eq!(rt; bytes.len(), 104);
-    assert_eq!(rt; short_beginnings(alloc, &bytes), 104);
-    assert!(rt; answers_of(alloc, &bytes) == [Ok(()); 4]);
-    assert!(rt; fault_of(alloc, &bytes).is_none());
+    assert_eq!(rt; BATCH.len(), 104);
+    assert_eq!(rt; short_beginnings(alloc, BATCH), 104);
+    assert!(rt; answers_of(alloc, BATCH) == [Ok(()); 4]);
+    assert!(rt; fault_of(alloc, BATCH).is_none());
     Ok(())
 }
 
@@ -328,10 +328,7 @@ fn came_at_last(alloc: Global, bytes: &[u8]) -> Result<Taken, DecodeError> {
 #[test]
 fn memory_for_pieces(rt: HostRuntime) -> Result<(), Fail> {
     let alloc = rt.alloc();
-    let Some(line) = SAMPLES.lines().next() else {
-        return Err("no sample".into());
-    };
-    let bytes = hex::decode(alloc, line)?;
+    let bytes = hex::decode(alloc, ALL)?;
     assert!(rt; came_at_last(alloc, &bytes)? == Taken::Same);
     Ok(())
 }

@@ -4,6 +4,7 @@ use std::alloc::{AllocError, Global};
 use std::mem::drop;
 use std::test::*;
 use trace_samples::batch;
+use trace_samples::spellings::ALL;
 
 /// The value of a hexadecimal digit.
 fn digit_of(c: u8) -> Option<u8> {
@@ -32,24 +33,6 @@ pub(crate) fn bytes_of(alloc: Global, hex: &str) -> Result<Vec<u8>, AllocError> 
     }
     Ok(bytes)
 }
-
-/// Every field, and a tag of each type, as it is encoded.
-const ALL: &str = "0c0001 0b0001 00000001 61
-        0f0002 0c 00000002
-            0b0001 00000001 6b 080002 00000000 0b0003 00000001 76 00
-            0b0001 00000001 64 080002 00000001 040004 7ff8000000000001 00 00
-    0f0002 0c 00000001
-        0a0001 0000000000000001 0a0002 ffffffffffffffff 0a0003 0000000000000003 0a0004 0000000000000004
-        0b0005 00000002 6f70
-        0f0006 0c 00000001 080001 00000001 0a0002 0000000000000001 0a0003 0000000000000002 0a0004 0000000000000009 00
-        080007 ffffffff 0a0008 fffffffffffffc18 0a0009 0000000000000032
-        0f000a 0c 00000003
-            0b0001 00000001 62 080002 00000002 020005 01 00
-            0b0001 00000001 6e 080002 00000003 0a0006 fffffffffffffff9 00
-            0b0001 00000001 78 080002 00000004 0b0007 00000002 ff00 00
-        0f000b 0c 00000001
-            0a0001 fffffffffffffffb 0f0002 0c 00000001 0b0001 00000001 65 080002 00000000 0b0003 00000000 00 00 00
-    0a0003 fffffffffffffff7 00";
 
 /// Decodes the bytes, once more where memory ran out.
 fn read_again(alloc: Global, bytes: &[u8]) -> Result<Batch, DecodeError> {
