@@ -9,6 +9,7 @@
 //! * `collisions`: ids and names that a key doesn't spread.
 //! * `large`: a store of many entries.
 //! * `entries`, `replays`, `shown`: entries for these, what a store of them answers, and what an answer shows.
+//! * `sameness`: whether a store answers as the plain store.
 #![tactic(auto)]
 
 #[cfg(test)]

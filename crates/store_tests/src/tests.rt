@@ -8,6 +8,7 @@ mod limits;
 mod names;
 mod replays;
 mod rings;
+mod sameness;
 mod shown;
 mod stores;
 mod tables;

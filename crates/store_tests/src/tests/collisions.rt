@@ -1,9 +1,9 @@
 use crate::tests::entries::{entry, kept};
-use crate::tests::replays::store_answer;
-use crate::tests::shown::shown;
+use crate::tests::replays::replayed;
+use crate::tests::sameness::same_answer;
 use id_table::IdTable;
 use jaeger_model::{Text, TraceId};
-use plain_store::plain_answer;
+use span_store::SpanStore;
 use std::alloc::{AllocError, Global};
 use std::hash::{BuildHasher, Hash, Hasher, RandomState};
 use std::mem::drop;
@@ -156,93 +156,56 @@ fn entries_of(
     kept(entries, added)
 }
 
-/// Limits by which three traces are shown.
-fn three_traces() -> Result<Limits, Fail> {
-    Ok(Limits::new(ROOM, ROOM, 3, 0).ok_or("limits")?)
-}
-
-/// What the plain store of the entries answers, as text.
-fn plainly(alloc: Global, entries: &[Arc<Entry>], query: &Query) -> Result<String, Fail> {
-    let answer = plain_answer(alloc, entries, three_traces()?, query)?;
-    Ok(shown(alloc, answer)?)
-}
-
-/// What the store of the entries answers, as text.
-fn quickly(
-    alloc: Global,
-    keys: RandomState,
-    entries: &[Arc<Entry>],
-    query: &Query,
-) -> Result<String, Fail> {
-    let answer = store_answer(alloc, keys, three_traces()?, entries, query)?;
-    Ok(shown(alloc, answer)?)
-}
-
-/// The store of the entries answers the question as the plain store.
-fn is_same(
-    alloc: Global,
-    keys: RandomState,
-    entries: &[Arc<Entry>],
-    query: &Query,
-) -> Result<bool, Fail> {
-    let quick = quickly(alloc, keys, entries, query)?;
-    let plain = plainly(alloc, entries, query)?;
-    Ok(quick == plain)
-}
-
-/// The same of a question that is given up behind that.
-fn same_answer(
-    alloc: Global,
-    keys: RandomState,
-    entries: &[Arc<Entry>],
-    query: Query,
-) -> Result<bool, Fail> {
-    let said = is_same(alloc, keys, entries, &query);
-    drop(query);
-    said
-}
-
 /// What is answered of the service's operations is the same.
-fn same_operations(
-    alloc: Global,
-    keys: RandomState,
-    entries: &[Arc<Entry>],
-    name: u64,
-) -> Result<bool, Fail> {
+fn same_operations(alloc: Global, store: &SpanStore, name: u64) -> Result<bool, AllocError> {
     let service = Text::from_string(name.to_string(alloc)?);
-    same_answer(alloc, keys, entries, Query::OperationNames { service })
+    same_answer(alloc, store, Query::OperationNames { service })
 }
 
 /// Each of the traces and of the services is answered as in the plain store.
 fn same_each(
     alloc: Global,
-    keys: RandomState,
-    entries: &[Arc<Entry>],
+    store: &SpanStore,
     ids: &[TraceId],
     names: &[Named],
-) -> Result<bool, Fail> {
-    let mut same = same_answer(alloc, keys, entries, Query::Services)?;
+) -> Result<bool, AllocError> {
+    let mut same = same_answer(alloc, store, Query::Services)?;
     for id in ids {
         let query = Query::Trace { id: *id, raw: true };
-        same = same && same_answer(alloc, keys, entries, query)?;
+        same = same && same_answer(alloc, store, query)?;
     }
     for named in names {
-        same = same && same_operations(alloc, keys, entries, named.service)?;
+        same = same && same_operations(alloc, store, named.service)?;
     }
     Ok(same)
 }
 
-/// The same of an entry for each of them.
+/// A store of an entry for each of them, which shows three traces.
+fn store_of(
+    alloc: Global,
+    keys: RandomState,
+    ids: &[TraceId],
+    names: &[Named],
+) -> Result<SpanStore, Fail> {
+    let limits = Limits::new(ROOM, ROOM, 3, 0).ok_or("limits")?;
+    let entries = entries_of(alloc, ids, names)?;
+    let store = replayed(alloc, keys, limits, &entries);
+    drop(entries);
+    store
+}
+
+/// Such a store has taken in all of them, and answers as the plain store.
 fn same_of(
     alloc: Global,
     keys: RandomState,
     ids: &[TraceId],
     names: &[Named],
 ) -> Result<bool, Fail> {
-    let entries = entries_of(alloc, ids, names)?;
-    let same = same_each(alloc, keys, &entries, ids, names);
-    drop(entries);
-    same
+    let store = store_of(alloc, keys, ids, names)?;
+    let is_whole = store.entries().len() == ids.len();
+    let same = same_each(alloc, &store, ids, names);
+    drop(store);
+    Ok(is_whole && same?)
 }
 
 /// Each of the names for a service, or for an operation of one service.

@@ -1,5 +1,5 @@
 use crate::tests::entries::{entry, id, kept};
-use crate::tests::replays::store_answer_to;
+use crate::tests::replays::store_answer;
 use jaeger_model::{Placed, Text};
 use plain_store::get_trace;
 use std::alloc::{AllocError, Global};
@@ -62,7 +62,7 @@ fn answered(
     query: Query,
 ) -> Result<usize, Fail> {
     let limits = Limits::new(MANY, MANY, 0, 0).ok_or("limits")?;
-    let answer = store_answer_to(alloc, keys, limits, entries, query)?;
+    let answer = store_answer(alloc, keys, limits, entries, query)?;
     let count = count_in(&answer);
     drop(answer);
     Ok(count)

@@ -1,7 +1,7 @@
 ghost use Rattle.std.specs.Prelude.{◌<◌};
 
 use crate::tests::entries::{entry, kept};
-use crate::tests::replays::store_answer_to;
+use crate::tests::replays::store_answer;
 use jaeger_model::{Placed, Span, Text};
 use plain_store::{operation_names, operations, plain_answer, services};
 use std::alloc::{AllocError, Global};
@@ -72,7 +72,7 @@ fn answer_to(
     entries: &[Arc<Entry>],
     query: Query,
 ) -> Result<Answer, Fail> {
-    store_answer_to(alloc, keys, one_trace()?, entries, query)
+    store_answer(alloc, keys, one_trace()?, entries, query)
 }
 
 fn operation_names_of(alloc: Global, service: &str) -> Result<Query, AllocError> {

@@ -1,6 +1,6 @@
-//! What a store answers of entries that it takes in at once.
+//! Stores that take entries in at once, and what they answer.
 
-use span_store::replayed_answer;
+use span_store::{SpanStore, replay, replayed_answer};
 use std::alloc::Global;
 use std::hash::RandomState;
 use std::mem::drop;
@@ -8,27 +8,28 @@ use std::sync::Arc;
 use std::test::Fail;
 use trace_model::{Answer, Entry, Limits, Query};
 
-/// What a store of these limits that takes in the entries answers.
-pub(crate) fn store_answer(
+/// A store of these limits that has taken in the entries.
+pub(crate) fn replayed(
     alloc: Global,
     keys: RandomState,
     limits: Limits,
     entries: &[Arc<Entry>],
-    query: &Query,
-) -> Result<Answer, Fail> {
-    let answer = replayed_answer(alloc, keys, limits, entries, query);
-    Ok(answer.ok().ok_or("refused")?)
+) -> Result<SpanStore, Fail> {
+    match replay(alloc, keys, limits, entries) {
+        Ok(store) => Ok(store),
+        Err(_) => Err("refused".into()),
+    }
 }
 
-/// The same to a question that is given up behind that.
-pub(crate) fn store_answer_to(
+/// What a store of these limits that takes in the entries answers to a question that is given up behind that.
+pub(crate) fn store_answer(
     alloc: Global,
     keys: RandomState,
     limits: Limits,
     entries: &[Arc<Entry>],
     query: Query,
 ) -> Result<Answer, Fail> {
-    let answer = store_answer(alloc, keys, limits, entries, &query);
+    let answer = replayed_answer(alloc, keys, limits, entries, &query);
     drop(query);
-    answer
+    Ok(answer.ok().ok_or("refused")?)
 }

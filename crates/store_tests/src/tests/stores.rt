@@ -1,8 +1,10 @@
 use crate::tests::entries::{entry, id, kept, limit};
+use crate::tests::replays::replayed;
+use crate::tests::sameness::same_answer;
 use crate::tests::shown::shown;
 use jaeger_model::{Seq, Span, SpanId, Tag, Text};
 use plain_store::plain_answer;
-use span_store::{SpanStore, replay, replayed_answer};
+use span_store::{SpanStore, replayed_answer};
 use std::alloc::{AllocError, Global};
 use std::hash::RandomState;
 use std::mem::drop;
@@ -107,33 +109,6 @@ fn find(alloc: Global, seed: u64) -> Result<Find, AllocError> {
         duration_max: 60,
         limit: seed % 4,
     })
-}
-
-/// What the plain store of the store's entries answers, as text.
-fn plainly(alloc: Global, store: &SpanStore, query: &Query) -> Result<String, AllocError> {
-    shown(
-        alloc,
-        plain_answer(alloc, store.entries(), store.limits(), query)?,
-    )
-}
-
-/// What the store answers, as text.
-fn quickly(alloc: Global, store: &SpanStore, query: &Query) -> Result<String, AllocError> {
-    shown(alloc, store.answer(query).ok().ok_or(AllocError)?)
-}
-
-/// The store answers the question as the plain store of its entries.
-fn is_same(alloc: Global, store: &SpanStore, query: &Query) -> Result<bool, AllocError> {
-    let quick = quickly(alloc, store, query)?;
-    let plain = plainly(alloc, store, query)?;
-    Ok(quick == plain)
-}
-
-/// The same of a question that is given up behind that.
-fn same_answer(alloc: Global, store: &SpanStore, query: Query) -> Result<bool, AllocError> {
-    let said = is_same(alloc, store, &query);
-    drop(query);
-    said
 }
 
 fn operation_names(alloc: Global, seed: u64) -> Result<Query, AllocError> {
@@ -613,14 +588,6 @@ fn for_two() -> Result<Limits, Fail> {
     Ok(Limits::new(3, 5, 2, 0).ok_or("limits")?)
 }
 
-/// A store of the entries.
-fn replayed(alloc: Global, keys: RandomState, entries: &[Arc<Entry>]) -> Result<SpanStore, Fail> {
-    match replay(alloc, keys, for_two()?, entries) {
-        Ok(store) => Ok(store),
-        Err(_) => Err("refused".into()),
-    }
-}
-
 /// Whether the entry is among these, whole.
 fn is_among(entries: &[Arc<Entry>], held: &Entry) -> bool {
     entries.iter().any(|one| one.number == held.number && one.work.is_same(&held.work))
@@ -643,7 +610,7 @@ fn numbers_held(
 
 /// The numbers of those that a store of the entries accepts, in its order, where it holds them whole.
 fn accepted_of(alloc: Global, keys: RandomState, entries: &[Arc<Entry>]) -> Result<Vec<u64>, Fail> {
-    let store = replayed(alloc, keys, entries)?;
+    let store = replayed(alloc, keys, for_two()?, entries)?;
     let numbers = numbers_held(alloc, store.entries(), entries);
     drop(store);
     Ok(numbers?)
@@ -663,7 +630,7 @@ fn same_replayed_of(
     keys: RandomState,
     entries: &[Arc<Entry>],
 ) -> Result<bool, Fail> {
-    let store = replayed(alloc, keys, entries)?;
+    let store = replayed(alloc, keys, for_two()?, entries)?;
     let same = same_answers(alloc, &store, 5);
     drop(store);
     Ok(same?)
