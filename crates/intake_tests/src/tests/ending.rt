@@ -7,11 +7,10 @@ ghost use Rattle.intake.specs.Books.{Balances};
 ghost use Rattle.intake.specs.Seats.{IsNewSeat};
 ghost use Rattle.intake_tests.specs.Seats.{AllMayHandIn, Stays};
 
-use crate::tests::fixture::{batch, close_books};
-use intake::{Books, Clerk, Desk, Seat, Ticket, Turn, desk};
-use read_side::{Keeper, Opened, StoreName, open};
+use crate::tests::fixture::{Fixture, batch, close_books, opened};
+use intake::{Books, Clerk, Desk, Seat, Ticket, Turn};
+use read_side::{Keeper, Opened, StoreName};
 use std::alloc::Global;
-use std::hash::RandomState;
 use std::marker::Brand;
 use std::process::Abort;
 use std::random::RandomSource;
@@ -489,15 +488,13 @@ fn round<N: StoreName + Send + Sync, R: Threads + Wait + Abort + RandomSource + 
 ) -> Result<bool, Fail>
     requires { (name.seen.book ≡ N.book) × (limits ≡ N.limits) }
 {
-    let (mut keeper, _passes) = open::<N, _>(rt, alloc, RandomState::new(rt)?, name, limits, 1)?;
-    let first = keeper.receipt();
-    let (desk, seats, clerk) = match desk(alloc, first, ROOM, 4) {
-        Ok(opened) => opened,
-        Err(why) => {
-            keeper.close(rt);
-            return Err(Fail::from(why));
-        }
-    };
+    let Fixture {
+        keeper,
+        passes: _passes,
+        desk,
+        seats,
+        clerk,
+    } = opened::<N, _>(rt, alloc, name, limits, 1, ROOM)?;
     let Some(four) = four_of(alloc, &clerk, seats) else {
         keeper.close(rt);
         return Ok(false);

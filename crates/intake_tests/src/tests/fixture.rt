@@ -1,6 +1,7 @@
 //! A store with a desk of four seats, whose queue has room for one job.
 
-ghost use Rattle.std.specs.Prelude.{◌≡◌, ◌≤◌};
+ghost use Rattle.std.specs.Prelude.{◌≡◌, ◌≤◌, All, IfOk};
+ghost use Rattle.intake.specs.Seats.{IsNewSeat};
 
 use crate::tests::rows::Row;
 use intake::{Books, Clerk, Desk, Seat, desk};
@@ -65,6 +66,45 @@ pub fn batch(alloc: Global, id: u64) -> Result<Batch, AllocError> {
     trace_samples::batch(alloc, "a", spans.into_vec())
 }
 
+/// Opens a store with so many readers, and its desk. Where there is no memory for the desk it closes the store.
+pub(crate) fn opened<N: StoreName, R: Wait + RandomSource>(
+    rt: &R,
+    alloc: Global,
+    name: Opened,
+    limits: Limits,
+    readers: usize,
+    capacity: usize,
+) -> Result<Fixture<N>, Fail>
+    requires store { (name.seen.book ≡ N.book) × (limits ≡ N.limits) }
+    requires readers { (1 ≤ readers) × (readers ≤ 64) }
+    requires queue { (1 ≤ capacity) × (capacity ≤ 4096) }
+    ensures seats { IfOk result (λ f. All (IsNewSeat f.clerk.desk capacity) f.seats.items) }
+{
+    let (mut keeper, passes) = open::<N, _>(
+        rt,
+        alloc,
+        RandomState::new(rt)?,
+        name,
+        limits,
+        readers,
+    )?;
+    let first = keeper.receipt();
+    match desk(alloc, first, capacity, 4) {
+        Err(why) => {
+            drop(passes);
+            keeper.close(rt);
+            Err(Fail::from(why))
+        }
+        Ok((desk, seats, clerk)) => Ok(Fixture {
+            keeper,
+            passes,
+            desk,
+            seats,
+            clerk,
+        }),
+    }
+}
+
 /// Opens a store and its desk, and plays the row with them.
 pub fn played<N: StoreName + Send + Sync, R: Threads + Wait + RandomSource + Sync>(
     rt: &R,
@@ -77,23 +117,6 @@ pub fn played<N: StoreName + Send + Sync, R: Threads + Wait + RandomSource + Syn
     requires store { (name.seen.book ≡ N.book) × (limits ≡ N.limits) }
     requires queue { (1 ≤ capacity) × (capacity ≤ 4096) }
 {
-    let (mut keeper, passes) = open::<N, _>(rt, alloc, RandomState::new(rt)?, name, limits, 2)?;
-    let first = keeper.receipt();
-    match desk(alloc, first, capacity, 4) {
-        Err(_) => {
-            drop(passes);
-            keeper.close(rt);
-            Ok(false)
-        }
-        Ok((desk, seats, clerk)) => {
-            let fixture = Fixture {
-                keeper,
-                passes,
-                desk,
-                seats,
-                clerk,
-            };
-            Ok(row.play(rt, alloc, fixture))
-        }
-    }
+    let fixture = opened::<N, _>(rt, alloc, name, limits, 2, capacity)?;
+    Ok(row.play(rt, alloc, fixture))
 }
