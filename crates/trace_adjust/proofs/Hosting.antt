@@ -15,6 +15,7 @@ use Rattle.trace_adjust.specs.declared.clock.HostClock.{HostClock}
 use Rattle.trace_adjust.specs.Settling.{near, is_unset, written, clock_delta, delta_at, delta_or_none}
 use Rattle.trace_model.specs.Sharing.{ShareProcesses}
 use Rattle.trace_adjust.specs.Hosts.{hosts_of, number_in, hosted, all_hosted, AreNumbers, IsNumber, IsNumbered, AreNumbered, clock_by, below_by, near_by, host_delta, delta_by}
+use Rattle.trace_adjust.proofs.Places.{one_more, or_none}
 
 -- ---- processes
 first_process : (ps : List Placed) (k : ℕ) (d : Placed) → (get_or (spans_of (map unadjusted (map with_parent_first ps))) k d).process ≡ (get_or ps k d).process
@@ -146,21 +147,9 @@ pub same_delta : (hosts : List (List ℕ)) (first : ℕ → Option ℕ) (cs : Li
 same_delta hosts first cs i id = ap (λ d. if unwrap_or (first id) i == i then d else pos 0) (delta_hosted hosts (get_or cs i None) ∙ ap (delta_or_none clock_delta) (sym (hosted_at (hosted hosts) cs i)))
 
 -- ---- the table of numbers, with one more host
-or_none : {X : Type 0} (o : Option X) → option_or o None ≡ o
-or_none None = refl
-or_none (Some x) = refl
-
-map_or : (o : Option ℕ) (b : Bool) (n : ℕ) → option_map suc (option_or o (cond b (Some n) None)) ≡ option_or (option_map suc o) (cond b (Some (suc n)) None)
-map_or (Some x) b n = refl
-map_or None true n = refl
-map_or None false n = refl
-
 pub number_push : (hosts : List (List ℕ)) (h t : List ℕ) → number_in (hosts ++ h ∷ []) t ≡ option_or (number_in hosts t) (cond (same_text t h) (Some (length hosts)) None)
 number_push [] h t = refl
-number_push (g ∷ hosts) h t = elim (same_text t g) as (λ b. (if b then Some 0 else option_map suc (number_in (hosts ++ h ∷ []) t)) ≡ option_or (if b then Some 0 else option_map suc (number_in hosts t)) (cond (same_text t h) (Some (suc (length hosts))) None)) [
-  | true ↦ refl
-  | false ↦ ap (option_map suc) (number_push hosts h t) ∙ map_or (number_in hosts t) (same_text t h) (length hosts)
-]
+number_push (g ∷ hosts) h t = one_more (same_text t g) (same_text t h) (number_in hosts t) (number_in (hosts ++ h ∷ []) t) (length hosts) (number_push hosts h t)
 
 -- a host that is there already changes nothing
 pub number_again : (hosts : List (List ℕ)) (h : List ℕ) (n : ℕ) → number_in hosts h ≡ Some n → (t : List ℕ) → number_in (hosts ++ h ∷ []) t ≡ number_in hosts t

@@ -16,7 +16,7 @@ use Rattle.trace_model.specs.declared.answer.Shown.{Shown}
 use Rattle.trace_model.specs.Adjusting.{spans_of}
 use Rattle.trace_adjust.specs.Settling.{first_at, place_in, parent_at}
 
-or_none : {X : Type 0} (o : Option X) → option_or o None ≡ o
+pub or_none : {X : Type 0} (o : Option X) → option_or o None ≡ o
 or_none None = refl
 or_none (Some x) = refl
 
@@ -25,13 +25,16 @@ map_or (Some x) b n = refl
 map_or None true n = refl
 map_or None false n = refl
 
+-- where the first item that is sought stands, in a list with one item more: here says that the list begins with it, last that the item more is it
+pub one_more : (here last : Bool) (o more : Option ℕ) (n : ℕ) → more ≡ option_or o (cond last (Some n) None)
+    → cond here (Some 0) (option_map suc more) ≡ option_or (cond here (Some 0) (option_map suc o)) (cond last (Some (suc n)) None)
+one_more true last o more n h = refl
+one_more false last o more n h = ap (option_map suc) h ∙ map_or o last n
+
 -- one more span
 first_push : (id : ℕ) (ps : List Placed) (p : Placed) → first_at id (ps ++ p ∷ []) ≡ option_or (first_at id ps) (cond (p.span.id.0 == id) (Some (length ps)) None)
 first_push id [] p = refl
-first_push id (q ∷ ps) p = elim (q.span.id.0 == id) as (λ b. cond b (Some 0) (option_map suc (first_at id (ps ++ p ∷ []))) ≡ option_or (cond b (Some 0) (option_map suc (first_at id ps))) (cond (p.span.id.0 == id) (Some (suc (length ps))) None)) [
-  | true ↦ refl
-  | false ↦ ap (option_map suc) (first_push id ps p) ∙ map_or (first_at id ps) (p.span.id.0 == id) (length ps)
-]
+first_push id (q ∷ ps) p = one_more (q.span.id.0 == id) (p.span.id.0 == id) (first_at id ps) (first_at id (ps ++ p ∷ [])) (length ps) (first_push id ps p)
 
 first_more : (id : ℕ) (xs : List Placed) (i : ℕ) (x : Placed) → i < length xs → x ≡ get_or xs i x → first_at id (take (i + 1) xs) ≡ option_or (first_at id (take i xs)) (cond (x.span.id.0 == id) (Some i) None)
 first_more id xs i x l e =
