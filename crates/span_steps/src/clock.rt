@@ -4,9 +4,10 @@ ghost use Rattle.std.specs.Prelude.{◌≡◌, IfOk, OnOk, OnErr, IsTrue, map, c
 ghost use Rattle.std.specs.List.{list_all};
 ghost use Rattle.jaeger_model.specs.declared.span.Log.{Log as LogValue};
 ghost use Rattle.jaeger_model.specs.Tags.{first_text};
-ghost use Rattle.trace_model.specs.Adjusting.{fits, all_fit, is_applied, start_at, moved, move_log, said_after, warned, past_limit, past_times, adjusted_by, shifted, unadjusted};
+ghost use Rattle.trace_model.specs.Adjusting.{fits, all_fit, is_applied, start_at, moved, move_log, said_after, shifted, unadjusted};
 
 use crate::skew::{can_move, is_within, moved_by};
+use crate::warning::Warning;
 use jaeger_model::{Log, Placed, Process, Seq, Span, Text, first_text};
 use std::alloc::{AllocError, Global};
 use std::mem;
@@ -32,7 +33,7 @@ fn all_logs_fit(delta: i128, logs: &[Log]) -> bool
 }
 
 /// Start and log times so much later are all times. The delta is microseconds.
-pub fn all_fit(delta: i128, span: &Span) -> bool
+pub(crate) fn all_fit(delta: i128, span: &Span) -> bool
     ensures { result ≡ all_fit delta span.now }
 {
     can_move(span.start, delta) && all_logs_fit(delta, span.logs.as_slice())
@@ -121,37 +122,6 @@ pub fn all_unadjusted(alloc: Global, spans: Vec<Placed>) -> Result<Seq<Shown>, A
     Ok(Seq::from_vec(shown))
 }
 
-/// Puts a warning behind those of the span.
-fn warn(shown: &mut Shown, warning: Text) -> Result<(), AllocError>
-    ensures ok { OnOk result (shown.new ≡ said_after shown.old (warned shown.old.placed warning)) }
-    ensures err { OnErr result (shown.new ≡ shown.old) }
-{
-    shown.warnings.push(warning)
-}
-
-fn past_limit(alloc: Global, delta: i128, max_skew: u64) -> Result<Text, AllocError>
-    ensures { IfOk result (λ t. t ≡ past_limit delta max_skew) }
-{
-    let text = format!(in alloc;
-        "clock skew of {delta} us not applied: the limit is {max_skew} us"
-    )?;
-    Ok(Text::from_string(text))
-}
-
-fn past_times(alloc: Global, delta: i128) -> Result<Text, AllocError>
-    ensures { IfOk result (λ t. t ≡ past_times delta) }
-{
-    let text = format!(in alloc; "clock skew of {delta} us not applied: a time would not fit")?;
-    Ok(Text::from_string(text))
-}
-
-fn adjusted_by(alloc: Global, delta: i128) -> Result<Text, AllocError>
-    ensures { IfOk result (λ t. t ≡ adjusted_by delta) }
-{
-    let text = format!(in alloc; "clock skew adjusted by {delta} us")?;
-    Ok(Text::from_string(text))
-}
-
 /// Moves the span by the delta of its host, and puts a warning that says so behind those that it
 /// has, or one that says why it is not moved: the delta is above the limit, or a time would leave
 /// the range of times. A delta of 0 changes nothing and says nothing.
@@ -166,16 +136,12 @@ pub fn shift(alloc: Global, shown: &mut Shown, delta: i128, max_skew: u64) -> Re
         said_after shown.old (shifted max_skew delta shown.old.placed)) }
     ensures err { OnErr result (shown.new ≡ shown.old) }
 {
-    if delta == 0 {
+    let Some(warning) = Warning::of_delta(max_skew, delta, &shown.placed.span) else {
         return Ok(());
+    };
+    shown.warnings.push(warning.text(alloc)?)?;
+    if let Warning::Adjusted(delta) = warning {
+        move_span(alloc, delta, &mut shown.placed.span);
     }
-    if !is_within(delta, max_skew) {
-        return warn(shown, past_limit(alloc, delta, max_skew)?);
-    }
-    if !all_fit(delta, &shown.placed.span) {
-        return warn(shown, past_times(alloc, delta)?);
-    }
-    warn(shown, adjusted_by(alloc, delta)?)?;
-    move_span(alloc, delta, &mut shown.placed.span);
     Ok(())
 }

@@ -4,6 +4,7 @@
 //! * `window`: whether a span starts in a window of time.
 //! * `clock`: the host that a process names, and a span moved by the delta of its host's clock.
 //! * `conditions`: whether a span meets what a search asks of its service, operation, duration and start.
+//! * `warning`: what is said of a span's clock skew.
 //! * `skew`: arithmetic on times.
 #![tactic(auto)]
 
@@ -11,10 +12,12 @@ mod clock;
 mod conditions;
 mod references;
 mod skew;
+mod warning;
 mod window;
 
-pub use clock::{all_fit, all_unadjusted, host_named, shift, start_at, unadjusted};
+pub use clock::{all_unadjusted, host_named, shift, start_at, unadjusted};
 pub use conditions::{duration_bound, is_at_least, is_at_most, is_named, is_timed};
 pub use references::parent_place;
-pub use skew::{delta_between, is_within, moved_by};
+pub use skew::{delta_between, moved_by};
+pub use warning::Warning;
 pub use window::{is_in_window, may_be_in_window};

@@ -2,15 +2,16 @@
 
 ghost use Rattle.std.specs.Prelude.{◌≡◌, ◌+◌, ◌<◌, ◌∷◌, length, slice_get, Some, IfOk, swap};
 ghost use Rattle.jaeger_model.specs.Parents.{parent, parent_reference, with_parent};
-ghost use Rattle.trace_model.specs.Adjusting.{all_fit, host_of, parent_first, start_at, with_parent_first};
+ghost use Rattle.trace_model.specs.Adjusting.{host_of, parent_first, start_at, with_parent_first};
 ghost use Rattle.trace_model.specs.Seeing.{placed_by_its_entry};
+ghost use Rattle.span_steps.specs.Warnings.{warning_of, CanMove};
 ghost use Rattle.trace_adjust.specs.Lent.{referred, IsLent, IsReferred};
 
 use jaeger_model::{
     Log, Placed, Process, Seen, Span, SpanId, SpanRef, Text, needs_no_reference, parent_of,
     parent_reference,
 };
-use span_steps::{all_fit, host_named, parent_place, start_at};
+use span_steps::{Warning, host_named, parent_place, start_at};
 use std::alloc::{AllocError, Global};
 use std::marker::Model;
 
@@ -184,11 +185,12 @@ impl<'a> LentPlaced<'a> {
         }
     }
 
-    /// Its start and the times of its logs so much later are all times.
-    pub(crate) fn all_fit(&self, delta: i128) -> bool
-        ensures { result ≡ all_fit delta self.now.span }
+    /// What is said of it where the delta of its clock is to move it.
+    pub(crate) fn warning(&self, max_skew: u64, delta: i128) -> Option<Warning>
+        ensures warning { result ≡ warning_of max_skew delta self.now.span }
+        ensures can_move { CanMove result self.now.span }
     {
-        all_fit(delta, self.span)
+        Warning::of_delta(max_skew, delta, self.span)
     }
 
     /// Microseconds since 1970.

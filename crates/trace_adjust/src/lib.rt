@@ -10,7 +10,7 @@
 //! * `clocks`: the clock of each span.
 //! * `skew`: the spans moved by their clocks.
 //! * `showing`: traces of an answer, whose spans are copied from their entries.
-//! * `lent_span`, `lent_logs`, `warning`: a span of an answer where its entry keeps it, with what is shown otherwise.
+//! * `lent_span`, `lent_logs`: a span of an answer where its entry keeps it, with what is shown otherwise.
 //! * `lent_spans`: the spans of a trace of an answer, lent one by one.
 //! * `lending`: what is held for that: the deltas of their clocks.
 #![tactic(auto)]
@@ -26,7 +26,6 @@ mod lent_spans;
 mod parents;
 mod showing;
 mod skew;
-mod warning;
 
 pub use lending::lend;
 pub use lent_logs::{LentLog, LentLogs};
@@ -35,4 +34,3 @@ pub use lent_spans::{LentIter, LentSpans};
 pub use parents::parent_first;
 pub use showing::{show, shown};
 pub use skew::{adjust_skew, adjusted};
-pub use warning::Warning;

@@ -3,7 +3,8 @@ ghost use Rattle.std.specs.Prelude.{◌≡◌, ◌+◌, List, decimal, map};
 ghost use Rattle.serde_json.specs.Data.{string};
 ghost use Rattle.serde_json.specs.Written.{compact_text};
 ghost use Rattle.jaeger_model.specs.declared.batch.Process.{Process as ProcessValue};
-ghost use Rattle.trace_adjust.specs.Lending.{lent_log, warning_text, warning_texts};
+ghost use Rattle.span_steps.specs.Warnings.{warning_text, warning_texts};
+ghost use Rattle.trace_adjust.specs.Lending.{lent_log};
 ghost use Rattle.query_json.specs.Page.{Puts};
 ghost use Rattle.query_json.specs.Trees.{flags_number, log_tree, reference_tree, span_tree, warnings_tree};
 ghost use Rattle.query_json.specs.Writing.{process_place};
@@ -11,7 +12,8 @@ ghost use Rattle.query_json.specs.Writing.{process_place};
 use super::processes::write_name;
 use super::{Page, WriteItems, WriteJson, write_list};
 use crate::values::flags_number;
-use trace_adjust::{LentLog, LentLogs, LentSpan, Warning};
+use span_steps::Warning;
+use trace_adjust::{LentLog, LentLogs, LentSpan};
 
 impl<'a> WriteJson for LentLog<'a> {
     ghost tree = { λ l. log_tree (lent_log l) };

@@ -7,7 +7,7 @@ use std::alloc::{AllocError, Global};
 use std::mem::drop;
 use std::sync::Arc;
 use std::test::*;
-use trace_adjust::{LentSpan, LentSpans, Warning, lend, show};
+use trace_adjust::{LentSpan, LentSpans, lend, show};
 use trace_model::{Entry, KeptSpan, KeptTrace, Limits, Shown};
 
 /// Adds the spans of each entry at these indexes.
@@ -65,29 +65,11 @@ fn are_same_references(lent: &LentSpan, shown: &Shown) -> bool {
     true
 }
 
-/// What is said of a clock, as a span that is copied says it.
-fn text_of(alloc: Global, warning: Warning) -> Result<String, AllocError> {
-    match warning {
-        Warning::Adjusted(delta) => format!(in alloc; "clock skew adjusted by {delta} us"),
-        Warning::PastLimit { delta, max_skew } => format!(in alloc;
-            "clock skew of {delta} us not applied: the limit is {max_skew} us"
-        ),
-        Warning::PastTimes(delta) => format!(in alloc;
-            "clock skew of {delta} us not applied: a time would not fit"
-        ),
-    }
-}
-
 /// The same is said of both.
 fn are_same_warnings(alloc: Global, lent: &LentSpan, shown: &Shown) -> Result<bool, AllocError> {
     match (lent.warning(), shown.warnings.as_slice()) {
         (None, []) => Ok(true),
-        (Some(warning), [wanted]) => {
-            let text = text_of(alloc, warning)?;
-            let same = wanted.as_str() == text.as_str();
-            drop(text);
-            Ok(same)
-        }
+        (Some(warning), [wanted]) => Ok(*wanted == warning.text(alloc)?),
         _ => Ok(false),
     }
 }

@@ -1,7 +1,7 @@
 use Rattle.std.proofs.Common.{◌∙◌, append_assoc}
 use Rattle.std.specs.Int.{w128}
 use Rattle.std.proofs.lemmas.Int.{to_z-of_z}
-use Rattle.span_steps.proofs.clock.past_times.Goals as goal
+use Rattle.span_steps.proofs.warning.past_limit.Goals as goal
 
 pub returns : goal.returns
 returns c =
