@@ -33,7 +33,8 @@ import subprocess
 import sys
 import tempfile
 
-from decode import ROOT, field, span, text
+from decode import ROOT, SERVICES, span
+import wire
 
 IN_BATCH = 10
 KINDS = ["one", "copies", "beside", "still"]
@@ -496,8 +497,7 @@ def built(options, folder, name, deps, files):
 def batch(rng, trace):
     """Spans of one trace, each the parent of the next."""
     spans = [span(rng, trace, n, n - 1) for n in range(1, IN_BATCH + 1)]
-    process = field(12, 1) + field(11, 1) + text(rng.choice(["frontend", "orders", "billing", "catalogue"])) + b"\0"
-    return process + field(15, 2) + b"\x0c" + struct.pack(">i", IN_BATCH) + b"".join(spans) + b"\0"
+    return wire.batch(rng.choice(SERVICES), spans)
 
 
 def share(times, part):

@@ -12,61 +12,48 @@ import os
 import random
 import struct
 import subprocess
+import sys
 import tempfile
 import time
 
 ROOT = os.path.dirname(os.path.dirname(os.path.abspath(__file__)))
+sys.path.append(os.path.join(ROOT, "checks"))
+import wire
+from wire import field, text
+
 KEYS = ["http.method", "http.url", "http.status_code", "component", "peer.service", "peer.address",
         "db.statement", "db.instance", "error", "span.kind", "sampler.type", "internal.span.format",
         "request.id", "user.agent", "retry.count"]
-
-
-def text(t):
-    data = t.encode()
-    return struct.pack(">i", len(data)) + data
-
-
-def field(code, number):
-    return struct.pack(">bh", code, number)
+SERVICES = ["frontend", "orders", "billing", "catalogue"]
 
 
 def tag(rng, key):
-    out = field(11, 1) + text(key)
     kind = rng.choice([0, 0, 0, 0, 3, 2, 1])
-    out += field(8, 2) + struct.pack(">i", kind)
     if kind == 0:
-        value = "".join(rng.choice("abcdefghijklmnopqrstuvwxyz/.-0123456789") for _ in range(rng.randint(4, 40)))
-        out += field(11, 3) + text(value)
-    elif kind == 1:
-        out += field(4, 4) + struct.pack(">d", rng.random())
+        return wire.text_tag(key, "".join(rng.choice("abcdefghijklmnopqrstuvwxyz/.-0123456789") for _ in range(rng.randint(4, 40))))
+    if kind == 1:
+        value = field(4, 4) + struct.pack(">d", rng.random())
     elif kind == 2:
-        out += field(2, 5) + bytes([rng.randint(0, 1)])
+        value = field(2, 5) + bytes([rng.randint(0, 1)])
     else:
-        out += field(10, 6) + struct.pack(">q", rng.randint(0, 100000))
-    return out + b"\0"
+        value = wire.long(6, rng.randint(0, 100000))
+    return field(11, 1) + text(key) + wire.integer(2, kind) + value + b"\0"
 
 
-def span(rng, trace, number, parent):
-    out = field(10, 1) + struct.pack(">Q", trace)
-    out += field(10, 2) + struct.pack(">q", 0)
-    out += field(10, 3) + struct.pack(">Q", number)
-    out += field(10, 4) + struct.pack(">Q", parent)
-    out += field(11, 5) + text(rng.choice(["GET /orders", "POST /orders", "SELECT", "publish", "HandleRequest"]))
-    out += field(8, 7) + struct.pack(">i", 1)
-    out += field(10, 8) + struct.pack(">q", 1_600_000_000_000_000 + rng.randint(0, 10**9))
-    out += field(10, 9) + struct.pack(">q", rng.randint(10, 10**6))
-    keys = rng.sample(KEYS, rng.randint(5, 15))
-    out += field(15, 10) + bytes([12]) + struct.pack(">i", len(keys)) + b"".join(tag(rng, k) for k in keys)
-    return out + b"\0"
+def span(rng, trace, number, parent, tags=None):
+    """A span with so many tags, or with 5 to 15."""
+    operation = rng.choice(["GET /orders", "POST /orders", "SELECT", "publish", "HandleRequest"])
+    start, duration = 1_600_000_000_000_000 + rng.randint(0, 10**9), rng.randint(10, 10**6)
+    keys = rng.sample(KEYS, rng.randint(5, 15) if tags is None else tags)
+    return wire.span(trace, number, parent, operation, start, duration, wire.structs(10, [tag(rng, key) for key in keys]))
 
 
 def batch(rng):
-    process = field(11, 1) + text(rng.choice(["frontend", "orders", "billing", "catalogue"])) + b"\0"
+    service = rng.choice(SERVICES)
     trace = rng.getrandbits(63) | 1
     count = rng.randint(10, 50)
     numbers = [rng.getrandbits(63) | 1 for _ in range(count)]
-    spans = b"".join(span(rng, trace, n, numbers[i - 1] if i else 0) for i, n in enumerate(numbers))
-    return field(12, 1) + process + field(15, 2) + bytes([12]) + struct.pack(">i", count) + spans + b"\0"
+    return wire.batch(service, [span(rng, trace, n, numbers[i - 1] if i else 0) for i, n in enumerate(numbers)])
 
 
 def main():

@@ -15,47 +15,34 @@ import argparse
 import json
 import os
 import re
-import struct
 import subprocess
 import tempfile
 import time
 
-from decode import ROOT, field, text
-from session import get, post
+from decode import ROOT
+import wire
+from wire import get, integer, long, post, structs, text_tag
 
 WORDS = ["pipe", "--max-skew", "1000", "--batches", "100000", "--spans", "1000000"]
 TRACE = 7
 START = 1_600_000_000_000_000
 
 
-def items(code, number, of):
-    return field(15, number) + bytes([code]) + struct.pack(">i", len(of)) + b"".join(of)
-
-
-def tag(key, value):
-    return field(11, 1) + text(key) + field(8, 2) + struct.pack(">i", 0) + field(11, 3) + text(value) + b"\0"
-
-
 def tags(count, key="k"):
-    return [tag(f"{key}{n}", "") for n in range(count)]
+    return [text_tag(f"{key}{n}", "") for n in range(count)]
 
 
 def reference(span):
-    return (field(8, 1) + struct.pack(">i", 0) + field(10, 2) + struct.pack(">q", TRACE) + field(10, 3)
-            + struct.pack(">q", 0) + field(10, 4) + struct.pack(">q", span) + b"\0")
+    return integer(1, 0) + long(2, TRACE) + long(3, 0) + long(4, span) + b"\0"
 
 
 def span(number, parent=0, trace=TRACE, operation="op", more=b""):
-    """A span; `more` are its fields behind the operation: references (6), tags (10), logs (11)."""
-    out = b"".join(field(10, k) + struct.pack(">q", n) for k, n in [(1, trace), (2, 0), (3, number), (4, parent)])
-    out += field(11, 5) + text(operation) + field(8, 7) + struct.pack(">i", 1)
-    out += field(10, 8) + struct.pack(">q", START + number) + field(10, 9) + struct.pack(">q", 50)
-    return out + more + b"\0"
+    """A span that starts by its number; `more` are fields behind the others, as wire.py has them."""
+    return wire.span(trace, number, parent, operation, START + number, more=more)
 
 
 def batch(service, process_tags, spans):
-    process = field(11, 1) + text(service) + (items(12, 2, process_tags) if process_tags else b"") + b"\0"
-    return field(12, 1) + process + items(12, 2, spans) + b"\0"
+    return wire.batch(service, spans, process_tags)
 
 
 def chain(count, first=1):
@@ -63,19 +50,13 @@ def chain(count, first=1):
 
 
 def log(fields):
-    return field(10, 1) + struct.pack(">q", START) + items(12, 2, fields) + b"\0"
+    return long(1, START) + structs(2, fields) + b"\0"
 
 
 def asked(pairs, service="a"):
     """A search by so many tags, which no span has all of."""
     tags = "".join(f"&tag=x{n}:y" for n in range(pairs))
     return get(f"/api/traces?service={service}&start=1&end={1 << 60}{tags}")
-
-
-def in_chunks(body, size):
-    head = b"POST /api/traces HTTP/1.1\r\nContent-Type: application/x-thrift\r\nTransfer-Encoding: chunked\r\n\r\n"
-    parts = [body[at:at + size] for at in range(0, len(body), size)]
-    return head + b"".join(b"%x\r\n%s\r\n" % (len(part), part) for part in parts) + b"0\r\n\r\n"
 
 
 THE_TRACE = get(f"/api/traces/{TRACE:x}")
@@ -94,12 +75,12 @@ SHAPES = {
     "process tags, spans; the trace":
         lambda n: [post(batch("a", tags(12 * n), chain(3 * n))), THE_TRACE],
     "a long ip, spans in a chain; the trace":
-        lambda n: [post(batch("a", [tag("ip", "1" * (120 * n))], chain(3 * n))), THE_TRACE],
+        lambda n: [post(batch("a", [text_tag("ip", "1" * (120 * n))], chain(3 * n))), THE_TRACE],
     "a span with tags, then spans, one a body":
-        lambda n: [post(batch("a", [], [span(1, more=items(12, 10, tags(24 * n)))]))]
+        lambda n: [post(batch("a", [], [span(1, more=structs(10, tags(24 * n)))]))]
         + [post(batch("a", [], [s])) for s in chain(6 * n, 2)],
     "the same in one body":
-        lambda n: [post(batch("a", [], [span(1, more=items(12, 10, tags(24 * n)))] + chain(6 * n, 2)))],
+        lambda n: [post(batch("a", [], [span(1, more=structs(10, tags(24 * n)))] + chain(6 * n, 2)))],
     "a long service, spans":
         lambda n: [post(batch("a" * (800 * n), [], chain(8 * n)))],
     "a long service, spans of an operation each":
@@ -111,13 +92,13 @@ SHAPES = {
     "process tags, spans; a search by a tag":
         lambda n: [post(batch("a", tags(8 * n), chain(4 * n))), asked(1)],
     "tags of a span; a search by pairs":
-        lambda n: [post(batch("a", [], [span(1, more=items(12, 10, tags(40 * n, "x")))])), asked(n * 2 // 5)],
+        lambda n: [post(batch("a", [], [span(1, more=structs(10, tags(40 * n, "x")))])), asked(n * 2 // 5)],
     "log fields of a span; a search by pairs":
-        lambda n: [post(batch("a", [], [span(1, more=items(12, 11, [log(tags(40 * n, "x"))]))])), asked(n * 2 // 5)],
+        lambda n: [post(batch("a", [], [span(1, more=structs(11, [log(tags(40 * n, "x"))]))])), asked(n * 2 // 5)],
     "process tags, spans; a search by pairs":
         lambda n: [post(batch("a", tags(8 * n, "x"), chain(4 * n))), asked(n * 2 // 5)],
     "references of a span; the trace":
-        lambda n: [post(batch("a", [], [span(1, more=items(12, 6, [reference(k) for k in range(20 * n)]))])), THE_TRACE],
+        lambda n: [post(batch("a", [], [span(1, more=structs(6, [reference(k) for k in range(20 * n)]))])), THE_TRACE],
     "spans of one id; the trace":
         lambda n: [post(batch("a", [], [span(1, 1) for _ in range(8 * n)])), THE_TRACE],
     "a chain, last span first; the trace":
@@ -125,7 +106,7 @@ SHAPES = {
     "equal processes of batches; the trace":
         lambda n: [post(batch("a", tags(n), [s])) for s in chain(n // 5)] + [THE_TRACE],
     "a body in chunks of one byte":
-        lambda n: [in_chunks(batch("a", [], chain(4 * n)), 1)],
+        lambda n: [wire.post_in_chunks(batch("a", [], chain(4 * n)), 1)],
     "a service each; the services":
         lambda n: [post(batch(f"s{k}", [], [span(k)])) for k in range(4 * n)] + [get("/api/services")],
     "an operation each; the operations":

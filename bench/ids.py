@@ -16,11 +16,10 @@ The column `of random` is the ratio of the best times.
 import argparse
 import os
 import random
-import struct
-import time
 
-from decode import ROOT, field, text
-from session import Session, post
+from decode import ROOT
+from session import Session
+import wire
 
 MASK = (1 << 64) - 1
 SEED = 0x243F6A8885A308D3
@@ -48,21 +47,13 @@ def ids_of(kind, count):
     return [colliding(n + 1) for n in range(count)]
 
 
-def span(high, low):
-    out = field(10, 1) + struct.pack(">Q", low) + field(10, 2) + struct.pack(">Q", high)
-    out += field(10, 3) + struct.pack(">Q", 2) + field(10, 4) + struct.pack(">Q", 0) + field(11, 5) + text("op")
-    out += field(8, 7) + struct.pack(">i", 1) + field(10, 8) + struct.pack(">q", 1000) + field(10, 9) + struct.pack(">q", 50)
-    return out + b"\0"
-
-
 def body(ids):
-    process = field(12, 1) + field(11, 1) + text("a") + b"\0"
-    return process + field(15, 2) + b"\x0c" + struct.pack(">i", len(ids)) + b"".join(span(*i) for i in ids) + b"\0"
+    return wire.batch("a", [wire.span(high << 64 | low, 2) for high, low in ids])
 
 
 def measure(binary, sent):
     session = Session([binary, "pipe"])
-    took, _ = session.ask([post(sent)])
+    took, _ = session.ask([wire.post(sent)])
     session.run.stdin.close()
     session.run.wait()
     return took

@@ -12,15 +12,14 @@ import os
 import random
 import tempfile
 
-from decode import ROOT, field, span, text
+from decode import ROOT, span
 from store import IN_BATCH, seconds
+import wire
 
 
 def batch(rng):
     """Ten spans, each of a trace of its own."""
-    spans = b"".join(span(rng, rng.getrandbits(62) | 1 << 62, rng.getrandbits(63) | 1, 0) for _ in range(IN_BATCH))
-    process = field(12, 1) + field(11, 1) + text("orders") + b"\0"
-    return process + field(15, 2) + b"\x0c" + IN_BATCH.to_bytes(4, "big") + spans + b"\0"
+    return wire.batch("orders", [span(rng, rng.getrandbits(62) | 1 << 62, rng.getrandbits(63) | 1, 0) for _ in range(IN_BATCH)])
 
 
 def script(size, limits):

@@ -13,28 +13,17 @@ import http.client
 import os
 import random
 
-from decode import KEYS, ROOT, field, tag, text
+from decode import ROOT, span
 from serve import started
+import wire
 
 IN_BATCH = 10
 
 
-def span(rng, trace, number, tags):
-    """A span that the one before it called, with so many tags."""
-    out = b"".join(field(10, at) + value.to_bytes(8, "big") for at, value in ((1, trace), (2, 0), (3, number), (4, number - 1)))
-    out += field(11, 5) + text(rng.choice(["GET /orders", "POST /orders", "SELECT", "publish", "HandleRequest"]))
-    out += field(8, 7) + (1).to_bytes(4, "big")
-    out += field(10, 8) + (1_600_000_000_000_000 + rng.randint(0, 10**9)).to_bytes(8, "big")
-    out += field(10, 9) + rng.randint(10, 10**6).to_bytes(8, "big")
-    keys = rng.sample(KEYS, tags)
-    return out + field(15, 10) + b"\x0c" + tags.to_bytes(4, "big") + b"".join(tag(rng, key) for key in keys) + b"\0"
-
-
 def batch(rng, tags):
+    """Spans that each the one before it called, with so many tags."""
     trace = rng.getrandbits(63) | 1
-    spans = b"".join(span(rng, trace, number + 1, tags) for number in range(IN_BATCH))
-    process = field(12, 1) + field(11, 1) + text("orders") + b"\0"
-    return process + field(15, 2) + b"\x0c" + IN_BATCH.to_bytes(4, "big") + spans + b"\0"
+    return wire.batch("orders", [span(rng, trace, number + 1, number, tags) for number in range(IN_BATCH)])
 
 
 def fill(server, size, tags):

@@ -16,25 +16,25 @@ import argparse
 import os
 import tempfile
 
-from decode import ROOT, field, text
-from heavy import items, span
+from decode import ROOT
+from heavy import span
 from store import seconds
+import wire
+from wire import field, integer, long, text, text_tag
 
 CHOICES = 17
 
 
 def tag(key, is_number):
-    kind = b"\0\0\0\3" + field(10, 6) + (1).to_bytes(8, "big") if is_number else b"\0\0\0\0" + field(11, 3) + text("1")
-    return field(11, 1) + text(key) + field(8, 2) + kind + b"\0"
+    if is_number:
+        return field(11, 1) + text(key) + integer(2, 3) + long(6, 1) + b"\0"
+    return text_tag(key, "1")
 
 
 def batch(choice, number):
     """One span of a process with these kinds of tags, under the number where there is one."""
     tags = [tag(f"k{n}", choice >> n & 1) for n in range(CHOICES)]
-    process = field(12, 1) + field(11, 1) + text("orders") + items(12, 2, tags) + b"\0"
-    spans = items(12, 2, [span(1)])
-    sent = b"" if number is None else field(10, 3) + number.to_bytes(8, "big")
-    return (process + spans + sent + b"\0").hex()
+    return wire.batch("orders", [span(1)], tags, number).hex()
 
 
 WAYS = {

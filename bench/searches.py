@@ -26,7 +26,8 @@ import tempfile
 
 from compare import instructions
 from copies import NOW, SPLIT_BODY, built, load
-from decode import ROOT, field, span, text
+from decode import ROOT, span
+import wire
 
 SERVICES = ["frontend", "orders", "billing", "catalogue", "shipping"]
 QUESTIONS = ["one of a common service", "20 of a common service", "20 of a common service, with JSON", "all of a common service", "a rare service",
@@ -225,13 +226,23 @@ def build_scan(folder):
     return program
 
 
+def begin_of(trace):
+    return 1_600_000_000_000_000 + trace * 300_000
+
+
+def begun(one, start):
+    """The span with this start in place of its own."""
+    at = one.index(wire.field(10, 8))
+    value = wire.long(8, start)
+    return one[:at] + value + one[at + len(value):]
+
+
 def write_bodies(rng, path, spans):
     """Batches of up to 10 spans of one service, those of some traces mixed; the middle of all starts in milliseconds."""
     pieces, count, trace = [], 0, 0
     while count < spans:
         trace += 1
         size = rng.randint(10, 50)
-        begin = 1_600_000_000_000_000 + trace * 300_000
         parts = {}
         for number in range(1, size + 1):
             service = "rare" if trace % 1000 == 7 and number == 3 else rng.choice(SERVICES)
@@ -243,12 +254,8 @@ def write_bodies(rng, path, spans):
     pieces.sort()
     with open(path, "wb") as file:
         for _, trace, service, numbers in pieces:
-            body = field(12, 1) + field(11, 1) + text(service) + b"\0" + field(15, 2) + b"\x0c" + struct.pack(">i", len(numbers))
-            for number in numbers:
-                one = span(rng, trace, number, number // 2)
-                start = one.index(field(10, 8)) + 3
-                body += one[:start] + struct.pack(">q", 1_600_000_000_000_000 + trace * 300_000 + number) + one[start + 8:]
-            body += b"\0"
+            spans = [begun(span(rng, trace, number, number // 2), begin_of(trace) + number) for number in numbers]
+            body = wire.batch(service, spans)
             file.write(struct.pack(">I", len(body)) + body)
     return 1_600_000_000_000 + (trace // 2) * 300
 

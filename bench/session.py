@@ -14,25 +14,16 @@ import random
 import subprocess
 import time
 
-from decode import ROOT, field, span, text
+from decode import ROOT, span
+import wire
+from wire import get, post
 
 IN_BATCH = 10
 EVERY = 100
 
 
 def batch(rng, trace, service):
-    spans = [span(rng, trace, 1, 0)] + [span(rng, trace, n, n - 1) for n in range(2, IN_BATCH + 1)]
-    process = field(12, 1) + field(11, 1) + text(service) + b"\0"
-    return process + field(15, 2) + b"\x0c" + IN_BATCH.to_bytes(4, "big") + b"".join(spans) + b"\0"
-
-
-def post(body):
-    head = "POST /api/traces HTTP/1.1\r\nContent-Type: application/x-thrift\r\nContent-Length: %d\r\n\r\n" % len(body)
-    return head.encode() + body
-
-
-def get(target):
-    return ("GET %s HTTP/1.1\r\n\r\n" % target).encode()
+    return wire.batch(service, [span(rng, trace, n, n - 1) for n in range(1, IN_BATCH + 1)])
 
 
 class Session:

@@ -20,34 +20,24 @@ at twice it; `ratio` is their quotient.
 """
 import argparse
 import os
-import struct
 
-from decode import ROOT, field, text
+from decode import ROOT
 from ids import colliding
-from session import Session, get, post
+from session import Session
+import wire
+from wire import get, post
 
 LINKS = "/api/dependencies?endTs=9000000000000&lookback=9000000000000"
 
 
 def span(trace, number, parent, operation="op"):
     high, low = trace
-    out = field(10, 1) + struct.pack(">Q", low) + field(10, 2) + struct.pack(">Q", high)
-    out += field(10, 3) + struct.pack(">Q", number) + field(10, 4) + struct.pack(">Q", parent)
-    out += field(11, 5) + text(operation) + field(8, 7) + struct.pack(">i", 1)
-    out += field(10, 8) + struct.pack(">q", 1_000_000 + number) + field(10, 9) + struct.pack(">q", 50)
-    return out + b"\0"
+    return wire.span(high << 64 | low, number, parent, operation, 1_000_000 + number)
 
 
-def process(service, host=None):
-    out = field(12, 1) + field(11, 1) + text(service)
-    if host is not None:
-        tag = field(11, 1) + text("host") + field(8, 2) + struct.pack(">i", 0) + field(11, 3) + text(host) + b"\0"
-        out += field(15, 2) + b"\x0c" + struct.pack(">i", 1) + tag
-    return out + b"\0"
-
-
-def body(of, spans):
-    return post(of + field(15, 2) + b"\x0c" + struct.pack(">i", len(spans)) + b"".join(spans) + b"\0")
+def body(service, spans, host=None):
+    tags = [] if host is None else [wire.text_tag("host", host)]
+    return post(wire.batch(service, spans, tags))
 
 
 def side(n):
@@ -55,7 +45,7 @@ def side(n):
 
 
 def tens(size, make):
-    return [body(process("a"), [make(n) for n in range(first, first + 10)]) for first in range(1, size + 1, 10)]
+    return [body("a", [make(n) for n in range(first, first + 10)]) for first in range(1, size + 1, 10)]
 
 
 ONE = 0, 1
@@ -64,19 +54,19 @@ ONE = 0, 1
 def bodies(shape, size):
     if shape == "traces":
         return [
-            body(process(side(n // 10)), [span((0, n // 20 + 1), n + i, n + i - 1 if i else 0) for i in range(10)])
+            body(side(n // 10), [span((0, n // 20 + 1), n + i, n + i - 1 if i else 0) for i in range(10)])
             for n in range(0, size, 10)
         ]
     if shape == "services":
-        return [body(process("service-%d" % n), [span((0, n), 1, 0)]) for n in range(1, size + 1)]
+        return [body("service-%d" % n, [span((0, n), 1, 0)]) for n in range(1, size + 1)]
     if shape == "operations":
         return tens(size, lambda n: span((0, n // 10 + 1), n, 0, "operation-%d" % n))
     if shape == "one trace":
         return tens(size, lambda n: span(ONE, n, 0 if n == 1 else 1))
     if shape == "processes":
-        return [body(process("a", "host-%d" % n), [span(ONE, n, 0 if n == 1 else 1)]) for n in range(1, size + 1)]
+        return [body("a", [span(ONE, n, 0 if n == 1 else 1)], "host-%d" % n) for n in range(1, size + 1)]
     if shape == "chain":
-        return [body(process(side(n)), [span(ONE, n, n - 1)]) for n in range(1, size + 1)]
+        return [body(side(n), [span(ONE, n, n - 1)]) for n in range(1, size + 1)]
     if shape == "one span id":
         return tens(size, lambda n: span(ONE, 7, 0))
     return tens(size, lambda n: span(colliding(n), 1, 0))

@@ -13,15 +13,14 @@ import random
 import subprocess
 import tempfile
 
-from decode import ROOT, field, span, text
+from decode import ROOT, span
+import wire
 
 IN_BATCH = 10
 
 
 def batch(rng, trace):
-    spans = b"".join(span(rng, trace, rng.getrandbits(63) | 1, 0) for _ in range(IN_BATCH))
-    process = field(12, 1) + field(11, 1) + text("orders") + b"\0"
-    return process + field(15, 2) + b"\x0c" + IN_BATCH.to_bytes(4, "big") + spans + b"\0"
+    return wire.batch("orders", [span(rng, trace, rng.getrandbits(63) | 1, 0) for _ in range(IN_BATCH)])
 
 
 def write_lines(rng, file, size):

@@ -27,6 +27,8 @@ import subprocess
 import sys
 import tempfile
 
+from wire import get, post, post_in_chunks
+
 ROOT = os.path.dirname(os.path.dirname(os.path.abspath(__file__)))
 WANT = b'{"data":null,"errors":[{"code":500,"msg":"out of memory"}],"limit":0,"offset":0,"total":0}'
 QUERIES = [
@@ -80,22 +82,6 @@ class Program:
 def sample(name):
     with open(os.path.join(ROOT, "samples", name), "rb") as file:
         return file.read()
-
-
-def post(body):
-    head = f"POST /api/traces HTTP/1.1\r\nContent-Type: application/x-thrift\r\nContent-Length: {len(body)}\r\n\r\n"
-    return head.encode() + body
-
-
-def post_chunked(body, size):
-    """The same body in chunks of so many bytes, with an extension and a trailer."""
-    head = b"POST /api/traces HTTP/1.1\r\nContent-Type: application/x-thrift\r\nTransfer-Encoding: chunked\r\n\r\n"
-    parts = [body[at : at + size] for at in range(0, len(body), size)]
-    return head + b"".join(b"%x;a=b\r\n%s\r\n" % (len(part), part) for part in parts) + b"0\r\nA: b\r\n\r\n"
-
-
-def get(target):
-    return f"GET {target} HTTP/1.1\r\n\r\n".encode()
 
 
 def responses(output):
@@ -191,7 +177,7 @@ def cases(program):
     whole = program.run(["pipe"], b"".join(requests))
     assert whole[0] == 0 and len(responses(whole[1])) == len(requests), whole
     yield "pipe", whole[2], lambda n: pipe_ends(program, requests, whole, n)
-    chunked = [part for body in bodies for part in (post_chunked(body, 7), get("/api/traces/1"))]
+    chunked = [part for body in bodies for part in (post_in_chunks(body, 7, b";a=b", b"A: b\r\n"), get("/api/traces/1"))]
     answered = program.run(["pipe"], b"".join(chunked))
     assert answered[:2] == program.run(["pipe"], b"".join(requests[: len(chunked)]))[:2], answered
     yield "pipe in chunks", answered[2], lambda n: pipe_ends(program, chunked, answered, n)

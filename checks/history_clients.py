@@ -11,6 +11,10 @@ import time
 import traceback
 from array import array
 
+import wire
+from servers import THRIFT, head, post_body
+from wire import field
+
 PATIENCE = 30
 PER_PAGE = 50
 PAGES_OF_SERVICE = 20
@@ -55,26 +59,15 @@ def trace_id(page):
     return 0x1000 + page
 
 
-def field(code, number):
-    return struct.pack(">bh", code, number)
-
-
-def text(value):
-    return struct.pack(">i", len(value)) + value.encode()
-
-
 def span(trace, span_id, operation):
-    ids = b"".join(field(10, number) + struct.pack(">Q", value) for number, value in ((1, trace), (2, 0), (3, span_id), (4, 0)))
-    times = field(10, 8) + struct.pack(">q", trace) + field(10, 9) + struct.pack(">q", 1)
-    return ids + field(11, 5) + text(operation) + field(8, 7) + struct.pack(">i", 1) + times + b"\0"
+    return wire.span(trace, span_id, operation=operation, start=trace, duration=1)
 
 
 def body_of(batch, page):
     """Its span in the record stands first, and has another operation: a search for the batch finds its page alone."""
     spans = [span(trace_id(RECORD), batch << 2 | 2, "record")]
     spans += [span(trace_id(page), batch << 2 | part, batch_name(batch)) for part in (0, 1)]
-    process = field(12, 1) + field(11, 1) + text(service_name(service_of(batch, page))) + b"\0"
-    return process + field(15, 2) + b"\x0c" + struct.pack(">i", len(spans)) + b"".join(spans) + b"\0"
+    return wire.batch(service_name(service_of(batch, page)), spans)
 
 
 def damaged(rng, body):
@@ -94,10 +87,6 @@ def damaged(rng, body):
 
 # Requests.
 
-def head(line, *fields):
-    return "".join(part + "\r\n" for part in (line, "Host: 127.0.0.1", *fields, "")).encode()
-
-
 def in_chunks(rng, body):
     parts = []
     while body:
@@ -108,10 +97,10 @@ def in_chunks(rng, body):
     return b"".join(parts) + b"0\r\n" + rng.choice([b"", b"", b"X-Sum: 1\r\n"]) + b"\r\n"
 
 
-def post(rng, body, chunked=False, kind="application/x-thrift"):
+def post(rng, body, chunked=False, kind=THRIFT):
     if chunked:
         return head("POST /api/traces HTTP/1.1", f"Content-Type: {kind}", "Transfer-Encoding: chunked") + in_chunks(rng, body)
-    return head("POST /api/traces HTTP/1.1", f"Content-Type: {kind}", f"Content-Length: {len(body)}") + body
+    return post_body(body, kind)
 
 
 # What a look is at. A subject is one number: its kind, and which page, service or batch.

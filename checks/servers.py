@@ -15,6 +15,8 @@ import sys
 import tempfile
 import time
 
+import wire
+
 ROOT = os.path.dirname(os.path.dirname(os.path.abspath(__file__)))
 PATIENCE = 10
 TICK = os.sysconf("SC_CLK_TCK")
@@ -49,31 +51,21 @@ def run_cases(cases, only):
     sys.exit(1 if failed else 0)
 
 
-# Batches: one span each, by docs/wire-format.md.
-
-def field(code, number):
-    return struct.pack(">bh", code, number)
-
-
-def text(value):
-    return struct.pack(">i", len(value)) + value.encode()
-
-
 def batch(trace, service="shop", operation="op"):
-    span = b"".join(field(10, number) + struct.pack(">Q", value) for number, value in ((1, trace), (2, 0), (3, 7), (4, 0)))
-    span += field(11, 5) + text(operation) + field(8, 7) + struct.pack(">i", 1)
-    span += field(10, 8) + struct.pack(">q", 1000) + field(10, 9) + struct.pack(">q", 50) + b"\0"
-    process = field(12, 1) + field(11, 1) + text(service) + b"\0"
-    return process + field(15, 2) + b"\x0c" + struct.pack(">i", 1) + span + b"\0"
+    """One span of the trace."""
+    return wire.batch(service, [wire.span(trace, 7, operation=operation)])
 
 
 def head(line, *fields):
     return "".join(part + "\r\n" for part in (line, "Host: 127.0.0.1", *fields, "")).encode()
 
 
+def post_body(body, kind=THRIFT):
+    return head("POST /api/traces HTTP/1.1", f"Content-Type: {kind}", f"Content-Length: {len(body)}") + body
+
+
 def post(trace, **more):
-    body = batch(trace, **more)
-    return head("POST /api/traces HTTP/1.1", f"Content-Type: {THRIFT}", f"Content-Length: {len(body)}") + body
+    return post_body(batch(trace, **more))
 
 
 def get(target):
