@@ -92,12 +92,11 @@ def wants_empty(port):
     """The first look: a server that holds something already can't be judged."""
     try:
         with Connection(port, random.Random(0), Log("the first look")) as connection:
-            connection.send(Look(ServicesLook()).bytes)
-            status, body = connection.answer()
+            first = connection.answer(Look(ServicesLook()).bytes)
     except (Parted, OSError) as fault:
         raise CannotRun(f"port {port} is not answered: {type(fault).__name__} {fault}") from None
-    if status != 200 or b'"data":[]' not in body:
-        raise CannotRun(f"the server holds something already: {status} {body[:120]!r}")
+    if first.status != 200 or b'"data":[]' not in first.body:
+        raise CannotRun(f"the server holds something already: {first.status} {first.body[:120]!r}")
 
 
 def look_at_all(port, logs):
@@ -109,13 +108,12 @@ def look_at_all(port, logs):
     with Connection(port, random.Random(0), log) as connection:
         for look in map(Look, looks):
             begin = time.monotonic()
-            connection.send(look.bytes)
-            look.answered(log, *connection.answer(), begin)
-        connection.send(Look(looks[0]).bytes)
-        status, body = connection.answer()
-    if status >= 500:
-        raise CannotRun(f"the record can't be read: {status} {body[:120]!r}")
-    return log, looks[0].read(status, body)[1]
+            response = connection.answer(look.bytes)
+            look.answered(log, response.status, response.body, begin)
+        last = connection.answer(Look(looks[0]).bytes)
+    if last.status >= 500:
+        raise CannotRun(f"the record can't be read: {last.status} {last.body[:120]!r}")
+    return log, looks[0].read(last.status, last.body)[1]
 
 
 def report(judge, logs, options, seconds):

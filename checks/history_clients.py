@@ -6,11 +6,11 @@ import json
 import random
 import re
 import socket
-import struct
 import time
 import traceback
 from array import array
 
+import servers
 import wire
 from servers import THRIFT, head, post_body
 from wire import field
@@ -273,23 +273,14 @@ def told_difference(before, items):
 
 # Connections.
 
-class Connection:
+class Connection(servers.Client):
     def __init__(self, port, rng, log, narrow=False):
         self.rng = rng
         self.log = log
-        self.socket = socket.socket()
-        self.socket.settimeout(PATIENCE)
-        if narrow:
-            self.socket.setsockopt(socket.SOL_SOCKET, socket.SO_RCVBUF, 4096)
-        self.socket.setsockopt(socket.IPPROTO_TCP, socket.TCP_NODELAY, 1)
-        log.opens()
-        self.socket.connect(("127.0.0.1", port))
-        self.input = b""
         self.open = True
         self.narrow = narrow
-
-    def __enter__(self):
-        return self
+        log.opens()
+        super().__init__(port, PATIENCE, 4096 if narrow else None)
 
     def __exit__(self, *_):
         self.leave()
@@ -297,11 +288,11 @@ class Connection:
     def send(self, data):
         """All at once, or in pieces."""
         if len(data) < 2 or self.rng.random() < 0.8:
-            self.socket.sendall(data)
+            super().send(data)
             return
         cuts = sorted(self.rng.randrange(1, len(data)) for _ in range(3))
         for begin, end in zip([0, *cuts], [*cuts, len(data)]):
-            self.socket.sendall(data[begin:end])
+            super().send(data[begin:end])
             time.sleep(self.rng.choice([0, 0.001]))
 
     def more(self):
@@ -315,19 +306,12 @@ class Connection:
         if not data:
             raise Parted
         self.input += data
+        return True
 
-    def answer(self):
-        while b"\r\n\r\n" not in self.input:
-            self.more()
-        top, _, self.input = self.input.partition(b"\r\n\r\n")
-        length = re.search(rb"(?i)\r\ncontent-length: *(\d+)", top)
-        wanted = int(length[1]) if length else 0
-        while len(self.input) < wanted:
-            self.more()
-        body, self.input = self.input[:wanted], self.input[wanted:]
-        if re.search(rb"(?i)\r\nconnection: *close", top):
-            self.open = False
-        return int(top.split(b" ", 2)[1]), body
+    def response(self):
+        response = super().response()
+        self.open = self.open and not response.closes()
+        return response
 
     def ends_sending(self):
         self.socket.shutdown(socket.SHUT_WR)
@@ -336,8 +320,9 @@ class Connection:
         """By a close, or by a reset."""
         self.open = False
         if self.socket.fileno() >= 0 and self.rng.random() < 0.4:
-            self.socket.setsockopt(socket.SOL_SOCKET, socket.SO_LINGER, struct.pack("ii", 1, 0))
-        self.socket.close()
+            self.reset()
+        else:
+            self.socket.close()
 
 
 # Requests that wait for their answers.
@@ -436,6 +421,13 @@ class Client:
         if ahead > 0 and self.rng.random() < 0.8:
             time.sleep(min(ahead, 0.5))
 
+    def session(self):
+        """One connection, and as many steps on it as one of `steps`."""
+        with self.connects() as connection:
+            for _ in range(self.rng.choice(self.steps)):
+                if self.is_over() or not self.step(connection):
+                    return
+
     def connects(self):
         return Connection(self.port, self.rng, self.log, narrow=self.rng.random() < 0.1)
 
@@ -448,8 +440,8 @@ class Client:
             if data:
                 connection.send(data)
             while waiting and connection.open:
-                status, body = connection.answer()
-                waiting.popleft().answered(self.log, status, body, begin)
+                response = connection.response()
+                waiting.popleft().answered(self.log, response.status, response.body, begin)
         finally:
             for request in waiting:
                 request.unanswered(self.log)
@@ -495,11 +487,7 @@ class Client:
 
 
 class Reader(Client):
-    def session(self):
-        with self.connects() as connection:
-            for _ in range(self.rng.choice([1, 10, 100, 300])):
-                if self.is_over() or not self.step(connection):
-                    return
+    steps = [1, 10, 100, 300]
 
     def step(self, connection):
         self.guess()
@@ -538,19 +526,15 @@ class Reader(Client):
 
 
 class Writer(Client):
+    steps = [1, 5, 20, 60]
+
     def __init__(self, *given):
         super().__init__(*given)
         self.last = 0
         self.again = []
 
-    def session(self):
-        with self.connects() as connection:
-            for _ in range(self.rng.choice([1, 5, 20, 60])):
-                self.waits_its_turn()
-                if self.is_over() or not self.step(connection):
-                    return
-
     def step(self, connection):
+        self.waits_its_turn()
         steps = [self.hands_in, self.pipelines, self.damages, self.mistypes, self.cuts_in_head, self.cuts_in_body,
                  self.closes_in_body, self.cuts_before_answer, self.cuts_in_answer]
         weights = [70, 12, 6, 1, 2, 3, 1, 3, 2]

@@ -87,12 +87,16 @@ class Response:
 
 
 class Client:
-    """One connection. Every wait ends after `PATIENCE` seconds, as a failure."""
+    """One connection. Every wait ends after so many seconds, as a failure; `room` is what the system may hold for it unread."""
 
-    def __init__(self, port):
-        self.socket = socket.create_connection(("127.0.0.1", port), timeout=PATIENCE)
-        self.socket.setsockopt(socket.IPPROTO_TCP, socket.TCP_NODELAY, 1)
+    def __init__(self, port, patience=PATIENCE, room=None):
         self.input = b""
+        self.socket = socket.socket()
+        self.socket.settimeout(patience)
+        if room is not None:
+            self.socket.setsockopt(socket.SOL_SOCKET, socket.SO_RCVBUF, room)
+        self.socket.setsockopt(socket.IPPROTO_TCP, socket.TCP_NODELAY, 1)
+        self.socket.connect(("127.0.0.1", port))
 
     def __enter__(self):
         return self
