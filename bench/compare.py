@@ -28,10 +28,12 @@ import tempfile
 
 import copies
 import decode as batches
+from servers import rust_program
 
 HERE = os.path.dirname(os.path.abspath(__file__))
 ROOT = os.path.dirname(HERE)
 COMPARE = os.path.join(HERE, "compare")
+FASTEST = "-Copt-level=3"
 DEPS = "batch_codec batch_feeder jaeger_model anyhow"
 
 # The program over `decode` and the Feeder: main of plain.rs, with a second word for the way.
@@ -119,10 +121,7 @@ def build_rattle(folder):
 
 
 def build_rust(folder):
-    program = os.path.join(folder, "plain")
-    subprocess.run(["rustc", "--edition", "2021", "-C", "opt-level=3", "-o", program,
-                    os.path.join(COMPARE, "plain.rs")], check=True)
-    return program
+    return rust_program(folder, "bench/compare/plain.rs", FASTEST)
 
 
 def build_apache(folder):

@@ -24,10 +24,11 @@ import struct
 import subprocess
 import tempfile
 
-from compare import instructions
+from compare import FASTEST, instructions
 from copies import NOW, SPLIT_BODY, built, load
-from decode import ROOT, span
+from decode import span
 import wire
+from servers import rust_program
 
 SERVICES = ["frontend", "orders", "billing", "catalogue", "shipping"]
 QUESTIONS = ["one of a common service", "20 of a common service", "20 of a common service, with JSON", "all of a common service", "a rare service",
@@ -219,13 +220,6 @@ fn main(rt: HostRuntime) -> Result<()> {
 DEPS = "span_store query_json batch_codec jaeger_model trace_model serde_json anyhow"
 
 
-def build_scan(folder):
-    program = os.path.join(folder, "scan")
-    source = os.path.join(ROOT, "bench", "compare", "scan.rs")
-    subprocess.run(["rustc", "--edition", "2021", "-C", "opt-level=3", "-o", program, source], check=True)
-    return program
-
-
 def begin_of(trace):
     return 1_600_000_000_000_000 + trace * 300_000
 
@@ -311,7 +305,7 @@ def main():
             return
         end_ms = write_bodies(random.Random(1), path, options.spans)
         store, in_store = ask(program, path, options.rounds, end_ms)
-        scan, in_scan = ask(build_scan(folder), path, options.rounds, end_ms)
+        scan, in_scan = ask(rust_program(folder, "bench/compare/scan.rs", FASTEST), path, options.rounds, end_ms)
         print(f"{options.spans:,} spans; milliseconds, the least of {options.rounds}")
         print("| Question | found | store | scan | store of scan |")
         print("|---|---|---|---|---|")

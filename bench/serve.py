@@ -33,7 +33,7 @@ import urllib.request
 HERE = os.path.dirname(os.path.abspath(__file__))
 ROOT = os.path.dirname(HERE)
 sys.path.append(os.path.join(ROOT, "checks"))
-from servers import Failed, Server
+from servers import Failed, Server, rust_program
 
 LIMITS = ["--queue", "256", "--batches", "1000000", "--spans", "10000000"]
 SEARCH = "/api/traces?service=orders&limit=20"
@@ -49,13 +49,6 @@ def first_trace():
     x = (x ^ (x >> 30)) * 0xBF58476D1CE4E5B9 & mask
     x = (x ^ (x >> 27)) * 0x94D049BB133111EB & mask
     return (x ^ (x >> 31)) | 1
-
-
-def build(folder, name):
-    program = os.path.join(folder, name)
-    source = os.path.join(HERE, name + ".rs")
-    subprocess.run(["rustc", "--edition", "2021", "-O", "-o", program, source], check=True)
-    return program
 
 
 def started(program, workers):
@@ -161,7 +154,7 @@ def main():
     asked.add_argument("--only", choices=SERVERS)
     options = asked.parse_args()
     with tempfile.TemporaryDirectory() as folder:
-        programs = {"ours": options.bin, "plain": build(folder, "plain_server")}
+        programs = {"ours": options.bin, "plain": rust_program(folder, "bench/plain_server.rs")}
         if options.only:
             programs = {options.only: programs[options.only]}
         if "ours" in programs and not os.path.exists(options.bin):
@@ -169,7 +162,7 @@ def main():
             del programs["ours"]
         cores = len(os.sched_getaffinity(0))
         print(f"{cores} cores, load {os.getloadavg()[0]:.1f} at the start; batches of 10 spans, 8 tags each")
-        bench = Bench(programs, build(folder, "load"), options.seconds, options.rounds)
+        bench = Bench(programs, rust_program(folder, "bench/load.rs"), options.seconds, options.rounds)
         table(bench, [int(size) for size in options.sizes.split(",")])
     if len(bench.shown) == 2:
         ours, plain = bench.shown["ours"], bench.shown["plain"]

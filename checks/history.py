@@ -47,7 +47,9 @@ import traceback
 from history_clients import (RECORD, TOLD, Connection, Log, Look, OperationsLook, PageLook, Parted, Reader, ServicesLook,
                              Violation, Writer, run_client, service_of)
 from history_judge import Judge
-from servers import ROOT, Failed, Server
+from servers import ROOT, Failed, Server, rust_program
+
+BROKEN = "checks/broken_server.rs"
 
 
 class CannotRun(Exception):
@@ -179,13 +181,10 @@ FAULTS = {
 
 
 def build(folder):
-    program = os.path.join(folder, "broken_server")
-    source = os.path.join(ROOT, "checks", "broken_server.rs")
     try:
-        subprocess.run(["rustc", "--edition", "2021", "-O", "-o", program, source], check=True)
+        return rust_program(folder, BROKEN)
     except (OSError, subprocess.CalledProcessError) as fault:
-        raise CannotRun(f"{source} can't be built: {fault}") from None
-    return program
+        raise CannotRun(f"{BROKEN} can't be built: {fault}") from None
 
 
 def self_test(options):

@@ -32,6 +32,13 @@ def check(holds, text):
         raise Failed(text)
 
 
+def rust_program(folder, source, level="-O"):
+    """The program in this folder that `rustc` builds of a source of the repository."""
+    program = os.path.join(folder, os.path.splitext(os.path.basename(source))[0])
+    subprocess.run(["rustc", "--edition", "2021", level, "-o", program, os.path.join(ROOT, source)], check=True)
+    return program
+
+
 def run_cases(cases, only):
     """Runs the cases whose name has this word, and ends with status 0 if none failed. A line has what a case tells, or why it failed; the last
     one counts them."""
