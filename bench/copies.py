@@ -35,6 +35,7 @@ import tempfile
 
 from decode import ROOT, SERVICES, span
 import wire
+from crates import below, lists
 
 IN_BATCH = 10
 KINDS = ["one", "copies", "beside", "still"]
@@ -456,28 +457,17 @@ ghosts-timed_named g a = record { book = a.name.seen.book; limits = a.limits }
 DEPS = "read_side arrival_journal span_store batch_codec jaeger_model trace_model anyhow left_right crossbeam_utils atomic_table logbook"
 
 
-def below(names, lists):
-    """The crates of the repository that these stand on, and these."""
-    found = set()
-    for name in names:
-        if name in lists:
-            found |= {name} | below(lists[name], lists)
-    return found
-
-
 def build(top, name, deps, files):
     """Proves and builds a program of these sources in a copy, below this folder, of the crates that it stands on."""
-    with open(os.path.join(ROOT, "crates.txt")) as file:
-        lines = [line.partition(":") for line in file if ":" in line and not line.startswith("#")]
-    lists = {crate.split()[0]: words.split() for crate, _, words in lines}
-    used = below(deps.split(), lists)
+    uses = lists()
+    used = below(deps.split(), uses)
     for crate in used:
         there = os.path.join(top, "crates", crate)
         if not os.path.exists(there):
             shutil.copytree(os.path.join(ROOT, "crates", crate), there, symlinks=True)
     shutil.copy(os.path.join(ROOT, "HANDLES"), top)
     with open(os.path.join(top, "crates.txt"), "w") as file:
-        file.writelines(f"{crate}: {' '.join(lists[crate])}\n" for crate in lists if crate in used)
+        file.writelines(f"{crate}: {' '.join(uses[crate])}\n" for crate in uses if crate in used)
         file.write(f"{name}: {deps}\n")
     home = os.path.join(top, "crates", name)
     for path, contents in files.items():

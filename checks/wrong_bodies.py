@@ -9,31 +9,17 @@ import subprocess
 import sys
 import tempfile
 
+from crates import below, lists
+
 TOP = pathlib.Path(__file__).resolve().parent.parent
 LINE = re.compile(r"(?:rt: )?must-fail \S+/(\S+\.edit): (refused|NOT REFUSED|BAD EDIT|NOT TRIED)")
 # How rt says that an edit was refused for a lost name or at a limit, which shows little of the contract.
 LITTLE = re.compile(r"(?:rt: )?must-fail \S+/(\S+\.edit): refused, as it must be \(only ")
 
 
-def below(name):
-    """Returns the crate and those of this repository that it stands on, through crates.txt."""
-    deps = {}
-    for line in (TOP / "crates.txt").read_text(encoding="utf-8").splitlines():
-        head, colon, tail = line.partition(":")
-        if colon and not line.startswith("#"):
-            deps[head.split()[0]] = tail.split()
-    found, ahead = set(), [name]
-    while ahead:
-        crate = ahead.pop()
-        if crate in deps and crate not in found:
-            found.add(crate)
-            ahead += deps[crate]
-    return found
-
-
 def copy(room, name):
     """Copies the repository's crates, with what earlier checks kept of this crate and those below it."""
-    kept = below(name)
+    kept = below([name], lists())
     for crate in sorted(path for path in (TOP / "crates").iterdir() if path.is_dir()):
         left = shutil.ignore_patterns("must-fail") if crate.name in kept else shutil.ignore_patterns("must-fail", "out")
         shutil.copytree(crate, room / "crates" / crate.name, ignore=left, symlinks=True)

@@ -1,0 +1,22 @@
+"""Which crates of the repository stand on which, by crates.txt."""
+import os
+
+ROOT = os.path.dirname(os.path.dirname(os.path.abspath(__file__)))
+
+
+def lists():
+    """What each crate uses, in the order of the file."""
+    with open(os.path.join(ROOT, "crates.txt"), encoding="utf-8") as file:
+        lines = [line.partition(":") for line in file if ":" in line and not line.startswith("#")]
+    return {head.split()[0]: tail.split() for head, _, tail in lines}
+
+
+def below(names, used):
+    """These crates and those that they stand on, of the repository, by what each uses."""
+    found, ahead = set(), [*names]
+    while ahead:
+        crate = ahead.pop()
+        if crate in used and crate not in found:
+            found.add(crate)
+            ahead += used[crate]
+    return found
