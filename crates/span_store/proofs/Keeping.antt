@@ -1,5 +1,5 @@
 -- What is kept beside the entries is kept.
-use Rattle.std.proofs.Common.{◌≡◌, ℕ, ◌+◌, ◌^◌, ◌<◌, ◌≤◌, [], ◌∷◌, ◌++◌, length, map, Ok, sym, ap, subst, ◌∙◌, arith}
+use Rattle.std.proofs.Common.{◌≡◌, ℕ, ◌+◌, ◌^◌, ◌<◌, ◌≤◌, List, [], ◌∷◌, ◌++◌, length, map, Ok, sym, ap, subst, ◌∙◌, arith}
 use Rattle.jaeger_model.specs.declared.ids.TraceId.{TraceId}
 use Rattle.trace_model.specs.declared.entry.Entry.{Entry}
 use Rattle.trace_model.specs.declared.admission.Admission.TheVariants.{Added}
@@ -10,15 +10,19 @@ use Rattle.trace_model.proofs.Admissions.{MayFollow, IsSaid, admission_says}
 use Rattle.trace_model.proofs.Legality.{span_count_push}
 use Rattle.arrival_journal.specs.Journals.{admission_by}
 use Rattle.trace_model.specs.Refusals.{followed_by}
-use Rattle.trace_model.specs.Searching.{traces}
+use Rattle.trace_model.specs.declared.query.Find.{Find}
+use Rattle.trace_model.specs.Searching.{traces, found_in}
 use Rattle.trace_model.specs.Showing.{ring, spans_of_trace}
+use Rattle.trace_assembly.specs.declared.spot.Spot.{Spot}
 use Rattle.trace_assembly.specs.Rows.{Assembled, spots_of}
 use Rattle.trace_assembly.specs.Located.{located_events, shown_spots}
 use Rattle.trace_assembly.proofs.Places.{events-located}
 use Rattle.arrival_names.specs.Kept.{Kept as Names}
 use Rattle.service_places.specs.Reported.{Reported}
+use Rattle.journal_traces.specs.Standing.{spans_named, traces_named}
+use Rattle.journal_traces.proofs.Adopting.{map_map}
 use Rattle.span_store.specs.Kept.{Follows, IsWithin, IsKept, IsNamed, IsPlaced}
-use Rattle.span_store.proofs.Following.{follows_within}
+use Rattle.span_store.proofs.Following.{follows_within, trace_stands}
 
 -- so many spots more are in the same room
 pub record Grows (shown shown' : Assembled) (more : ℕ) : Type 0 where
@@ -73,3 +77,15 @@ kept_ring held shown index reported k = k.follows.ring ∙ ap (ring held.limits.
 pub kept_traces : (held : Held) (shown : Assembled) (index : Names) (reported : Reported) → IsKept held shown index reported
     → map (spans_of_trace held.limits.traces (events held.entries)) shown.newest.ids ≡ traces held.limits.traces (events held.entries)
 kept_traces held shown index reported k = ap (map (spans_of_trace held.limits.traces (events held.entries))) (kept_ring held shown index reported k)
+
+-- a search finds among the spots of some traces what it finds among all, where it does so among these traces
+pub found_kept : (q : Find) (held : Held) (shown : Assembled) (index : Names) (reported : Reported) → IsKept held shown index reported
+    → (ids : List TraceId) (spots : List (List Spot)) → spots ≡ map (spots_of shown) ids
+    → found_in q (map (spans_of_trace held.limits.traces (events held.entries)) ids) ≡ found_in q (map (spans_of_trace held.limits.traces (events held.entries)) shown.newest.ids)
+    → found_in q (traces_named held.entries spots) ≡ found_in q (traces held.limits.traces (events held.entries))
+found_kept q held shown index reported k ids spots are same =
+    let stands = trace_stands held.limits.traces held.entries (spots_of shown) (kept_spots held shown index reported k) in
+    ap (λ ss. found_in q (map (spans_named held.entries) ss)) are
+    ∙ ap (found_in q) (map_map (spans_named held.entries) (spots_of shown) ids ∙ (λ i. map (λ t. stands t i) ids))
+    ∙ same
+    ∙ ap (found_in q) (kept_traces held shown index reported k)

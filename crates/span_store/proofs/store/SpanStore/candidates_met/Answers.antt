@@ -7,13 +7,10 @@ use Rattle.trace_model.specs.Histories.{events}
 use Rattle.trace_model.specs.Searching.{traces, found_in}
 use Rattle.trace_model.specs.Showing.{spans_of_trace}
 use Rattle.trace_ring.specs.Windows.{NoneTwice}
-use Rattle.trace_assembly.specs.Rows.{spots_of}
 use Rattle.service_places.specs.Reported.{places_of}
 use Rattle.journal_traces.specs.Picked.{reaches, met_along}
-use Rattle.journal_traces.specs.Standing.{spans_named, traces_named}
-use Rattle.journal_traces.proofs.Adopting.{map_map}
-use Rattle.span_store.proofs.Following.{trace_stands}
-use Rattle.span_store.proofs.Keeping.{kept_spots, kept_ring, kept_traces}
+use Rattle.journal_traces.specs.Standing.{traces_named}
+use Rattle.span_store.proofs.Keeping.{found_kept, kept_ring}
 use Rattle.journal_traces.proofs.Marking.{ring_once}
 use Rattle.span_store.proofs.Picking.{found_among}
 use Rattle.span_store.proofs.store.SpanStore.candidates_met.Goals as goal
@@ -28,15 +25,11 @@ returns c =
     let was = c.self.inside in
     let h = was.journal.held in
     let q = c.args.wanted.now in
-    let spots = spots_of was.shown in
     let f : TraceId → List Placed = spans_of_trace h.limits.traces (events h.entries) in
-    let stands = trace_stands h.limits.traces h.entries spots (kept_spots h was.shown was.names was.reported c.self.invariant) in
     let ids : List TraceId = filter (reaches (met_along q h.entries c.places_of-places.result)) was.shown.newest.ids in
     let at : c.places_of-places.result ≡ places_of h.entries q.service = c.places_of-places.ensures ∙ (λ i. places_of (c.entries.ensures i) (c.as_str.ensures.value i)) ∙ ap (λ (f : Find). places_of h.entries f.service) c.query-query.ensures in
     let all : found_in q (traces_named h.entries c.in_ok-spots.spots.items) ≡ found_in q (traces h.limits.traces (events h.entries)) =
-    ap (λ ss. found_in q (map (spans_named h.entries) ss)) c.in_ok-spots.ensures
-    ∙ ap (found_in q) (map_map (spans_named h.entries) spots ids ∙ (λ i. map (λ t. stands t i) ids))
-    ∙ ap (λ (ps : List ℕ). found_in q (map f (filter (reaches (met_along q h.entries ps)) was.shown.newest.ids))) at
-    ∙ found_among q h.limits.traces h.entries q.service was.shown.newest.ids refl
-    ∙ ap (found_in q) (kept_traces h was.shown was.names was.reported c.self.invariant) in
+    found_kept q h was.shown was.names was.reported c.self.invariant ids c.in_ok-spots.spots.items c.in_ok-spots.ensures (
+    ap (λ (ps : List ℕ). found_in q (map f (filter (reaches (met_along q h.entries ps)) was.shown.newest.ids))) at
+    ∙ found_among q h.limits.traces h.entries q.service was.shown.newest.ids refl) in
     subst (λ (v : Held). found_in q (traces_named v.entries c.in_ok-spots.spots.items) ≡ found_in q (traces v.limits.traces (events v.entries))) c.self.view_is all

@@ -1,17 +1,14 @@
-use Rattle.std.proofs.Common.{◌≡◌, ◌∙◌, ap, sym, subst, arith, map, filter, List, Some}
+use Rattle.std.proofs.Common.{◌≡◌, ◌∙◌, ap, sym, subst, arith, filter, List, Some}
 use Rattle.jaeger_model.specs.declared.ids.TraceId.{TraceId}
-use Rattle.jaeger_model.specs.declared.placed.Placed.{Placed}
 use Rattle.trace_model.specs.Held.{Held}
 use Rattle.trace_model.specs.Histories.{events}
 use Rattle.trace_model.specs.Searching.{traces, found_in}
-use Rattle.trace_model.specs.Showing.{spans_of_trace}
 use Rattle.trace_assembly.specs.Rows.{spots_of}
 use Rattle.service_places.specs.Reported.{group_of}
 use Rattle.journal_traces.specs.Reporting.{are_reported}
-use Rattle.journal_traces.specs.Standing.{spans_named, traces_named}
-use Rattle.journal_traces.proofs.Adopting.{map_map}
+use Rattle.journal_traces.specs.Standing.{traces_named}
 use Rattle.span_store.proofs.Following.{trace_stands}
-use Rattle.span_store.proofs.Keeping.{kept_spots, kept_traces}
+use Rattle.span_store.proofs.Keeping.{found_kept, kept_spots}
 use Rattle.span_store.proofs.Picking.{found_reported}
 use Rattle.span_store.proofs.store.SpanStore.candidates_reported.Goals as goal
 
@@ -32,13 +29,10 @@ returns c =
     let h = was.journal.held in
     let q = c.args.query.now in
     let spots = spots_of was.shown in
-    let f : TraceId → List Placed = spans_of_trace h.limits.traces (events h.entries) in
     let stands = trace_stands h.limits.traces h.entries spots (kept_spots h was.shown was.names was.reported c.self.invariant) in
     let ids : List TraceId = filter (λ t. are_reported h.entries was.reported.groups c.args.service (spots t)) was.shown.newest.ids in
     let known : Some c.args.service ≡ group_of h.entries q.service = c.requires ∙ sym (ap (λ (v : Held). group_of v.entries q.service) c.self.view_is) in
     let all : found_in q (traces_named h.entries c.in_ok-spots.spots.items) ≡ found_in q (traces h.limits.traces (events h.entries)) =
-    ap (λ ss. found_in q (map (spans_named h.entries) ss)) c.in_ok-spots.ensures
-    ∙ ap (found_in q) (map_map (spans_named h.entries) spots ids ∙ (λ i. map (λ t. stands t i) ids))
-    ∙ found_reported q h.entries was.reported.groups c.args.service c.self.invariant.placed.kept.grouped known h.limits.traces spots was.shown.newest.ids stands
-    ∙ ap (found_in q) (kept_traces h was.shown was.names was.reported c.self.invariant) in
+    found_kept q h was.shown was.names was.reported c.self.invariant ids c.in_ok-spots.spots.items c.in_ok-spots.ensures (
+    found_reported q h.entries was.reported.groups c.args.service c.self.invariant.placed.kept.grouped known h.limits.traces spots was.shown.newest.ids stands) in
     subst (λ (v : Held). found_in q (traces_named v.entries c.in_ok-spots.spots.items) ≡ found_in q (traces v.limits.traces (events v.entries))) c.self.view_is all
