@@ -1,121 +1,14 @@
--- A head and a trailer end with a line, and so does nothing new where no line has ended.
-use Rattle.std.proofs.Common.{◌≡◌, ℕ, ◌==◌, ◌||◌, ◌≤◌, nat_le, ◌<◌, Bool, true, false, List, [], ◌∷◌, ◌++◌, length, take, drop, IsTrue, refl, sym, ap, ◌∙◌, subst, arith, inl, inr, append_assoc, append-nil, length-append}
-use Rattle.std.specs.List.{list_any, flat_map}
+-- Where a head is awaited, the lines received whole may still begin with one.
+use Rattle.std.proofs.Common.{◌≡◌, ℕ, ◌==◌, ◌||◌, ◌<◌, Bool, false, List, [], ◌∷◌, ◌++◌, length, take, IsTrue, refl, sym, ap, ◌∙◌, subst, arith, inl, inr, append_assoc}
 use Rattle.std.proofs.lemmas.Bool.Decides.{nat_tests}
-use Rattle.std.proofs.lemmas.List.{take-append-drop, take_all}
+use Rattle.std.proofs.lemmas.List.{take_all}
 use Rattle.std.proofs.lemmas.List.Folds.{list_any-append, list_any_none}
-use Rattle.std.proofs.Math.Seq.{take-append_seam}
-use Rattle.httparse.specs.Grammar.{LineEnd.{crlf, lf}, LineEnd, Field, RequestHead, AllPass, is_token_byte, is_uri_byte, print_end, print_field, print_section, print_blank, print_version, print_request, HasNoRequest, NeverHasRequest, MayBecomeRequest, EndsInTarget}
-use Rattle.httparse.proofs.GrammarLemmas.{print_request-append}
-use Rattle.chunked_bodies.specs.Chunks.{IsTrailer, HasNone}
-use Rattle.chunked_bodies.specs.declared.trailer.TheConstants.{MOST_TRAILER_BYTES}
+use Rattle.httparse.specs.Grammar.{AllPass, is_token_byte, is_uri_byte, print_blank, print_request, HasNoRequest, NeverHasRequest, MayBecomeRequest, EndsInTarget}
 use Rattle.http_requests.specs.declared.head.TheConstants.{MOST_HEAD_BYTES}
 use Rattle.http_requests.specs.Heads.{EndsLine, AwaitsHead}
-use Rattle.http_requests.specs.LineEnds.{is_due}
+use Rattle.http_requests.specs.LineLaws.{has_feed, cut_before}
 use Rattle.http_requests.proofs.Beginnings.{more_when_short}
-use Rattle.http_requests.proofs.Once.{some_head, some_with, some_behind, token_quiet, head_is_some}
-
-abbrev has_feed : List ℕ → Bool
-has_feed bytes = list_any (λ b. b == 10) bytes
-
--- a beginning that ends with a line ends where no line ended later
-pub ends_before : (seen part front rest : List ℕ) → seen ++ part ≡ front ++ 10 ∷ rest → has_feed part ≡ false → (left : List ℕ) × (seen ≡ (front ++ 10 ∷ []) ++ left)
-ends_before [] part front rest e none = absurd (cc (sym none ∙ ap has_feed e ∙ has_one front rest))
-  where
-    or_true : (b : Bool) → (b || true) ≡ true
-    or_true true = refl
-    or_true false = refl
-
-    has_one : (front rest : List ℕ) → has_feed (front ++ 10 ∷ rest) ≡ true
-    has_one front rest = list_any-append (λ b. b == 10) front (10 ∷ rest) ∙ or_true (has_feed front)
-ends_before (x ∷ xs) part [] rest e none = (xs, λ i. first e i ∷ xs)
-  where
-    first : {a b : ℕ} {xs ys : List ℕ} → a ∷ xs ≡ b ∷ ys → a ≡ b
-    first e = cc e
-ends_before (x ∷ xs) part (y ∷ ys) rest e none =
-    let here : x ≡ y = cc e in
-    let later : xs ++ part ≡ ys ++ 10 ∷ rest = cc e in
-    let cut = ends_before xs part ys rest later none in
-    (cut.0, λ i. here i ∷ cut.1 i)
-
--- ---- a text that ends with a line
-
-end_feeds : (e : LineEnd) → (front : List ℕ) × (print_end e ≡ front ++ 10 ∷ [])
-end_feeds crlf = (13 ∷ [], refl)
-end_feeds lf = ([], refl)
-
-section_ends : (fields : List Field) (last : LineEnd) → EndsLine (print_section fields last)
-section_ends [] last = end_feeds last
-section_ends (f ∷ fs) last =
-    let later = section_ends fs last in (
-      print_field f ++ later.0,
-      append_assoc (print_field f) (flat_map print_field fs) (print_end last) ∙ ap (λ l. print_field f ++ l) later.1 ∙ sym (append_assoc (print_field f) later.0 (10 ∷ [])),
-    )
-
-behind_ends : (front text : List ℕ) → EndsLine text → EndsLine (front ++ text)
-behind_ends front text ends = (front ++ ends.0, ap (λ l. front ++ l) ends.1 ∙ sym (append_assoc front ends.0 (10 ∷ [])))
-
-cons_ends : (x : ℕ) (text : List ℕ) → EndsLine text → EndsLine (x ∷ text)
-cons_ends x text ends = (x ∷ ends.0, ap (λ l. x ∷ l) ends.1)
-
-head_ends : (h : RequestHead) → EndsLine (print_request h)
-head_ends h =
-    let last : EndsLine (print_section h.fields h.last ++ []) = subst EndsLine (sym (append-nil (print_section h.fields h.last))) (section_ends h.fields h.last) in
-    let version = behind_ends (print_version h.minor) _ (behind_ends (print_end h.line_end) _ last) in
-    let line = behind_ends h.method _ (cons_ends 32 _ (behind_ends h.target _ (cons_ends 32 _ version))) in
-    subst EndsLine (sym (print_request-append h []) ∙ append-nil (print_request h)) (behind_ends (print_blank h.blank) _ line)
-
-pub trailer_ends : (text : List ℕ) → IsTrailer text → EndsLine text
-trailer_ends text is = subst EndsLine (sym is.text_is) (section_ends is.fields is.last)
-
--- ---- what was seen, and more in which no line ends
-
-pub cut_before : (seen part lines rest : List ℕ) → EndsLine lines → seen ++ part ≡ lines ++ rest → has_feed part ≡ false → (left : List ℕ) × (seen ≡ lines ++ left)
-cut_before seen part lines rest ends e none =
-    let cut = ends_before seen part ends.0 rest (e ∙ ap (λ l. l ++ rest) ends.1 ∙ append_assoc ends.0 (10 ∷ []) rest) none in
-    (cut.0, cut.1 ∙ ap (λ l. l ++ cut.0) (sym ends.1))
-
-none_longer : (Is : List ℕ → Type 0) (seen part : List ℕ) → ((text : List ℕ) → Is text → EndsLine text) → HasNone Is seen → has_feed part ≡ false → HasNone Is (seen ++ part)
-none_longer Is seen part ends none new text rest is e =
-    let cut = cut_before seen part text rest (ends text is) e new in
-    none text cut.0 is cut.1
-
-head_longer : (seen part : List ℕ) → AwaitsHead seen → has_feed part ≡ false → length (seen ++ part) < MOST_HEAD_BYTES → AwaitsHead (seen ++ part)
-head_longer seen part awaits new short = record {
-  none = λ h rest takes. let cut = cut_before seen part (print_request h) rest (head_ends h) takes.reads.1 new in
-      awaits.none h cut.0 (record { reads = (takes.reads.0, cut.1); size = takes.size; fields = takes.fields });
-  short = short;
-  may = λ lines rest e ends. let cut = cut_before seen part lines rest ends e new in
-      awaits.may lines cut.0 cut.1 ends;
-}
-
--- where no such text is due there are fewer bytes, and no line ended behind the seen ones
-not_due : (bytes : List ℕ) (seen most : ℕ) → is_due bytes seen most ≡ false → (length bytes < most) × (has_feed (drop seen bytes) ≡ false)
-not_due bytes seen most not = by (nat_le most (length bytes)) refl not
-  where
-    by : (full : Bool) → full ≡ nat_le most (length bytes) → (full || has_feed (drop seen bytes)) ≡ false → (length bytes < most) × (has_feed (drop seen bytes) ≡ false)
-    by true is e = absurd (cc e)
-    by false is e = (grind (arith, nat_tests, is), e)
-
-pub head_not_due : (bytes : List ℕ) (seen : ℕ) → AwaitsHead (take seen bytes) → is_due bytes seen MOST_HEAD_BYTES ≡ false → AwaitsHead bytes
-head_not_due bytes seen awaits not =
-    let new = not_due bytes seen MOST_HEAD_BYTES not in
-    let all = take-append-drop seen bytes in
-    subst AwaitsHead all (head_longer (take seen bytes) (drop seen bytes) awaits new.1 (omega (arith, new.0, ap length all)))
-
-pub trailer_not_due : (bytes : List ℕ) (seen : ℕ) → HasNone IsTrailer (take seen bytes) → is_due bytes seen MOST_TRAILER_BYTES ≡ false → HasNone IsTrailer bytes × (length bytes < MOST_TRAILER_BYTES)
-trailer_not_due bytes seen none not =
-    let new = not_due bytes seen MOST_TRAILER_BYTES not in
-    (subst (HasNone IsTrailer) (take-append-drop seen bytes) (none_longer IsTrailer (take seen bytes) (drop seen bytes) trailer_ends none new.1), new.0)
-
--- what held of the bytes seen holds of them among more
-pub seen_stays : (P : List ℕ → Type 0) (bytes old new more : List ℕ) → bytes ≡ old → new ≡ old ++ more → P bytes → P (take (length bytes) new)
-seen_stays P bytes old new more are is p = subst P (sym (ap (take (length bytes)) (is ∙ ap (λ l. l ++ more) (sym are)) ∙ take-append_seam bytes more)) p
-
-pub fits_still : (bytes old new more : List ℕ) → bytes ≡ old → new ≡ old ++ more → length bytes ≤ length new
-fits_still bytes old new more are is = omega (arith, ap length are, ap length is, length-append old more)
-
--- ---- before a line has ended
+use Rattle.http_requests.proofs.Once.{some_head, some_with, some_behind, token_quiet}
 
 feeds_nowhere : (test : ℕ → Bool) (bytes : List ℕ) → test 10 ≡ false → AllPass test bytes → has_feed bytes ≡ false
 feeds_nowhere test bytes off pass = list_any_none (λ b. b == 10) bytes (λ k d l. one _ (pass k d l))
@@ -144,18 +37,6 @@ may_go_on : (bytes : List ℕ) → MayBecomeRequest bytes → HasNoReason bytes
 may_go_on bytes (inl (more, h, reads)) lines rest e ends never =
     never (rest ++ more) h [] (reads.0, sym (append_assoc lines rest more) ∙ ap (λ l. l ++ more) (sym e) ∙ reads.1)
 may_go_on bytes (inr target) lines rest e ends never = target_may bytes lines rest target e ends never
-
-pub no_bytes_await : AwaitsHead []
-no_bytes_await = record {
-  none = λ h rest takes. absurd (omega (arith, head_is_some [] h rest takes));
-  short = omega arith;
-  may = λ lines rest e ends never. absurd (omega (arith, ap length e, length-append lines rest, ap length ends.1, length-append ends.0 (10 ∷ [])));
-}
-
-pub no_trailer_yet : HasNone IsTrailer []
-no_trailer_yet text rest is e =
-    let ends = trailer_ends text is in
-    absurd (omega (arith, ap length e, length-append text rest, ap length ends.1, length-append ends.0 (10 ∷ [])))
 
 pub awaits_head : (bytes beginning : List ℕ) → beginning ≡ take MOST_HEAD_BYTES bytes → length bytes < MOST_HEAD_BYTES → HasNoRequest beginning → MayBecomeRequest beginning → AwaitsHead bytes
 awaits_head bytes beginning f short none may =

@@ -1,5 +1,6 @@
 -- How reads join.
-use Rattle.std.proofs.Common.{◌≡◌, ℕ, ◌+◌, Bool, List, [], ◌++◌, length, Option, sym, ap, ◌∙◌, subst, arith, append_assoc, append-nil, length-append}
+use Rattle.std.proofs.Common.{◌≡◌, ℕ, ◌+◌, ◌≤◌, Bool, List, [], ◌++◌, length, take, Option, sym, ap, ◌∙◌, subst, arith, append_assoc, append-nil, length-append}
+use Rattle.std.proofs.Math.Seq.{take-append_seam}
 use Rattle.std.proofs.KnownBytes.{Consumes-trans, Consumes-nil}
 use Rattle.http_requests.specs.Waiting.{Source, counted, ReadsWhile}
 use Rattle.http_requests.specs.Receiving.{ReadBuffer, ReadsOn, ReadsOnWhile, IsRead, ReadFails, StopsWhile, put_back}
@@ -161,3 +162,12 @@ module _ {R : Type 0} (source : Source R) where
     awaits = more stops.here.held stops.awaits;
     last = stops.last;
   }
+
+-- ---- what was seen, among more
+
+-- what held of the bytes seen holds of them among more
+pub seen_stays : (P : List ℕ → Type 0) (bytes old new more : List ℕ) → bytes ≡ old → new ≡ old ++ more → P bytes → P (take (length bytes) new)
+seen_stays P bytes old new more are is p = subst P (sym (ap (take (length bytes)) (is ∙ ap (λ l. l ++ more) (sym are)) ∙ take-append_seam bytes more)) p
+
+pub fits_still : (bytes old new more : List ℕ) → bytes ≡ old → new ≡ old ++ more → length bytes ≤ length new
+fits_still bytes old new more are is = omega (arith, ap length are, ap length is, length-append old more)

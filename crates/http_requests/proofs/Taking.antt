@@ -13,20 +13,24 @@ use Rattle.chunked_bodies.proofs.Behind.{lacks_behind, behind_chunks, no_line, n
 use Rattle.http_requests.specs.declared.asked.TheConstants.{MOST_BODY_BYTES}
 use Rattle.http_requests.specs.Requests.{IsShorter, AwaitsChunks, AwaitsBody}
 use Rattle.http_requests.specs.Waiting.{Source}
-use Rattle.http_requests.specs.Receiving.{KnowsItsEnd, ReadBuffer, ReadsOn, ReadsOnWhile, IsRead, ReadFails, StopsWhile, put_back}
+use Rattle.http_requests.specs.Receiving.{ReadBuffer, ReadsOn, ReadsOnWhile, IsRead, ReadFails, StopsWhile, put_back}
 use Rattle.http_requests.specs.declared.read_buffer.ReadError.{ReadError}
 use Rattle.session_devices.specs.Takings.{Takings, TakesNothing, TakesJoined}
-use Rattle.http_requests.specs.Bodies.{Takes, Misses, AwaitsLine, AwaitsRest, IsLineEnd, begins_line_end, may_begin_line_end, TakesOrMisses, Gathers, Gathered, TakesContent, TakesContentOr, Fails, ChunksSoFar, TakesBody, BreaksBody, ReadsBody}
+use Rattle.http_requests.specs.Bodies.{Takes, Misses, AwaitsLine, AwaitsRest, IsLineEnd, Begins, begins_line_end, may_begin_line_end, TakesOrMisses, Gathers, Gathered, TakesContent, TakesContentOr, Fails, ChunksSoFar, TakesBody, BreaksBody, ReadsBody}
 use Rattle.http_requests.specs.declared.asked.BodyLength.TheVariants.{Bytes, Chunked, Unreadable, TooLarge}
 use Rattle.http_requests.specs.declared.asked.Breach.TheVariants as breach
-use Rattle.http_requests.proofs.Ends.{cut_before}
-use Rattle.http_requests.proofs.Readings.{nothing_yet, once, then_on, beginning_then, beginnings_join, beginning_more, widened, fails_put_back, stops_there, stops_behind, widened_stop}
+use Rattle.http_requests.specs.LineLaws.{cut_before}
+use Rattle.http_requests.proofs.Readings.{nothing_yet, once, then_on, beginning_then, beginnings_join, beginning_more, beginning_taken, widened, fails_put_back, stops_there, stops_behind, widened_stop}
 
--- ---- nothing of a kind
+-- ---- a text of one kind
 
-module _ {R : Type 0} (source : Source R) (Awaits : List ℕ → Type 0) (s t : R) (old here : ReadBuffer) (Is : List ℕ → Type 0) (bytes : List ℕ) (reads : ReadsOnWhile source Awaits s t old here) (are : bytes ≡ here.held) where
-  pub misses_at_end : (ended : Bool) → KnowsItsEnd old.ended (source.remaining s) → ended ≡ here.ended → ended ≡ true → HasNone Is bytes → Misses source Awaits s t old here Is
-  misses_at_end ended knows is over none = record { reads = reads; lacks = inr (reads.on.end knows (sym is ∙ over), subst (HasNone Is) are none) }
+module _ {R : Type 0} (source : Source R) (Awaits : List ℕ → Type 0) (s t : R) (old here : ReadBuffer) (Is : List ℕ → Type 0) (reads : ReadsOnWhile source Awaits s t old here) where
+  pub taken : (new : ReadBuffer) (count : ℕ) → Begins Is here.held count → new ≡ record here { held = drop count here.held } → Takes source Awaits s t old new Is
+  taken new count begins is = rw is (record {
+    text = take count here.held;
+    is = begins.0;
+    reads = beginning_taken source Awaits s t old here (take count here.held) (drop count here.held) reads (sym (take-append-drop count here.held));
+  })
 
 -- one more read, where more was awaited of what is there
 pub reads_more : {R : Type 0} (source : Source R) (Awaits : List ℕ → Type 0) (s m t : R) (old here new : ReadBuffer) (bytes : List ℕ) → ReadsOnWhile source Awaits s m old here → bytes ≡ here.held
@@ -110,7 +114,7 @@ module _ {S R : Type 0} (takes : Takings S) (source : Source R) where
 
 -- ---- CR LF
 
-pub no_line_end : (bytes : List ℕ) → begins_line_end bytes ≡ false → HasNone IsLineEnd bytes
+no_line_end : (bytes : List ℕ) → begins_line_end bytes ≡ false → HasNone IsLineEnd bytes
 no_line_end bytes e text rest is cut =
     let yes : begins_line_end bytes ≡ true = ap begins_line_end (cut ∙ ap (λ l. l ++ rest) is) in
     absurd (cc (yes, e))

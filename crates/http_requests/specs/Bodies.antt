@@ -1,8 +1,8 @@
 -- What reading a body does to the bytes received and to the sink.
-use Rattle.std.specs.Prelude.{◌≡◌, ℕ, ◌+◌, ◌<◌, ◌==◌, ◌&&◌, Bool, true, false, List, [], ◌∷◌, ◌++◌, length, All, Option, Some, None, Result, Ok, Err}
+use Rattle.std.specs.Prelude.{◌≡◌, ℕ, ◌+◌, ◌<◌, ◌≤◌, ◌==◌, ◌&&◌, Bool, true, false, List, [], ◌∷◌, ◌++◌, length, take, All, Option, Some, None, Result, Ok, Err}
 use Rattle.std.specs.Io.KnownBytes.{IsAtEnd}
 use Rattle.httparse.specs.Ascii.{crlf_bytes}
-use Rattle.chunked_bodies.specs.Chunks.{IsSizeLine, IsSomeSizeLine, IsTrailer, IsContent, Chunk, IsChunk, texts, contents, HasNone, Lacks}
+use Rattle.chunked_bodies.specs.Chunks.{IsSizeLine, IsSomeSizeLine, IsContent, Chunk, IsChunk, texts, contents, HasNone, Lacks}
 use Rattle.chunked_bodies.specs.Looks.{EndsNoLine}
 use Rattle.http_requests.specs.declared.asked.TheConstants.{MOST_BODY_BYTES}
 use Rattle.http_requests.specs.Requests.{HasBody, BodyBreaks, IsShorter, AwaitsBody}
@@ -14,6 +14,10 @@ use Rattle.http_requests.specs.declared.asked.BodyLength.TheVariants.{Chunked}
 use Rattle.http_requests.specs.declared.asked.Breach.{Breach}
 
 -- ---- a text of one kind at the beginning
+
+-- so many bytes at the beginning are such a text
+abbrev pub Begins : (List ℕ → Type 0) → List ℕ → ℕ → Type 0
+Begins Is bytes count = Is (take count bytes) × (count ≤ length bytes)
 
 -- a text of this kind was taken from the beginning
 pub record Takes {R : Type 0} (source : Source R) (Awaits : List ℕ → Type 0) (s t : R) (old new : ReadBuffer) (Is : List ℕ → Type 0) : Type 0 where

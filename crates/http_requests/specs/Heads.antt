@@ -7,7 +7,7 @@ use Rattle.httparse.specs.declared.spans.HeaderSpan.{HeaderSpan}
 use Rattle.httparse.specs.Spans.{IsRequestAt, IsRequestWithin}
 use Rattle.http_requests.specs.declared.head.TheConstants.{MOST_HEAD_BYTES, MOST_FIELDS}
 use Rattle.chunked_bodies.specs.declared.looks.Look.{Look}
-use Rattle.chunked_bodies.specs.declared.looks.Look.TheVariants.{Whole, More, Never}
+use Rattle.http_requests.specs.Searching.{LooksFor}
 
 -- Bytes are a head that a session takes, and then rest. The limits are a session's own: RFC 9112 sets none.
 pub record TakesHead (bytes : List ℕ) (h : RequestHead) (rest : List ℕ) : Type 0 where
@@ -44,6 +44,4 @@ pub record IsWholeHead (bytes : List ℕ) (headers : List HeaderSpan) (spans : R
   pub within : IsRequestWithin beginning headers spans
 
 abbrev pub Looks : List ℕ → List HeaderSpan → Look RequestSpans → Type 0
-Looks bytes headers (Whole spans) = IsWholeHead bytes headers spans
-Looks bytes headers More = AwaitsHead bytes
-Looks bytes headers Never = NeverHasHead bytes
+Looks bytes headers = LooksFor AwaitsHead (λ b spans. IsWholeHead b headers spans) NeverHasHead bytes

@@ -10,3 +10,4 @@ pub mod Receiving
 pub mod Searching
 pub mod Bodies
 pub mod LineEnds
+pub mod LineLaws

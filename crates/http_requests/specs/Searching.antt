@@ -1,13 +1,17 @@
--- What a search for a head finds.
+-- What a search at the beginning of the bytes received finds.
 use Rattle.std.specs.Prelude.{ℕ, List, Option}
 use Rattle.std.specs.Io.KnownBytes.{IsAtEnd}
-use Rattle.httparse.specs.declared.spans.HeaderSpan.{HeaderSpan}
-use Rattle.http_requests.specs.Heads.{HasNoHead, NeverHasHead, IsWholeHead}
-use Rattle.http_requests.specs.declared.reading.Found.{Found}
-use Rattle.http_requests.specs.declared.reading.Found.TheVariants.{Head, End, Never}
+use Rattle.chunked_bodies.specs.declared.looks.Look.{Look}
+use Rattle.chunked_bodies.specs.declared.looks.Look.TheVariants.{Whole, More, Never}
 
--- a head at the beginning, none before the end of the input, or none whatever follows
-abbrev pub SearchFinds : Option (List ℕ) → List ℕ → List HeaderSpan → Found → Type 0
-SearchFinds input held headers (Head spans) = IsWholeHead held headers spans
-SearchFinds input held headers End = IsAtEnd input × HasNoHead held
-SearchFinds input held headers Never = NeverHasHead held
+-- what is sought was found at the beginning, is awaited still, or doesn't come whatever follows
+abbrev pub LooksFor : {T : Type 0} → (List ℕ → Type 0) → (List ℕ → T → Type 0) → (List ℕ → Type 0) → List ℕ → Look T → Type 0
+LooksFor Awaits Finds NeverHas bytes (Whole found) = Finds bytes found
+LooksFor Awaits Finds NeverHas bytes More = Awaits bytes
+LooksFor Awaits Finds NeverHas bytes Never = NeverHas bytes
+
+-- where more is awaited, the input has nothing left
+abbrev pub KnowsItEnded : {T : Type 0} → Option (List ℕ) → Look T → Type 0
+KnowsItEnded input (Whole found) = Unit {0}
+KnowsItEnded input More = IsAtEnd input
+KnowsItEnded input Never = Unit {0}

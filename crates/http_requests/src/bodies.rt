@@ -1,15 +1,14 @@
-ghost use Rattle.std.specs.Prelude.{◌≡◌, ◌≤◌, IfOk, IfErr, length, take};
-ghost use Rattle.chunked_bodies.specs.Chunks.{IsTrailer, IsContent, HasNone};
-ghost use Rattle.chunked_bodies.specs.Looks.{LooksAtTrailer};
+ghost use Rattle.std.specs.Prelude.{◌≡◌, IfOk, IfErr};
+ghost use Rattle.chunked_bodies.specs.Chunks.{IsSizeLine, IsSomeSizeLine, IsTrailer, IsContent, HasNone, NeverHas};
 ghost use Rattle.http_requests.specs.Requests.{IsShorter, AwaitsBody};
 ghost use Rattle.http_requests.specs.Waiting.{source_of};
 ghost use Rattle.http_requests.specs.Receiving.{KnowsItsEnd, StopsWhile, SameUnlessReading};
-ghost use Rattle.http_requests.specs.Bodies.{TakesSize, TakesOrMisses, AwaitsLine, AwaitsRest, IsLineEnd, begins_line_end, may_begin_line_end, Gathers, TakesContentOr, ReadsBody};
+ghost use Rattle.http_requests.specs.Bodies.{TakesSize, TakesOrMisses, AwaitsLine, AwaitsRest, IsLineEnd, Begins, begins_line_end, may_begin_line_end, Gathers, TakesContentOr, ReadsBody};
 ghost use Rattle.http_requests.specs.declared.asked.BodyLength.TheVariants.{Chunked};
 
 use crate::asked::{BodyLength, Breach, MOST_BODY_BYTES};
-use crate::line_ends::is_due;
 use crate::read_buffer::{ReadBuffer, ReadError};
+use crate::searching::{Sought, read_until};
 use crate::sink::Sink;
 use chunked_bodies::{Look, MOST_TRAILER_BYTES, look_for_size, look_for_trailer};
 use session_devices::Input;
@@ -62,6 +61,96 @@ fn may_begin_line_end(bytes: &[u8]) -> bool
     matches!(bytes, [] | [b'\r'])
 }
 
+/// CR LF.
+#[derive(Drop)]
+struct LineEnd;
+
+impl Sought for LineEnd {
+    ghost use Rattle.http_requests.specs.LineLaws.{no_line_end_yet, one_not_due};
+
+    type Found = usize;
+
+    const DUE: usize = 1;
+
+    ghost DUE = { 1 };
+
+    ghost awaits = { AwaitsRest IsLineEnd };
+
+    ghost finds = { λ sought bytes count. Begins IsLineEnd bytes count };
+
+    ghost never_has = { NeverHas IsLineEnd };
+
+    ghost awaited_first = { no_line_end_yet };
+
+    ghost awaited_still = { one_not_due (AwaitsRest IsLineEnd) no_line_end_yet };
+
+    fn look(&mut self, bytes: &[u8]) -> Look<usize> {
+        if begins_line_end(bytes) {
+            Look::Whole(2)
+        } else if may_begin_line_end(bytes) {
+            Look::More
+        } else {
+            Look::Never
+        }
+    }
+}
+
+/// A size line.
+#[derive(Drop)]
+struct SizeLine;
+
+impl Sought for SizeLine {
+    ghost use Rattle.http_requests.specs.LineLaws.{no_line_yet, one_not_due};
+
+    type Found = (usize, u64);
+
+    const DUE: usize = 1;
+
+    ghost DUE = { 1 };
+
+    ghost awaits = { AwaitsLine };
+
+    ghost finds = { λ sought bytes found. Begins (λ text. IsSizeLine text found.1) bytes found.0 };
+
+    ghost never_has = { NeverHas IsSomeSizeLine };
+
+    ghost awaited_first = { no_line_yet };
+
+    ghost awaited_still = { one_not_due AwaitsLine no_line_yet };
+
+    fn look(&mut self, bytes: &[u8]) -> Look<(usize, u64)> {
+        look_for_size(bytes)
+    }
+}
+
+/// A trailer.
+#[derive(Drop)]
+struct Trailer;
+
+impl Sought for Trailer {
+    ghost use Rattle.http_requests.specs.LineLaws.{no_trailer_yet, trailer_not_due};
+
+    type Found = usize;
+
+    const DUE: usize = MOST_TRAILER_BYTES;
+
+    ghost DUE = { 8192 };
+
+    ghost awaits = { HasNone IsTrailer };
+
+    ghost finds = { λ sought bytes count. Begins IsTrailer bytes count };
+
+    ghost never_has = { NeverHas IsTrailer };
+
+    ghost awaited_first = { no_trailer_yet };
+
+    ghost awaited_still = { trailer_not_due };
+
+    fn look(&mut self, bytes: &[u8]) -> Look<usize> {
+        look_for_trailer(bytes)
+    }
+}
+
 /// Takes CR LF; whether it was there.
 fn take_line_end<R: Input>(input: &mut R, received: &mut ReadBuffer) -> Result<bool, ReadError>
     requires end { KnowsItsEnd received.old.ended (R.remaining input.old) }
@@ -71,19 +160,12 @@ fn take_line_end<R: Input>(input: &mut R, received: &mut ReadBuffer) -> Result<b
         (AwaitsRest IsLineEnd) input.old input.new (R.has_failed input.new) received.old why) }
     ensures same { SameUnlessReading (R.has_failed input.old) (R.has_failed input.new) result }
 {
-    'looks: loop {
-        let bytes = received.as_slice();
-        if begins_line_end(bytes) {
-            received.take(2);
-            return Ok(true);
+    match read_until(input, received, &mut LineEnd)? {
+        Look::Whole(length) => {
+            received.take(length);
+            Ok(true)
         }
-        if !may_begin_line_end(bytes) {
-            return Ok(false);
-        }
-        if received.has_ended() {
-            return Ok(false);
-        }
-        received.read_on(input)?;
+        Look::More | Look::Never => Ok(false),
     }
 }
 
@@ -96,33 +178,12 @@ fn take_size<R: Input>(input: &mut R, received: &mut ReadBuffer) -> Result<Optio
         AwaitsLine input.old input.new (R.has_failed input.new) received.old why) }
     ensures same { SameUnlessReading (R.has_failed input.old) (R.has_failed input.new) result }
 {
-    'looks: loop {
-        match look_for_size(received.as_slice()) {
-            Look::Whole((length, size)) => {
-                received.take(length);
-                return Ok(Some(size));
-            }
-            Look::Never => return Ok(None),
-            Look::More => {}
+    match read_until(input, received, &mut SizeLine)? {
+        Look::Whole((length, size)) => {
+            received.take(length);
+            Ok(Some(size))
         }
-        if received.has_ended() {
-            return Ok(None);
-        }
-        received.read_on(input)?;
-    }
-}
-
-/// Looks for a trailer where one may have ended in what wasn't seen, or none can end later. In front of what
-/// was seen none stood.
-fn trailer_when_due(bytes: &[u8], seen: usize) -> Look<usize>
-    requires seen { seen ≤ length bytes.now }
-    requires before { HasNone IsTrailer (take seen bytes.now) }
-    ensures { LooksAtTrailer bytes.now result }
-{
-    if is_due(bytes, seen, MOST_TRAILER_BYTES) {
-        look_for_trailer(bytes)
-    } else {
-        Look::More
+        Look::More | Look::Never => Ok(None),
     }
 }
 
@@ -135,22 +196,12 @@ fn take_trailer<R: Input>(input: &mut R, received: &mut ReadBuffer) -> Result<bo
         (HasNone IsTrailer) input.old input.new (R.has_failed input.new) received.old why) }
     ensures same { SameUnlessReading (R.has_failed input.old) (R.has_failed input.new) result }
 {
-    let mut seen = 0;
-    'looks: loop {
-        let bytes = received.as_slice();
-        match trailer_when_due(bytes, seen) {
-            Look::Whole(length) => {
-                received.take(length);
-                return Ok(true);
-            }
-            Look::Never => return Ok(false),
-            Look::More => {}
+    match read_until(input, received, &mut Trailer)? {
+        Look::Whole(length) => {
+            received.take(length);
+            Ok(true)
         }
-        if received.has_ended() {
-            return Ok(false);
-        }
-        seen = bytes.len();
-        received.read_on(input)?;
+        Look::More | Look::Never => Ok(false),
     }
 }
 

@@ -1,9 +1,9 @@
-ghost use Rattle.std.specs.Prelude.{◌≡◌, ◌≤◌, length, take};
+ghost use Rattle.std.specs.Prelude.{◌≤◌, length};
 ghost use Rattle.http_requests.specs.Heads.{AwaitsHead, Looks};
 
-use crate::line_ends::is_due;
+use crate::searching::Sought;
 use chunked_bodies::{Look, beginning_of, look_by};
-use httparse::spans::{HeaderSpan, RequestSpans, parse_request};
+use httparse::spans::{EMPTY_HEADER_SPAN, HeaderSpan, RequestSpans, parse_request};
 
 /// How many bytes a head has at most, with its empty line. RFC 9112 sets no limit; this is a session's own.
 pub(crate) const MOST_HEAD_BYTES: usize = 8192;
@@ -11,8 +11,11 @@ pub(crate) const MOST_HEAD_BYTES: usize = 8192;
 /// How many fields a head has at most: a limit of a session's own too.
 pub(crate) const MOST_FIELDS: usize = 64;
 
+/// Room for one field more than a head may have.
+const FIELD_ROOM: usize = 65;
+
 /// Looks for a head at the beginning of the bytes.
-pub(crate) fn look_for_head(bytes: &[u8], headers: &mut [HeaderSpan]) -> Look<RequestSpans>
+fn look_for_head(bytes: &[u8], headers: &mut [HeaderSpan]) -> Look<RequestSpans>
     requires { MOST_FIELDS ≤ length headers.old }
     ensures { Looks bytes.now headers.new result }
 {
@@ -30,21 +33,41 @@ pub(crate) fn look_for_head(bytes: &[u8], headers: &mut [HeaderSpan]) -> Look<Re
     }
 }
 
-/// Looks for a head where one may have ended in what wasn't seen, or none can end later. In front of what was
-/// seen none stood.
-pub(crate) fn head_when_due(
-    bytes: &[u8],
-    seen: usize,
-    headers: &mut [HeaderSpan],
-) -> Look<RequestSpans>
-    requires room { MOST_FIELDS ≤ length headers.old }
-    requires seen { seen ≤ length bytes.now }
-    requires before { AwaitsHead (take seen bytes.now) }
-    ensures { Looks bytes.now headers.new result }
-{
-    if is_due(bytes, seen, MOST_HEAD_BYTES) {
-        look_for_head(bytes, headers)
-    } else {
-        Look::More
+/// A head, and room for its fields.
+#[derive(Drop)]
+pub(crate) struct HeadSearch {
+    pub(crate) headers: [HeaderSpan; FIELD_ROOM],
+}
+
+impl HeadSearch {
+    pub(crate) fn new() -> Self {
+        HeadSearch {
+            headers: [EMPTY_HEADER_SPAN; FIELD_ROOM],
+        }
+    }
+}
+
+impl Sought for HeadSearch {
+    ghost use Rattle.http_requests.specs.Heads.{NeverHasHead, IsWholeHead};
+    ghost use Rattle.http_requests.specs.LineLaws.{no_bytes_await, head_not_due};
+
+    type Found = RequestSpans;
+
+    const DUE: usize = MOST_HEAD_BYTES;
+
+    ghost DUE = { 8192 };
+
+    ghost awaits = { AwaitsHead };
+
+    ghost finds = { λ search bytes spans. IsWholeHead bytes search.headers spans };
+
+    ghost never_has = { NeverHasHead };
+
+    ghost awaited_first = { no_bytes_await };
+
+    ghost awaited_still = { head_not_due };
+
+    fn look(&mut self, bytes: &[u8]) -> Look<RequestSpans> {
+        look_for_head(bytes, &mut self.headers)
     }
 }

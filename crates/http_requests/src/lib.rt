@@ -14,6 +14,7 @@
 //! * `read_buffer`: the bytes that were read and are not taken yet.
 //! * `room`: the room that they lie in, which is used again.
 //! * `line_ends`: when a text that ends with a line is looked for.
+//! * `searching`: reading until what is sought stands at the beginning of the bytes, or can't come.
 //! * `reading`: the head of the next request of an input.
 //! * `sink`: what a body is put into.
 //! * `laws`: facts about what stands at the beginning of bytes.
@@ -28,6 +29,7 @@ mod line_ends;
 mod read_buffer;
 mod reading;
 mod room;
+mod searching;
 mod sink;
 
 pub use asked::{BodyLength, Breach, Method, Request};

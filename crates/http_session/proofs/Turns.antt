@@ -11,7 +11,7 @@ use Rattle.http_requests.specs.declared.asked.Breach.{Breach}
 use Rattle.http_requests.specs.declared.read_buffer.ReadError.{ReadError}
 use Rattle.http_requests.specs.declared.read_buffer.ReadError.TheVariants as why
 use Rattle.http_requests.proofs.Awaiting.{uncounted}
-use Rattle.http_requests.proofs.Ends.{no_bytes_await}
+use Rattle.http_requests.specs.LineLaws.{no_bytes_await}
 use Rattle.http_session.specs.Hearing.{HearsNothing}
 use Rattle.http_session.specs.Replies.{response_of, takes_no_memory}
 use Rattle.http_session.specs.Sessions.{Exchange, IsExchange, IsOpen, texts, response_to, responses, Submits, Reads, Step, Run, clean, closing, broken, none_yet, due, due_parting, NothingWasDue, IsCause, Says, cause_by}

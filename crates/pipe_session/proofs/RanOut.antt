@@ -7,7 +7,7 @@ use Rattle.std.proofs.lemmas.Grind.{flat_map-append}
 use Rattle.trace_model.specs.Held.{Held}
 use Rattle.direct_store.specs.Exactly.{DirectSubmits, DirectReads}
 use Rattle.http_session.specs.Sessions.{Exchange, IsOpen, texts, Submits, Reads, Run, EndsAs, FailsAs, Ending, Ending.{clean, closing, broken}, last_of, parting, response_to, responses, Due, Due.{none_yet, due, due_parting}, exchange_due, bytes_due}
-use Rattle.http_requests.proofs.Ends.{no_bytes_await}
+use Rattle.http_requests.specs.LineLaws.{no_bytes_await}
 use Rattle.http_session.specs.declared.exchanges.SessionErrorKind.TheVariants.{Reading}
 use Rattle.http_session.specs.declared.exchanges.SessionError.{SessionError}
 use Rattle.pipe_session.specs.OneFunction.{NeverWants, Failed, WroteFirst}
