@@ -11,22 +11,24 @@
 
 #[path = "compare/batch.rs"]
 mod batch;
+#[path = "compare/http.rs"]
+mod http;
 #[path = "compare/skew.rs"]
 mod skew;
+#[path = "compare/traces.rs"]
+mod traces;
 
 use batch::{Process, RefKind, Span, SpanRef, Tag, TraceId, Value};
+use http::{envelope, linger, option, Head, BODY};
 use skew::{adjusted, Shown};
-use std::cmp::Reverse;
-use std::collections::{BTreeSet, HashMap};
+use std::collections::BTreeSet;
 use std::fmt::Write as _;
-use std::io::{self, BufRead, BufReader, Read, Write};
-use std::net::{Shutdown, TcpListener, TcpStream};
+use std::io::{self, BufReader, Read, Write};
+use std::net::{TcpListener, TcpStream};
 use std::sync::atomic::{AtomicUsize, Ordering};
 use std::sync::{Arc, Mutex};
-use std::time::{Duration, Instant};
-
-const HEAD: u64 = 8192;
-const BODY: u64 = 4_194_304;
+use std::time::Duration;
+use traces::{gathered, latest};
 
 pub struct Held {
     pub span: Span,
@@ -73,22 +75,9 @@ impl Server {
     /// The traces of a service, the latest first start in front, so many at most where that isn't 0.
     fn search(&self, service: &str, limit: usize) -> String {
         let spans = self.spans.lock().unwrap();
-        let mut places: HashMap<TraceId, usize> = HashMap::new();
-        let mut traces: Vec<(bool, Vec<&Held>)> = Vec::new();
-        for held in spans.iter() {
-            let place = *places.entry(held.span.trace).or_insert(traces.len());
-            if place == traces.len() {
-                traces.push((false, Vec::new()));
-            }
-            traces[place].0 |= held.process.service == service;
-            traces[place].1.push(held);
-        }
-        let mut found: Vec<Vec<&Held>> = traces.into_iter().filter(|trace| trace.0).map(|trace| trace.1).collect();
-        found.reverse();
-        found.sort_by_key(|trace| Reverse(trace[0].span.start));
-        if limit > 0 {
-            found.truncate(limit);
-        }
+        let mut found = gathered(spans.iter(), |held| held.span.trace);
+        found.retain(|trace| trace.iter().any(|held| held.process.service == service));
+        let found = latest(found, |held| held.span.start, limit);
         let mut data = String::with_capacity(1024 * found.len());
         list(&mut data, &found, |out, trace| write_trace(out, &adjusted(trace, self.max_skew)));
         envelope(&data[1..data.len() - 1], found.len())
@@ -104,10 +93,6 @@ impl Server {
 }
 
 // JSON.
-
-fn envelope(items: &str, total: usize) -> String {
-    format!(r#"{{"data":[{items}],"errors":null,"limit":0,"offset":0,"total":{total}}}"#)
-}
 
 fn list<T>(out: &mut String, items: impl IntoIterator<Item = T>, write: impl Fn(&mut String, T)) {
     out.push('[');
@@ -254,15 +239,6 @@ fn write_trace(out: &mut String, spans: &[Shown]) {
 
 // HTTP.
 
-struct Head {
-    method: String,
-    path: String,
-    query: String,
-    length: u64,
-    thrift: bool,
-    close: bool,
-}
-
 struct Reply {
     status: u16,
     body: String,
@@ -276,10 +252,7 @@ impl Reply {
     }
 
     fn fault(status: u16, text: &str, close: bool) -> Self {
-        let body = format!(
-            r#"{{"data":null,"errors":[{{"code":{status},"msg":"{text}"}}],"limit":0,"offset":0,"total":0}}"#
-        );
-        Reply { status, body, allow: "", close }
+        Reply { status, body: http::fault(status, text), allow: "", close }
     }
 
     fn write(&self, output: &mut impl Write) -> io::Result<()> {
@@ -307,59 +280,6 @@ impl Reply {
     }
 }
 
-/// The lines of a head; `None` where the input ended before it.
-fn head_lines(input: &mut impl BufRead) -> io::Result<Option<Vec<String>>> {
-    let mut input = input.take(HEAD);
-    let mut lines = Vec::new();
-    loop {
-        let mut line = String::new();
-        if input.read_line(&mut line)? == 0 && lines.is_empty() {
-            return Ok(None);
-        }
-        if line.pop() != Some('\n') {
-            return Err(io::ErrorKind::InvalidData.into());
-        }
-        if line.ends_with('\r') {
-            line.pop();
-        }
-        match (line.is_empty(), lines.is_empty()) {
-            (true, true) => continue,
-            (true, false) => return Ok(Some(lines)),
-            _ => lines.push(line),
-        }
-    }
-}
-
-/// The head of those lines, or what is wrong with it.
-fn read_head(lines: &[String]) -> Result<Head, &'static str> {
-    let bad = "bad request head";
-    let mut words = lines[0].split(' ');
-    let (Some(method), Some(path), Some(version), None) = (words.next(), words.next(), words.next(), words.next()) else {
-        return Err(bad);
-    };
-    if !matches!(version, "HTTP/1.0" | "HTTP/1.1") || method.is_empty() || path.is_empty() {
-        return Err(bad);
-    }
-    let (path, query) = path.split_once('?').unwrap_or((path, ""));
-    let (method, path, query) = (method.to_owned(), path.to_owned(), query.to_owned());
-    let mut head = Head { method, path, query, length: 0, thrift: false, close: version == "HTTP/1.0" };
-    for line in &lines[1..] {
-        let (name, value) = line.split_once(':').ok_or(bad)?;
-        let value = value.trim();
-        match name.to_ascii_lowercase().as_str() {
-            "content-length" => head.length = value.parse().map_err(|_| "bad request body")?,
-            "transfer-encoding" => return Err("bad request body"),
-            "content-type" => {
-                let kind = value.split(';').next().unwrap().trim().to_ascii_lowercase();
-                head.thrift = matches!(kind.as_str(), "application/x-thrift" | "application/vnd.apache.thrift.binary");
-            }
-            "connection" => head.close |= value.split(',').any(|word| word.trim().eq_ignore_ascii_case("close")),
-            _ => {}
-        }
-    }
-    Ok(head)
-}
-
 fn trace_id(text: &str) -> Option<TraceId> {
     if text.len() > 32 || text.starts_with('+') {
         return None;
@@ -382,9 +302,8 @@ impl Server {
                 },
                 ("POST", false) => Reply::fault(415, "unsupported content type", false),
                 ("GET", _) => {
-                    let of = |name: &str| head.query.split('&').find_map(|pair| pair.strip_prefix(name)?.strip_prefix('='));
-                    let limit = of("limit").map_or(Ok(20), str::parse);
-                    match (of("service"), limit) {
+                    let limit = head.parameter("limit").map_or(Ok(20), str::parse);
+                    match (head.parameter("service"), limit) {
                         (Some(service), Ok(limit)) => Reply::ok(self.search(service, limit)),
                         _ => Reply::fault(400, "bad parameter: service", false),
                     }
@@ -412,19 +331,18 @@ impl Server {
         let mut output = stream;
         let mut body = Vec::new();
         loop {
-            let head = match head_lines(&mut input) {
-                Ok(None) => return Ok(false),
-                Ok(Some(lines)) => read_head(&lines),
-                Err(fault) if fault.kind() == io::ErrorKind::InvalidData => Err("bad request head"),
-                Err(fault) => return Err(fault),
+            let Some(head) = http::read_head(&mut input)? else {
+                return Ok(false);
             };
+            let length = head.as_ref().ok().and_then(|head| head.length).unwrap_or(0);
             let mut reply = match &head {
                 Err(text) => Reply::fault(400, text, true),
-                Ok(head) if head.length > BODY => Reply::fault(413, "body too large", true),
+                Ok(head) if head.chunked => Reply::fault(400, "bad request body", true),
+                Ok(_) if length > BODY => Reply::fault(413, "body too large", true),
                 Ok(head) => {
                     body.clear();
-                    (&mut input).take(head.length).read_to_end(&mut body)?;
-                    if body.len() as u64 == head.length {
+                    (&mut input).take(length).read_to_end(&mut body)?;
+                    if body.len() as u64 == length {
                         self.answer(head, &body)
                     } else {
                         Reply::fault(400, "bad request body", true)
@@ -456,45 +374,16 @@ impl Server {
     }
 }
 
-/// What the client still sends is read and dropped for a while, so that it sees the last response and no reset.
-fn linger(stream: &TcpStream) {
-    let end = Instant::now() + Duration::from_secs(2);
-    let _ = stream.shutdown(Shutdown::Write);
-    let _ = stream.set_read_timeout(Some(Duration::from_secs(1)));
-    let mut rest = [0; 65536];
-    let mut input = stream;
-    while Instant::now() < end && matches!(input.read(&mut rest), Ok(1..)) {}
-}
-
-fn option(words: &[String], name: &str, otherwise: u64) -> u64 {
-    let place = words.iter().position(|word| word == name);
-    place.and_then(|place| words.get(place + 1)?.parse().ok()).unwrap_or(otherwise)
-}
-
 fn main() {
     let words: Vec<String> = std::env::args().collect();
-    let port = option(&words, "--port", 0) as u16;
-    let listener = TcpListener::bind(("127.0.0.1", port)).unwrap_or_else(|fault| {
-        eprintln!("{fault}");
-        std::process::exit(4);
-    });
     let idle = option(&words, "--idle", 10);
-    println!("listening {}", listener.local_addr().unwrap());
-    let server = Arc::new(Server {
+    let server = |listener| Server {
         listener,
         spans: Mutex::new(Vec::new()),
         max_skew: option(&words, "--max-skew", 0),
         idle: (idle > 0).then(|| Duration::from_secs(idle)),
-        sessions: option(&words, "--sessions", 0) as usize,
+        sessions: option(&words, "--sessions", 0),
         served: AtomicUsize::new(0),
-    });
-    let workers: Vec<_> = (0..option(&words, "--workers", 4))
-        .map(|_| {
-            let server = server.clone();
-            std::thread::spawn(move || server.work())
-        })
-        .collect();
-    for worker in workers {
-        worker.join().unwrap();
-    }
+    };
+    http::run(&words, server, Server::work);
 }

@@ -21,16 +21,18 @@
 
 #[path = "../bench/compare/batch.rs"]
 mod batch;
+#[path = "../bench/compare/http.rs"]
+mod http;
 
 use batch::TraceId;
+use http::{envelope, linger, option, Head, BODY};
 use std::collections::{BTreeMap, HashMap};
 use std::io::{self, BufRead, BufReader, Read, Write};
-use std::net::{Shutdown, TcpListener, TcpStream};
+use std::net::{TcpListener, TcpStream};
 use std::sync::atomic::{AtomicUsize, Ordering};
-use std::sync::{Arc, Mutex};
+use std::sync::Mutex;
 use std::time::Duration;
 
-const BODY: u64 = 4_194_304;
 const RARELY: usize = 1000;
 const NOW_AND_THEN: usize = 50;
 const SOME_CONNECTIONS: usize = 8;
@@ -134,15 +136,11 @@ struct Reply {
 
 impl Reply {
     fn ok(items: &[String]) -> Self {
-        let (list, total) = (items.join(","), items.len());
-        let body = format!(r#"{{"data":[{list}],"errors":null,"limit":0,"offset":0,"total":{total}}}"#);
-        Reply { status: 200, body, close: false }
+        Reply { status: 200, body: envelope(&items.join(","), items.len()), close: false }
     }
 
     fn fault(status: u16, text: &str) -> Self {
-        let error = format!(r#"{{"code":{status},"msg":"{text}"}}"#);
-        let body = format!(r#"{{"data":null,"errors":[{error}],"limit":0,"offset":0,"total":0}}"#);
-        Reply { status, body, close: false }
+        Reply { status, body: http::fault(status, text), close: false }
     }
 
     fn last(status: u16, text: &str) -> Self {
@@ -165,23 +163,6 @@ fn trace_json(trace: (u64, u64), ids: &[u64]) -> String {
 
 // Requests.
 
-struct Head {
-    method: String,
-    path: String,
-    query: String,
-    length: Option<u64>,
-    chunked: bool,
-    thrift: bool,
-    close: bool,
-}
-
-impl Head {
-    fn parameter(&self, name: &str) -> &str {
-        let mut pairs = self.query.split('&').filter_map(|pair| pair.split_once('='));
-        pairs.find(|(key, _)| *key == name).map_or("", |(_, value)| value)
-    }
-}
-
 fn bad() -> io::Error {
     io::ErrorKind::InvalidData.into()
 }
@@ -193,45 +174,6 @@ fn line(input: &mut impl BufRead) -> io::Result<Option<String>> {
         return Ok(None);
     }
     text.strip_suffix("\r\n").map(|text| Some(text.to_owned())).ok_or_else(bad)
-}
-
-fn read_head(input: &mut impl BufRead) -> io::Result<Option<Head>> {
-    let Some(first) = line(input)? else {
-        return Ok(None);
-    };
-    let words: Vec<&str> = first.split(' ').collect();
-    let [method, target, version] = words[..] else {
-        return Err(bad());
-    };
-    let (path, query) = target.split_once('?').unwrap_or((target, ""));
-    let mut head = Head {
-        method: method.to_owned(),
-        path: path.to_owned(),
-        query: query.to_owned(),
-        length: None,
-        chunked: false,
-        thrift: false,
-        close: version == "HTTP/1.0",
-    };
-    loop {
-        let field = line(input)?.ok_or_else(bad)?;
-        if field.is_empty() {
-            return Ok(Some(head));
-        }
-        let (name, value) = field.split_once(':').ok_or_else(bad)?;
-        read_field(&mut head, &name.to_ascii_lowercase(), value.trim())?;
-    }
-}
-
-fn read_field(head: &mut Head, name: &str, value: &str) -> io::Result<()> {
-    match name {
-        "content-length" => head.length = Some(value.parse().map_err(|_| bad())?),
-        "transfer-encoding" => head.chunked = value == "chunked",
-        "content-type" => head.thrift = value == "application/x-thrift",
-        "connection" => head.close |= value == "close",
-        _ => {}
-    }
-    Ok(())
 }
 
 fn read_body(input: &mut impl BufRead, head: &Head) -> io::Result<Vec<u8>> {
@@ -312,7 +254,7 @@ impl Session<'_> {
                 self.names(|store, point| store.operations(service, point), quoted)
             }
             ("GET", ["api", "operations"]) => {
-                self.names(|store, point| store.operations(head.parameter("service"), point), operation)
+                self.names(|store, point| store.operations(head.parameter("service").unwrap_or(""), point), operation)
             }
             _ => Reply::fault(404, "no such path"),
         }
@@ -358,7 +300,7 @@ impl Session<'_> {
     fn search(&mut self, head: &Head) -> Reply {
         let store = self.server.store.lock().unwrap();
         let point = self.point(store.count);
-        let (service, operation) = (head.parameter("service"), head.parameter("operation"));
+        let [service, operation] = ["service", "operation"].map(|name| head.parameter(name).unwrap_or(""));
         let is_there = store.operations(service, point).contains(&operation);
         let trace = store.found.get(&(service.to_owned(), operation.to_owned())).filter(|_| is_there);
         let items: Vec<String> = trace.map(|trace| trace_json(*trace, &store.trace(*trace, point))).into_iter().collect();
@@ -415,15 +357,17 @@ impl Server {
             reply.write(&mut text)?;
             (&mut &*stream).write_all(&text)?;
             if reply.close {
-                return linger(stream);
+                linger(stream);
+                return Ok(());
             }
         }
     }
 
     fn request(&self, input: &mut impl BufRead) -> io::Result<Option<(Head, Vec<u8>)>> {
-        let Some(head) = read_head(input)? else {
+        let Some(head) = http::read_head(input)? else {
             return Ok(None);
         };
+        let head = head.map_err(|_| bad())?;
         let body = read_body(input, &head)?;
         Ok(Some((head, body)))
     }
@@ -435,20 +379,6 @@ impl Server {
             }
         }
     }
-}
-
-/// What the client still sends is dropped for a while, so that it sees the last response and no reset.
-fn linger(mut stream: &TcpStream) -> io::Result<()> {
-    stream.shutdown(Shutdown::Write)?;
-    stream.set_read_timeout(Some(Duration::from_secs(1)))?;
-    let mut rest = [0; 65536];
-    while stream.read(&mut rest)? > 0 {}
-    Ok(())
-}
-
-fn option<'a>(words: &'a [String], name: &str) -> Option<&'a str> {
-    let place = words.iter().position(|word| word == name)?;
-    words.get(place + 1).map(String::as_str)
 }
 
 fn fault_named(name: &str) -> Fault {
@@ -471,27 +401,13 @@ fn fault_named(name: &str) -> Fault {
 
 fn main() {
     let words: Vec<String> = std::env::args().collect();
-    let number = |name, otherwise| option(&words, name).and_then(|text| text.parse().ok()).unwrap_or(otherwise);
-    let fault = fault_named(option(&words, "--fault").unwrap_or("none"));
-    let listener = TcpListener::bind(("127.0.0.1", number("--port", 0))).unwrap_or_else(|fault| {
-        eprintln!("{fault}");
-        std::process::exit(4);
-    });
-    println!("listening {}", listener.local_addr().unwrap());
-    let server = Arc::new(Server {
+    let fault = fault_named(&option(&words, "--fault", String::from("none")));
+    let server = |listener| Server {
         listener,
         store: Mutex::default(),
         fault,
         connections: AtomicUsize::new(0),
         looks: AtomicUsize::new(0),
-    });
-    let workers: Vec<_> = (0..number("--workers", 4))
-        .map(|_| {
-            let server = server.clone();
-            std::thread::spawn(move || server.work())
-        })
-        .collect();
-    for worker in workers {
-        worker.join().unwrap();
-    }
+    };
+    http::run(&words, server, Server::work);
 }

@@ -1,12 +1,14 @@
 //! What `bench/searches.py` compares `SpanStore::answer` with: the batches of the input in a list, and each question answered by a walk over it.
 
 mod batch;
+mod traces;
 
 use batch::{bodies, decode, Batch, Span, Value};
 use std::collections::{BTreeMap, HashMap, HashSet};
 use std::fmt::Write as _;
 use std::io::{self, Read as _};
 use std::time::Instant;
+use traces::{gathered, latest};
 
 /// What is searched for.
 struct Find<'a> {
@@ -86,24 +88,9 @@ fn search(batches: &[Batch], find: &Find) -> Vec<Vec<Shown>> {
     if matched.is_empty() {
         return Vec::new();
     }
-    let mut places: HashMap<(u64, u64), usize> = HashMap::new();
-    let mut traces: Vec<Vec<(&Batch, &Span)>> = Vec::new();
-    for batch in batches {
-        for span in &batch.spans {
-            if matched.contains(&id(span)) {
-                let place = *places.entry(id(span)).or_insert(traces.len());
-                if place == traces.len() {
-                    traces.push(Vec::new());
-                }
-                traces[place].push((batch, span));
-            }
-        }
-    }
-    traces.reverse();
-    traces.sort_by_key(|spans| std::cmp::Reverse(spans[0].1.start));
-    if find.limit > 0 {
-        traces.truncate(find.limit);
-    }
+    let spans = batches.iter().flat_map(|batch| batch.spans.iter().map(move |span| (batch, span)));
+    let found = gathered(spans.filter(|(_, span)| matched.contains(&id(span))), |(_, span)| id(span));
+    let traces = latest(found, |(_, span)| span.start, find.limit);
     traces.iter().map(|spans| spans.iter().map(|(batch, span)| shown(batch, span)).collect()).collect()
 }
 

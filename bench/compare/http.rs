@@ -1,0 +1,139 @@
+//! What the plain servers share, `bench/plain_server.rs` and `checks/broken_server.rs`: heads of requests, the bodies of their
+//! answers, options, and threads on a port.
+
+use std::io::{self, BufRead, Read};
+use std::net::{Shutdown, TcpListener, TcpStream};
+use std::str::FromStr;
+use std::sync::Arc;
+use std::time::{Duration, Instant};
+
+const HEAD: u64 = 8192;
+pub const BODY: u64 = 4_194_304;
+
+pub struct Head {
+    pub method: String,
+    pub path: String,
+    pub query: String,
+    pub length: Option<u64>,
+    pub chunked: bool,
+    pub thrift: bool,
+    pub close: bool,
+}
+
+impl Head {
+    pub fn parameter(&self, name: &str) -> Option<&str> {
+        self.query.split('&').find_map(|pair| pair.strip_prefix(name)?.strip_prefix('='))
+    }
+
+    fn read_field(&mut self, name: &str, value: &str) -> Result<(), &'static str> {
+        match name {
+            "content-length" => self.length = Some(value.parse().map_err(|_| "bad request body")?),
+            "transfer-encoding" => self.chunked = true,
+            "content-type" => {
+                let kind = value.split(';').next().unwrap().trim().to_ascii_lowercase();
+                self.thrift = matches!(kind.as_str(), "application/x-thrift" | "application/vnd.apache.thrift.binary");
+            }
+            "connection" => self.close |= value.split(',').any(|word| word.trim().eq_ignore_ascii_case("close")),
+            _ => {}
+        }
+        Ok(())
+    }
+}
+
+/// The lines of a head; `None` where the input ended before it.
+fn head_lines(input: &mut impl BufRead) -> io::Result<Option<Vec<String>>> {
+    let mut input = input.take(HEAD);
+    let mut lines = Vec::new();
+    loop {
+        let mut line = String::new();
+        if input.read_line(&mut line)? == 0 && lines.is_empty() {
+            return Ok(None);
+        }
+        if line.pop() != Some('\n') {
+            return Err(io::ErrorKind::InvalidData.into());
+        }
+        if line.ends_with('\r') {
+            line.pop();
+        }
+        match (line.is_empty(), lines.is_empty()) {
+            (true, true) => continue,
+            (true, false) => return Ok(Some(lines)),
+            _ => lines.push(line),
+        }
+    }
+}
+
+/// The head of those lines, or what is wrong with it.
+fn head_of(lines: &[String]) -> Result<Head, &'static str> {
+    let bad = "bad request head";
+    let mut words = lines[0].split(' ');
+    let (Some(method), Some(path), Some(version), None) = (words.next(), words.next(), words.next(), words.next()) else {
+        return Err(bad);
+    };
+    if !matches!(version, "HTTP/1.0" | "HTTP/1.1") || method.is_empty() || path.is_empty() {
+        return Err(bad);
+    }
+    let (path, query) = path.split_once('?').unwrap_or((path, ""));
+    let (method, path, query) = (method.to_owned(), path.to_owned(), query.to_owned());
+    let close = version == "HTTP/1.0";
+    let mut head = Head { method, path, query, length: None, chunked: false, thrift: false, close };
+    for line in &lines[1..] {
+        let (name, value) = line.split_once(':').ok_or(bad)?;
+        head.read_field(&name.to_ascii_lowercase(), value.trim())?;
+    }
+    Ok(head)
+}
+
+/// The next head, or what is wrong with it; `None` where the input ended before it.
+pub fn read_head(input: &mut impl BufRead) -> io::Result<Option<Result<Head, &'static str>>> {
+    match head_lines(input) {
+        Ok(lines) => Ok(lines.map(|lines| head_of(&lines))),
+        Err(fault) if fault.kind() == io::ErrorKind::InvalidData => Ok(Some(Err("bad request head"))),
+        Err(fault) => Err(fault),
+    }
+}
+
+/// The body of an answer.
+pub fn envelope(items: &str, total: usize) -> String {
+    format!(r#"{{"data":[{items}],"errors":null,"limit":0,"offset":0,"total":{total}}}"#)
+}
+
+/// The body of an answer that says what is wrong.
+pub fn fault(status: u16, text: &str) -> String {
+    format!(r#"{{"data":null,"errors":[{{"code":{status},"msg":"{text}"}}],"limit":0,"offset":0,"total":0}}"#)
+}
+
+/// What the client still sends is read and dropped for a while, so that it sees the last response and no reset.
+pub fn linger(stream: &TcpStream) {
+    let end = Instant::now() + Duration::from_secs(2);
+    let _ = stream.shutdown(Shutdown::Write);
+    let _ = stream.set_read_timeout(Some(Duration::from_secs(1)));
+    let mut rest = [0; 65536];
+    let mut input = stream;
+    while Instant::now() < end && matches!(input.read(&mut rest), Ok(1..)) {}
+}
+
+/// The word behind the option, or this one.
+pub fn option<T: FromStr>(words: &[String], name: &str, otherwise: T) -> T {
+    let place = words.iter().position(|word| word == name);
+    place.and_then(|place| words.get(place + 1)?.parse().ok()).unwrap_or(otherwise)
+}
+
+/// Listens on the `--port`, says where, and has `--workers` threads work for the server that is made of that.
+pub fn run<S: Send + Sync + 'static>(words: &[String], server: impl FnOnce(TcpListener) -> S, work: fn(&S)) {
+    let listener = TcpListener::bind(("127.0.0.1", option(words, "--port", 0))).unwrap_or_else(|fault| {
+        eprintln!("{fault}");
+        std::process::exit(4);
+    });
+    println!("listening {}", listener.local_addr().unwrap());
+    let server = Arc::new(server(listener));
+    let workers: Vec<_> = (0..option(words, "--workers", 4))
+        .map(|_| {
+            let server = server.clone();
+            std::thread::spawn(move || work(&server))
+        })
+        .collect();
+    for worker in workers {
+        worker.join().unwrap();
+    }
+}
