@@ -1,8 +1,8 @@
-"""What checks of a running server share: batches as bytes, requests, a client that reads responses, the program on a free port, and a
-run of cases.
+"""What checks of a running server share: requests, a client that reads responses, the program on a free port, one that `rustc` builds, and
+a run of cases.
 
-`sockets.py` and `pressure.py` use it; `clients.py`, `history.py`, `bench/serve.py` and `bench/memory.py` start their servers by it. Standard
-library alone; what it tells of a process is for Linux.
+`sockets.py` and `pressure.py` use it; `clients.py`, `history.py`, `bench/serve.py` and `bench/memory.py` start their servers by it, and the
+clients of `history_clients.py` read by it. Standard library alone; what it tells of a process is for Linux.
 """
 import json
 import os
