@@ -1,6 +1,7 @@
 pub mod ContinuingAgain
 pub mod FieldsFromAgain
 pub mod ListsFromAgain
+pub mod EnlistingAgain
 pub mod TextsAgain
 pub mod FeedingAgain
 pub mod PiecesAgain

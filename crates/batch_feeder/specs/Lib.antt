@@ -1,6 +1,7 @@
 pub mod Continuing
 pub mod Values
 pub mod Fields
+pub mod Enlisting
 pub mod LeastBytes
 pub mod Lists
 pub mod ShortValues

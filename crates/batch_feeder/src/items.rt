@@ -5,9 +5,11 @@ ghost use Rattle.wire_pieces.specs.Lists.{behind_head, items_from};
 ghost use Rattle.batch_codec.specs.declared.fault.DecodeError.TheVariants.{Wire};
 ghost use Rattle.batch_codec.specs.Decoding.{wire};
 ghost use Rattle.batch_feeder.specs.Continuing.{Enters, ContinuesTo, Lays, Places};
+ghost use Rattle.batch_feeder.specs.Enlisting.{Enlists};
 ghost use Rattle.batch_feeder.specs.Lists.{items_behind, items_ended, list_from};
 ghost use Rattle.batch_feeder.specs.LeastBytes.{IsPart};
 
+use crate::fields::{Step, hold_next};
 use crate::partial::{Item, Slot, fault_of};
 use batch_codec::{DecodeError, Decoded, room};
 use jaeger_model::Seq;
@@ -201,5 +203,31 @@ impl<P: Item> ListPart<P> {
         ensures { result ≡ self.old.items.items }
     {
         Seq::from_vec(mem::replace(&mut self.items, Vec::new(alloc)))
+    }
+}
+
+/// Begins a list over a piece, and holds the part of it that has come where it isn't whole. It stands apart, so that
+/// fields that are no list have no place for such a part on their stack.
+#[inline(never)]
+pub(crate) fn enter_list<P: Item, S: Slot<Seq<P::Value>>, V: Drop, F: FnOnce(ListPart<P>) -> V>(
+    slot: &mut S,
+    next: &mut Option<Step<V>>,
+    held: F,
+    alloc: Global,
+    piece: &mut Piece<'_>,
+) -> Decoded<bool>
+    requires callable { F.IsAlwaysCallable held }
+    ensures continues { Enlists S.holding (list_of wire 12 P.reads)
+        (λ p. list_from P.reads P.Partial.resumes p.items.items p.left p.head p.one) (F.post held)
+        slot.old slot.new next.new piece.old piece.new result }
+    ensures no_longer { OnOk result (length piece.new ≤ length piece.old) }
+{
+    match ListPart::begin(slot, alloc, piece) {
+        Err(error) => Err(error),
+        Ok(None) => Ok(true),
+        Ok(Some(part)) => {
+            hold_next(next, Step::Value(held(part)));
+            Ok(false)
+        }
     }
 }

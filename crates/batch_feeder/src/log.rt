@@ -1,10 +1,5 @@
-ghost use Rattle.std.specs.Prelude.{◌≡◌, ◌≤◌, pos, length, OnOk};
-ghost use Rattle.batch_codec.specs.LogReading.{take_log};
-ghost use Rattle.batch_feeder.specs.Fields.{Opens};
-ghost use Rattle.batch_feeder.specs.Logs.{log_continues};
-
-use crate::fields::{Fields, Slots, Step, enter_slowly, hold_next};
-use crate::items::ListPart;
+use crate::fields::{Fields, Slots, Step, enter_slowly};
+use crate::items::{ListPart, enter_list};
 use crate::partial::place;
 use crate::skipped::SkipPart;
 use crate::structs::Struct;
@@ -23,29 +18,6 @@ pub(crate) enum LogHeld {
     At(I64Part),
     Fields(ListPart<Struct<TagParts>>),
     Skip(SkipPart),
-}
-
-/// Begins the fields over a piece. It stands apart, so that other fields have no place for such a part on their stack.
-#[tactic(auto, unfolding(batch_codec::specs::LogReading::take_log, batch_codec::specs::TagReading::tag_at))]
-#[inline(never)]
-fn enter_log_fields(
-    slots: &mut LogSlots,
-    next: &mut Option<Step<LogHeld>>,
-    alloc: Global,
-    piece: &mut Piece<'_>,
-) -> Decoded<bool>
-    ensures continues { Opens (take_log slots.old 15 (pos 2)) (log_continues slots.new) slots.new
-        next.new piece.old piece.new result }
-    ensures no_longer { OnOk result (length piece.new ≤ length piece.old) }
-{
-    match ListPart::begin(&mut slots.fields, alloc, piece) {
-        Err(error) => Err(error),
-        Ok(None) => Ok(true),
-        Ok(Some(part)) => {
-            hold_next(next, Step::Value(LogHeld::Fields(part)));
-            Ok(false)
-        }
-    }
 }
 
 impl Slots for LogSlots {
@@ -132,7 +104,7 @@ impl Fields for LogSlots {
         piece: &mut Piece<'_>,
     ) -> Decoded<bool> {
         match (code, id) {
-            (LIST, 2) => enter_log_fields(self, next, alloc, piece),
+            (LIST, 2) => enter_list(&mut self.fields, next, LogHeld::Fields, alloc, piece),
             _ => enter_slowly(self, next, code, id, alloc, piece),
         }
     }

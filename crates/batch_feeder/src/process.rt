@@ -1,8 +1,5 @@
-ghost use Rattle.std.specs.Prelude.{◌≡◌, ◌≤◌, pos, length, OnOk};
-ghost use Rattle.batch_feeder.specs.Fields.{Opens};
-
-use crate::fields::{Fields, Slots, Step, enter_slowly, hold_next};
-use crate::items::ListPart;
+use crate::fields::{Fields, Slots, Step, enter_slowly};
+use crate::items::{ListPart, enter_list};
 use crate::partial::place;
 use crate::skipped::SkipPart;
 use crate::structs::Struct;
@@ -40,34 +37,6 @@ pub(crate) enum ProcessHeld {
     Service(TextPart),
     Tags(ListPart<Struct<TagParts>>),
     Skip(SkipPart),
-}
-
-impl ProcessParts {
-    ghost use Rattle.batch_codec.specs.ProcessReading.{take_process};
-    ghost use Rattle.batch_feeder.specs.Processes.{process_continues};
-
-    /// Begins the tags over a piece. It stands apart, so that other fields have no place for such a part on their stack.
-    #[tactic(auto, unfolding(batch_codec::specs::ProcessReading::take_process, batch_codec::specs::TagReading::tag_at))]
-    #[inline(never)]
-    fn enter_tags(
-        &mut self,
-        next: &mut Option<Step<ProcessHeld>>,
-        alloc: Global,
-        piece: &mut Piece<'_>,
-    ) -> Decoded<bool>
-        ensures continues { Opens (take_process self.old 15 (pos 2)) (process_continues self.new)
-            self.new next.new piece.old piece.new result }
-        ensures no_longer { OnOk result (length piece.new ≤ length piece.old) }
-    {
-        match ListPart::begin(&mut self.tags, alloc, piece) {
-            Err(error) => Err(error),
-            Ok(None) => Ok(true),
-            Ok(Some(part)) => {
-                hold_next(next, Step::Value(ProcessHeld::Tags(part)));
-                Ok(false)
-            }
-        }
-    }
 }
 
 impl Slots for ProcessParts {
@@ -167,7 +136,7 @@ impl Fields for ProcessParts {
         piece: &mut Piece<'_>,
     ) -> Decoded<bool> {
         match (code, id) {
-            (LIST, 2) => self.enter_tags(next, alloc, piece),
+            (LIST, 2) => enter_list(&mut self.tags, next, ProcessHeld::Tags, alloc, piece),
             _ => enter_slowly(self, next, code, id, alloc, piece),
         }
     }

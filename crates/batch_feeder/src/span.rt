@@ -1,10 +1,5 @@
-ghost use Rattle.std.specs.Prelude.{◌≡◌, ◌≤◌, pos, length, OnOk};
-ghost use Rattle.batch_codec.specs.SpanReading.{take_span};
-ghost use Rattle.batch_feeder.specs.Fields.{Opens};
-ghost use Rattle.batch_feeder.specs.Spans.{span_continues};
-
-use crate::fields::{Fields, Slots, Step, enter_slowly, hold_next};
-use crate::items::ListPart;
+use crate::fields::{Fields, Slots, Step, enter_slowly};
+use crate::items::{ListPart, enter_list};
 use crate::partial::place;
 use crate::skipped::SkipPart;
 use crate::structs::Struct;
@@ -38,79 +33,11 @@ pub(crate) enum SpanHeld {
     Skip(SkipPart),
 }
 
-/// Begins the references over a piece. It stands apart, so that other fields have no place for such a part on their stack.
-#[tactic(auto, unfolding(batch_codec::specs::SpanReading::take_span, batch_codec::specs::ReferenceReading::reference_at))]
-#[inline(never)]
-fn enter_references(
-    slots: &mut SpanSlots,
-    next: &mut Option<Step<SpanHeld>>,
-    alloc: Global,
-    piece: &mut Piece<'_>,
-) -> Decoded<bool>
-    ensures continues { Opens (take_span slots.old 15 (pos 6)) (span_continues slots.new) slots.new
-        next.new piece.old piece.new result }
-    ensures no_longer { OnOk result (length piece.new ≤ length piece.old) }
-{
-    match ListPart::begin(&mut slots.references, alloc, piece) {
-        Err(error) => Err(error),
-        Ok(None) => Ok(true),
-        Ok(Some(part)) => {
-            hold_next(next, Step::Value(SpanHeld::References(part)));
-            Ok(false)
-        }
-    }
-}
-
-/// Begins the tags over a piece. It stands apart, so that other fields have no place for such a part on their stack.
-#[tactic(auto, unfolding(batch_codec::specs::SpanReading::take_span, batch_codec::specs::TagReading::tag_at))]
-#[inline(never)]
-fn enter_tags(
-    slots: &mut SpanSlots,
-    next: &mut Option<Step<SpanHeld>>,
-    alloc: Global,
-    piece: &mut Piece<'_>,
-) -> Decoded<bool>
-    ensures continues { Opens (take_span slots.old 15 (pos 10)) (span_continues slots.new) slots.new
-        next.new piece.old piece.new result }
-    ensures no_longer { OnOk result (length piece.new ≤ length piece.old) }
-{
-    match ListPart::begin(&mut slots.tags, alloc, piece) {
-        Err(error) => Err(error),
-        Ok(None) => Ok(true),
-        Ok(Some(part)) => {
-            hold_next(next, Step::Value(SpanHeld::Tags(part)));
-            Ok(false)
-        }
-    }
-}
-
-/// Begins the logs over a piece. It stands apart, so that other fields have no place for such a part on their stack.
-#[tactic(auto, unfolding(batch_codec::specs::SpanReading::take_span, batch_codec::specs::LogReading::log_at))]
-#[inline(never)]
-fn enter_logs(
-    slots: &mut SpanSlots,
-    next: &mut Option<Step<SpanHeld>>,
-    alloc: Global,
-    piece: &mut Piece<'_>,
-) -> Decoded<bool>
-    ensures continues { Opens (take_span slots.old 15 (pos 11)) (span_continues slots.new) slots.new
-        next.new piece.old piece.new result }
-    ensures no_longer { OnOk result (length piece.new ≤ length piece.old) }
-{
-    match ListPart::begin(&mut slots.logs, alloc, piece) {
-        Err(error) => Err(error),
-        Ok(None) => Ok(true),
-        Ok(Some(part)) => {
-            hold_next(next, Step::Value(SpanHeld::Logs(part)));
-            Ok(false)
-        }
-    }
-}
-
 impl Slots for SpanSlots {
     ghost use Rattle.batch_codec.specs.Gathered.{no_span};
-    ghost use Rattle.batch_codec.specs.SpanReading.{span_from};
+    ghost use Rattle.batch_codec.specs.SpanReading.{take_span, span_from};
     ghost use Rattle.batch_codec.proofs.CutBatches.{take_span_safe};
+    ghost use Rattle.batch_feeder.specs.Spans.{span_continues};
     ghost use Rattle.batch_feeder.specs.NotShort.{span_not_short};
     ghost use Rattle.batch_feeder.specs.ShortFields.{take_span_short};
 
@@ -217,9 +144,15 @@ impl Fields for SpanSlots {
         piece: &mut Piece<'_>,
     ) -> Decoded<bool> {
         match (code, id) {
-            (LIST, 6) => enter_references(self, next, alloc, piece),
-            (LIST, 10) => enter_tags(self, next, alloc, piece),
-            (LIST, 11) => enter_logs(self, next, alloc, piece),
+            (LIST, 6) => enter_list(
+                &mut self.references,
+                next,
+                SpanHeld::References,
+                alloc,
+                piece,
+            ),
+            (LIST, 10) => enter_list(&mut self.tags, next, SpanHeld::Tags, alloc, piece),
+            (LIST, 11) => enter_list(&mut self.logs, next, SpanHeld::Logs, alloc, piece),
             _ => enter_slowly(self, next, code, id, alloc, piece),
         }
     }
