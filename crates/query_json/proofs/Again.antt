@@ -6,13 +6,10 @@ use Rattle.trace_model.specs.declared.answer.Shown.{Shown}
 use Rattle.trace_model.specs.Adjusting.{spans_of}
 use Rattle.trace_model.specs.Sharing.{GoesOn}
 use Rattle.query_json.specs.Naming.{among, place}
+use Rattle.query_json.specs.Placing.{IsLast}
 use Rattle.query_json.specs.Trees.{processes_of}
 use Rattle.query_json.specs.Writing.{process_place}
 use Rattle.query_json.proofs.Distinct.{added_known, among_itself, processes_more}
-
--- the process of the span before the index is known, and this is its place
-abbrev pub IsLast : List Shown → ℕ → ℕ → Type 0
-IsLast spans i last = (d : Placed) → 0 < i → (among (get_or (spans_of spans) (i - 1) d).process (processes_of (take i spans)) ≡ true) × (last ≡ place (get_or (spans_of spans) (i - 1) d).process (processes_of spans))
 
 process_there : (spans : List Shown) (i : ℕ) (s : Shown) → i < length spans → s ≡ get_or spans i s → (d : Placed) → (get_or (spans_of spans) i d).process ≡ s.placed.process
 process_there spans i s within is d = ap (λ (p : Placed). p.process) (get_or-map (λ (x : Shown). x.placed) spans i s d within ∙ ap (λ (x : Shown). x.placed) (sym is))

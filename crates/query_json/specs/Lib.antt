@@ -9,6 +9,7 @@ pub mod Page
 pub mod Paging
 pub mod Parts
 pub mod Pieces
+pub mod Placing
 pub mod Tags
 pub mod Trees
 pub mod Writing

@@ -56,7 +56,7 @@ fn span_json(alloc: Global, process: &str, shown: &Shown) -> Result<Value, Alloc
 fn spans_json(
     alloc: Global,
     names: &[String],
-    places: &[usize],
+    places: &[u32],
     spans: &[Shown],
 ) -> Result<Value, AllocError>
     requires names { map string_bytes names.now ≡ process_names (length (processes_of spans.now)) }
@@ -67,7 +67,7 @@ fn spans_json(
 {
     let mut trees = Vec::new(alloc);
     for (index, shown) in spans.iter().enumerate() {
-        let process = names[places[index]].as_str();
+        let process = names[places[index] as usize].as_str();
         trees.push(span_json(alloc, process, shown)?)?;
     }
     Ok(Value::Array(trees))

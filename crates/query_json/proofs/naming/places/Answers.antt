@@ -1,14 +1,12 @@
-use Rattle.std.proofs.Common.{rules, ◌≡◌, ◌<◌, ◌∙◌, ◌+◌, ◌++◌, ◌∷◌, [], List, ap, sym, subst, drop, get_or, length, map, take}
-use Rattle.std.proofs.lemmas.List.{take-append-drop, take_all, take_more}
+use Rattle.std.proofs.Common.{rules, ◌≡◌, ◌<◌, ◌∙◌, List, ap, subst, get_or, length, map, take}
+use Rattle.std.proofs.lemmas.List.{take_all}
 use Rattle.trace_model.specs.declared.answer.Shown.{Shown}
-use Rattle.query_json.specs.Naming.{place}
-use Rattle.query_json.specs.Numbering.{IsByPlace, numbered}
 use Rattle.query_json.specs.Trees.{processes_of}
 use Rattle.query_json.specs.Writing.{process_place}
-use Rattle.query_json.proofs.Again.{goes_on_known, goes_on_place, last_is, places_more}
-use Rattle.query_json.proofs.Distinct.{place_stays, processes_more}
 use Rattle.query_json.proofs.naming.places.Goals as goal
-use Rattle.query_json.proofs.naming.places.Goals.{then-not-goes_on+in_ok-last, else-not-goes_on}
+
+pub loop-index-init : goal.loop-index-init
+loop-index-init c = c.in_ok-placing.ensures.placed c.args.trace.now
 
 pub loop-index-preserved : goal.loop-index-preserved
 loop-index-preserved c =
@@ -18,37 +16,16 @@ loop-index-preserved c =
     let slice : c.as_slice-shown-items.result.now ≡ spans = c.as_slice-shown-items.ensures in
     let within : i < length spans = subst (λ (l : List Shown). i < length l) slice (search rules) in
     let is : s ≡ get_or spans i s = subst (λ (l : List Shown). s ≡ get_or l i s) slice c.shown-item.is in
-    let front = take i spans in
-    let rest = drop (i + 1) spans in
-    let more : take (i + 1) spans ≡ front ++ s ∷ [] = take_more spans i s within ∙ ap (λ y. front ++ y ∷ []) (sym is) in
-    let whole : (front ++ s ∷ []) ++ rest ≡ spans = ap (λ (l : List Shown). l ++ rest) (sym more) ∙ take-append-drop (i + 1) spans in
-    elim c.if-not-goes_on.branch [
-      | then-not-goes_on+in_ok-last w ↦
-          let added = rw w.get.ensures at w.in_ok-last.ensures.numbered in
-          let placed = rw w.get.ensures at w.in_ok-last.ensures.number in
-          let known : numbered c.if-not-goes_on.numbering ≡ processes_of (front ++ s ∷ []) = ap numbered w.numbering-is ∙ added ∙ sym (processes_more (numbered c.loop-index.numbering) front s c.loop-index.invariant.processes) in
-          let known-there : numbered w.number_of.new.self ≡ processes_of (front ++ s ∷ []) = added ∙ sym (processes_more (numbered c.loop-index.numbering) front s c.loop-index.invariant.processes) in
-          let found : c.if-not-goes_on.last ≡ process_place (processes_of spans) s =
-          w.last-is ∙ placed ∙ ap (place s.placed.process) known-there ∙ sym (place_stays front rest s) ∙ ap (λ (l : List Shown). process_place (processes_of l) s) whole in
-          record {
-            by_place = subst IsByPlace (sym w.numbering-is) w.in_ok-last.ensures.by_place;
-            processes = known ∙ sym (ap processes_of more);
-            places = places_more spans i s front c.loop-index.places.items c.push.new.self.items c.if-not-goes_on.last c.loop-index.invariant.places c.in_ok-push.ensures.items more found;
-            last = last_is spans i s c.if-not-goes_on.last within is more found;
-          }
-      | else-not-goes_on w ↦
-          let goes = c.goes_on.ensures w.if-not-goes_on.false in
-          let found : c.if-not-goes_on.last ≡ process_place (processes_of spans) s = w.last-is ∙ goes_on_place spans i s c.loop-index.last within is goes c.loop-index.invariant.last in
-          record {
-            by_place = subst IsByPlace (sym w.numbering-is) c.loop-index.invariant.by_place;
-            processes = ap numbered w.numbering-is ∙ c.loop-index.invariant.processes ∙ sym (goes_on_known spans i s c.loop-index.last within is goes c.loop-index.invariant.last) ∙ sym (ap processes_of more);
-            places = places_more spans i s front c.loop-index.places.items c.push.new.self.items c.if-not-goes_on.last c.loop-index.invariant.places c.in_ok-push.ensures.items more found;
-            last = last_is spans i s c.if-not-goes_on.last within is more found;
-          }
-    ]
+    c.in_ok-add.ensures.placed spans i s c.get.ensures (within, is, c.goes_on.ensures) c.loop-index.invariant
 
 pub returns-clause-places : goal.returns-clause-places
 returns-clause-places c =
     let spans = c.args.trace.now in
     let all : take c.loop-index.index spans ≡ spans = search (rules, take_all) in
-    c.loop-index.invariant.places ∙ ap (map (process_place (processes_of spans))) all
+    c.into_parts.ensures.places ∙ c.loop-index.invariant.places ∙ ap (map (process_place (processes_of spans))) all
+
+pub returns-clause-processes : goal.returns-clause-processes
+returns-clause-processes c =
+    let spans = c.args.trace.now in
+    let all : take c.loop-index.index spans ≡ spans = search (rules, take_all) in
+    c.into_parts.ensures.processes ∙ c.loop-index.invariant.processes ∙ ap processes_of all

@@ -1,14 +1,5 @@
-use Rattle.std.proofs.Common.{◌≡◌, map, take}
-use Rattle.query_json.specs.Numbering.{IsByPlace, numbered}
-use Rattle.query_json.specs.Trees.{processes_of}
-use Rattle.query_json.specs.Writing.{process_place}
-use Rattle.query_json.proofs.Again.{IsLast}
+use Rattle.query_json.specs.Placing.{HasPlaces}
 use Rattle.query_json.proofs.naming.places.Given as goal
 
 abbrev pub invariant-loop-index : goal.invariant-loop-index
-invariant-loop-index l = record {
-  by_place : IsByPlace l.numbering;
-  processes : numbered l.numbering ≡ processes_of (take l.index l.trace);
-  places : l.places.items ≡ map (process_place (processes_of l.trace)) (take l.index l.trace);
-  last : IsLast l.trace l.index l.last;
-}
+invariant-loop-index l = HasPlaces l.trace l.index l.placing
