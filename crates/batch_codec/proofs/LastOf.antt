@@ -1,9 +1,10 @@
 -- Of several fields with one id and the declared type the last counts.
-use Rattle.std.proofs.Common.{◌≡◌, ℕ, ℤ, pos, Bool, true, false, eqb, ◌&&◌, ◌||◌, List, [], ◌∷◌, Option, Some, None, refl, subst, ◌∙◌}
+use Rattle.std.proofs.Common.{◌≡◌, ℕ, ℤ, pos, Bool, true, false, eqb, ◌&&◌, ◌||◌, List, [], ◌∷◌, ◌++◌, Option, Some, None, Ok, refl, subst, ◌∙◌}
 use Rattle.std.specs.Prelude.{MatchBool}
 use Rattle.std.specs.Ordering.{int_eq}
 use Rattle.std.proofs.lemmas.Bool.{eqb-true}
 use Rattle.std.proofs.lemmas.Bool.Decides.{Decides-int_eq}
+use Rattle.thrift_binary.specs.Fields.{Take}
 use Rattle.thrift_binary.specs.Spelling.{Field, IsLast, IsString, IsBool, IsDouble, IsI32, IsI64, IsValue, has}
 use Rattle.thrift_binary.proofs.Found.{path_last}
 use Rattle.jaeger_model.specs.declared.tag.Tag.{Tag}
@@ -21,8 +22,11 @@ use Rattle.batch_codec.specs.declared.process.ProcessSlots.{ProcessSlots}
 use Rattle.batch_codec.specs.declared.span.SpanSlots.{SpanSlots}
 use Rattle.batch_codec.specs.declared.batch.BatchSlots.{BatchSlots}
 use Rattle.batch_codec.specs.Gathered.{no_tag, no_log, no_reference, no_process, no_span, no_batch, value_named}
-use Rattle.batch_codec.specs.Batches.{Gathers, IsText, IsId, IsTagType, IsRefKind, IsStructList, TagField, LogField, ReferenceField, ProcessField, SpanField, BatchField, whole_log, whole_reference, whole_process, whole_span, whole_batch, IsTag, IsLog, IsReference, IsProcess, IsSpan, IsBatch}
-use Rattle.batch_codec.specs.LastCounts.{is_known, OthersAreValues, LastCounts, known_of_tag, known_of_log, known_of_reference, known_of_process, known_of_span, known_of_batch, LastOfTag, LastOfLog, LastOfReference, LastOfProcess, LastOfSpan, LastOfBatch, TagLast, LogLast, ReferenceLast, ProcessLast, SpanLast, BatchLast}
+use Rattle.batch_codec.specs.declared.fault.DecodeError.{DecodeError}
+use Rattle.batch_codec.specs.Decoding.{Reading}
+use Rattle.batch_codec.specs.Batches.{Gathers, IsStruct, MakesTag, IsText, IsId, IsTagType, IsRefKind, IsStructList, TagField, LogField, ReferenceField, ProcessField, SpanField, BatchField, whole_log, whole_reference, whole_process, whole_span, whole_batch, IsTag, IsLog, IsReference, IsProcess, IsSpan, IsBatch}
+use Rattle.batch_codec.specs.LastCounts.{is_known, OthersAreValues, LastCounts, IsByLast, known_of_tag, known_of_log, known_of_reference, known_of_process, known_of_span, known_of_batch, LastOfTag, LastOfLog, LastOfReference, LastOfProcess, LastOfSpan, LastOfBatch, TagLast, LogLast, ReferenceLast, ProcessLast, SpanLast, BatchLast}
+use Rattle.batch_codec.proofs.ValuesSpelled.{Agrees}
 use Rattle.batch_codec.proofs.Structs.{path_gathers}
 use Rattle.batch_codec.proofs.OneDivision.{the_same, one_division, one_value}
 use Rattle.batch_codec.proofs.TagSpelled.{is_tag, tag_field_again}
@@ -92,6 +96,47 @@ gathers_back : {S : Type 0} (Does : S → Field → S → Type 0) (known : List 
 gathers_back Does known Lasts none step [] s t l o = none s t l
 gathers_back Does known Lasts none step (f ∷ fs) s t l o = let m = step s t f.code f.id f.text fs l o.0 in (m.0, m.1, gathers_back Does known Lasts none step fs m.0 t m.2 o.1)
 
+-- ---- a struct: what its last fields leave is what it has
+
+module _ {S X : Type 0} {read : Reading X} (take : Take S DecodeError) (Does : S → Field → S → Type 0) (none : S) (Makes : S → X → Type 0) (known : List (ℕ × ℤ)) (LastOf : List Field → X → Type 0) (Lasts : S → List Field → S → Type 0) where
+  pub by_last : Agrees read (IsStruct Does none Makes)
+      → ((s : S) (f : Field) (t : S) (r : List ℕ) → Does s f t → take s f.code f.id (f.text ++ r) ≡ Ok (t, r))
+      → ((s : S) (f : Field) (t : S) → Does s f t → is_known known f ≡ false → IsValue 64 f.code f.text)
+      → ((s t : S) → Lasts s [] t → t ≡ s)
+      → ((s t : S) (c : ℕ) (i : ℤ) (v : List ℕ) (fs : List Field) → Lasts s (field c i v ∷ fs) t → (is_known known (field c i v) ≡ false → IsValue 64 c v) → (u : S) × Does s (field c i v) u × Lasts u fs t)
+      → ((fs : List Field) (s : S) (x : X) → Gathers Does none fs s → Makes s x → LastOf fs x)
+      → (whole : (fs : List Field) (x : X) → LastOf fs x → S)
+      → ((fs : List Field) (x : X) (l : LastOf fs x) → Lasts none fs (whole fs x l))
+      → ((fs : List Field) (x : X) (l : LastOf fs x) → Makes (whole fs x l) x)
+      → IsByLast (IsStruct Does none Makes) known LastOf
+  by_last agrees again other nothing step leaves whole lasts makes = record { same = λ w x. (forth w x, back w x); one = one }
+    where
+      forth : (w : List ℕ) (x : X) → IsStruct Does none Makes w x → LastCounts known LastOf w x
+      forth w x is = record {
+        fields = is.fields;
+        spelled = is.spelled;
+        last = leaves is.fields is.gathered x is.gathers is.makes;
+        others = others_of Does known other is.fields none is.gathered is.gathers;
+      }
+
+      gathers : (w : List ℕ) (x : X) (a : LastCounts known LastOf w x) → Gathers Does none a.fields (whole a.fields x a.last)
+      gathers w x a = gathers_back Does known Lasts nothing step a.fields none _ (lasts a.fields x a.last) a.others
+
+      back : (w : List ℕ) (x : X) → LastCounts known LastOf w x → IsStruct Does none Makes w x
+      back w x a = record {
+        fields = a.fields;
+        spelled = a.spelled;
+        gathered = whole a.fields x a.last;
+        gathers = gathers w x a;
+        makes = makes a.fields x a.last;
+      }
+
+      one : (w : List ℕ) (x y : X) (a : LastCounts known LastOf w x) (b : LastCounts known LastOf w y) → (a.fields ≡ b.fields) × (x ≡ y)
+      one w x y a b = (
+        one_division take Does again a.fields b.fields w none _ _ a.spelled b.spelled (gathers w x a) (gathers w y b),
+        one_value agrees w x y (back w x a) (back w y b),
+      )
+
 -- ---- Tag
 
 abbrev TagKeeps : TagSlots → Field → TagSlots → Type 0
@@ -156,24 +201,18 @@ tag_step s t c i v fs =
     decide c 11 i (pos 7) (λ p q. rw (p, q) (λ l o. (record s { binary = l.6.0 }, (l.6.0, l.6.1, refl), (l.0, l.1, l.2, l.3, l.4, l.5, l.6.2)))) (λ h7.
     rw (h1, h2, h3, h4, h5, h6, h7) (λ l o. (s, (o refl, refl), l)))))))))
 
-tag_leaves : (w : List ℕ) (x : Tag) → (is : IsTag w x) → LastCounts known_of_tag LastOfTag w x
-unfolding IsTag
-tag_leaves w x is = record {
-  fields = is.fields;
-  spelled = is.spelled;
-  last = record {
-    kind = is.makes.kind;
-    left = is.gathered;
-    value = is.makes.value;
-    key_last = subst (λ o. IsLast 11 (pos 1) IsText None is.fields o) is.makes.key (slot_last TagField no_tag is.fields is.gathered is.gathered is.gathers refl (λ u. u.key) 11 (pos 1) IsText (λ s f t m. (tag_keeps s f t m).0));
-    kind_last = subst (λ o. IsLast 8 (pos 2) IsTagType None is.fields o) is.makes.named (slot_last TagField no_tag is.fields is.gathered is.gathered is.gathers refl (λ u. u.kind) 8 (pos 2) IsTagType (λ s f t m. (tag_keeps s f t m).1));
-    text_last = slot_last TagField no_tag is.fields is.gathered is.gathered is.gathers refl (λ u. Some u.text) 11 (pos 3) IsText (λ s f t m. (tag_keeps s f t m).2);
-    double_last = slot_last TagField no_tag is.fields is.gathered is.gathered is.gathers refl (λ u. Some u.double) 4 (pos 4) IsDouble (λ s f t m. (tag_keeps s f t m).3);
-    bool_last = slot_last TagField no_tag is.fields is.gathered is.gathered is.gathers refl (λ u. Some u.boolean) 2 (pos 5) IsBool (λ s f t m. (tag_keeps s f t m).4);
-    long_last = slot_last TagField no_tag is.fields is.gathered is.gathered is.gathers refl (λ u. Some u.long) 10 (pos 6) IsI64 (λ s f t m. (tag_keeps s f t m).5);
-    binary_last = slot_last TagField no_tag is.fields is.gathered is.gathered is.gathers refl (λ u. Some u.binary) 11 (pos 7) IsString (λ s f t m. (tag_keeps s f t m).6);
-  };
-  others = others_of TagField known_of_tag tag_other is.fields no_tag is.gathered is.gathers;
+tag_leaves : (fs : List Field) (s : TagSlots) (x : Tag) → Gathers TagField no_tag fs s → MakesTag s x → LastOfTag fs x
+tag_leaves fs s x gathers makes = record {
+  kind = makes.kind;
+  left = s;
+  value = makes.value;
+  key_last = subst (λ o. IsLast 11 (pos 1) IsText None fs o) makes.key (slot_last TagField no_tag fs s s gathers refl (λ u. u.key) 11 (pos 1) IsText (λ u f t m. (tag_keeps u f t m).0));
+  kind_last = subst (λ o. IsLast 8 (pos 2) IsTagType None fs o) makes.named (slot_last TagField no_tag fs s s gathers refl (λ u. u.kind) 8 (pos 2) IsTagType (λ u f t m. (tag_keeps u f t m).1));
+  text_last = slot_last TagField no_tag fs s s gathers refl (λ u. Some u.text) 11 (pos 3) IsText (λ u f t m. (tag_keeps u f t m).2);
+  double_last = slot_last TagField no_tag fs s s gathers refl (λ u. Some u.double) 4 (pos 4) IsDouble (λ u f t m. (tag_keeps u f t m).3);
+  bool_last = slot_last TagField no_tag fs s s gathers refl (λ u. Some u.boolean) 2 (pos 5) IsBool (λ u f t m. (tag_keeps u f t m).4);
+  long_last = slot_last TagField no_tag fs s s gathers refl (λ u. Some u.long) 10 (pos 6) IsI64 (λ u f t m. (tag_keeps u f t m).5);
+  binary_last = slot_last TagField no_tag fs s s gathers refl (λ u. Some u.binary) 11 (pos 7) IsString (λ u f t m. (tag_keeps u f t m).6);
 }
 
 -- the key and the type, whatever else is left
@@ -188,30 +227,12 @@ same_value key types.Bool kind s = refl
 same_value key types.Long kind s = refl
 same_value key types.Binary kind s = refl
 
-tag_gathers : (w : List ℕ) (x : Tag) (a : LastCounts known_of_tag LastOfTag w x) → Gathers TagField no_tag a.fields (with_key x.key a.last.kind a.last.left)
-unfolding with_key
-tag_gathers w x a = gathers_back TagField known_of_tag TagLasts tag_none tag_step a.fields no_tag (with_key x.key a.last.kind a.last.left) (a.last.key_last, a.last.kind_last, a.last.text_last, a.last.double_last, a.last.bool_last, a.last.long_last, a.last.binary_last) a.others
-
-tag_back : (w : List ℕ) (x : Tag) → LastCounts known_of_tag LastOfTag w x → IsTag w x
-unfolding IsTag with_key
-tag_back w x a =
-    let t = with_key x.key a.last.kind a.last.left in
-    record {
-      fields = a.fields;
-      spelled = a.spelled;
-      gathered = t;
-      gathers = tag_gathers w x a;
-      makes = record { key = refl; kind = a.last.kind; named = refl; value = a.last.value ∙ same_value x.key a.last.kind a.last.kind a.last.left };
-    }
-
-tag_one : (w : List ℕ) (x y : Tag) (a : LastCounts known_of_tag LastOfTag w x) (b : LastCounts known_of_tag LastOfTag w y) → (a.fields ≡ b.fields) × (x ≡ y)
-tag_one w x y a b = (
-  one_division take_tag TagField tag_field_again a.fields b.fields w no_tag _ _ a.spelled b.spelled (tag_gathers w x a) (tag_gathers w y b),
-  one_value is_tag w x y (tag_back w x a) (tag_back w y b),
-)
-
 pub tag_last : TagLast
-tag_last = record { same = λ w x. (tag_leaves w x, tag_back w x); one = tag_one }
+unfolding IsTag with_key
+tag_last = by_last take_tag TagField no_tag MakesTag known_of_tag LastOfTag TagLasts is_tag tag_field_again tag_other tag_none tag_step tag_leaves
+    (λ fs x l. with_key x.key l.kind l.left)
+    (λ fs x l. (l.key_last, l.kind_last, l.text_last, l.double_last, l.bool_last, l.long_last, l.binary_last))
+    (λ fs x l. record { key = refl; kind = l.kind; named = refl; value = l.value ∙ same_value x.key l.kind l.kind l.left })
 
 -- ---- Log
 
@@ -252,39 +273,18 @@ log_step s t c i v fs =
     decide c 15 i (pos 2) (λ p q. rw (p, q) (λ l o. (record s { fields = Some l.1.0 }, (l.1.0, l.1.1, refl), (l.0, l.1.2)))) (λ h2.
     rw (h1, h2) (λ l o. (s, (o refl, refl), l))))
 
-log_leaves : (w : List ℕ) (x : Log) → (is : IsLog w x) → LastCounts known_of_log LastOfLog w x
-unfolding IsLog
-log_leaves w x is = record {
-  fields = is.fields;
-  spelled = is.spelled;
-  last = record {
-    at = slot_last LogField no_log is.fields is.gathered (whole_log x) is.gathers is.makes (λ u. u.at) 10 (pos 1) IsI64 (λ s f t m. (log_keeps s f t m).0);
-    fields = slot_last LogField no_log is.fields is.gathered (whole_log x) is.gathers is.makes (λ u. u.fields) 15 (pos 2) (IsStructList IsTag) (λ s f t m. (log_keeps s f t m).1);
-  };
-  others = others_of LogField known_of_log log_other is.fields no_log is.gathered is.gathers;
+log_leaves : (fs : List Field) (s : LogSlots) (x : Log) → Gathers LogField no_log fs s → s ≡ whole_log x → LastOfLog fs x
+log_leaves fs s x gathers makes = record {
+  at = slot_last LogField no_log fs s (whole_log x) gathers makes (λ u. u.at) 10 (pos 1) IsI64 (λ u f t m. (log_keeps u f t m).0);
+  fields = slot_last LogField no_log fs s (whole_log x) gathers makes (λ u. u.fields) 15 (pos 2) (IsStructList IsTag) (λ u f t m. (log_keeps u f t m).1);
 }
-
-log_gathers : (w : List ℕ) (x : Log) (a : LastCounts known_of_log LastOfLog w x) → Gathers LogField no_log a.fields (whole_log x)
-log_gathers w x a = gathers_back LogField known_of_log LogLasts log_none log_step a.fields no_log (whole_log x) (a.last.at, a.last.fields) a.others
-
-log_back : (w : List ℕ) (x : Log) → LastCounts known_of_log LastOfLog w x → IsLog w x
-unfolding IsLog
-log_back w x a = record {
-  fields = a.fields;
-  spelled = a.spelled;
-  gathered = whole_log x;
-  gathers = log_gathers w x a;
-  makes = refl;
-}
-
-log_one : (w : List ℕ) (x y : Log) (a : LastCounts known_of_log LastOfLog w x) (b : LastCounts known_of_log LastOfLog w y) → (a.fields ≡ b.fields) × (x ≡ y)
-log_one w x y a b = (
-  one_division take_log LogField log_field_again a.fields b.fields w no_log _ _ a.spelled b.spelled (log_gathers w x a) (log_gathers w y b),
-  one_value is_log w x y (log_back w x a) (log_back w y b),
-)
 
 pub log_last : LogLast
-log_last = record { same = λ w x. (log_leaves w x, log_back w x); one = log_one }
+unfolding IsLog
+log_last = by_last take_log LogField no_log (λ s y. s ≡ whole_log y) known_of_log LastOfLog LogLasts is_log log_field_again log_other log_none log_step log_leaves
+    (λ fs x l. whole_log x)
+    (λ fs x l. (l.at, l.fields))
+    (λ fs x l. refl)
 
 -- ---- SpanRef
 
@@ -335,41 +335,20 @@ reference_step s t c i v fs =
     decide c 10 i (pos 4) (λ p q. rw (p, q) (λ l o. (record s { id = Some l.3.0 }, (l.3.0, l.3.1, refl), (l.0, l.1, l.2, l.3.2)))) (λ h4.
     rw (h1, h2, h3, h4) (λ l o. (s, (o refl, refl), l))))))
 
-reference_leaves : (w : List ℕ) (x : SpanRef) → (is : IsReference w x) → LastCounts known_of_reference LastOfReference w x
-unfolding IsReference
-reference_leaves w x is = record {
-  fields = is.fields;
-  spelled = is.spelled;
-  last = record {
-    kind = slot_last ReferenceField no_reference is.fields is.gathered (whole_reference x) is.gathers is.makes (λ u. u.kind) 8 (pos 1) IsRefKind (λ s f t m. (reference_keeps s f t m).0);
-    low = slot_last ReferenceField no_reference is.fields is.gathered (whole_reference x) is.gathers is.makes (λ u. u.trace_low) 10 (pos 2) IsId (λ s f t m. (reference_keeps s f t m).1);
-    high = slot_last ReferenceField no_reference is.fields is.gathered (whole_reference x) is.gathers is.makes (λ u. u.trace_high) 10 (pos 3) IsId (λ s f t m. (reference_keeps s f t m).2);
-    id = slot_last ReferenceField no_reference is.fields is.gathered (whole_reference x) is.gathers is.makes (λ u. u.id) 10 (pos 4) IsId (λ s f t m. (reference_keeps s f t m).3);
-  };
-  others = others_of ReferenceField known_of_reference reference_other is.fields no_reference is.gathered is.gathers;
+reference_leaves : (fs : List Field) (s : ReferenceSlots) (x : SpanRef) → Gathers ReferenceField no_reference fs s → s ≡ whole_reference x → LastOfReference fs x
+reference_leaves fs s x gathers makes = record {
+  kind = slot_last ReferenceField no_reference fs s (whole_reference x) gathers makes (λ u. u.kind) 8 (pos 1) IsRefKind (λ u f t m. (reference_keeps u f t m).0);
+  low = slot_last ReferenceField no_reference fs s (whole_reference x) gathers makes (λ u. u.trace_low) 10 (pos 2) IsId (λ u f t m. (reference_keeps u f t m).1);
+  high = slot_last ReferenceField no_reference fs s (whole_reference x) gathers makes (λ u. u.trace_high) 10 (pos 3) IsId (λ u f t m. (reference_keeps u f t m).2);
+  id = slot_last ReferenceField no_reference fs s (whole_reference x) gathers makes (λ u. u.id) 10 (pos 4) IsId (λ u f t m. (reference_keeps u f t m).3);
 }
-
-reference_gathers : (w : List ℕ) (x : SpanRef) (a : LastCounts known_of_reference LastOfReference w x) → Gathers ReferenceField no_reference a.fields (whole_reference x)
-reference_gathers w x a = gathers_back ReferenceField known_of_reference ReferenceLasts reference_none reference_step a.fields no_reference (whole_reference x) (a.last.kind, a.last.low, a.last.high, a.last.id) a.others
-
-reference_back : (w : List ℕ) (x : SpanRef) → LastCounts known_of_reference LastOfReference w x → IsReference w x
-unfolding IsReference
-reference_back w x a = record {
-  fields = a.fields;
-  spelled = a.spelled;
-  gathered = whole_reference x;
-  gathers = reference_gathers w x a;
-  makes = refl;
-}
-
-reference_one : (w : List ℕ) (x y : SpanRef) (a : LastCounts known_of_reference LastOfReference w x) (b : LastCounts known_of_reference LastOfReference w y) → (a.fields ≡ b.fields) × (x ≡ y)
-reference_one w x y a b = (
-  one_division take_reference ReferenceField reference_field_again a.fields b.fields w no_reference _ _ a.spelled b.spelled (reference_gathers w x a) (reference_gathers w y b),
-  one_value is_reference w x y (reference_back w x a) (reference_back w y b),
-)
 
 pub reference_last : ReferenceLast
-reference_last = record { same = λ w x. (reference_leaves w x, reference_back w x); one = reference_one }
+unfolding IsReference
+reference_last = by_last take_reference ReferenceField no_reference (λ s y. s ≡ whole_reference y) known_of_reference LastOfReference ReferenceLasts is_reference reference_field_again reference_other reference_none reference_step reference_leaves
+    (λ fs x l. whole_reference x)
+    (λ fs x l. (l.kind, l.low, l.high, l.id))
+    (λ fs x l. refl)
 
 -- ---- Process
 
@@ -410,39 +389,18 @@ process_step s t c i v fs =
     decide c 15 i (pos 2) (λ p q. rw (p, q) (λ l o. (record s { tags = l.1.0 }, (l.1.0, l.1.1, refl), (l.0, l.1.2)))) (λ h2.
     rw (h1, h2) (λ l o. (s, (o refl, refl), l))))
 
-process_leaves : (w : List ℕ) (x : Process) → (is : IsProcess w x) → LastCounts known_of_process LastOfProcess w x
-unfolding IsProcess
-process_leaves w x is = record {
-  fields = is.fields;
-  spelled = is.spelled;
-  last = record {
-    service = slot_last ProcessField no_process is.fields is.gathered (whole_process x) is.gathers is.makes (λ u. u.service) 11 (pos 1) IsText (λ s f t m. (process_keeps s f t m).0);
-    tags = slot_last ProcessField no_process is.fields is.gathered (whole_process x) is.gathers is.makes (λ u. Some u.tags) 15 (pos 2) (IsStructList IsTag) (λ s f t m. (process_keeps s f t m).1);
-  };
-  others = others_of ProcessField known_of_process process_other is.fields no_process is.gathered is.gathers;
+process_leaves : (fs : List Field) (s : ProcessSlots) (x : Process) → Gathers ProcessField no_process fs s → s ≡ whole_process x → LastOfProcess fs x
+process_leaves fs s x gathers makes = record {
+  service = slot_last ProcessField no_process fs s (whole_process x) gathers makes (λ u. u.service) 11 (pos 1) IsText (λ u f t m. (process_keeps u f t m).0);
+  tags = slot_last ProcessField no_process fs s (whole_process x) gathers makes (λ u. Some u.tags) 15 (pos 2) (IsStructList IsTag) (λ u f t m. (process_keeps u f t m).1);
 }
-
-process_gathers : (w : List ℕ) (x : Process) (a : LastCounts known_of_process LastOfProcess w x) → Gathers ProcessField no_process a.fields (whole_process x)
-process_gathers w x a = gathers_back ProcessField known_of_process ProcessLasts process_none process_step a.fields no_process (whole_process x) (a.last.service, a.last.tags) a.others
-
-process_back : (w : List ℕ) (x : Process) → LastCounts known_of_process LastOfProcess w x → IsProcess w x
-unfolding IsProcess
-process_back w x a = record {
-  fields = a.fields;
-  spelled = a.spelled;
-  gathered = whole_process x;
-  gathers = process_gathers w x a;
-  makes = refl;
-}
-
-process_one : (w : List ℕ) (x y : Process) (a : LastCounts known_of_process LastOfProcess w x) (b : LastCounts known_of_process LastOfProcess w y) → (a.fields ≡ b.fields) × (x ≡ y)
-process_one w x y a b = (
-  one_division take_process ProcessField process_field_again a.fields b.fields w no_process _ _ a.spelled b.spelled (process_gathers w x a) (process_gathers w y b),
-  one_value is_process w x y (process_back w x a) (process_back w y b),
-)
 
 pub process_last : ProcessLast
-process_last = record { same = λ w x. (process_leaves w x, process_back w x); one = process_one }
+unfolding IsProcess
+process_last = by_last take_process ProcessField no_process (λ s y. s ≡ whole_process y) known_of_process LastOfProcess ProcessLasts is_process process_field_again process_other process_none process_step process_leaves
+    (λ fs x l. whole_process x)
+    (λ fs x l. (l.service, l.tags))
+    (λ fs x l. refl)
 
 -- ---- Span
 
@@ -528,48 +486,27 @@ span_step s t c i v fs =
     decide c 15 i (pos 11) (λ p q. rw (p, q) (λ l o. (record s { logs = l.10.0 }, (l.10.0, l.10.1, refl), (l.0, l.1, l.2, l.3, l.4, l.5, l.6, l.7, l.8, l.9, l.10.2)))) (λ h11.
     rw (h1, h2, h3, h4, h5, h6, h7, h8, h9, h10, h11) (λ l o. (s, (o refl, refl), l)))))))))))))
 
-span_leaves : (w : List ℕ) (x : Span) → (is : IsSpan w x) → LastCounts known_of_span LastOfSpan w x
-unfolding IsSpan
-span_leaves w x is = record {
-  fields = is.fields;
-  spelled = is.spelled;
-  last = record {
-    low = slot_last SpanField no_span is.fields is.gathered (whole_span x) is.gathers is.makes (λ u. u.trace_low) 10 (pos 1) IsId (λ s f t m. (span_keeps s f t m).0);
-    high = slot_last SpanField no_span is.fields is.gathered (whole_span x) is.gathers is.makes (λ u. u.trace_high) 10 (pos 2) IsId (λ s f t m. (span_keeps s f t m).1);
-    id = slot_last SpanField no_span is.fields is.gathered (whole_span x) is.gathers is.makes (λ u. u.id) 10 (pos 3) IsId (λ s f t m. (span_keeps s f t m).2);
-    parent = slot_last SpanField no_span is.fields is.gathered (whole_span x) is.gathers is.makes (λ u. u.parent) 10 (pos 4) IsId (λ s f t m. (span_keeps s f t m).3);
-    operation = slot_last SpanField no_span is.fields is.gathered (whole_span x) is.gathers is.makes (λ u. u.operation) 11 (pos 5) IsText (λ s f t m. (span_keeps s f t m).4);
-    references = slot_last SpanField no_span is.fields is.gathered (whole_span x) is.gathers is.makes (λ u. Some u.references) 15 (pos 6) (IsStructList IsReference) (λ s f t m. (span_keeps s f t m).5);
-    flags = slot_last SpanField no_span is.fields is.gathered (whole_span x) is.gathers is.makes (λ u. u.flags) 8 (pos 7) IsI32 (λ s f t m. (span_keeps s f t m).6);
-    start = slot_last SpanField no_span is.fields is.gathered (whole_span x) is.gathers is.makes (λ u. u.start) 10 (pos 8) IsI64 (λ s f t m. (span_keeps s f t m).7);
-    duration = slot_last SpanField no_span is.fields is.gathered (whole_span x) is.gathers is.makes (λ u. u.duration) 10 (pos 9) IsI64 (λ s f t m. (span_keeps s f t m).8);
-    tags = slot_last SpanField no_span is.fields is.gathered (whole_span x) is.gathers is.makes (λ u. Some u.tags) 15 (pos 10) (IsStructList IsTag) (λ s f t m. (span_keeps s f t m).9);
-    logs = slot_last SpanField no_span is.fields is.gathered (whole_span x) is.gathers is.makes (λ u. Some u.logs) 15 (pos 11) (IsStructList IsLog) (λ s f t m. (span_keeps s f t m).10);
-  };
-  others = others_of SpanField known_of_span span_other is.fields no_span is.gathered is.gathers;
+span_leaves : (fs : List Field) (s : SpanSlots) (x : Span) → Gathers SpanField no_span fs s → s ≡ whole_span x → LastOfSpan fs x
+span_leaves fs s x gathers makes = record {
+  low = slot_last SpanField no_span fs s (whole_span x) gathers makes (λ u. u.trace_low) 10 (pos 1) IsId (λ u f t m. (span_keeps u f t m).0);
+  high = slot_last SpanField no_span fs s (whole_span x) gathers makes (λ u. u.trace_high) 10 (pos 2) IsId (λ u f t m. (span_keeps u f t m).1);
+  id = slot_last SpanField no_span fs s (whole_span x) gathers makes (λ u. u.id) 10 (pos 3) IsId (λ u f t m. (span_keeps u f t m).2);
+  parent = slot_last SpanField no_span fs s (whole_span x) gathers makes (λ u. u.parent) 10 (pos 4) IsId (λ u f t m. (span_keeps u f t m).3);
+  operation = slot_last SpanField no_span fs s (whole_span x) gathers makes (λ u. u.operation) 11 (pos 5) IsText (λ u f t m. (span_keeps u f t m).4);
+  references = slot_last SpanField no_span fs s (whole_span x) gathers makes (λ u. Some u.references) 15 (pos 6) (IsStructList IsReference) (λ u f t m. (span_keeps u f t m).5);
+  flags = slot_last SpanField no_span fs s (whole_span x) gathers makes (λ u. u.flags) 8 (pos 7) IsI32 (λ u f t m. (span_keeps u f t m).6);
+  start = slot_last SpanField no_span fs s (whole_span x) gathers makes (λ u. u.start) 10 (pos 8) IsI64 (λ u f t m. (span_keeps u f t m).7);
+  duration = slot_last SpanField no_span fs s (whole_span x) gathers makes (λ u. u.duration) 10 (pos 9) IsI64 (λ u f t m. (span_keeps u f t m).8);
+  tags = slot_last SpanField no_span fs s (whole_span x) gathers makes (λ u. Some u.tags) 15 (pos 10) (IsStructList IsTag) (λ u f t m. (span_keeps u f t m).9);
+  logs = slot_last SpanField no_span fs s (whole_span x) gathers makes (λ u. Some u.logs) 15 (pos 11) (IsStructList IsLog) (λ u f t m. (span_keeps u f t m).10);
 }
-
-span_gathers : (w : List ℕ) (x : Span) (a : LastCounts known_of_span LastOfSpan w x) → Gathers SpanField no_span a.fields (whole_span x)
-span_gathers w x a = gathers_back SpanField known_of_span SpanLasts span_none span_step a.fields no_span (whole_span x) (a.last.low, a.last.high, a.last.id, a.last.parent, a.last.operation, a.last.references, a.last.flags, a.last.start, a.last.duration, a.last.tags, a.last.logs) a.others
-
-span_back : (w : List ℕ) (x : Span) → LastCounts known_of_span LastOfSpan w x → IsSpan w x
-unfolding IsSpan
-span_back w x a = record {
-  fields = a.fields;
-  spelled = a.spelled;
-  gathered = whole_span x;
-  gathers = span_gathers w x a;
-  makes = refl;
-}
-
-span_one : (w : List ℕ) (x y : Span) (a : LastCounts known_of_span LastOfSpan w x) (b : LastCounts known_of_span LastOfSpan w y) → (a.fields ≡ b.fields) × (x ≡ y)
-span_one w x y a b = (
-  one_division take_span SpanField span_field_again a.fields b.fields w no_span _ _ a.spelled b.spelled (span_gathers w x a) (span_gathers w y b),
-  one_value is_span w x y (span_back w x a) (span_back w y b),
-)
 
 pub span_last : SpanLast
-span_last = record { same = λ w x. (span_leaves w x, span_back w x); one = span_one }
+unfolding IsSpan
+span_last = by_last take_span SpanField no_span (λ s y. s ≡ whole_span y) known_of_span LastOfSpan SpanLasts is_span span_field_again span_other span_none span_step span_leaves
+    (λ fs x l. whole_span x)
+    (λ fs x l. (l.low, l.high, l.id, l.parent, l.operation, l.references, l.flags, l.start, l.duration, l.tags, l.logs))
+    (λ fs x l. refl)
 
 -- ---- Batch
 
@@ -615,37 +552,16 @@ batch_step s t c i v fs =
     decide c 10 i (pos 3) (λ p q. rw (p, q) (λ l o. (record s { seq_no = Some l.2.0 }, (l.2.0, l.2.1, refl), (l.0, l.1, l.2.2)))) (λ h3.
     rw (h1, h2, h3) (λ l o. (s, (o refl, refl), l)))))
 
-batch_leaves : (w : List ℕ) (x : Batch) → (is : IsBatch w x) → LastCounts known_of_batch LastOfBatch w x
-unfolding IsBatch
-batch_leaves w x is = record {
-  fields = is.fields;
-  spelled = is.spelled;
-  last = record {
-    process = slot_last BatchField no_batch is.fields is.gathered (whole_batch x) is.gathers is.makes (λ u. u.process) 12 (pos 1) IsProcess (λ s f t m. (batch_keeps s f t m).0);
-    spans = slot_last BatchField no_batch is.fields is.gathered (whole_batch x) is.gathers is.makes (λ u. u.spans) 15 (pos 2) (IsStructList IsSpan) (λ s f t m. (batch_keeps s f t m).1);
-    seq_no = slot_last BatchField no_batch is.fields is.gathered (whole_batch x) is.gathers is.makes (λ u. u.seq_no) 10 (pos 3) IsI64 (λ s f t m. (batch_keeps s f t m).2);
-  };
-  others = others_of BatchField known_of_batch batch_other is.fields no_batch is.gathered is.gathers;
+batch_leaves : (fs : List Field) (s : BatchSlots) (x : Batch) → Gathers BatchField no_batch fs s → s ≡ whole_batch x → LastOfBatch fs x
+batch_leaves fs s x gathers makes = record {
+  process = slot_last BatchField no_batch fs s (whole_batch x) gathers makes (λ u. u.process) 12 (pos 1) IsProcess (λ u f t m. (batch_keeps u f t m).0);
+  spans = slot_last BatchField no_batch fs s (whole_batch x) gathers makes (λ u. u.spans) 15 (pos 2) (IsStructList IsSpan) (λ u f t m. (batch_keeps u f t m).1);
+  seq_no = slot_last BatchField no_batch fs s (whole_batch x) gathers makes (λ u. u.seq_no) 10 (pos 3) IsI64 (λ u f t m. (batch_keeps u f t m).2);
 }
-
-batch_gathers : (w : List ℕ) (x : Batch) (a : LastCounts known_of_batch LastOfBatch w x) → Gathers BatchField no_batch a.fields (whole_batch x)
-batch_gathers w x a = gathers_back BatchField known_of_batch BatchLasts batch_none batch_step a.fields no_batch (whole_batch x) (a.last.process, a.last.spans, a.last.seq_no) a.others
-
-batch_back : (w : List ℕ) (x : Batch) → LastCounts known_of_batch LastOfBatch w x → IsBatch w x
-unfolding IsBatch
-batch_back w x a = record {
-  fields = a.fields;
-  spelled = a.spelled;
-  gathered = whole_batch x;
-  gathers = batch_gathers w x a;
-  makes = refl;
-}
-
-batch_one : (w : List ℕ) (x y : Batch) (a : LastCounts known_of_batch LastOfBatch w x) (b : LastCounts known_of_batch LastOfBatch w y) → (a.fields ≡ b.fields) × (x ≡ y)
-batch_one w x y a b = (
-  one_division take_batch BatchField batch_field_again a.fields b.fields w no_batch _ _ a.spelled b.spelled (batch_gathers w x a) (batch_gathers w y b),
-  one_value is_batch w x y (batch_back w x a) (batch_back w y b),
-)
 
 pub batch_last : BatchLast
-batch_last = record { same = λ w x. (batch_leaves w x, batch_back w x); one = batch_one }
+unfolding IsBatch
+batch_last = by_last take_batch BatchField no_batch (λ s y. s ≡ whole_batch y) known_of_batch LastOfBatch BatchLasts is_batch batch_field_again batch_other batch_none batch_step batch_leaves
+    (λ fs x l. whole_batch x)
+    (λ fs x l. (l.process, l.spans, l.seq_no))
+    (λ fs x l. refl)
