@@ -1,10 +1,10 @@
 -- A batch that is read is spelled so, and one that is spelled so is read.
-use Rattle.std.proofs.Common.{◌≡◌, ℕ, ℤ, pos, true, eqb, List, [], ◌∷◌, ◌++◌, length, Some, Result, Ok, Err, refl, sym, ap, subst, ◌∙◌, arith, ◌⊎◌, inl, inr}
+use Rattle.std.proofs.Common.{◌≡◌, ℕ, ℤ, pos, eqb, ◌&&◌, List, [], ◌∷◌, ◌++◌, length, Some, Result, Ok, Err, refl, sym, ap, subst, ◌∙◌, arith, ◌⊎◌, inl, inr}
+use Rattle.std.specs.Ordering.{int_eq}
 use Rattle.std.specs.Prelude.{IfOk}
 use Rattle.std.proofs.lemmas.Bool.{eqb-true}
 use Rattle.std.proofs.lemmas.List.{append-nil}
 use Rattle.jaeger_model.specs.declared.batch.Batch.{Batch}
-use Rattle.thrift_binary.specs.Spelling.{Beginning, Field}
 use Rattle.thrift_binary.proofs.Found.{bind_ok, pass_ok, ok_is}
 use Rattle.batch_codec.specs.declared.fault.DecodeError.{DecodeError}
 use Rattle.batch_codec.specs.declared.fault.DecodeError.TheVariants.{Memory, Wire, Missing, BadEnum, Trailing}
@@ -16,25 +16,17 @@ use Rattle.batch_codec.specs.BatchReading.{take_batch, batch_from, batch_at, at_
 use Rattle.batch_codec.specs.Batches.{BatchField, whole_batch, IsBatch, Answers}
 use Rattle.batch_codec.specs.SpelledBatches.{DecodesWhatIsSpelled}
 use Rattle.batch_codec.proofs.ValuesSpelled.{Agrees, is_i64}
-use Rattle.batch_codec.proofs.Structs.{known_found, known_again, skipped_found, skipped_again, struct_found, struct_again, required_found, is_list}
+use Rattle.batch_codec.proofs.Structs.{known_is, skipped_is, struct_is, required_found, is_list}
 use Rattle.batch_codec.proofs.ProcessSpelled.{is_process}
 use Rattle.batch_codec.proofs.SpanSpelled.{is_span}
 
-takes : (s : BatchSlots) (c : ℕ) (i : ℤ) (w : List ℕ) (t : BatchSlots) (r : List ℕ) → take_batch s c i w ≡ Ok (t, r) → Beginning (λ v. BatchField s (record { code = c; id = i; text = v }) t) w r
+pub batch_field_is : (s : BatchSlots) (c : ℕ) (i : ℤ) → Agrees (take_batch s c i) (λ v t. BatchField s (record { code = c; id = i; text = v }) t)
 unfolding take_batch BatchField
-takes s c i w t r =
-    known_found is_process (λ x. record s { process = Some x }) c 12 i (pos 1) w t r _ _ (
-    known_found (is_list is_span) (λ x. record s { spans = Some x }) c 15 i (pos 2) w t r _ _ (
-    known_found is_i64 (λ x. record s { seq_no = Some x }) c 10 i (pos 3) w t r _ _ (
-    skipped_found s c w t r)))
-
-pub batch_field_again : (s : BatchSlots) (f : Field) (t : BatchSlots) (r : List ℕ) → BatchField s f t → take_batch s f.code f.id (f.text ++ r) ≡ Ok (t, r)
-unfolding take_batch BatchField
-batch_field_again s f t r =
-    known_again is_process (λ x. record s { process = Some x }) f.code 12 f.id (pos 1) f.text t r _ _ (
-    known_again (is_list is_span) (λ x. record s { spans = Some x }) f.code 15 f.id (pos 2) f.text t r _ _ (
-    known_again is_i64 (λ x. record s { seq_no = Some x }) f.code 10 f.id (pos 3) f.text t r _ _ (
-    skipped_again s f.code f.text t r)))
+batch_field_is s c i =
+    known_is is_process (λ x. record s { process = Some x }) (eqb c 12 && int_eq i (pos 1)) _ _ (
+    known_is (is_list is_span) (λ x. record s { spans = Some x }) (eqb c 15 && int_eq i (pos 2)) _ _ (
+    known_is is_i64 (λ x. record s { seq_no = Some x }) (eqb c 10 && int_eq i (pos 3)) _ _ (
+    skipped_is s c)))
 
 all_there : (s : BatchSlots) (x : Batch) → s.process ≡ Some x.process → s.spans ≡ Some x.spans → s.seq_no ≡ x.seq_no → s ≡ whole_batch x
 all_there s x a b c = rw (a, b, c) refl
@@ -55,10 +47,7 @@ makes s x m = rw m refl
 
 pub is_batch : Agrees batch_at IsBatch
 unfolding batch_at IsBatch
-is_batch = record {
-  found = struct_found take_batch BatchField no_batch batch_from (λ s x. s ≡ whole_batch x) takes made;
-  again = struct_again take_batch BatchField no_batch batch_from (λ s x. s ≡ whole_batch x) batch_field_again makes;
-}
+is_batch = struct_is take_batch BatchField no_batch batch_from (λ s x. s ≡ whole_batch x) batch_field_is made makes
 
 -- ---- all of the bytes
 

@@ -1,5 +1,5 @@
 -- Of several fields with one id and the declared type the last counts.
-use Rattle.std.proofs.Common.{◌≡◌, ℕ, ℤ, pos, Bool, true, false, eqb, ◌&&◌, ◌||◌, List, [], ◌∷◌, ◌++◌, Option, Some, None, Ok, refl, subst, ◌∙◌}
+use Rattle.std.proofs.Common.{◌≡◌, ℕ, ℤ, pos, Bool, true, false, eqb, ◌&&◌, ◌||◌, List, [], ◌∷◌, Option, Some, None, refl, subst, ◌∙◌}
 use Rattle.std.specs.Prelude.{MatchBool}
 use Rattle.std.specs.Ordering.{int_eq}
 use Rattle.std.proofs.lemmas.Bool.{eqb-true}
@@ -29,17 +29,17 @@ use Rattle.batch_codec.specs.LastCounts.{is_known, OthersAreValues, LastCounts, 
 use Rattle.batch_codec.proofs.ValuesSpelled.{Agrees}
 use Rattle.batch_codec.proofs.Structs.{path_gathers}
 use Rattle.batch_codec.proofs.OneDivision.{the_same, one_division, one_value}
-use Rattle.batch_codec.proofs.TagSpelled.{is_tag, tag_field_again}
+use Rattle.batch_codec.proofs.TagSpelled.{is_tag, tag_field_is}
 use Rattle.batch_codec.specs.TagReading.{take_tag}
-use Rattle.batch_codec.proofs.LogSpelled.{is_log, log_field_again}
+use Rattle.batch_codec.proofs.LogSpelled.{is_log, log_field_is}
 use Rattle.batch_codec.specs.LogReading.{take_log}
-use Rattle.batch_codec.proofs.ReferenceSpelled.{is_reference, reference_field_again}
+use Rattle.batch_codec.proofs.ReferenceSpelled.{is_reference, reference_field_is}
 use Rattle.batch_codec.specs.ReferenceReading.{take_reference}
-use Rattle.batch_codec.proofs.ProcessSpelled.{is_process, process_field_again}
+use Rattle.batch_codec.proofs.ProcessSpelled.{is_process, process_field_is}
 use Rattle.batch_codec.specs.ProcessReading.{take_process}
-use Rattle.batch_codec.proofs.SpanSpelled.{is_span, span_field_again}
+use Rattle.batch_codec.proofs.SpanSpelled.{is_span, span_field_is}
 use Rattle.batch_codec.specs.SpanReading.{take_span}
-use Rattle.batch_codec.proofs.BatchSpelled.{is_batch, batch_field_again}
+use Rattle.batch_codec.proofs.BatchSpelled.{is_batch, batch_field_is}
 use Rattle.batch_codec.specs.BatchReading.{take_batch}
 
 -- a field of this type and id, or another
@@ -100,7 +100,7 @@ gathers_back Does known Lasts none step (f ∷ fs) s t l o = let m = step s t f.
 
 module _ {S X : Type 0} {read : Reading X} (take : Take S DecodeError) (Does : S → Field → S → Type 0) (none : S) (Makes : S → X → Type 0) (known : List (ℕ × ℤ)) (LastOf : List Field → X → Type 0) (Lasts : S → List Field → S → Type 0) where
   pub by_last : Agrees read (IsStruct Does none Makes)
-      → ((s : S) (f : Field) (t : S) (r : List ℕ) → Does s f t → take s f.code f.id (f.text ++ r) ≡ Ok (t, r))
+      → ((s : S) (c : ℕ) (i : ℤ) → Agrees (take s c i) (λ v t. Does s (field c i v) t))
       → ((s : S) (f : Field) (t : S) → Does s f t → is_known known f ≡ false → IsValue 64 f.code f.text)
       → ((s t : S) → Lasts s [] t → t ≡ s)
       → ((s t : S) (c : ℕ) (i : ℤ) (v : List ℕ) (fs : List Field) → Lasts s (field c i v ∷ fs) t → (is_known known (field c i v) ≡ false → IsValue 64 c v) → (u : S) × Does s (field c i v) u × Lasts u fs t)
@@ -109,7 +109,7 @@ module _ {S X : Type 0} {read : Reading X} (take : Take S DecodeError) (Does : S
       → ((fs : List Field) (x : X) (l : LastOf fs x) → Lasts none fs (whole fs x l))
       → ((fs : List Field) (x : X) (l : LastOf fs x) → Makes (whole fs x l) x)
       → IsByLast (IsStruct Does none Makes) known LastOf
-  by_last agrees again other nothing step leaves whole lasts makes = record { same = λ w x. (forth w x, back w x); one = one }
+  by_last agrees field_is other nothing step leaves whole lasts makes = record { same = λ w x. (forth w x, back w x); one = one }
     where
       forth : (w : List ℕ) (x : X) → IsStruct Does none Makes w x → LastCounts known LastOf w x
       forth w x is = record {
@@ -133,7 +133,7 @@ module _ {S X : Type 0} {read : Reading X} (take : Take S DecodeError) (Does : S
 
       one : (w : List ℕ) (x y : X) (a : LastCounts known LastOf w x) (b : LastCounts known LastOf w y) → (a.fields ≡ b.fields) × (x ≡ y)
       one w x y a b = (
-        one_division take Does again a.fields b.fields w none _ _ a.spelled b.spelled (gathers w x a) (gathers w y b),
+        one_division take Does (λ s f u v d. (field_is s f.code f.id).again f.text v u d) a.fields b.fields w none _ _ a.spelled b.spelled (gathers w x a) (gathers w y b),
         one_value agrees w x y (back w x a) (back w y b),
       )
 
@@ -229,7 +229,7 @@ same_value key types.Binary kind s = refl
 
 pub tag_last : TagLast
 unfolding IsTag with_key
-tag_last = by_last take_tag TagField no_tag MakesTag known_of_tag LastOfTag TagLasts is_tag tag_field_again tag_other tag_none tag_step tag_leaves
+tag_last = by_last take_tag TagField no_tag MakesTag known_of_tag LastOfTag TagLasts is_tag tag_field_is tag_other tag_none tag_step tag_leaves
     (λ fs x l. with_key x.key l.kind l.left)
     (λ fs x l. (l.key_last, l.kind_last, l.text_last, l.double_last, l.bool_last, l.long_last, l.binary_last))
     (λ fs x l. record { key = refl; kind = l.kind; named = refl; value = l.value ∙ same_value x.key l.kind l.kind l.left })
@@ -281,7 +281,7 @@ log_leaves fs s x gathers makes = record {
 
 pub log_last : LogLast
 unfolding IsLog
-log_last = by_last take_log LogField no_log (λ s y. s ≡ whole_log y) known_of_log LastOfLog LogLasts is_log log_field_again log_other log_none log_step log_leaves
+log_last = by_last take_log LogField no_log (λ s y. s ≡ whole_log y) known_of_log LastOfLog LogLasts is_log log_field_is log_other log_none log_step log_leaves
     (λ fs x l. whole_log x)
     (λ fs x l. (l.at, l.fields))
     (λ fs x l. refl)
@@ -345,7 +345,7 @@ reference_leaves fs s x gathers makes = record {
 
 pub reference_last : ReferenceLast
 unfolding IsReference
-reference_last = by_last take_reference ReferenceField no_reference (λ s y. s ≡ whole_reference y) known_of_reference LastOfReference ReferenceLasts is_reference reference_field_again reference_other reference_none reference_step reference_leaves
+reference_last = by_last take_reference ReferenceField no_reference (λ s y. s ≡ whole_reference y) known_of_reference LastOfReference ReferenceLasts is_reference reference_field_is reference_other reference_none reference_step reference_leaves
     (λ fs x l. whole_reference x)
     (λ fs x l. (l.kind, l.low, l.high, l.id))
     (λ fs x l. refl)
@@ -397,7 +397,7 @@ process_leaves fs s x gathers makes = record {
 
 pub process_last : ProcessLast
 unfolding IsProcess
-process_last = by_last take_process ProcessField no_process (λ s y. s ≡ whole_process y) known_of_process LastOfProcess ProcessLasts is_process process_field_again process_other process_none process_step process_leaves
+process_last = by_last take_process ProcessField no_process (λ s y. s ≡ whole_process y) known_of_process LastOfProcess ProcessLasts is_process process_field_is process_other process_none process_step process_leaves
     (λ fs x l. whole_process x)
     (λ fs x l. (l.service, l.tags))
     (λ fs x l. refl)
@@ -503,7 +503,7 @@ span_leaves fs s x gathers makes = record {
 
 pub span_last : SpanLast
 unfolding IsSpan
-span_last = by_last take_span SpanField no_span (λ s y. s ≡ whole_span y) known_of_span LastOfSpan SpanLasts is_span span_field_again span_other span_none span_step span_leaves
+span_last = by_last take_span SpanField no_span (λ s y. s ≡ whole_span y) known_of_span LastOfSpan SpanLasts is_span span_field_is span_other span_none span_step span_leaves
     (λ fs x l. whole_span x)
     (λ fs x l. (l.low, l.high, l.id, l.parent, l.operation, l.references, l.flags, l.start, l.duration, l.tags, l.logs))
     (λ fs x l. refl)
@@ -561,7 +561,7 @@ batch_leaves fs s x gathers makes = record {
 
 pub batch_last : BatchLast
 unfolding IsBatch
-batch_last = by_last take_batch BatchField no_batch (λ s y. s ≡ whole_batch y) known_of_batch LastOfBatch BatchLasts is_batch batch_field_again batch_other batch_none batch_step batch_leaves
+batch_last = by_last take_batch BatchField no_batch (λ s y. s ≡ whole_batch y) known_of_batch LastOfBatch BatchLasts is_batch batch_field_is batch_other batch_none batch_step batch_leaves
     (λ fs x l. whole_batch x)
     (λ fs x l. (l.process, l.spans, l.seq_no))
     (λ fs x l. refl)

@@ -1,7 +1,7 @@
 -- A reference that is read is spelled so, and one that is spelled so is read.
-use Rattle.std.proofs.Common.{◌≡◌, ℕ, ℤ, pos, true, List, ◌++◌, Some, Ok, refl, ap, ◌∙◌}
+use Rattle.std.proofs.Common.{◌≡◌, ℕ, ℤ, pos, eqb, ◌&&◌, Some, Ok, refl, ap, ◌∙◌}
+use Rattle.std.specs.Ordering.{int_eq}
 use Rattle.jaeger_model.specs.declared.span.SpanRef.{SpanRef}
-use Rattle.thrift_binary.specs.Spelling.{Beginning, Field}
 use Rattle.thrift_binary.proofs.Found.{ok_is}
 use Rattle.batch_codec.specs.declared.fault.Part.TheVariants as parts
 use Rattle.batch_codec.specs.declared.reference.ReferenceSlots.{ReferenceSlots}
@@ -9,25 +9,16 @@ use Rattle.batch_codec.specs.Gathered.{no_reference}
 use Rattle.batch_codec.specs.ReferenceReading.{take_reference, reference_from, reference_at}
 use Rattle.batch_codec.specs.Batches.{ReferenceField, whole_reference, IsReference}
 use Rattle.batch_codec.proofs.ValuesSpelled.{Agrees, is_kind, is_id}
-use Rattle.batch_codec.proofs.Structs.{known_found, known_again, skipped_found, skipped_again, struct_found, struct_again, required_found}
+use Rattle.batch_codec.proofs.Structs.{known_is, skipped_is, struct_is, required_found}
 
-takes : (s : ReferenceSlots) (c : ℕ) (i : ℤ) (w : List ℕ) (t : ReferenceSlots) (r : List ℕ) → take_reference s c i w ≡ Ok (t, r) → Beginning (λ v. ReferenceField s (record { code = c; id = i; text = v }) t) w r
+pub reference_field_is : (s : ReferenceSlots) (c : ℕ) (i : ℤ) → Agrees (take_reference s c i) (λ v t. ReferenceField s (record { code = c; id = i; text = v }) t)
 unfolding take_reference ReferenceField
-takes s c i w t r =
-    known_found is_kind (λ x. record s { kind = Some x }) c 8 i (pos 1) w t r _ _ (
-    known_found is_id (λ x. record s { trace_low = Some x }) c 10 i (pos 2) w t r _ _ (
-    known_found is_id (λ x. record s { trace_high = Some x }) c 10 i (pos 3) w t r _ _ (
-    known_found is_id (λ x. record s { id = Some x }) c 10 i (pos 4) w t r _ _ (
-    skipped_found s c w t r))))
-
-pub reference_field_again : (s : ReferenceSlots) (f : Field) (t : ReferenceSlots) (r : List ℕ) → ReferenceField s f t → take_reference s f.code f.id (f.text ++ r) ≡ Ok (t, r)
-unfolding take_reference ReferenceField
-reference_field_again s f t r =
-    known_again is_kind (λ x. record s { kind = Some x }) f.code 8 f.id (pos 1) f.text t r _ _ (
-    known_again is_id (λ x. record s { trace_low = Some x }) f.code 10 f.id (pos 2) f.text t r _ _ (
-    known_again is_id (λ x. record s { trace_high = Some x }) f.code 10 f.id (pos 3) f.text t r _ _ (
-    known_again is_id (λ x. record s { id = Some x }) f.code 10 f.id (pos 4) f.text t r _ _ (
-    skipped_again s f.code f.text t r))))
+reference_field_is s c i =
+    known_is is_kind (λ x. record s { kind = Some x }) (eqb c 8 && int_eq i (pos 1)) _ _ (
+    known_is is_id (λ x. record s { trace_low = Some x }) (eqb c 10 && int_eq i (pos 2)) _ _ (
+    known_is is_id (λ x. record s { trace_high = Some x }) (eqb c 10 && int_eq i (pos 3)) _ _ (
+    known_is is_id (λ x. record s { id = Some x }) (eqb c 10 && int_eq i (pos 4)) _ _ (
+    skipped_is s c))))
 
 all_there : (s : ReferenceSlots) (x : SpanRef) → s.kind ≡ Some x.kind → s.trace_low ≡ Some x.trace.low → s.trace_high ≡ Some x.trace.high → s.id ≡ Some x.id.0 → s ≡ whole_reference x
 all_there s x a b c d = rw (a, b, c, d) refl
@@ -50,7 +41,4 @@ makes s x m = rw m refl
 
 pub is_reference : Agrees reference_at IsReference
 unfolding reference_at IsReference
-is_reference = record {
-  found = struct_found take_reference ReferenceField no_reference reference_from (λ s x. s ≡ whole_reference x) takes made;
-  again = struct_again take_reference ReferenceField no_reference reference_from (λ s x. s ≡ whole_reference x) reference_field_again makes;
-}
+is_reference = struct_is take_reference ReferenceField no_reference reference_from (λ s x. s ≡ whole_reference x) reference_field_is made makes

@@ -1,13 +1,11 @@
 -- Structs: what is read is spelled so, and what is spelled so is read, of any struct whose fields do.
-use Rattle.std.proofs.Common.{◌≡◌, ℕ, ℤ, Bool, true, false, cond, eqb, ltb, ◌&&◌, ◌||◌, ◌<◌, List, length, arith, [], ◌∷◌, ◌++◌, Option, Some, None, Result, Ok, refl, sym, ap, subst, ◌∙◌}
+use Rattle.std.proofs.Common.{◌≡◌, ℕ, ℤ, Bool, true, false, cond, List, [], ◌∷◌, ◌++◌, Option, Some, None, Result, Ok, refl, sym, ap, subst, ◌∙◌}
 use Rattle.std.specs.Prelude.{MatchBool}
-use Rattle.std.specs.Ordering.{int_eq}
-use Rattle.std.proofs.lemmas.Bool.{eqb-true, ltb-true, lt-ltb}
-use Rattle.thrift_binary.specs.Reading.{◌>>=◌, lift, is_code}
-use Rattle.thrift_binary.specs.Skipping.{skip_at, width}
+use Rattle.thrift_binary.specs.Reading.{◌>>=◌, lift}
+use Rattle.thrift_binary.specs.Skipping.{skip_at}
 use Rattle.thrift_binary.specs.Fields.{Take, fields_at}
 use Rattle.thrift_binary.specs.Lists.{list_of}
-use Rattle.thrift_binary.specs.Spelling.{Beginning, Field, IsString, IsLeaf, IsContainer, IsValue}
+use Rattle.thrift_binary.specs.Spelling.{Field, IsValue}
 use Rattle.thrift_binary.proofs.Found.{bind_ok, lift_ok, ok_is, Path, Took, fields_found}
 use Rattle.thrift_binary.proofs.Again.{fields_again}
 use Rattle.thrift_binary.proofs.SkipFound.{skip_found}
@@ -22,15 +20,15 @@ use Rattle.batch_codec.proofs.ValuesSpelled.{Found, Again, Agrees}
 -- ---- one field
 
 -- a field of this type and id, or what the others give
-pub known_found : {A S : Type 0} {read : Reading A} {Spells : List ℕ → A → Type 0} → Agrees read Spells → (set : A → S) (c d : ℕ) (i j : ℤ) (w : List ℕ) (t : S) (r : List ℕ) (others : Result (S × List ℕ) DecodeError) (Others : List ℕ → Type 0)
-    → (others ≡ Ok (t, r) → Beginning Others w r)
-    → cond (eqb c d && int_eq i j) (read w >>= λ x. Ok (set x.0, x.1)) others ≡ Ok (t, r)
-    → Beginning (λ v. MatchBool (eqb c d && int_eq i j) ((x : A) × Spells v x × (t ≡ set x)) (Others v)) w r
-known_found {A = A} {S = S} {read = read} {Spells = Spells} value set c d i j w t r others Others more e = by (eqb c d && int_eq i j) e
+pub known_is : {A S : Type 0} {read : Reading A} {Spells : List ℕ → A → Type 0} → Agrees read Spells → (set : A → S) (b : Bool) (others : Reading S) (Others : List ℕ → S → Type 0)
+    → Agrees others Others
+    → Agrees (λ w. cond b (read w >>= λ x. Ok (set x.0, x.1)) (others w)) (λ v t. MatchBool b ((x : A) × Spells v x × (t ≡ set x)) (Others v t))
+known_is value set false others Others more = more
+known_is {A = A} {S = S} {read = read} {Spells = Spells} value set true others Others more = record { found = found; again = again }
   where
-    by : (b : Bool) → cond b (read w >>= λ x. Ok (set x.0, x.1)) others ≡ Ok (t, r) → Beginning (λ v. MatchBool b ((x : A) × Spells v x × (t ≡ set x)) (Others v)) w r
-    by true h =
-        let k = bind_ok (read w) (λ x. Ok (set x.0, x.1)) (t, r) h in
+    found : Found (λ w. read w >>= λ x. Ok (set x.0, x.1)) (λ v t. (x : A) × Spells v x × (t ≡ set x))
+    found w t r e =
+        let k = bind_ok (read w) (λ x. Ok (set x.0, x.1)) (t, r) e in
         let f = value.found w k.0.0 k.0.1 k.1 in
         let made : S × List ℕ = (set k.0.0, k.0.1) in
         let same : made ≡ (t, r) = ok_is made (t, r) k.2 in
@@ -39,32 +37,27 @@ known_found {A = A} {S = S} {read = read} {Spells = Spells} value set c d i j w 
           parts = f.parts ∙ ap (λ (p : S × List ℕ). f.text ++ p.1) same;
           spells = (k.0.0, f.spells, sym (ap (λ (p : S × List ℕ). p.0) same));
         }
-    by false h = let m = more h in record { text = m.text; parts = m.parts; spells = m.spells }
 
-pub known_again : {A S : Type 0} {read : Reading A} {Spells : List ℕ → A → Type 0} → Agrees read Spells → (set : A → S) (c d : ℕ) (i j : ℤ) (v : List ℕ) (t : S) (r : List ℕ) (others : Result (S × List ℕ) DecodeError) (Others : Type 0)
-    → (Others → others ≡ Ok (t, r))
-    → MatchBool (eqb c d && int_eq i j) ((x : A) × Spells v x × (t ≡ set x)) Others
-    → cond (eqb c d && int_eq i j) (read (v ++ r) >>= λ x. Ok (set x.0, x.1)) others ≡ Ok (t, r)
-known_again {A = A} {S = S} {read = read} {Spells = Spells} value set c d i j v t r others Others more is = by (eqb c d && int_eq i j) is
+    again : Again (λ w. read w >>= λ x. Ok (set x.0, x.1)) (λ v t. (x : A) × Spells v x × (t ≡ set x))
+    again v r t (x, spells, t-is) = let h = value.again v r x spells in rw (h, t-is) refl
+
+pub skipped_is : {S : Type 0} (s : S) (c : ℕ) → Agrees (skipped s c) (λ v t. IsValue 64 c v × (t ≡ s))
+skipped_is {S = S} s c = record { found = found; again = again }
   where
-    by : (b : Bool) → MatchBool b ((x : A) × Spells v x × (t ≡ set x)) Others → cond b (read (v ++ r) >>= λ x. Ok (set x.0, x.1)) others ≡ Ok (t, r)
-    by true (x, spells, t-is) = let h = value.again v r x spells in rw (h, t-is) refl
-    by false o = more o
+    found : Found (skipped s c) (λ v t. IsValue 64 c v × (t ≡ s))
+    found w t r e =
+        let k = bind_ok (lift wire (skip_at c w)) (λ x. Ok (s, x.1)) (t, r) e in
+        let f = skip_found c w k.0.1 (lift_ok wire (skip_at c w) k.0 k.1) in
+        let made : S × List ℕ = (s, k.0.1) in
+        let same : made ≡ (t, r) = ok_is made (t, r) k.2 in
+        record {
+          text = f.text;
+          parts = f.parts ∙ ap (λ (p : S × List ℕ). f.text ++ p.1) same;
+          spells = (f.spells, sym (ap (λ (p : S × List ℕ). p.0) same));
+        }
 
-pub skipped_found : {S : Type 0} (s : S) (c : ℕ) (w : List ℕ) (t : S) (r : List ℕ) → skipped s c w ≡ Ok (t, r) → Beginning (λ v. IsValue 64 c v × (t ≡ s)) w r
-skipped_found {S = S} s c w t r e =
-    let k = bind_ok (lift wire (skip_at c w)) (λ x. Ok (s, x.1)) (t, r) e in
-    let f = skip_found c w k.0.1 (lift_ok wire (skip_at c w) k.0 k.1) in
-    let made : S × List ℕ = (s, k.0.1) in
-    let same : made ≡ (t, r) = ok_is made (t, r) k.2 in
-    record {
-      text = f.text;
-      parts = f.parts ∙ ap (λ (p : S × List ℕ). f.text ++ p.1) same;
-      spells = (f.spells, sym (ap (λ (p : S × List ℕ). p.0) same));
-    }
-
-pub skipped_again : {S : Type 0} (s : S) (c : ℕ) (v : List ℕ) (t : S) (r : List ℕ) → IsValue 64 c v × (t ≡ s) → skipped s c (v ++ r) ≡ Ok (t, r)
-skipped_again s c v t r (is, same) = let h = skip_again c v r is in rw (h, same) refl
+    again : Again (skipped s c) (λ v t. IsValue 64 c v × (t ≡ s))
+    again v r t (is, same) = let h = skip_again c v r is in rw (h, same) refl
 
 -- ---- lists of structs
 
@@ -88,38 +81,40 @@ module _ {S X : Type 0} (take : Take S DecodeError) (Does : S → Field → S �
   abbrev pub struct_at : Reading X
   struct_at w = fields_at wire take none w >>= λ y. from y.0 >>= λ z. Ok (z, y.1)
 
-  pub struct_found : ((s : S) (c : ℕ) (i : ℤ) (w : List ℕ) (t : S) (r : List ℕ) → take s c i w ≡ Ok (t, r) → Beginning (λ v. Does s (record { code = c; id = i; text = v }) t) w r)
+  pub struct_is : ((s : S) (c : ℕ) (i : ℤ) → Agrees (take s c i) (λ v t. Does s (record { code = c; id = i; text = v }) t))
       → ((s : S) (x : X) → from s ≡ Ok x → Makes s x)
-      → Found struct_at (IsStruct Does none Makes)
-  struct_found takes made w x r e =
-      let b = bind_ok (fields_at wire take none w) (λ y. from y.0 >>= λ z. Ok (z, y.1)) (x, r) e in
-      let f = fields_found wire take Does took none w b.0.0 b.0.1 b.1 in
-      let k = bind_ok (from b.0.0) (λ z. Ok (z, b.0.1)) (x, r) b.2 in
-      let pair : X × List ℕ = (k.0, b.0.1) in
-      let same : pair ≡ (x, r) = ok_is pair (x, r) k.2 in
-      let x-is : k.0 ≡ x = ap (λ (p : X × List ℕ). p.0) same in
-      record {
-        text = f.text;
-        parts = f.parts ∙ ap (λ (p : X × List ℕ). f.text ++ p.1) same;
-        spells = record {
-          fields = f.fields;
-          spelled = f.spells;
-          gathered = b.0.0;
-          gathers = gathers_path Does f.fields none b.0.0 f.path;
-          makes = subst (λ (z : X). Makes b.0.0 z) x-is (made b.0.0 k.0 k.1);
-        };
-      }
+      → ((s : S) (x : X) → Makes s x → from s ≡ Ok x)
+      → Agrees struct_at (IsStruct Does none Makes)
+  struct_is field_is made makes = record { found = found; again = again }
     where
       took : (s : S) (c : ℕ) (i : ℤ) (w : List ℕ) (t : S) (r : List ℕ) → take s c i w ≡ Ok (t, r) → Took Does s c i w t r
-      took s c i w t r e = let m = takes s c i w t r e in record { text = m.text; parts = m.parts; does = m.spells }
+      took s c i w t r e = let m = (field_is s c i).found w t r e in record { text = m.text; parts = m.parts; does = m.spells }
 
-  pub struct_again : ((s : S) (f : Field) (t : S) (r : List ℕ) → Does s f t → take s f.code f.id (f.text ++ r) ≡ Ok (t, r))
-      → ((s : S) (x : X) → Makes s x → from s ≡ Ok x)
-      → Again struct_at (IsStruct Does none Makes)
-  struct_again again made t r x is =
-      let fields = fields_again wire take Does again is.fields none is.gathered t r is.spelled (path_gathers Does is.fields none is.gathered is.gathers) in
-      let whole = made is.gathered x is.makes in
-      rw (fields, whole) refl
+      found : Found struct_at (IsStruct Does none Makes)
+      found w x r e =
+          let b = bind_ok (fields_at wire take none w) (λ y. from y.0 >>= λ z. Ok (z, y.1)) (x, r) e in
+          let f = fields_found wire take Does took none w b.0.0 b.0.1 b.1 in
+          let k = bind_ok (from b.0.0) (λ z. Ok (z, b.0.1)) (x, r) b.2 in
+          let pair : X × List ℕ = (k.0, b.0.1) in
+          let same : pair ≡ (x, r) = ok_is pair (x, r) k.2 in
+          let x-is : k.0 ≡ x = ap (λ (p : X × List ℕ). p.0) same in
+          record {
+            text = f.text;
+            parts = f.parts ∙ ap (λ (p : X × List ℕ). f.text ++ p.1) same;
+            spells = record {
+              fields = f.fields;
+              spelled = f.spells;
+              gathered = b.0.0;
+              gathers = gathers_path Does f.fields none b.0.0 f.path;
+              makes = subst (λ (z : X). Makes b.0.0 z) x-is (made b.0.0 k.0 k.1);
+            };
+          }
+
+      again : Again struct_at (IsStruct Does none Makes)
+      again t r x is =
+          let fields = fields_again wire take Does (λ s f u v d. (field_is s f.code f.id).again f.text v u d) is.fields none is.gathered t r is.spelled (path_gathers Does is.fields none is.gathered is.gathers) in
+          let whole = makes is.gathered x is.makes in
+          rw (fields, whole) refl
 
 -- a required slot that is there
 pub required_found : {A B : Type 0} (o : Option A) (part : Part) (i : ℕ) (f : A → Result B DecodeError) (y : B) → (required o part i >>= f) ≡ Ok y → (x : A) × (o ≡ Some x) × (f x ≡ Ok y)
