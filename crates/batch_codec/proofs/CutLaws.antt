@@ -10,8 +10,7 @@ use Rattle.batch_codec.specs.declared.fault.DecodeError.{DecodeError}
 use Rattle.batch_codec.specs.declared.fault.DecodeError.TheVariants.{Wire, Trailing}
 use Rattle.batch_codec.specs.BatchReading.{batch_at, at_end, decoded}
 use Rattle.batch_codec.specs.Cuts.{IsTruncated, IsPlace, FaultsHavePlaces, TrailingHasAPlace, TruncatedBeginsTruncated, BatchesEnd}
-use Rattle.batch_codec.proofs.CutBatches.{batch_safe}
-use Rattle.batch_codec.proofs.NeverTrailing.{batch_never}
+use Rattle.batch_codec.proofs.CutBatches.{batch_safe, batch_never}
 
 abbrev bad : DecodeError → Result Batch DecodeError
 bad e = Err e

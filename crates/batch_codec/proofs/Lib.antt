@@ -9,8 +9,8 @@ pub mod ProcessSpelled
 pub mod SpanSpelled
 pub mod BatchSpelled
 pub mod CutStructs
-pub mod CutBatches
 pub mod NeverTrailing
+pub mod CutBatches
 pub mod CutLaws
 pub mod OneDivision
 pub mod LastOf
