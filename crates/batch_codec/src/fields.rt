@@ -1,4 +1,4 @@
-ghost use Rattle.std.specs.Prelude.{◌≡◌, ◌≤◌, ◌<◌, ℕ, ℤ, List, length, Result, Ok, Err, IsOk, OnOk, Some};
+ghost use Rattle.std.specs.Prelude.{◌≡◌, ◌≤◌, ◌<◌, ℕ, ℤ, List, length, Result, Ok, Err, IsOk, OnOk};
 ghost use Rattle.batch_codec.specs.declared.fault.DecodeError.{DecodeError};
 ghost use Rattle.batch_codec.specs.Decoding.{Takes, Decodes, required, wire};
 ghost use Rattle.thrift_binary.specs.Fields.{fields_at};
@@ -48,15 +48,5 @@ pub(crate) fn keep<T: Drop>(slot: &mut T, read: Decoded<T>) -> Decoded<()>
     ensures refused { (e : DecodeError) → read ≡ Err e → result ≡ Err e }
 {
     *slot = read?;
-    Ok(())
-}
-
-/// The same where the place may be empty.
-pub(crate) fn keep_some<T: Drop>(slot: &mut Option<T>, read: Decoded<T>) -> Decoded<()>
-    ensures kept { (x : T) → read ≡ Ok x → slot.new ≡ Some x }
-    ensures same { (x : T) → read ≡ Ok x → IsOk result }
-    ensures refused { (e : DecodeError) → read ≡ Err e → result ≡ Err e }
-{
-    *slot = Some(read?);
     Ok(())
 }

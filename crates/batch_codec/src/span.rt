@@ -1,9 +1,9 @@
-ghost use Rattle.std.specs.Prelude.{◌≡◌, ◌≤◌, length, OnOk};
-ghost use Rattle.batch_codec.specs.Decoding.{Decodes};
-ghost use Rattle.batch_codec.specs.SpanReading.{span_at, span_from};
+ghost use Rattle.std.specs.Prelude.{◌≡◌, ◌≤◌, ◌==◌, false, length, OnOk, OnErr};
+ghost use Rattle.batch_codec.specs.Decoding.{Decodes, Takes};
+ghost use Rattle.batch_codec.specs.SpanReading.{span_at, span_from, take_span};
 
 use crate::fault::{Decoded, Part};
-use crate::fields::{Slots, keep, keep_some, read_fields, required};
+use crate::fields::{Slots, keep, read_fields, required};
 use crate::items::{Element, read_list};
 use crate::values::{read_i32, read_i64, read_id, read_owned_text};
 use jaeger_model::{Log, Seq, Span, SpanId, SpanRef, Tag, Text, TraceId};
@@ -53,6 +53,39 @@ impl SpanSlots {
         }
     }
 
+    /// Reads the value of a field that is no list.
+    ///
+    /// # Errors
+    ///
+    /// The first fault of the value's bytes, or out of memory. What was gathered stays the same.
+    #[tactic(auto, unfolding(crate::specs::SpanReading::take_span))]
+    #[inline(always)]
+    pub fn put_value(
+        &mut self,
+        alloc: Global,
+        code: u8,
+        id: i16,
+        cursor: &mut Cursor<'_>,
+    ) -> Decoded<()>
+        requires no_list { (code == 15) ≡ false }
+        ensures exact { Takes take_span self.old code id cursor.old result self.new cursor.new }
+        ensures unchanged { OnErr result (self.new ≡ self.old) }
+        ensures no_longer { OnOk result (length cursor.new ≤ length cursor.old) }
+    {
+        match (code, id) {
+            (I64, 1) => self.trace_low = Some(read_id(cursor)?),
+            (I64, 2) => self.trace_high = Some(read_id(cursor)?),
+            (I64, 3) => self.id = Some(read_id(cursor)?),
+            (I64, 4) => self.parent = Some(read_id(cursor)?),
+            (STRING, 5) => self.operation = Some(read_owned_text(alloc, cursor)?),
+            (I32, 7) => self.flags = Some(read_i32(cursor)?),
+            (I64, 8) => self.start = Some(read_i64(cursor)?),
+            (I64, 9) => self.duration = Some(read_i64(cursor)?),
+            _ => cursor.skip(code)?,
+        }
+        Ok(())
+    }
+
     /// The span of what was gathered.
     ///
     /// # Errors
@@ -86,25 +119,16 @@ impl SpanSlots {
 }
 
 impl<'a> Slots<'a> for SpanSlots {
-    ghost use Rattle.batch_codec.specs.SpanReading.{take_span};
-
     ghost puts = { take_span };
 
     #[tactic(auto, unfolding(crate::specs::SpanReading::take_span))]
     fn put(&mut self, alloc: Global, code: u8, id: i16, cursor: &mut Cursor<'a>) -> Decoded<()> {
         match (code, id) {
-            (I64, 1) => keep_some(&mut self.trace_low, read_id(cursor)),
-            (I64, 2) => keep_some(&mut self.trace_high, read_id(cursor)),
-            (I64, 3) => keep_some(&mut self.id, read_id(cursor)),
-            (I64, 4) => keep_some(&mut self.parent, read_id(cursor)),
-            (STRING, 5) => keep_some(&mut self.operation, read_owned_text(alloc, cursor)),
             (LIST, 6) => keep(&mut self.references, read_list(alloc, cursor)),
-            (I32, 7) => keep_some(&mut self.flags, read_i32(cursor)),
-            (I64, 8) => keep_some(&mut self.start, read_i64(cursor)),
-            (I64, 9) => keep_some(&mut self.duration, read_i64(cursor)),
             (LIST, 10) => keep(&mut self.tags, read_list(alloc, cursor)),
             (LIST, 11) => keep(&mut self.logs, read_list(alloc, cursor)),
-            _ => Ok(cursor.skip(code)?),
+            (LIST, _) => Ok(cursor.skip(code)?),
+            _ => self.put_value(alloc, code, id, cursor),
         }
     }
 }

@@ -6,10 +6,7 @@ use crate::structs::Struct;
 use crate::tag::TagParts;
 use crate::texts::TextPart;
 use crate::values::{I32Part, I64Part, IdPart};
-use batch_codec::{
-    Decoded, LEAST_SPAN, LogSlots, ReferenceSlots, SpanSlots, read_i32, read_i64, read_id,
-    read_owned_text, read_span,
-};
+use batch_codec::{Decoded, LEAST_SPAN, LogSlots, ReferenceSlots, SpanSlots, read_span};
 use jaeger_model::Span;
 use std::alloc::Global;
 use thrift_binary::Cursor;
@@ -61,20 +58,12 @@ impl Slots for SpanSlots {
         SpanSlots::new(alloc)
     }
 
-    #[tactic(auto, unfolding(batch_codec::specs::SpanReading::take_span))]
     #[inline(always)]
     fn put(&mut self, code: u8, id: i16, alloc: Global, cursor: &mut Cursor<'_>) -> Decoded<bool> {
-        match (code, id) {
-            (I64, 1) => self.trace_low = Some(read_id(cursor)?),
-            (I64, 2) => self.trace_high = Some(read_id(cursor)?),
-            (I64, 3) => self.id = Some(read_id(cursor)?),
-            (I64, 4) => self.parent = Some(read_id(cursor)?),
-            (STRING, 5) => self.operation = Some(read_owned_text(alloc, cursor)?),
-            (I32, 7) => self.flags = Some(read_i32(cursor)?),
-            (I64, 8) => self.start = Some(read_i64(cursor)?),
-            (I64, 9) => self.duration = Some(read_i64(cursor)?),
-            _ => return Ok(false),
+        if code == LIST {
+            return Ok(false);
         }
+        self.put_value(alloc, code, id, cursor)?;
         Ok(true)
     }
 
