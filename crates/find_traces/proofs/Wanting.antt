@@ -1,5 +1,5 @@
 -- Pairs that a search asks and that tags have.
-use Rattle.std.proofs.Common.{◌≡◌, ℕ, ◌+◌, ◌<◌, ◌≤◌, Bool, true, false, true≢false, ◌||◌, ◌&&◌, cond, List, [], ◌∷◌, ◌++◌, length, get_or, take, refl, sym, ap, ◌∙◌, arith, Some, None}
+use Rattle.std.proofs.Common.{◌≡◌, ℕ, ◌+◌, ◌<◌, ◌≤◌, Bool, true, false, true≢false, ◌||◌, ◌&&◌, cond, List, [], ◌∷◌, ◌++◌, length, get_or, take, refl, sym, ap, ◌∙◌, inl, inr, arith, Some, None}
 use Rattle.std.specs.Prelude.{◌%◌, ◌^◌, not, flat_map, if◌then◌else◌, ◌==◌}
 use Rattle.std.specs.Int.{bit_at}
 use Rattle.std.specs.Int.Bits.{bit_or}
@@ -10,6 +10,8 @@ use Rattle.std.specs.declared.cmp.Ordering.TheVariants.{Less, Equal, Greater}
 use Rattle.std.specs.Ordering.{ordering_then, eq_by_cmp, is_eq, nat_cmp}
 use Rattle.std.specs.Cmp.{IsEquivalence, IsTotalOrder, on_total, then_total, eq_by_cmp_equiv, nat_cmp_total}
 use Rattle.std.specs.Cmp.Lexicographic.{nat_list_cmp_total, texts_ties, bytes_decides}
+use Rattle.std.proofs.Math.Bool.{and-false, or-false}
+use Rattle.std.proofs.lemmas.Bool.{both_ways, or_cases, or_parts, or_from, and_left, and_right, false_from_ne_true}
 use Rattle.std.proofs.lemmas.List.{take_more, flat_map_more}
 use Rattle.std.proofs.lemmas.List.Sums.{fold_more}
 use Rattle.std.proofs.lemmas.Nat.Bits.{bit_at_or, bit_at-lt, bit_at-pow_same}
@@ -33,7 +35,7 @@ use Rattle.find_traces.proofs.Counting.{and_first, few, counted, none_left}
 pub text_laws : IsEquivalence (eq_by_cmp text_cmp)
 text_laws = eq_by_cmp_equiv nat_list_cmp_total
 
-length_laws : IsEquivalence (eq_by_cmp nat_cmp)
+pub length_laws : IsEquivalence (eq_by_cmp nat_cmp)
 length_laws = eq_by_cmp_equiv nat_cmp_total
 
 pub pair_total : IsTotalOrder pair_cmp
@@ -52,60 +54,35 @@ put_last true false = refl
 put_last false true = refl
 put_last false false = refl
 
-or_none : (b : Bool) → b ≡ (b || false)
-or_none true = refl
-or_none false = refl
-
-and_none : (b : Bool) → (b && false) ≡ false
-and_none true = refl
-and_none false = refl
-
 one_more : (o w m e : Bool) → ((o || (w && m)) || (w && e)) ≡ (o || (w && (m || e)))
 one_more true w m e = refl
 one_more false true m e = refl
 one_more false false m e = refl
 
 -- ---- one more key, length or pair is put in
-pub key_put : (n o : List (List ℕ)) (xs : List (List ℕ × List ℕ)) (i : ℕ) (x : List ℕ × List ℕ) (key : List ℕ) → i < length xs → x ≡ get_or xs i x → key ≡ x.0
-    → (k : List ℕ) → list_any (eq_by_cmp text_cmp k) n ≡ cond (eq_by_cmp text_cmp key k) true (list_any (eq_by_cmp text_cmp k) o)
-    → list_any (eq_by_cmp text_cmp k) o ≡ list_any (λ (a : List ℕ × List ℕ). eq_by_cmp text_cmp k a.0) (take i xs)
-    → list_any (eq_by_cmp text_cmp k) n ≡ list_any (λ (a : List ℕ × List ℕ). eq_by_cmp text_cmp k a.0) (take (i + 1) xs)
-key_put n o xs i x key le is same k put before =
-    put ∙ put_last (eq_by_cmp text_cmp key k) (list_any (eq_by_cmp text_cmp k) o)
-    ∙ (λ j. before j || (text_laws.symm key k ∙ ap (eq_by_cmp text_cmp k) same ∙ ap (λ (y : List ℕ × List ℕ). eq_by_cmp text_cmp k y.0) is) j)
-    ∙ sym (list_any_more (λ (a : List ℕ × List ℕ). eq_by_cmp text_cmp k a.0) xs i x le)
-
-pub length_put : (n o : List ℕ) (xs : List (List ℕ × List ℕ)) (i : ℕ) (x : List ℕ × List ℕ) (m : ℕ) → i < length xs → x ≡ get_or xs i x → m ≡ length x.1
-    → (k : ℕ) → list_any (eq_by_cmp nat_cmp k) n ≡ cond (eq_by_cmp nat_cmp m k) true (list_any (eq_by_cmp nat_cmp k) o)
-    → list_any (eq_by_cmp nat_cmp k) o ≡ list_any (λ (a : List ℕ × List ℕ). eq_by_cmp nat_cmp k (length a.1)) (take i xs)
-    → list_any (eq_by_cmp nat_cmp k) n ≡ list_any (λ (a : List ℕ × List ℕ). eq_by_cmp nat_cmp k (length a.1)) (take (i + 1) xs)
-length_put n o xs i x m le is same k put before =
-    put ∙ put_last (eq_by_cmp nat_cmp m k) (list_any (eq_by_cmp nat_cmp k) o)
-    ∙ (λ j. before j || (length_laws.symm m k ∙ ap (eq_by_cmp nat_cmp k) same ∙ ap (λ (y : List ℕ × List ℕ). eq_by_cmp nat_cmp k (length y.1)) is) j)
-    ∙ sym (list_any_more (λ (a : List ℕ × List ℕ). eq_by_cmp nat_cmp k (length a.1)) xs i x le)
-
-pub pair_put : (n o xs : List (List ℕ × List ℕ)) (i : ℕ) (x pair : List ℕ × List ℕ) → i < length xs → x ≡ get_or xs i x → pair ≡ x
-    → (a : List ℕ × List ℕ) → is_in n a ≡ cond (same_pair pair a) true (is_in o a) → is_in o a ≡ list_any (same_pair a) (take i xs)
-    → is_in n a ≡ list_any (same_pair a) (take (i + 1) xs)
-pair_put n o xs i x pair le is same a put before =
-    put ∙ put_last (same_pair pair a) (is_in o a)
-    ∙ (λ j. before j || (pair_laws.symm pair a ∙ ap (same_pair a) (same ∙ is)) j)
-    ∙ sym (list_any_more (same_pair a) xs i x le)
+pub put_more : {K : Type 0} {same : K → K → Bool} → IsEquivalence same → (f : List ℕ × List ℕ → K) (n o : List K) (xs : List (List ℕ × List ℕ)) (i : ℕ) (x : List ℕ × List ℕ) (y : K)
+    → i < length xs → x ≡ get_or xs i x → y ≡ f x → (k : K) → list_any (same k) n ≡ cond (same y k) true (list_any (same k) o)
+    → list_any (same k) o ≡ list_any (λ (a : List ℕ × List ℕ). same k (f a)) (take i xs) → list_any (same k) n ≡ list_any (λ (a : List ℕ × List ℕ). same k (f a)) (take (i + 1) xs)
+put_more {same = same} laws f n o xs i x y le is put_is k put before =
+    put ∙ put_last (same y k) (list_any (same k) o)
+    ∙ (λ j. before j || (laws.symm y k ∙ ap (same k) (put_is ∙ ap f is)) j)
+    ∙ sym (list_any_more (λ (a : List ℕ × List ℕ). same k (f a)) xs i x le)
 
 -- ---- what is asked
-then_not : (r s : Ordering) → is_eq r ≡ false → is_eq (ordering_then r s) ≡ false
-then_not Less s h = refl
-then_not Equal s h = absurd (true≢false h)
-then_not Greater s h = refl
+then_both : (r s : Ordering) → is_eq (ordering_then r s) ≡ (is_eq r && is_eq s)
+then_both Less s = refl
+then_both Equal s = refl
+then_both Greater s = refl
+
+-- a pair that differs from each pair that fails a test is not among pairs that all fail it
+no_part : (p : List ℕ × List ℕ → Bool) (a : List ℕ × List ℕ) → ((x : List ℕ × List ℕ) → p x ≡ false → same_pair a x ≡ false) → (xs : List (List ℕ × List ℕ)) → list_any p xs ≡ false → list_any (same_pair a) xs ≡ false
+no_part p a apart [] h = refl
+no_part p a apart (x ∷ xs) h =
+    let parts = or_parts (p x) (list_any p xs) h in
+    or_from (same_pair a x) (list_any (same_pair a) xs) (apart x parts.0) (no_part p a apart xs parts.1)
 
 pub no_key : (xs : List (List ℕ × List ℕ)) (k t : List ℕ) → list_any (λ (a : List ℕ × List ℕ). eq_by_cmp text_cmp k a.0) xs ≡ false → list_any (same_pair (k, t)) xs ≡ false
-no_key [] k t h = refl
-no_key (x ∷ xs) k t h = by (eq_by_cmp text_cmp k x.0) refl h (no_key xs k t)
-  where
-    by : (b : Bool) → eq_by_cmp text_cmp k x.0 ≡ b → (b || list_any (λ (a : List ℕ × List ℕ). eq_by_cmp text_cmp k a.0) xs) ≡ false
-        → (list_any (λ (a : List ℕ × List ℕ). eq_by_cmp text_cmp k a.0) xs ≡ false → list_any (same_pair (k, t)) xs ≡ false) → (same_pair (k, t) x || list_any (same_pair (k, t)) xs) ≡ false
-    by true e g more = absurd (true≢false g)
-    by false e g more = ap (λ b. b || list_any (same_pair (k, t)) xs) (then_not (text_cmp k x.0) (text_cmp t x.1) e) ∙ more g
+no_key xs k t = no_part (λ a. eq_by_cmp text_cmp k a.0) (k, t) (λ x e. then_both (text_cmp k x.0) (text_cmp t x.1) ∙ and_left (is_eq (text_cmp k x.0)) (is_eq (text_cmp t x.1)) e) xs
 
 -- ---- bits for the lengths of keys
 pub bits_put : (xs : List (List ℕ × List ℕ)) (i : ℕ) (x : List ℕ × List ℕ) → i < length xs → x ≡ get_or xs i x → with_key (key_bits (take i xs)) x ≡ key_bits (take (i + 1) xs)
@@ -120,46 +97,26 @@ bit_own b k = bit_at_or b (2 ^ k) k ∙ omega (arith, bit_at-pow_same k, bit_at-
 
 any_bit : (b : ℕ) (xs : List (List ℕ × List ℕ)) (k : List ℕ) → list_any (λ (a : List ℕ × List ℕ). eq_by_cmp text_cmp k a.0) xs ≡ true → bit_at (fold with_key b xs) (length k % 64) ≡ 1
 any_bit b [] k h = absurd (true≢false (sym h))
-any_bit b (x ∷ xs) k h = by (eq_by_cmp text_cmp k x.0) refl h (any_bit (with_key b x) xs k)
-  where
-    by : (c : Bool) → eq_by_cmp text_cmp k x.0 ≡ c → (c || list_any (λ (a : List ℕ × List ℕ). eq_by_cmp text_cmp k a.0) xs) ≡ true
-        → (list_any (λ (a : List ℕ × List ℕ). eq_by_cmp text_cmp k a.0) xs ≡ true → bit_at (fold with_key (with_key b x) xs) (length k % 64) ≡ 1) → bit_at (fold with_key (with_key b x) xs) (length k % 64) ≡ 1
-    by true e g more =
-        let same : k ≡ x.0 = (bytes_decides k x.0).0 (texts_ties k x.0 ∙ e) in
-        bit_still (with_key b x) xs (length k % 64) (ap (λ (y : List ℕ). bit_at (with_key b x) (length y % 64)) same ∙ bit_own b (length x.0 % 64))
-    by false e g more = more g
+any_bit b (x ∷ xs) k h = elim (or_cases (eq_by_cmp text_cmp k x.0) (list_any (λ (a : List ℕ × List ℕ). eq_by_cmp text_cmp k a.0) xs) h) [
+  | inl e ↦
+      let same : k ≡ x.0 = (bytes_decides k x.0).0 (texts_ties k x.0 ∙ e) in
+      bit_still (with_key b x) xs (length k % 64) (ap (λ (y : List ℕ). bit_at (with_key b x) (length y % 64)) same ∙ bit_own b (length x.0 % 64))
+  | inr more ↦ any_bit (with_key b x) xs k more
+]
 
 -- a key whose length has no bit is not asked
 pub no_bit : (xs : List (List ℕ × List ℕ)) (k t : List ℕ) → (bit_at (key_bits xs) (length k % 64) == 1) ≡ false → list_any (same_pair (k, t)) xs ≡ false
-no_bit xs k t h = by (list_any (λ (a : List ℕ × List ℕ). eq_by_cmp text_cmp k a.0) xs) refl
-  where
-    by : (b : Bool) → list_any (λ (a : List ℕ × List ℕ). eq_by_cmp text_cmp k a.0) xs ≡ b → list_any (same_pair (k, t)) xs ≡ false
-    by true e = absurd (true≢false (sym (ap (λ n. n == 1) (any_bit 0 xs k e)) ∙ h))
-    by false e = no_key xs k t e
+no_bit xs k t h = no_key xs k t (false_from_ne_true _ (λ e. both_ways _ h (ap (λ n. n == 1) (any_bit 0 xs k e))))
 
 -- texts of other lengths are other texts
 other_length : (s t : List ℕ) → eq_by_cmp nat_cmp (length s) (length t) ≡ false → is_eq (text_cmp s t) ≡ false
-other_length s t h = by (is_eq (text_cmp s t)) refl
-  where
-    by : (b : Bool) → is_eq (text_cmp s t) ≡ b → b ≡ false
-    by true e =
-        let same : s ≡ t = (bytes_decides s t).0 (texts_ties s t ∙ e) in
-        absurd (true≢false (sym (length_laws.refl (length s)) ∙ ap (λ y. eq_by_cmp nat_cmp (length s) (length y)) same ∙ h))
-    by false e = refl
-
-then_other : (r s : Ordering) → is_eq s ≡ false → is_eq (ordering_then r s) ≡ false
-then_other Less s h = refl
-then_other Equal s h = h
-then_other Greater s h = refl
+other_length s t h = false_from_ne_true (is_eq (text_cmp s t)) (λ e.
+    let same : s ≡ t = (bytes_decides s t).0 (texts_ties s t ∙ e) in
+    both_ways (eq_by_cmp nat_cmp (length s) (length t)) h (ap (λ y. eq_by_cmp nat_cmp (length s) (length y)) (sym same) ∙ length_laws.refl (length s)))
 
 pub no_length : (xs : List (List ℕ × List ℕ)) (k t : List ℕ) → list_any (λ (a : List ℕ × List ℕ). eq_by_cmp nat_cmp (length t) (length a.1)) xs ≡ false → list_any (same_pair (k, t)) xs ≡ false
-no_length [] k t h = refl
-no_length (x ∷ xs) k t h = by (eq_by_cmp nat_cmp (length t) (length x.1)) refl h (no_length xs k t)
-  where
-    by : (b : Bool) → eq_by_cmp nat_cmp (length t) (length x.1) ≡ b → (b || list_any (λ (a : List ℕ × List ℕ). eq_by_cmp nat_cmp (length t) (length a.1)) xs) ≡ false
-        → (list_any (λ (a : List ℕ × List ℕ). eq_by_cmp nat_cmp (length t) (length a.1)) xs ≡ false → list_any (same_pair (k, t)) xs ≡ false) → (same_pair (k, t) x || list_any (same_pair (k, t)) xs) ≡ false
-    by true e g more = absurd (true≢false g)
-    by false e g more = ap (λ b. b || list_any (same_pair (k, t)) xs) (then_other (text_cmp k x.0) (text_cmp t x.1) (other_length t x.1 e)) ∙ more g
+no_length xs k t =
+    no_part (λ a. eq_by_cmp nat_cmp (length t) (length a.1)) (k, t) (λ x e. then_both (text_cmp k x.0) (text_cmp t x.1) ∙ and_right (is_eq (text_cmp k x.0)) (is_eq (text_cmp t x.1)) (other_length t x.1 e)) xs
 
 pub asked_some : (q : Find) (x p : List ℕ × List ℕ) → if_asked q x ≡ Some p → (asks q x ≡ true) × (p ≡ x)
 asked_some q x p h = by (asks q x) refl h
@@ -183,7 +140,7 @@ pub wants_new : (q : Find) (others : List (List ℕ × List ℕ)) (x p : List �
 wants_new q others x p asked is absent = λ i. asked i && not ((ap (is_in others) (sym is) ∙ absent) i)
 
 pub wants_old : (q : Find) (others : List (List ℕ × List ℕ)) (x p : List ℕ × List ℕ) → p ≡ x → is_in others p ≡ true → wants q others x ≡ false
-wants_old q others x p is there = ap (λ b. asks q x && not b) (ap (is_in others) (sym is) ∙ there) ∙ and_none (asks q x)
+wants_old q others x p is there = ap (λ b. asks q x && not b) (ap (is_in others) (sym is) ∙ there) ∙ and-false (asks q x)
 
 pub wants_none : (q : Find) (others : List (List ℕ × List ℕ)) (x : List ℕ × List ℕ) → asks q x ≡ false → wants q others x ≡ false
 wants_none q others x e = ap (λ b. b && not (is_in others x)) e
@@ -194,15 +151,15 @@ met_put q others n o x w a put = put ∙ put_last (same_pair x a) (is_in o a) �
   where
     by : (b : Bool) → same_pair a x ≡ b → b ≡ (wants q others a && b)
     by true e = sym (ap (λ v. v && true) (wants_alike q others a x e ∙ w))
-    by false e = sym (and_none (wants q others a))
+    by false e = sym (and-false (wants q others a))
 
 pub met_same : (q : Find) (others o : List (List ℕ × List ℕ)) (x : List ℕ × List ℕ) → wants q others x ≡ false
     → (a : List ℕ × List ℕ) → is_in o a ≡ (is_in o a || (wants q others a && same_pair a x))
-met_same q others o x w a = or_none (is_in o a) ∙ ap (λ b. is_in o a || b) (by (same_pair a x) refl)
+met_same q others o x w a = sym (or-false (is_in o a)) ∙ ap (λ b. is_in o a || b) (by (same_pair a x) refl)
   where
     by : (b : Bool) → same_pair a x ≡ b → false ≡ (wants q others a && b)
     by true e = sym (ap (λ v. v && true) (wants_alike q others a x e ∙ w))
-    by false e = sym (and_none (wants q others a))
+    by false e = sym (and-false (wants q others a))
 
 pub tag_more : (q : Find) (others n o first : List (List ℕ × List ℕ)) (ts : List Tag) (i : ℕ) (t : Tag) → i < length ts → t ≡ get_or ts i t
     → (a : List ℕ × List ℕ) → is_in n a ≡ (is_in o a || (wants q others a && same_pair a (pair_of t))) → is_in o a ≡ (is_in first a || (wants q others a && has_pair (take i ts) a))
@@ -229,11 +186,6 @@ log_more q others n o first ls i l le is a put before =
     ∙ ap (λ ts. has_pair ts a) (sym (fields_last (take i ls) l) ∙ ap (λ y. fields_of (take i ls ++ y ∷ [])) is ∙ ap fields_of (sym (take_more ls i l le))))
 
 -- ---- the tags of a span
-then_both : (r s : Ordering) → is_eq (ordering_then r s) ≡ (is_eq r && is_eq s)
-then_both Less s = refl
-then_both Equal s = refl
-then_both Greater s = refl
-
 tag_matches-same : (a : List ℕ × List ℕ) (t : Tag) → tag_matches a t ≡ same_pair a (pair_of t)
 tag_matches-same a t = (λ i. texts_ties a.0 t.key i && texts_ties a.1 (tag_text t.value) i) ∙ sym (then_both (text_cmp a.0 t.key) (text_cmp a.1 (tag_text t.value)))
 
@@ -249,7 +201,7 @@ regroup : (s o l : Bool) → ((s || o) || l) ≡ ((s || l) || o)
 regroup true o l = refl
 regroup false true true = refl
 regroup false true false = refl
-regroup false false l = or_none l
+regroup false false l = sym (or-false l)
 
 module _ (q : Find) (o : Process) (s : Span) where
   abbrev here : Placed
