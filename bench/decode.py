@@ -27,6 +27,13 @@ KEYS = ["http.method", "http.url", "http.status_code", "component", "peer.servic
 SERVICES = ["frontend", "orders", "billing", "catalogue"]
 
 
+def asked_of(doc):
+    """What a script of this kind is asked: which program it runs, and what it adds itself."""
+    asked = argparse.ArgumentParser(description=doc, formatter_class=argparse.RawDescriptionHelpFormatter)
+    asked.add_argument("--bin", default=os.path.join(ROOT, "crates/jaeger_one/out/jaeger_one"))
+    return asked
+
+
 def tag(rng, key):
     kind = rng.choice([0, 0, 0, 0, 3, 2, 1])
     if kind == 0:
@@ -57,8 +64,7 @@ def batch(rng):
 
 
 def main():
-    asked = argparse.ArgumentParser(description=__doc__, formatter_class=argparse.RawDescriptionHelpFormatter)
-    asked.add_argument("--bin", default=os.path.join(ROOT, "crates/jaeger_one/out/jaeger_one"))
+    asked = asked_of(__doc__)
     asked.add_argument("--sizes", default="1,10,100", help="megabytes of decoded bytes")
     asked.add_argument("--keep", action="store_true", help="keep every batch (the program's limits are raised)")
     options = asked.parse_args()

@@ -11,7 +11,6 @@ less that of the same.
 
     bench/heavy.py [--bin PATH] [--runs 3] [--parts 1000] [--count] [SHAPE..]
 """
-import argparse
 import json
 import os
 import re
@@ -19,7 +18,7 @@ import subprocess
 import tempfile
 import time
 
-from decode import ROOT
+from decode import asked_of
 import wire
 from wire import get, integer, long, post, structs, text_tag
 
@@ -196,8 +195,7 @@ def counted(binary, requests):
 
 
 def main():
-    words = argparse.ArgumentParser(description=__doc__, formatter_class=argparse.RawDescriptionHelpFormatter)
-    words.add_argument("--bin", default=os.path.join(ROOT, "crates/jaeger_one/out/jaeger_one"))
+    words = asked_of(__doc__)
     words.add_argument("--runs", type=int, default=3)
     words.add_argument("--parts", type=int, default=1000, help="how many parts the whole has")
     words.add_argument("--count", action="store_true", help="count instructions in place of seconds, in millions")

@@ -13,11 +13,9 @@ kind. What is timed is from the first byte of the request to the last byte of it
 
 The column `of random` is the ratio of the best times.
 """
-import argparse
-import os
 import random
 
-from decode import ROOT
+from decode import asked_of
 from session import Session
 import wire
 
@@ -60,8 +58,7 @@ def measure(binary, sent):
 
 
 def main():
-    asked = argparse.ArgumentParser(description=__doc__, formatter_class=argparse.RawDescriptionHelpFormatter)
-    asked.add_argument("--bin", default=os.path.join(ROOT, "crates", "jaeger_one", "out", "jaeger_one"))
+    asked = asked_of(__doc__)
     asked.add_argument("--traces", type=int, default=20_000)
     asked.add_argument("--rounds", type=int, default=3)
     words = asked.parse_args()

@@ -7,12 +7,10 @@ traces but ten, and the others have nothing to do. Times are processor time of t
 
     bench/limits.py [--bin PATH] [--sizes 1000,10000,100000] [--limits 100000] [--runs 5]
 """
-import argparse
-import os
 import random
 import tempfile
 
-from decode import ROOT, span
+from decode import asked_of, span
 from store import IN_BATCH, seconds
 import wire
 
@@ -42,8 +40,7 @@ def run(program, size, limits, runs):
 
 
 def main():
-    asked = argparse.ArgumentParser(description=__doc__, formatter_class=argparse.RawDescriptionHelpFormatter)
-    asked.add_argument("--bin", default=os.path.join(ROOT, "crates/jaeger_one/out/jaeger_one"))
+    asked = asked_of(__doc__)
     asked.add_argument("--sizes", default="1000,10000,100000", help="traces held")
     asked.add_argument("--limits", type=int, default=100_000)
     asked.add_argument("--runs", type=int, default=5)

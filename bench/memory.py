@@ -8,12 +8,10 @@ that stands what is taken while a search for all traces is answered: by how much
 
     bench/memory.py [--bin PATH] [--sizes 0,10000,100000] [--tags 1,5]
 """
-import argparse
 import http.client
-import os
 import random
 
-from decode import ROOT, span
+from decode import asked_of, span
 from serve import started
 import wire
 
@@ -55,8 +53,7 @@ def answered(server):
 
 
 def main():
-    asked = argparse.ArgumentParser(description=__doc__, formatter_class=argparse.RawDescriptionHelpFormatter)
-    asked.add_argument("--bin", default=os.path.join(ROOT, "crates/jaeger_one/out/jaeger_one"))
+    asked = asked_of(__doc__)
     asked.add_argument("--sizes", default="0,10000,100000", help="spans held, 10,000,000 at most")
     asked.add_argument("--tags", default="1,5", help="tags a span, 15 at most")
     options = asked.parse_args()

@@ -12,11 +12,9 @@ program, the least of some runs, less those of a script in which nothing is hand
 
     bench/resent.py [--bin PATH] [--sizes 1000,10000,100000] [--runs 5]
 """
-import argparse
-import os
 import tempfile
 
-from decode import ROOT
+from decode import asked_of
 from heavy import span
 from store import seconds
 import wire
@@ -60,8 +58,7 @@ def run(program, way, size, is_numbered, runs):
 
 
 def main():
-    asked = argparse.ArgumentParser(description=__doc__, formatter_class=argparse.RawDescriptionHelpFormatter)
-    asked.add_argument("--bin", default=os.path.join(ROOT, "crates/jaeger_one/out/jaeger_one"))
+    asked = asked_of(__doc__)
     asked.add_argument("--sizes", default="1000,10000,100000", help="batches handed in, 131,072 at most")
     asked.add_argument("--runs", type=int, default=5)
     options = asked.parse_args()

@@ -21,7 +21,6 @@ rounds' own ratios. How far equal servers seem to differ is seen by giving the p
 says): what is within that says nothing. Clients and server share the machine's cores, so the figures are those of both
 together. It ends by itself after five minutes at most; what was not measured by then is `-`.
 """
-import argparse
 import os
 import statistics
 import subprocess
@@ -30,9 +29,7 @@ import tempfile
 import time
 import urllib.request
 
-HERE = os.path.dirname(os.path.abspath(__file__))
-ROOT = os.path.dirname(HERE)
-sys.path.append(os.path.join(ROOT, "checks"))
+from decode import asked_of
 from servers import Failed, Server, rust_program
 
 LIMITS = ["--queue", "256", "--batches", "1000000", "--spans", "10000000"]
@@ -146,8 +143,7 @@ def table(bench, sizes):
 
 
 def main():
-    asked = argparse.ArgumentParser(description=__doc__, formatter_class=argparse.RawDescriptionHelpFormatter)
-    asked.add_argument("--bin", default=os.path.join(ROOT, "crates/jaeger_one/out/jaeger_one"))
+    asked = asked_of(__doc__)
     asked.add_argument("--sizes", default="1000,10000,100000", help="spans held")
     asked.add_argument("--seconds", type=float, default=0.6, help="of each writing; a reading takes twice as long")
     asked.add_argument("--rounds", type=int, default=3)

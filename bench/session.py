@@ -8,13 +8,11 @@ the next. What is timed is from the first byte of a group of requests to the las
 
     bench/session.py [--bin PATH] [--sizes 1000,10000,100000] [--asks 20]
 """
-import argparse
-import os
 import random
 import subprocess
 import time
 
-from decode import ROOT, span
+from decode import asked_of, span
 import wire
 from wire import get, post
 
@@ -88,8 +86,7 @@ def measure(binary, size, asks):
 
 
 def main():
-    asked = argparse.ArgumentParser(description=__doc__, formatter_class=argparse.RawDescriptionHelpFormatter)
-    asked.add_argument("--bin", default=os.path.join(ROOT, "crates", "jaeger_one", "out", "jaeger_one"))
+    asked = asked_of(__doc__)
     asked.add_argument("--sizes", default="1000,10000,100000")
     asked.add_argument("--asks", type=int, default=20)
     words = asked.parse_args()

@@ -18,10 +18,8 @@ are held, then questions are asked whose answers grow with them. The shapes:
 What is counted is the processor time of the program (/proc/PID/schedstat), the least of the rounds, at the size and
 at twice it; `ratio` is their quotient.
 """
-import argparse
-import os
 
-from decode import ROOT
+from decode import asked_of
 from ids import colliding
 from session import Session
 import wire
@@ -114,8 +112,7 @@ def least(rounds):
 
 
 def main():
-    asked = argparse.ArgumentParser(description=__doc__, formatter_class=argparse.RawDescriptionHelpFormatter)
-    asked.add_argument("--bin", default=os.path.join(ROOT, "crates", "jaeger_one", "out", "jaeger_one"))
+    asked = asked_of(__doc__)
     asked.add_argument("--size", type=int, default=10_000)
     asked.add_argument("--rounds", type=int, default=3)
     shapes = "traces,services,operations,one trace,processes,chain,one span id,colliding"

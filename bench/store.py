@@ -7,13 +7,12 @@ program, the least of some runs. What a trace by its id costs is shown by sessio
 
     bench/store.py [--bin PATH] [--sizes 1000,10000,100000] [--runs 5]
 """
-import argparse
 import os
 import random
 import subprocess
 import tempfile
 
-from decode import ROOT, span
+from decode import asked_of, span
 import wire
 
 IN_BATCH = 10
@@ -45,8 +44,7 @@ def seconds(words, name, runs, status):
 
 
 def main():
-    asked = argparse.ArgumentParser(description=__doc__, formatter_class=argparse.RawDescriptionHelpFormatter)
-    asked.add_argument("--bin", default=os.path.join(ROOT, "crates/jaeger_one/out/jaeger_one"))
+    asked = asked_of(__doc__)
     asked.add_argument("--sizes", default="1000,10000,100000", help="spans held")
     asked.add_argument("--runs", type=int, default=5)
     options = asked.parse_args()
