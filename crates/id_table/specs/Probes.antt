@@ -1,12 +1,12 @@
 -- How ids are found in a table.
-use Rattle.std.specs.Prelude.{◌≡◌, ℕ, ◌^◌, ◌<◌, ◌≤◌, List, ◌++◌, map, length, fold}
+use Rattle.std.specs.Prelude.{ℕ, ◌^◌, ◌<◌, ◌≤◌, List, ◌++◌, map, length, fold}
 use Rattle.std.specs.Hash as fed
 use Rattle.std.specs.Hash.DefaultHasher as sip
 use Rattle.std.specs.RandomState.{initial_hasher}
 use Rattle.std.specs.declared.random_state.RandomState.{RandomState}
 use Rattle.jaeger_model.specs.declared.ids.TraceId.{TraceId}
-use Rattle.row_places.specs.Leading.{Places, LeadsTo}
-use Rattle.id_table.specs.Rows.{id_at}
+use Rattle.row_places.specs.Leading.{Places, LeadsTo, AreOnce}
+use Rattle.id_table.specs.Rows.{no_id}
 
 -- the hash of an id under the keys
 unfoldable pub hash_of : RandomState → TraceId → ℕ
@@ -15,14 +15,10 @@ hash_of keys id = sip.finish (fold sip.write (initial_hasher keys) (fed.u64 id.h
 abbrev pub hashes_of : RandomState → List TraceId → List ℕ
 hashes_of keys ids = map (hash_of keys) ids
 
--- no id has two rows
-abbrev pub AreOnce : List TraceId → Type 0
-AreOnce ids = (i j : ℕ) → i < j → j < length ids → id_at ids i ≡ id_at ids j → ⊥
-
--- the places lead to the rows of the ids, and the capacity of the ids is enough for the room
+-- no id has two rows, the places lead to those of the ids, and the capacity of the ids is enough for the room
 pub record IsHoused (keys : RandomState) (places : Places) (most : ℕ) (ids : List TraceId) : Type 0 where
   pub fits : places.room < 2 ^ 32
   pub ids_fit : places.room ≤ most
   pub within : length ids ≤ places.room
-  pub once : AreOnce ids
+  pub once : AreOnce no_id ids
   pub leads : LeadsTo (hashes_of keys ids) places.slots

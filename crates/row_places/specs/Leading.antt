@@ -49,3 +49,7 @@ pub record LeadsTo (hashes : List ℕ) (slots : List ℕ) : Type 0 where
 abbrev pub Found : ℕ → (ℕ → Bool) → Option ℕ → Type 0
 Found rows is_sought (Some row) = (row < rows) × (is_sought row ≡ true)
 Found rows is_sought None = (row : ℕ) → row < rows → is_sought row ≡ false
+
+-- no two rows have the same
+abbrev pub AreOnce : {A : Type 0} → A → List A → Type 0
+AreOnce default rows = (i j : ℕ) → i < j → j < length rows → get_or rows i default ≡ get_or rows j default → ⊥

@@ -1,10 +1,10 @@
 -- An index stays what it was when more numbers have names.
 use Rattle.std.proofs.Common.{◌≡◌, ℕ, suc, ◌<◌, ◌≤◌, List, [], ◌∷◌, map, length, get_or, refl, sym, ap, subst, arith}
 use Rattle.jaeger_model.specs.Texts.{sorted_set}
-use Rattle.row_places.specs.Leading.{LeadsTo}
+use Rattle.row_places.specs.Leading.{LeadsTo, AreOnce}
 use Rattle.service_index.specs.Listing.{Listed, listed_cmp}
 use Rattle.service_index.specs.Naming.{Names, LabelValue, Labelling, group_alone, operation_labels, group_labels, Extends}
-use Rattle.service_index.specs.Probes.{Table, hashes_of, AreOnce, AreNumbers, IsNamed}
+use Rattle.service_index.specs.Probes.{Table, no_label, hashes_of, AreNumbers, IsNamed}
 use Rattle.service_index.specs.Indexes.{Index, listing_by, owners, IsLinked, IsIndexed}
 
 pub map_agree : {X : Type 0} (count : ℕ) (f g : ℕ → X) → ((n : ℕ) → n < count → f n ≡ g n) → (numbers : List ℕ) → ((r : ℕ) → r < length numbers → get_or numbers r 0 < count) → map f numbers ≡ map g numbers
@@ -26,7 +26,7 @@ named_extends labels more t e h =
       fits = h.fits;
       within = h.within;
       numbers = record { held = λ r below. let b = h.numbers.held r below in let c = e.count in omega arith };
-      once = subst AreOnce same h.once;
+      once = subst (AreOnce no_label) same h.once;
       leads = subst (λ (xs : List LabelValue). LeadsTo (hashes_of t.keys xs) t.slots) same h.leads;
     }
 

@@ -13,6 +13,7 @@ use Rattle.trace_model.specs.declared.answer.Operation.{Operation}
 use Rattle.trace_model.specs.Names.{operation_cmp, same_operation}
 use Rattle.trace_model.proofs.Rising.{any_set, sorted_set-rises}
 use Rattle.trace_model.proofs.NameLaws.{text_total, text_exact, operation_total, operation_exact, any_map, any_filter}
+use Rattle.row_places.specs.Leading.{AreOnce}
 use Rattle.service_index.specs.Listing.{Listed, listed_cmp, same_listed, services_in, operations_of, names_of}
 use Rattle.service_index.specs.Naming.{Names, IsGrouped, IsGroupOf, service_alone, LabelValue, same_label, Labelling, group_alone, operation_labels, group_labels}
 use Rattle.service_index.specs.Probes.{Table, no_label, label_at, AreNumbers, IsNamed, row_of, with_number}
@@ -85,14 +86,11 @@ service_own services s r is below = ap (λ k. get_or services k []) is ∙ sym (
 pub service_new : (services : List (List ℕ)) (s : List ℕ) (r : ℕ) → r ≡ position_or_len (same_text s) services → length services ≤ r → list_any (same_text s) services ≡ false
 service_new services s r is past = sym (is_position (same_text s) services []) ∙ not_lt (position_or_len (same_text s) services) (length services) (omega arith)
 
-abbrev pub Distinct : List (List ℕ) → Type 0
-Distinct services = (i j : ℕ) → i < j → j < length services → get_or services i [] ≡ get_or services j [] → ⊥
-
 -- numbers have one label exactly where they have one key
 abbrev pub AreKeys : Labelling → (ℕ → List ℕ) → Type 0
 AreKeys labels key = (m : ℕ) → m < labels.count → FindsLabel labels (labels.at m) key (same_text (key m))
 
-pub distinct : (labels : Labelling) (key : ℕ → List ℕ) (t : Table) → AreKeys labels key → IsNamed labels t → Distinct (map key t.numbers)
+pub distinct : (labels : Labelling) (key : ℕ → List ℕ) (t : Table) → AreKeys labels key → IsNamed labels t → AreOnce [] (map key t.numbers)
 distinct labels key t are h i j below within same =
     let l = length-map t.numbers labels.at in
     let m = length-map t.numbers key in
@@ -175,7 +173,7 @@ or_known true b h = refl
 or_known false true h = h refl
 or_known false false h = refl
 
-pub linked_known : (rows services : List (List ℕ)) (newest earlier : List ℕ) (s : ℕ) (new : List ℕ) → IsLinked rows services newest earlier → Distinct services → s < length services → get_or services s [] ≡ new
+pub linked_known : (rows services : List (List ℕ)) (newest earlier : List ℕ) (s : ℕ) (new : List ℕ) → IsLinked rows services newest earlier → AreOnce [] services → s < length services → get_or services s [] ≡ new
     → IsLinked (rows ++ new ∷ []) services (set newest s (length rows + 1)) (earlier ++ get_or newest s 0 ∷ [])
 linked_known rows services newest earlier s new h apart within own =
     let a = h.as_many in
@@ -196,7 +194,7 @@ linked_known rows services newest earlier s new h apart within own =
       ];
     }
   where
-    two_rows : (services : List (List ℕ)) → Distinct services → (r s : ℕ) → r < length services → s < length services → (r ≡ s → ⊥) → get_or services r [] ≡ get_or services s [] → ⊥
+    two_rows : (services : List (List ℕ)) → AreOnce [] services → (r s : ℕ) → r < length services → s < length services → (r ≡ s → ⊥) → get_or services r [] ≡ get_or services s [] → ⊥
     two_rows services apart r s rn sn other same = elim (cases_lt r s) [
       | inl below ↦ apart r s below sn same
       | inr past ↦ apart s r (omega arith) rn (sym same)

@@ -1,21 +1,20 @@
 -- Labels among the rows of a table.
-use Rattle.std.proofs.Common.{◌≡◌, ℕ, ◌^◌, ◌<◌, Bool, true, false, ◌&&◌, cond, nat_lt, List, [], ◌∷◌, ◌++◌, map, length, get_or, Option, Some, None, refl, sym, ap, subst, ◌∙◌, inl, inr, arith, length-append}
+use Rattle.std.proofs.Common.{◌≡◌, ℕ, ◌^◌, ◌<◌, Bool, true, List, [], ◌∷◌, ◌++◌, map, length, get_or, Option, Some, None, refl, sym, ap, subst, ◌∙◌, inl, inr, arith, length-append}
 use Rattle.std.specs.Prelude.{◌==◌}
 use Rattle.std.specs.Ordering.{is_eq}
-use Rattle.std.specs.Cmp.{tied_itself}
-use Rattle.std.specs.Cmp.Lexicographic.{texts_ties}
+use Rattle.std.specs.Cmp.Lexicographic.{bytes_decides}
 use Rattle.std.specs.declared.cmp.Ordering.{Ordering}
 use Rattle.std.specs.declared.cmp.Ordering.TheVariants.{Less, Equal, Greater}
-use Rattle.std.specs.List.{position_or_len}
-use Rattle.std.proofs.lemmas.Bool.{false≢true, ltb-true, lt-ltb, cases_eq, cases_lt, eqb-true, eq-eqb}
+use Rattle.std.specs.Bool.{Decides}
+use Rattle.std.proofs.lemmas.Bool.{false≢true, cases_lt, cond_below, cond_above}
+use Rattle.std.proofs.lemmas.Bool.Decides.{Decides-eqb, Decides-and, Decides-like, not_from_Decides}
 use Rattle.std.proofs.lemmas.List.{length-map, map_push, get_or-map, get_or_append_left, get_or_push}
-use Rattle.std.proofs.lemmas.List.Sums.{position_or_len_is}
 use Rattle.std.specs.declared.random_state.RandomState.{RandomState}
-use Rattle.row_places.specs.Leading.{LeadsTo, Found}
-use Rattle.jaeger_model.specs.Texts.{same_text, text_cmp}
-use Rattle.trace_model.proofs.NameLaws.{text_total, text_exact}
+use Rattle.row_places.specs.Leading.{LeadsTo, Found, AreOnce}
+use Rattle.row_places.proofs.Once.{row_none, row_some, once_more}
+use Rattle.jaeger_model.specs.Texts.{same_text}
 use Rattle.service_index.specs.Naming.{LabelValue, same_label, Labelling}
-use Rattle.service_index.specs.Probes.{Table, no_label, label_at, hash_of, hashes_of, AreOnce, AreNumbers, IsNamed, row_of, with_number}
+use Rattle.service_index.specs.Probes.{Table, no_label, label_at, hash_of, hashes_of, AreNumbers, IsNamed, row_of, with_number}
 
 pub is_equal : (r : Ordering) → is_eq r ≡ true → r ≡ Equal
 is_equal Less e = absurd (false≢true e)
@@ -24,48 +23,24 @@ is_equal Greater e = absurd (false≢true e)
 
 -- ---- texts and labels that are the same
 pub text_is : (a b : List ℕ) → same_text a b ≡ true → a ≡ b
-text_is a b e = text_exact a b (is_equal (text_cmp a b) (sym (texts_ties a b) ∙ e))
+text_is a b = (bytes_decides a b).0
 
 pub text_self : (a : List ℕ) → same_text a a ≡ true
-text_self a = texts_ties a a ∙ ap is_eq (tied_itself text_total a)
+text_self a = (bytes_decides a a).1 refl
 
-both : {P : Type 0} (a b : Bool) → (a && b) ≡ true → (a ≡ true → b ≡ true → P) → P
-both true b e k = k refl e
-both false b e k = absurd (false≢true e)
+same_label-decides : (a b : LabelValue) → Decides (same_label a b) (a ≡ b)
+same_label-decides a b =
+    Decides-like (same_label a b) (λ p. λ i. record { group = p.0 i; name = p.1.0 i; kind = p.1.1 i })
+    (λ e. (ap (λ (l : LabelValue). l.group) e, (ap (λ (l : LabelValue). l.name) e, ap (λ (l : LabelValue). l.kind) e)))
+    (Decides-and (a.group == b.group) _ (Decides-eqb a.group b.group)
+    (Decides-and (same_text a.name b.name) (same_text a.kind b.kind) (bytes_decides a.name b.name) (bytes_decides a.kind b.kind)))
 
 pub same_is : (a b : LabelValue) → same_label a b ≡ true → a ≡ b
-same_is a b e = both (a.group == b.group) (same_text a.name b.name && same_text a.kind b.kind) e (λ g r.
-    both (same_text a.name b.name) (same_text a.kind b.kind) r (λ n k.
-    let gs = eqb-true a.group b.group g in
-    let ns = text_is a.name b.name n in
-    let ks = text_is a.kind b.kind k in
-    λ i. record { group = gs i; name = ns i; kind = ks i }))
-
-pub same_self : (a : LabelValue) → same_label a a ≡ true
-same_self a = λ i. eq-eqb a.group a.group refl i && (text_self a.name i && text_self a.kind i)
-
-pub differs : (a b : LabelValue) → (b ≡ a → ⊥) → same_label a b ≡ false
-differs a b apart = elim (same_label a b) as (λ t. same_label a b ≡ t → t ≡ false) [
-  | true ↦ λ e. absurd (apart (sym (same_is a b e)))
-  | false ↦ λ _. refl
-] refl
-
-pub not_same : (a b : LabelValue) → same_label a b ≡ false → a ≡ b → ⊥
-not_same a b e same = false≢true (sym e ∙ ap (λ x. same_label x b) same ∙ same_self b)
+same_is a b = (same_label-decides a b).0
 
 -- the labels of numbers
 pub label_of : (labels : Labelling) (numbers : List ℕ) (r : ℕ) → r < length numbers → label_at (map labels.at numbers) r ≡ labels.at (get_or numbers r 0)
 label_of labels numbers r below = get_or-map labels.at numbers r 0 no_label below
-
--- rows
-pub row_none : (label : LabelValue) (known : List LabelValue) → ((r : ℕ) → r < length known → label_at known r ≡ label → ⊥) → position_or_len (same_label label) known ≡ length known
-row_none label known nowhere =
-    position_or_len_is (same_label label) known (length known) no_label (omega arith) (λ k below. differs label (label_at known k) (nowhere k below)) (λ below. absurd (omega arith))
-
-pub row_some : (label : LabelValue) (known : List LabelValue) (r : ℕ) → r < length known → label_at known r ≡ label → ((i j : ℕ) → i < j → j < length known → label_at known i ≡ label_at known j → ⊥)
-    → position_or_len (same_label label) known ≡ r
-row_some label known r rn is once =
-    position_or_len_is (same_label label) known r no_label (omega arith) (λ k below. differs label (label_at known k) (λ same. once k r below rn (same ∙ sym is))) (λ below. ap (same_label label) is ∙ same_self label)
 
 -- the label of a row
 abbrev pub is_label : Labelling → List ℕ → LabelValue → ℕ → Bool
@@ -101,20 +76,14 @@ found_of labels keys xs numbers said label r e s f =
 pub nowhere_of : (labels : Labelling) (numbers : List ℕ) (label : LabelValue) → Found (length numbers) (is_label labels numbers label) None → (r : ℕ) → r < length (map labels.at numbers) → label_at (map labels.at numbers) r ≡ label → ⊥
 nowhere_of labels numbers label f r below e =
     let l = length-map numbers labels.at in
-    not_same (labels.at (get_or numbers r 0)) label (f r (omega arith)) (sym (label_of labels numbers r (omega arith)) ∙ e)
+    not_from_Decides (same_label (labels.at (get_or numbers r 0)) label) (same_label-decides (labels.at (get_or numbers r 0)) label) (f r (omega arith)) (sym (label_of labels numbers r (omega arith)) ∙ e)
 
 pub row_is : (labels : Labelling) (t : Table) (label : LabelValue) → IsNamed labels t → (r : Option ℕ) → Found (length t.numbers) (is_label labels t.numbers label) r → row_in t.numbers r ≡ row_of labels t.numbers label
 row_is labels t label h (Some r) f =
     let l = length-map t.numbers labels.at in
     let w = f.0 in
-    sym (row_some label (map labels.at t.numbers) r (omega arith) (is_at labels t.numbers label r f.0 f.1) h.once)
-row_is labels t label h None f = sym (row_none label (map labels.at t.numbers) (nowhere_of labels t.numbers label f) ∙ length-map t.numbers labels.at)
-
-new_number : (numbers : List ℕ) (n r : ℕ) → length numbers ≡ r → numbers ++ n ∷ [] ≡ cond (nat_lt r (length numbers)) numbers (numbers ++ n ∷ [])
-new_number numbers n r e = elim (nat_lt r (length numbers)) as (λ b. nat_lt r (length numbers) ≡ b → numbers ++ n ∷ [] ≡ cond b numbers (numbers ++ n ∷ [])) [
-  | true ↦ λ t. let below = ltb-true r (length numbers) t in absurd (omega arith)
-  | false ↦ λ _. refl
-] refl
+    sym (row_some same_label same_label-decides no_label label (map labels.at t.numbers) r (omega arith) (is_at labels t.numbers label r f.0 f.1) h.once)
+row_is labels t label h None f = sym (row_none same_label same_label-decides no_label label (map labels.at t.numbers) (nowhere_of labels t.numbers label f) ∙ length-map t.numbers labels.at)
 
 -- the numbers afterwards
 abbrev pub numbers_in : List ℕ → ℕ → Option ℕ → List ℕ
@@ -125,9 +94,10 @@ pub numbers_are : (labels : Labelling) (t : Table) (n : ℕ) → IsNamed labels 
 numbers_are labels t n h (Some r) f =
     let e = row_is labels t (labels.at n) h (Some r) f in
     let b = f.0 in
-    let below : row_of labels t.numbers (labels.at n) < length t.numbers = omega arith in
-    sym (ap (λ b. cond b t.numbers (t.numbers ++ n ∷ [])) (lt-ltb (row_of labels t.numbers (labels.at n)) (length t.numbers) below))
-numbers_are labels t n h None f = new_number t.numbers n (row_of labels t.numbers (labels.at n)) (row_is labels t (labels.at n) h None f)
+    cond_below (row_of labels t.numbers (labels.at n)) (length t.numbers) t.numbers (t.numbers ++ n ∷ []) (omega arith)
+numbers_are labels t n h None f =
+    let e = row_is labels t (labels.at n) h None f in
+    cond_above (row_of labels t.numbers (labels.at n)) (length t.numbers) t.numbers (t.numbers ++ n ∷ []) (t.numbers ++ n ∷ []) (omega arith) refl
 
 -- no number yet
 pub named_empty : (labels : Labelling) (keys : RandomState) (room : ℕ) (slots : List ℕ) → room < 2 ^ 32 → LeadsTo [] slots → IsNamed labels (record { numbers = []; room = room; keys = keys; slots = slots })
@@ -148,15 +118,6 @@ numbers_more labels numbers n h held = record {
   ];
 }
 
-once_more : (known : List LabelValue) (label : LabelValue) → AreOnce known → ((r : ℕ) → r < length known → label_at known r ≡ label → ⊥) → AreOnce (known ++ label ∷ [])
-once_more known label once absent i j below within same =
-    let m = length-append known (label ∷ []) in
-    let old : (r : ℕ) → r < length known → label_at (known ++ label ∷ []) r ≡ label_at known r = λ r below. get_or_append_left known (label ∷ []) no_label r below in
-    elim (cases_eq j (length known)) [
-      | inl e ↦ absent i (omega arith) (sym (old i (omega arith)) ∙ same ∙ ap (label_at (known ++ label ∷ [])) e ∙ get_or_push known label no_label (length known) refl)
-      | inr other ↦ once i j below (omega arith) (sym (old i (omega arith)) ∙ same ∙ old j (omega arith))
-    ]
-
 pub named_more : (labels : Labelling) (t : Table) (n : ℕ) (slots : List ℕ) → IsNamed labels t → n < labels.count → length t.numbers < t.room → Found (length t.numbers) (is_label labels t.numbers (labels.at n)) None
     → LeadsTo (hashes_of t.keys (map labels.at t.numbers) ++ hash_of t.keys (labels.at n) ∷ []) slots → IsNamed labels (record { numbers = t.numbers ++ n ∷ []; room = t.room; keys = t.keys; slots = slots })
 named_more labels t n slots h held more f leads =
@@ -167,6 +128,6 @@ named_more labels t n slots h held more f leads =
       fits = h.fits;
       within = omega arith;
       numbers = numbers_more labels t.numbers n h.numbers held;
-      once = subst AreOnce pushed (once_more known (labels.at n) h.once (nowhere_of labels t.numbers (labels.at n) f));
+      once = subst (AreOnce no_label) pushed (once_more no_label known (labels.at n) h.once (nowhere_of labels t.numbers (labels.at n) f));
       leads = subst (λ (xs : List LabelValue). LeadsTo (hashes_of t.keys xs) slots) pushed (subst (λ (hs : List ℕ). LeadsTo hs slots) (sym (map_push (hash_of t.keys) known (labels.at n))) leads);
     }

@@ -1,11 +1,11 @@
 -- How numbers are found in a table by their labels.
-use Rattle.std.specs.Prelude.{◌≡◌, ℕ, ◌^◌, ◌<◌, ◌≤◌, cond, nat_lt, List, [], ◌∷◌, ◌++◌, map, length, get_or, fold}
+use Rattle.std.specs.Prelude.{ℕ, ◌^◌, ◌<◌, ◌≤◌, cond, nat_lt, List, [], ◌∷◌, ◌++◌, map, length, get_or, fold}
 use Rattle.std.specs.List.{position_or_len}
 use Rattle.std.specs.Hash as fed
 use Rattle.std.specs.Hash.DefaultHasher as sip
 use Rattle.std.specs.RandomState.{initial_hasher}
 use Rattle.std.specs.declared.random_state.RandomState.{RandomState}
-use Rattle.row_places.specs.Leading.{LeadsTo}
+use Rattle.row_places.specs.Leading.{LeadsTo, AreOnce}
 use Rattle.service_index.specs.Naming.{LabelValue, same_label, Labelling, group_alone}
 
 -- what is seen of a table: the numbers in the order of adding, how many there is room for in all, and
@@ -29,20 +29,16 @@ no_label = group_alone 0
 abbrev pub label_at : List LabelValue → ℕ → LabelValue
 label_at known row = get_or known row no_label
 
--- no label has two rows
-abbrev pub AreOnce : List LabelValue → Type 0
-AreOnce known = (i j : ℕ) → i < j → j < length known → label_at known i ≡ label_at known j → ⊥
-
 -- each of the numbers is below the count
 pub record AreNumbers (count : ℕ) (numbers : List ℕ) : Type 0 where
   pub held : (r : ℕ) → r < length numbers → get_or numbers r 0 < count
 
--- the table leads to its numbers by these labels
+-- the table leads to its numbers by these labels, no two of which are the same
 pub record IsNamed (labels : Labelling) (table : Table) : Type 0 where
   pub fits : table.room < 2 ^ 32
   pub within : length table.numbers ≤ table.room
   pub numbers : AreNumbers labels.count table.numbers
-  pub once : AreOnce (map labels.at table.numbers)
+  pub once : AreOnce no_label (map labels.at table.numbers)
   pub leads : LeadsTo (hashes_of table.keys (map labels.at table.numbers)) table.slots
 
 -- the row of a label, or how many rows there are

@@ -3,10 +3,11 @@ use Rattle.std.specs.Prelude.{None, position}
 use Rattle.std.proofs.lemmas.List.{length-map, map_push}
 use Rattle.jaeger_model.specs.declared.ids.TraceId.{TraceId}
 use Rattle.jaeger_model.specs.Parents.{same_trace}
-use Rattle.row_places.specs.Leading.{Found, LeadsTo}
-use Rattle.id_table.specs.Rows.{Rows, id_at}
-use Rattle.id_table.specs.Probes.{AreOnce, hash_of, hashes_of}
-use Rattle.id_table.proofs.Probing.{found_at, once_more}
+use Rattle.row_places.specs.Leading.{Found, LeadsTo, AreOnce}
+use Rattle.row_places.proofs.Once.{once_more}
+use Rattle.id_table.specs.Rows.{Rows, no_id, id_at}
+use Rattle.id_table.specs.Probes.{hash_of, hashes_of}
+use Rattle.id_table.proofs.Probing.{found_at, absent_nowhere}
 use Rattle.id_table.proofs.table.IdTable.enter_near.Goals as goal
 
 pub returns-in-Some-clause-entered : goal.returns-in-Some-clause-entered
@@ -39,7 +40,7 @@ invariant_of-self c =
       fits = omega (arith, c.mark.ensures.room);
       ids_fit = omega (arith, c.mark.ensures.room, c.push_reserved.ensures.capacity);
       within = subst (λ (xs : List TraceId). length xs ≤ c.mark.new.self.room) ids (omega (arith, c.mark.ensures.room));
-      once = subst AreOnce ids (once_more t.ids.items id c.self.invariant.once absent);
+      once = subst (AreOnce no_id) ids (once_more no_id t.ids.items id c.self.invariant.once (absent_nowhere id t.ids.items absent));
       leads = subst (λ (xs : List TraceId). LeadsTo (hashes_of t.keys xs) slots) ids (subst (λ (hs : List ℕ). LeadsTo hs slots) (sym (map_push (hash_of t.keys) t.ids.items id)) marked);
     }
 

@@ -1,7 +1,8 @@
 use Rattle.std.proofs.Common.{◌≡◌, ◌≤◌, length, List, [], sym, subst, arith}
 use Rattle.jaeger_model.specs.declared.ids.TraceId.{TraceId}
-use Rattle.row_places.specs.Leading.{LeadsTo}
-use Rattle.id_table.specs.Probes.{AreOnce, hashes_of}
+use Rattle.row_places.specs.Leading.{LeadsTo, AreOnce}
+use Rattle.id_table.specs.Rows.{no_id}
+use Rattle.id_table.specs.Probes.{hashes_of}
 use Rattle.id_table.proofs.table.IdTable.with_room.Goals as goal
 
 pub invariant_of-result : goal.invariant_of-result
@@ -12,6 +13,6 @@ invariant_of-result c =
       fits = omega (arith, c.ranges.room.fits, c.in_ok-places.ensures.room);
       ids_fit = omega (arith, c.in_ok-ids.ensures.capacity, c.in_ok-places.ensures.room);
       within = subst (λ (y : List TraceId). length y ≤ c.in_ok-places.places.room) ids (omega arith);
-      once = subst AreOnce ids (λ i j below within _. absurd (omega arith));
+      once = subst (AreOnce no_id) ids (λ i j below within _. absurd (omega arith));
       leads = subst (λ (y : List TraceId). LeadsTo (hashes_of c.args.keys y) slots) ids c.in_ok-places.ensures.leads;
     }
