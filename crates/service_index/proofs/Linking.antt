@@ -3,9 +3,10 @@ use Rattle.std.proofs.Common.{◌≡◌, ℕ, suc, zero, ◌+◌, ◌-◌, ◌<�
 use Rattle.std.specs.Prelude.{◌==◌, filter, Some, None, if◌then◌else◌}
 use Rattle.std.specs.List.{list_any, position_or_len}
 use Rattle.std.proofs.Math.ListN.{set}
+use Rattle.std.proofs.Math.Path.{transport}
 use Rattle.std.proofs.Math.Seq.{drop-cons}
 use Rattle.std.proofs.lemmas.Bool.{false≢true, ltb-true, lt-ltb, cases_eq, cases_lt}
-use Rattle.std.proofs.lemmas.List.{length-set, length-map, map_push, drop_all, get_or-map, get_or-set_same, get_or-set_other, get_or_append_left, get_or_push}
+use Rattle.std.proofs.lemmas.List.{length-set, length-map, map_push, drop_all, get_or-map, get_or-set_same, get_or-set_other, get_or_append_left, get_or_push, get_or_past}
 use Rattle.std.proofs.lemmas.List.Sums.{fold_push, passes_at_first, fails_before_first, position_or_len_is, prefix_len-le-length}
 use Rattle.std.proofs.lemmas.List.Folds.{list_any-append, list_any_at}
 use Rattle.jaeger_model.specs.Texts.{same_text, text_cmp, sorted_set, insert_once}
@@ -257,61 +258,38 @@ listed_again names numbers n g held below known =
     ∙ sym (known_by_key labels (labels.at n) names.at (same_listed (names.at n)) numbers (service_alone []) (operations_keyed names g n below) (record { held = held.held }))
     ∙ lt-ltb (row_of labels numbers (labels.at n)) (length numbers) known))
 
-pub indexed_own : (names : Names) (g : IsGrouped names) (old : Index) (operations services : Table) (newest earlier : List ℕ) (n s row used room : ℕ) → n < names.count → IsIndexed names old → IsNamed (operation_labels names) operations → IsNamed (group_labels names) services
+pub indexed_more : (names : Names) (g : IsGrouped names) (old : Index) (operations services : Table) (newest earlier : List ℕ) (n s row used room : ℕ) → n < names.count → IsIndexed names old → IsNamed (operation_labels names) operations → IsNamed (group_labels names) services
     → operations.numbers ≡ with_number (operation_labels names) old.operations.numbers n → row ≡ row_of (operation_labels names) old.operations.numbers ((operation_labels names).at n) → length old.operations.numbers ≤ row
-    → services.numbers ≡ with_number (group_labels names) old.services.numbers n → s ≡ row_of (group_labels names) old.services.numbers (group_alone (names.group n)) → s < length old.services.numbers
-    → newest ≡ set old.newest s (row + 1) → earlier ≡ old.earlier ++ get_or old.newest s 0 ∷ []
+    → services.numbers ≡ with_number (group_labels names) old.services.numbers n → s ≡ row_of (group_labels names) old.services.numbers (group_alone (names.group n))
+    → newest ≡ newest_with old.newest s (row + 1) → earlier ≡ old.earlier ++ get_or old.newest s 0 ∷ []
     → IsIndexed names (record { operations = operations; services = services; newest = newest; earlier = earlier; used = used; room = room })
-indexed_own names g old operations services newest earlier n s row used room held h named alone_named more is past less at below e f =
+indexed_more names g old operations services newest earlier n s row used room held h named alone_named more is past less at e f =
     let numbers = old.operations.numbers in
     let others = old.services.numbers in
     let l = length-map numbers (λ k. (names.at k).service) in
     let m = length-map others (λ k. (names.at k).service) in
+    let as_many = h.linked.as_many in
     let w = row_within (operation_labels names) numbers ((operation_labels names).at n) in
     let new : row ≡ length (owners names numbers) = omega arith in
     let found : s ≡ position_or_len (same_text (alone names n)) (owners names others) = at ∙ row_by_key (group_labels names) (group_alone (names.group n)) (alone names) (same_text (alone names n)) others [] (groups_keyed names g n held) h.services.numbers in
-    let own = service_own (owners names others) (alone names n) s found (omega arith) in
-    let linked = linked_known (owners names numbers) (owners names others) old.newest old.earlier s (alone names n) h.linked (distinct (group_labels names) (alone names) old.services (groups_keyed names g) h.services) (omega arith) own in
-    let rows : operations.numbers ≡ numbers ++ n ∷ [] = more ∙ number_new (operation_labels names) numbers n (omega arith) in
-    let same : services.numbers ≡ others = less ∙ number_known (group_labels names) others n (omega arith) in
+    let rows : owners names operations.numbers ≡ owners names numbers ++ alone names n ∷ [] = ap (owners names) (more ∙ number_new (operation_labels names) numbers n (omega arith)) ∙ map_push (alone names) numbers n in
     record {
       operations = named;
       services = alone_named;
-      linked =
-          subst (λ (x : List ℕ). IsLinked (owners names x) (owners names services.numbers) newest earlier) (sym rows)
-          (subst (λ (x : List ℕ). IsLinked (owners names (numbers ++ n ∷ [])) (owners names x) newest earlier) (sym same)
-          (subst (λ (x : List (List ℕ)). IsLinked x (owners names others) newest earlier) (sym (map_push (λ k. (names.at k).service) numbers n))
-          (subst (λ (x : List ℕ). IsLinked (owners names numbers ++ alone names n ∷ []) (owners names others) x earlier) (sym (e ∙ ap (λ k. set old.newest s (k + 1)) new))
-          (subst (λ (x : List ℕ). IsLinked (owners names numbers ++ alone names n ∷ []) (owners names others) (set old.newest s (length (owners names numbers) + 1)) x) (sym f) linked))));
-    }
-
-pub indexed_new : (names : Names) (g : IsGrouped names) (old : Index) (operations services : Table) (newest earlier : List ℕ) (n s row used room : ℕ) → n < names.count → IsIndexed names old → IsNamed (operation_labels names) operations → IsNamed (group_labels names) services
-    → operations.numbers ≡ with_number (operation_labels names) old.operations.numbers n → row ≡ row_of (operation_labels names) old.operations.numbers ((operation_labels names).at n) → length old.operations.numbers ≤ row
-    → services.numbers ≡ with_number (group_labels names) old.services.numbers n → s ≡ row_of (group_labels names) old.services.numbers (group_alone (names.group n)) → length old.services.numbers ≤ s
-    → newest ≡ old.newest ++ (row + 1) ∷ [] → earlier ≡ old.earlier ++ 0 ∷ []
-    → IsIndexed names (record { operations = operations; services = services; newest = newest; earlier = earlier; used = used; room = room })
-indexed_new names g old operations services newest earlier n s row used room held h named alone_named more is past less at beyond e f =
-    let numbers = old.operations.numbers in
-    let others = old.services.numbers in
-    let l = length-map numbers (λ k. (names.at k).service) in
-    let w = row_within (operation_labels names) numbers ((operation_labels names).at n) in
-    let new : row ≡ length (owners names numbers) = omega arith in
-    let m = length-map others (λ k. (names.at k).service) in
-    let found : s ≡ position_or_len (same_text (alone names n)) (owners names others) = at ∙ row_by_key (group_labels names) (group_alone (names.group n)) (alone names) (same_text (alone names n)) others [] (groups_keyed names g n held) h.services.numbers in
-    let absent = service_new (owners names others) (alone names n) s found (omega arith) in
-    let linked = linked_new (owners names numbers) (owners names others) old.newest old.earlier (alone names n) h.linked absent in
-    let rows : operations.numbers ≡ numbers ++ n ∷ [] = more ∙ number_new (operation_labels names) numbers n (omega arith) in
-    let fresh : services.numbers ≡ others ++ n ∷ [] = less ∙ number_new (group_labels names) others n (omega arith) in
-    record {
-      operations = named;
-      services = alone_named;
-      linked =
-          subst (λ (x : List ℕ). IsLinked (owners names x) (owners names services.numbers) newest earlier) (sym rows)
-          (subst (λ (x : List ℕ). IsLinked (owners names (numbers ++ n ∷ [])) (owners names x) newest earlier) (sym fresh)
-          (subst (λ (x : List (List ℕ)). IsLinked x (owners names (others ++ n ∷ [])) newest earlier) (sym (map_push (λ k. (names.at k).service) numbers n))
-          (subst (λ (x : List (List ℕ)). IsLinked (owners names numbers ++ alone names n ∷ []) x newest earlier) (sym (map_push (λ k. (names.at k).service) others n))
-          (subst (λ (x : List ℕ). IsLinked (owners names numbers ++ alone names n ∷ []) (owners names others ++ alone names n ∷ []) x earlier) (sym (e ∙ ap (λ k. old.newest ++ (k + 1) ∷ []) new))
-          (subst (λ (x : List ℕ). IsLinked (owners names numbers ++ alone names n ∷ []) (owners names others ++ alone names n ∷ []) (old.newest ++ (length (owners names numbers) + 1) ∷ []) x) (sym f) linked)))));
+      linked = elim (cases_lt s (length others)) [
+        | inl below ↦
+            let same : services.numbers ≡ others = less ∙ number_known (group_labels names) others n (omega arith) in
+            let set_in : newest ≡ set old.newest s (length (owners names numbers) + 1) = e ∙ newest_known old.newest s (row + 1) (omega arith) ∙ ap (λ k. set old.newest s (k + 1)) new in
+            transport (λ i. IsLinked (sym rows i) (owners names (sym same i)) (sym set_in i) (sym f i))
+            (linked_known (owners names numbers) (owners names others) old.newest old.earlier s (alone names n) h.linked (distinct (group_labels names) (alone names) old.services (groups_keyed names g) h.services) (omega arith)
+            (service_own (owners names others) (alone names n) s found (omega arith)))
+        | inr beyond ↦
+            let fresh : owners names services.numbers ≡ owners names others ++ alone names n ∷ [] = ap (owners names) (less ∙ number_new (group_labels names) others n (omega arith)) ∙ map_push (alone names) others n in
+            let put : newest ≡ old.newest ++ (length (owners names numbers) + 1) ∷ [] = e ∙ newest_fresh old.newest s (row + 1) (omega arith) ∙ ap (λ k. old.newest ++ (k + 1) ∷ []) new in
+            let none : earlier ≡ old.earlier ++ 0 ∷ [] = f ∙ ap (λ x. old.earlier ++ x ∷ []) (get_or_past old.newest s 0 (omega arith)) in
+            transport (λ i. IsLinked (sym rows i) (sym fresh i) (sym put i) (sym none i))
+            (linked_new (owners names numbers) (owners names others) old.newest old.earlier (alone names n) h.linked (service_new (owners names others) (alone names n) s found (omega arith)))
+      ];
     }
 
 -- ---- answers

@@ -1,12 +1,10 @@
-use Rattle.std.proofs.Common.{◌≡◌, ◌∙◌, ◌+◌, ◌<◌, ◌≤◌, [], ◌∷◌, ◌++◌, inl, inr, length, map, ap, sym, subst, arith}
-use Rattle.std.proofs.lemmas.Bool.{cases_lt}
-use Rattle.std.proofs.lemmas.List.{get_or_past}
+use Rattle.std.proofs.Common.{◌≡◌, ◌∙◌, ◌+◌, ◌<◌, ◌≤◌, length, map, ap, sym, subst, arith}
 use Rattle.jaeger_model.specs.Texts.{insert_once, sorted_set}
 use Rattle.service_index.specs.Listing.{listed_cmp}
 use Rattle.service_index.specs.Naming.{operation_labels}
 use Rattle.service_index.specs.Probes.{row_of}
 use Rattle.service_index.specs.Indexes.{Index, IsIndexed, listing_by}
-use Rattle.service_index.proofs.Linking.{listed_again, number_known, row_within, newest_known, newest_fresh, indexed_own, indexed_new}
+use Rattle.service_index.proofs.Linking.{listed_again, number_known, row_within, indexed_more}
 use Rattle.service_index.specs.LinkedRows.{newest_with}
 use Rattle.service_index.proofs.index.ServiceIndex.add_at.Goals as goal
 
@@ -31,19 +29,10 @@ returns-clause-indexed g c =
     let indexed : IsIndexed names old = subst (IsIndexed names) (sym c.self.view_is) c.requires.indexed in
     let sized = c.self.invariant.1 in
     let rows = sized.earlier_rows in
-    let others = sized.newest_rows in
     let grouped = g.met.T.Texts.grouped c.args.texts.now in
     let s = c.add-service.result in
     let within = row_within (operation_labels names) inside.operations.numbers ((operation_labels names).at c.args.n) in
     let past : length old.operations.numbers ≤ c.add-row.result = omega (arith, c.if-row-rows.false, c.rows.ensures) in
     let at : length old.earlier + 1 ≡ c.add-row.result + 1 = omega (arith, c.add-row.ensures.row) in
-    let newest : c.add_row.new.self.newest ≡ newest_with old.newest s (c.add-row.result + 1) = c.add_row.ensures.newest ∙ ap (newest_with old.newest s) at in
-    elim (cases_lt s (length old.newest)) [
-      | inl below ↦
-          indexed_own names grouped old c.add-row.new.self c.add-service.new.self c.add_row.new.self.newest c.add_row.new.self.earlier c.args.n s c.add-row.result _ _ c.requires.held indexed c.add-row.ensures.leads c.add-service.ensures.leads
-          c.add-row.ensures.numbers c.add-row.ensures.row past c.add-service.ensures.numbers c.add-service.ensures.row (omega arith) (newest ∙ newest_known old.newest s (c.add-row.result + 1) below) c.add_row.ensures.earlier
-      | inr beyond ↦
-          indexed_new names grouped old c.add-row.new.self c.add-service.new.self c.add_row.new.self.newest c.add_row.new.self.earlier c.args.n s c.add-row.result _ _ c.requires.held indexed c.add-row.ensures.leads c.add-service.ensures.leads
-          c.add-row.ensures.numbers c.add-row.ensures.row past c.add-service.ensures.numbers c.add-service.ensures.row (omega arith) (newest ∙ newest_fresh old.newest s (c.add-row.result + 1) beyond)
-          (c.add_row.ensures.earlier ∙ ap (λ x. old.earlier ++ x ∷ []) (get_or_past old.newest s 0 beyond))
-    ]
+    indexed_more names grouped old c.add-row.new.self c.add-service.new.self c.add_row.new.self.newest c.add_row.new.self.earlier c.args.n s c.add-row.result _ _ c.requires.held indexed c.add-row.ensures.leads c.add-service.ensures.leads
+    c.add-row.ensures.numbers c.add-row.ensures.row past c.add-service.ensures.numbers c.add-service.ensures.row (c.add_row.ensures.newest ∙ ap (newest_with old.newest s) at) c.add_row.ensures.earlier
