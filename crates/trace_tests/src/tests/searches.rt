@@ -5,8 +5,8 @@ use std::alloc::{AllocError, Global};
 use std::hash::RandomState;
 use std::mem::drop;
 use std::test::*;
-use trace_adjust::show;
-use trace_model::{Answer, AnsweredTrace, Find, Query, Shown, TraceForm};
+use trace_adjust::shown;
+use trace_model::{Answer, AnsweredTrace, Find, Query, Shown};
 use trace_samples::{list_of, placed, process, service_find, span};
 
 /// A span of service `a` of this trace.
@@ -169,22 +169,21 @@ fn low_of(trace: &[Shown]) -> u64 {
 }
 
 /// The same of a trace of an answer, whether it is made already or not.
-fn low_of_trace(alloc: Global, trace: &AnsweredTrace) -> Result<u64, AllocError> {
-    match trace.form() {
-        TraceForm::Ready(made) => Ok(low_of(made.as_slice())),
-        TraceForm::Kept(kept) => {
-            let shown = show(alloc, kept)?;
-            let low = low_of(shown.as_slice());
-            drop(shown);
-            Ok(low)
-        }
-    }
+fn low_of_trace(alloc: Global, trace: AnsweredTrace) -> Result<u64, AllocError> {
+    let made = shown(alloc, trace)?;
+    let low = low_of(made.as_slice());
+    drop(made);
+    Ok(low)
 }
 
 /// The traces have ids with these low halves.
-fn are_traces(alloc: Global, traces: &[AnsweredTrace], wanted: &[u64]) -> Result<bool, AllocError> {
+fn are_traces(
+    alloc: Global,
+    traces: Vec<AnsweredTrace>,
+    wanted: &[u64],
+) -> Result<bool, AllocError> {
     let mut same = traces.len() == wanted.len();
-    for (trace, wanted) in traces.iter().zip(wanted) {
+    for (trace, wanted) in traces.into_iter().zip(wanted) {
         let low = low_of_trace(alloc, trace)?;
         same = same && low == *wanted;
     }
@@ -194,13 +193,13 @@ fn are_traces(alloc: Global, traces: &[AnsweredTrace], wanted: &[u64]) -> Result
 /// The answer has these ids alone, or the traces with these ids, and no others.
 fn are_found(
     alloc: Global,
-    answer: &Answer,
+    answer: Answer,
     ids_alone: bool,
     wanted: &[u64],
 ) -> Result<bool, AllocError> {
     match answer {
-        Answer::Traces(traces) if !ids_alone => are_traces(alloc, traces.as_slice(), wanted),
-        _ => Ok(ids_alone && are_ids(answer, wanted)),
+        Answer::Traces(traces) if !ids_alone => are_traces(alloc, traces.into_vec(), wanted),
+        other => Ok(ids_alone && are_ids(&other, wanted)),
     }
 }
 
@@ -220,9 +219,7 @@ fn finds(
         Query::Find(find)
     };
     let answer = store_answer_of(alloc, keys, rows, 0, query)?;
-    let same = are_found(alloc, &answer, ids_alone, wanted);
-    drop(answer);
-    Ok(same?)
+    Ok(are_found(alloc, answer, ids_alone, wanted)?)
 }
 
 #[test]
