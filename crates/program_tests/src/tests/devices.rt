@@ -2,31 +2,20 @@
 use crate::tests::host::Host;
 use crate::tests::runs::{HEAD, SPAN, TAIL, joined};
 use program_run::run;
-use session_devices::Watched;
+use session_devices::{Input, MemoryInput, Watched};
 use std::alloc::Global;
 use std::io;
 use std::io::{Error, ErrorKind, Read, Write};
 use std::net::{Net, TcpListener, TcpStream};
 use std::test::Fail;
 
-/// A reader of a text, some bytes a call, whose one call fails.
+/// An input over memory as a reader of std.
 #[derive(Drop)]
-struct Breaking<'a> {
-    text: &'a [u8],
-    calls: u64,
-    fails_at: u64,
-}
+struct Breaking<'a>(MemoryInput<'a>);
 
 impl Read for Breaking<'_> {
     fn read(&mut self, buf: &mut [u8]) -> io::Result<usize> {
-        self.calls = self.calls.saturating_add(1);
-        if self.calls == self.fails_at {
-            return Err(Error::from(ErrorKind::Other));
-        }
-        let count = buf.len().min(16).min(self.text.len());
-        buf[..count].copy_from_slice(&self.text[..count]);
-        self.text = &self.text[count..];
-        Ok(count)
+        self.0.read(buf).map_err(|_| Error::from(ErrorKind::Other))
     }
 }
 
@@ -62,11 +51,7 @@ fn check_failures<H: Host + Net<Stream = TcpStream, Listener = TcpListener>>(
 ) -> Result<(), Fail> {
     let calls = input.len() as u64 / 16 + 2;
     for fails_at in 1..calls + 2 {
-        let mut reader = Breaking {
-            text: input,
-            calls: 0,
-            fails_at,
-        };
+        let mut reader = Breaking(MemoryInput::new(input, 16, fails_at));
         let mut written = Vec::new(alloc);
         let got = run(
             rt,
