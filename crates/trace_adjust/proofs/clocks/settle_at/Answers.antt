@@ -5,32 +5,16 @@ use Rattle.trace_adjust.proofs.Hosting.{number_read}
 use Rattle.trace_adjust.proofs.Settled.{step_set, step_closed, step_fewer, parent_read}
 use Rattle.trace_adjust.proofs.clocks.settle_at.Goals as goal
 
-pub returns-clause-set : goal.returns-clause-set
-returns-clause-set c =
+pub returns : goal.returns
+returns c =
     let all = c.args.trace.now in
     let p = c.index-trace-place.result in
     let within = c.requires.within in
     let here = c.index-trace-place.is in
     let parent = parent_read all c.args.parents.now c.args.place p within c.requires.parents in
     let number = ap (λ q. number_in (hosts_of all) (host_of q)) here ∙ number_read (hosts_of all) all c.args.hosts.now c.args.place p 0 within c.requires.hosts in
-    step_set c.args.max_skew all c.args.clocks.now.items c.settle.new.clocks.items c.args.place _ p _ within here parent number c.settle.ensures.after c.requires.set
-
-pub returns-clause-closed : goal.returns-clause-closed
-returns-clause-closed c = λ e.
-    let all = c.args.trace.now in
-    let p = c.index-trace-place.result in
-    let within = c.requires.within in
-    let here = c.index-trace-place.is in
-    let parent = parent_read all c.args.parents.now c.args.place p within c.requires.parents in
-    let number = ap (λ q. number_in (hosts_of all) (host_of q)) here ∙ number_read (hosts_of all) all c.args.hosts.now c.args.place p 0 within c.requires.hosts in
-    step_closed c.args.max_skew all c.args.clocks.now.items c.settle.new.clocks.items c.args.place _ p _ within here parent number c.settle.ensures.after c.requires.set (sym c.settle.ensures.set ∙ e)
-
-pub returns-clause-fewer : goal.returns-clause-fewer
-returns-clause-fewer c =
-    let all = c.args.trace.now in
-    let p = c.index-trace-place.result in
-    let within = c.requires.within in
-    let here = c.index-trace-place.is in
-    let parent = parent_read all c.args.parents.now c.args.place p within c.requires.parents in
-    let number = ap (λ q. number_in (hosts_of all) (host_of q)) here ∙ number_read (hosts_of all) all c.args.hosts.now c.args.place p 0 within c.requires.hosts in
-    step_fewer c.args.max_skew all c.args.clocks.now.items c.settle.new.clocks.items c.args.place _ p _ within here parent number c.settle.ensures.after c.requires.set c.settle.result c.settle.ensures.set
+    record {
+      set = step_set c.args.max_skew all c.args.clocks.now.items c.settle.new.clocks.items c.args.place _ p _ within here parent number c.settle.ensures.after c.requires.set;
+      closed = λ e. step_closed c.args.max_skew all c.args.clocks.now.items c.settle.new.clocks.items c.args.place _ p _ within here parent number c.settle.ensures.after c.requires.set (sym c.settle.ensures.set ∙ e);
+      fewer = step_fewer c.args.max_skew all c.args.clocks.now.items c.settle.new.clocks.items c.args.place _ p _ within here parent number c.settle.ensures.after c.requires.set c.settle.result c.settle.ensures.set;
+    }
