@@ -1,6 +1,9 @@
 -- What the arrivals report, by their numbers.
-use Rattle.std.proofs.Common.{◌≡◌, ℕ, zero, suc, ◌+◌, ◌-◌, ◌<◌, true, false, List, [], ◌∷◌, ◌++◌, map, length, get_or, take, refl, sym, ap, subst, ◌∙◌, arith, length-append}
+use Rattle.std.proofs.Common.{◌≡◌, ℕ, zero, suc, ◌-◌, ◌<◌, true, false, List, [], ◌∷◌, ◌++◌, map, length, get_or, take, refl, sym, ap, subst, ◌∙◌, arith, length-append}
 use Rattle.std.specs.Prelude.{if◌then◌else◌, cond, nat_lt, Some, None}
+use Rattle.std.specs.Arc.{arc_value}
+use Rattle.std.specs.declared.sync.Arc.{Arc}
+use Rattle.std.specs.Global.{Global}
 use Rattle.std.proofs.lemmas.Bool.{false≢true, ltb-true, lt-ltb}
 use Rattle.std.proofs.lemmas.List.{length-map, get_or-map, map-append, take_at, get_or_append_left, get_or_default}
 use Rattle.jaeger_model.specs.declared.placed.Placed.{Placed}
@@ -41,6 +44,19 @@ listed-placed b s =
       | true ↦ refl
       | false ↦ refl
     ]
+
+-- the entry that the arrival of a number came in, which has the span
+pub came_in : (entries : List (Arc Entry Global)) (entry_of firsts : List ℕ) (n : ℕ) (a : Arc Entry Global) (e : Entry) → AreOf (map arc_value entries) entry_of firsts → n < length (arrivals (map arc_value entries))
+    → e ≡ arc_value (get_or entries (get_or entry_of n 0) a)
+    → (n < length entry_of) × (e ≡ get_or (map arc_value entries) (get_or entry_of n 0) e) × ((w : Work) → e.work ≡ w → n - get_or firsts (get_or entry_of n 0) 0 < length (spans_brought w))
+came_in entries entry_of firsts n a e kept asked value =
+    let many = kept.as_many in
+    let below : n < length entry_of = omega arith in
+    let at = kept.at n below in
+    let entry = at.entry in
+    let l = length-map entries arc_value in
+    let there : e ≡ get_or (map arc_value entries) (get_or entry_of n 0) e = value ∙ sym (get_or-map arc_value entries (get_or entry_of n 0) a e (omega arith)) in
+    (below, there, λ w is. subst (λ (v : Work). n - get_or firsts (get_or entry_of n 0) 0 < length (spans_brought v)) is (at.within e there))
 
 pub said : (h : List Entry) (entry_of firsts : List ℕ) (n : ℕ) (e : Entry) (b : Batch) (s : Span) → AreOf h entry_of firsts → n < length entry_of → e ≡ get_or h (get_or entry_of n 0) e
     → e.work ≡ brings.Batch b → s ≡ get_or b.spans (n - get_or firsts (get_or entry_of n 0) 0) s → get_or (reports h) n (service_alone []) ≡ reported b s

@@ -1,4 +1,4 @@
-use Rattle.std.proofs.Common.{◌≡◌, ◌∙◌, ℕ, ◌-◌, List, [], ◌∷◌, ◌++◌, length, map, get_or, ap, sym, subst, arith}
+use Rattle.std.proofs.Common.{◌≡◌, ◌∙◌, ℕ, ◌-◌, List, [], ◌∷◌, ◌++◌, length, map, refl, ap, sym, subst, arith}
 use Rattle.std.specs.Prelude.{Vec}
 use Rattle.std.specs.Arc.{arc_value}
 use Rattle.std.specs.Global.{Global}
@@ -11,7 +11,7 @@ use Rattle.arrival_journal.specs.declared.kind.Kind.{Kind}
 use Rattle.arrival_journal.specs.Kinds.{kind_text, first_kinds}
 use Rattle.arrival_names.specs.Kept.{AreKinds}
 use Rattle.trace_model.specs.Histories.{before_last}
-use Rattle.trace_model.proofs.LastEntries.{entry_is, last_is}
+use Rattle.trace_model.proofs.LastEntries.{last_entry}
 use Rattle.arrival_names.specs.Numbers.{Numbered, AreOf}
 use Rattle.arrival_names.proofs.Numbering.{Filled, numbers_more}
 use Rattle.arrival_names.proofs.KindsKept.{kinds_more}
@@ -29,8 +29,7 @@ returns-clause-numbers c =
     let e = arc_value a in
     let l : length h ≡ length entries = length-map entries (arc_value {X = Entry} {Z = Global}) in
     let last : length before ≡ length h - 1 = length-take-le (length h - 1) h (omega arith) in
-    let there = entry_is entries (length entries - 1) a (omega arith) c.index-entries-before.is in
-    let whole : before ++ e ∷ [] ≡ h = last_is h e (omega arith) (there ∙ ap (λ n. get_or h (n - 1) e) (sym l)) in
+    let whole : before ++ e ∷ [] ≡ h = last_entry entries a e (omega arith) c.index-entries-before.is refl in
     let old = c.self.inside in
     let numbers : AreOf before old.entry_of.items old.firsts.items = subst (λ (v : Numbered). AreOf before v.entry_of v.firsts) (sym c.self.view_is) c.requires.numbers in
     let items = ap (λ (ss : List Span). length ss) (c.spans-span-items.ensures ∙ ap (λ (x : Entry). spans_brought x.work) c.deref.ensures) in
@@ -52,9 +51,7 @@ returns-clause-kinds c =
     let before = before_last h in
     let a = c.index-entries-before-2.result in
     let e = arc_value a in
-    let l : length h ≡ length entries = length-map entries (arc_value {X = Entry} {Z = Global}) in
-    let there = entry_is entries (length entries - 1) a (omega arith) c.index-entries-before-2.is in
-    let whole : before ++ e ∷ [] ≡ h = last_is h e (omega arith) (there ∙ ap (λ n. get_or h (n - 1) e) (sym l)) in
+    let whole : before ++ e ∷ [] ≡ h = last_entry entries a e (omega arith) c.index-entries-before-2.is refl in
     let old = c.self.inside in
     let kinds : AreKinds before old.kinds.items = subst (λ (v : Numbered). AreKinds before v.kinds) (sym c.self.view_is) c.requires.kinds in
     let spans : c.spans.result.now ≡ spans_brought e.work = c.spans.ensures ∙ ap (λ (x : Entry). spans_brought x.work) c.deref-2.ensures in
@@ -69,8 +66,6 @@ add_kinds-requires-clause-first c =
     let h : List Entry = map (arc_value {X = Entry} {Z = Global}) entries in
     let a = c.index-entries-before-2.result in
     let e = arc_value a in
-    let l : length h ≡ length entries = length-map entries (arc_value {X = Entry} {Z = Global}) in
-    let there = entry_is entries (length entries - 1) a (omega arith) c.index-entries-before-2.is in
-    let whole : before_last h ++ e ∷ [] ≡ h = last_is h e (omega arith) (there ∙ ap (λ n. get_or h (n - 1) e) (sym l)) in
+    let whole : before_last h ++ e ∷ [] ≡ h = last_entry entries a e (omega arith) c.index-entries-before-2.is refl in
     let spans : c.spans.result.now ≡ spans_brought e.work = c.spans.ensures ∙ ap (λ (x : Entry). spans_brought x.work) c.deref-2.ensures in
     c.requires.first e (sym whole) ∙ ap first_kinds (sym spans)
