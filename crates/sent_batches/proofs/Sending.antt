@@ -1,12 +1,15 @@
 -- Batches with a number among the entries of a list.
-use Rattle.std.proofs.Common.{◌≡◌, ℕ, zero, suc, ◌+◌, ◌^◌, ◌<◌, ◌≤◌, Bool, true, false, ◌&&◌, List, [], ◌∷◌, ◌++◌, map, length, get_or, Option, Some, None, refl, sym, ap, ◌∙◌, subst, arith, inl, inr, length-append, append_assoc, ℤ, pos, cond, nat_lt}
+use Rattle.std.proofs.Common.{◌≡◌, ℕ, zero, suc, ◌+◌, ◌-◌, ◌^◌, ◌<◌, ◌≤◌, Bool, true, false, ◌&&◌, List, [], ◌∷◌, ◌++◌, map, length, get_or, Option, Some, None, refl, sym, ap, ◌∙◌, subst, arith, length-append, append_assoc, ℤ, pos, cond, nat_lt}
 use Rattle.std.specs.Prelude.{slice_get, if◌then◌else◌}
+use Rattle.std.specs.Arc.{arc_value}
+use Rattle.std.specs.declared.sync.Arc.{Arc}
+use Rattle.std.specs.Global.{Global}
 use Rattle.std.specs.Option.{is_some, option_map_or, unwrap_or}
 use Rattle.std.specs.List.{list_any, position_or_len}
 use Rattle.std.proofs.lemmas.Bool.{false≢true, lt-ltb}
 use Rattle.std.proofs.lemmas.List.Sums.{position_or_len_is}
 use Rattle.std.proofs.lemmas.List.Folds.{list_any_at, list_any_none}
-use Rattle.std.proofs.lemmas.List.{get_or_append_left, append-nil, map_push}
+use Rattle.std.proofs.lemmas.List.{get_or_append_left, append-nil, length-map, map_push}
 use Rattle.std.proofs.lemmas.Option.{slice_get-get_or}
 use Rattle.sent_batches.specs.declared.keys.BatchKeys.{BatchKeys}
 use Rattle.jaeger_model.specs.declared.batch.Batch.{Batch}
@@ -16,9 +19,11 @@ use Rattle.jaeger_model.specs.SameLaws.{same_number-decides, same_process-decide
 use Rattle.trace_model.specs.declared.entry.Entry.{Entry}
 use Rattle.trace_model.specs.declared.entry.Work.{Work}
 use Rattle.trace_model.specs.declared.entry.Work.TheVariants as brings
+use Rattle.trace_model.specs.Histories.{before_last}
 use Rattle.trace_model.specs.Works.{batch_brought}
-use Rattle.trace_model.specs.Resending.{is_sent_as, resends, is_sent, sent_before, SentOnceAfter}
+use Rattle.trace_model.specs.Resending.{is_sent_as, resends, sent_before, SentOnceAfter}
 use Rattle.trace_model.proofs.Admissions.{sent_nowhere}
+use Rattle.trace_model.proofs.LastEntries.{last_entry}
 use Rattle.sent_batches.specs.Hashing.{hash_of, batch_hash}
 use Rattle.sent_batches.specs.Sent.{has_number, numbered_from, work_hash, hash_behind, is_behind, Sent, IsKept}
 use Rattle.row_places.specs.Leading.{LeadsTo}
@@ -229,14 +234,32 @@ more_rows h e num = numbered_push 0 h e ∙ ap (λ b. numbered_from 0 h ++ (if b
 pub same_rows : (h : List Entry) (e : Entry) → has_number e.work ≡ false → numbered_from 0 (h ++ e ∷ []) ≡ numbered_from 0 h
 same_rows h e none = numbered_push 0 h e ∙ ap (λ b. numbered_from 0 h ++ (if b then (0 + length h) ∷ [] else [])) none ∙ append-nil (numbered_from 0 h)
 
-pub kept_same : (h : List Entry) (e : Entry) (sent : Sent) → IsKept h sent → has_number e.work ≡ false → length (h ++ e ∷ []) ≤ sent.room → IsKept (h ++ e ∷ []) sent
-kept_same h e sent kept none room = record {
-  fits = kept.fits;
-  within = room;
-  befores = kept.befores ∙ sym (same_rows h e none);
-  hashes = kept.hashes ∙ ap (map (hash_behind sent.keys h)) kept.befores ∙ sym (hashes_same sent.keys h e) ∙ ap (map (hash_behind sent.keys (h ++ e ∷ []))) (sym kept.befores);
-  leads = kept.leads;
-}
+-- there is room for the last entry of a list, and for a row of it
+pub record OneMore (h : List Entry) (e : Entry) (sent : Sent) : Type 0 where
+  pub last : before_last h ++ e ∷ [] ≡ h
+  pub within : length (before_last h ++ e ∷ []) ≤ sent.room
+  pub befores : length sent.befores < sent.room
+  pub hashes : length sent.hashes < sent.room
+
+pub one_more : (entries : List (Arc Entry Global)) (a : Arc Entry Global) (e : Entry) (sent : Sent) → 0 < length entries → a ≡ get_or entries (length entries - 1) a → e ≡ arc_value a
+    → IsKept (before_last (map arc_value entries)) sent → length entries ≤ sent.room → OneMore (map arc_value entries) e sent
+one_more entries a e sent some is value kept room =
+    let h = before_last (map arc_value entries) in
+    let last : h ++ e ∷ [] ≡ map arc_value entries = last_entry entries a e some is value in
+    let within : length (h ++ e ∷ []) ≤ sent.room = omega (arith, ap length last, length-map entries arc_value) in
+    let few : length sent.befores < sent.room = omega (arith, numbered_few 0 h, ap length kept.befores, length-append h (e ∷ [])) in
+    record { last = last; within = within; befores = few; hashes = omega (arith, ap length kept.hashes, length-map sent.befores (hash_behind sent.keys h)) }
+
+pub kept_same : (h : List Entry) (e : Entry) (sent : Sent) → IsKept (before_last h) sent → has_number e.work ≡ false → OneMore h e sent → IsKept h sent
+kept_same h e sent kept none more =
+    let before = before_last h in
+    subst (λ (l : List Entry). IsKept l sent) more.last record {
+      fits = kept.fits;
+      within = more.within;
+      befores = kept.befores ∙ sym (same_rows before e none);
+      hashes = kept.hashes ∙ ap (map (hash_behind sent.keys before)) kept.befores ∙ sym (hashes_same sent.keys before e) ∙ ap (map (hash_behind sent.keys (before ++ e ∷ []))) (sym kept.befores);
+      leads = kept.leads;
+    }
 
 pub kept_more : (h : List Entry) (e : Entry) (b : Batch) (sent more : Sent) → IsKept h sent → e.work ≡ brings.Batch b → is_some b.seq_no ≡ true → length (h ++ e ∷ []) ≤ sent.room
     → more.keys ≡ sent.keys → more.room ≡ sent.room → more.befores ≡ sent.befores ++ length h ∷ [] → more.hashes ≡ sent.hashes ++ batch_hash sent.keys b ∷ []
