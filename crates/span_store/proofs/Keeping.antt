@@ -4,7 +4,7 @@ use Rattle.jaeger_model.specs.declared.ids.TraceId.{TraceId}
 use Rattle.trace_model.specs.declared.entry.Entry.{Entry}
 use Rattle.trace_model.specs.declared.admission.Admission.TheVariants.{Added}
 use Rattle.trace_model.specs.Held.{Held}
-use Rattle.trace_model.specs.Histories.{events, span_count}
+use Rattle.trace_model.specs.Histories.{IsLegal, arrivals, events, span_count}
 use Rattle.trace_model.specs.Works.{spans_brought}
 use Rattle.trace_model.proofs.Admissions.{MayFollow, IsSaid, admission_says}
 use Rattle.trace_model.proofs.Legality.{span_count_push}
@@ -18,6 +18,7 @@ use Rattle.trace_assembly.specs.Rows.{Assembled, spots_of}
 use Rattle.trace_assembly.specs.Located.{located_events, shown_spots}
 use Rattle.trace_assembly.proofs.Places.{events-located}
 use Rattle.arrival_names.specs.Kept.{Kept as Names}
+use Rattle.arrival_names.proofs.Numbering.{length-arrivals}
 use Rattle.service_places.specs.Reported.{Reported}
 use Rattle.journal_traces.specs.Standing.{spans_named, traces_named}
 use Rattle.journal_traces.proofs.Adopting.{map_map}
@@ -59,6 +60,10 @@ spans_fit held e may = omega (arith, spans_within held e may, held.limits.within
 pub kept_room : (held : Held) (e : Entry) (shown : Assembled) (index : Names) (reported : Reported) → IsKept held shown index reported
     → admission_by held e ≡ Ok Added → shown.used + length (spans_brought e.work) ≤ shown.room
 kept_room held e shown index reported k may = omega (arith, k.room, k.used, spans_within held e may)
+
+-- nor are there more arrivals with them than there may be spans
+pub arrivals_fit : (held now : Held) (e : Entry) (h : List Entry) (room : ℕ) → now ≡ followed_by held e → IsLegal now.limits now.entries → h ≡ now.entries → room ≡ held.limits.spans → length (arrivals h) ≤ room
+arrivals_fit held now e h room appended legal same is = omega (arith, length-arrivals h ∙ ap span_count same, legal.spans, ap (λ (v : Held). v.limits.spans) appended, is)
 
 -- the ring is within the limit in force
 pub kept_within : (held : Held) (shown : Assembled) (index : Names) (reported : Reported) → IsKept held shown index reported → IsWithin shown.newest

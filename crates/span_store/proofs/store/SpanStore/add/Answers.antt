@@ -1,20 +1,18 @@
-use Rattle.std.proofs.Common.{arith, subst, map, ◌∙◌, rules, ◌≡◌, ◌+◌, ◌^◌, ◌<◌, ◌≤◌, ap, Ok, List, [], ◌∷◌, ◌++◌, length}
+use Rattle.std.proofs.Common.{subst, map, ◌∙◌, rules, ◌≡◌, ◌+◌, ◌^◌, ◌<◌, ◌≤◌, ap, Ok, List, [], ◌∷◌, ◌++◌, length}
 use Rattle.std.specs.Arc.{arc_value}
 use Rattle.std.specs.Global.{Global}
 use Rattle.trace_model.specs.declared.admission.Admission.TheVariants.{Added}
 use Rattle.trace_model.specs.declared.entry.Entry.{Entry}
 use Rattle.trace_model.specs.Held.{Held}
-use Rattle.trace_model.specs.Histories.{span_count}
 use Rattle.trace_model.specs.Refusals.{followed_by}
 use Rattle.trace_model.specs.Works.{spans_brought}
 use Rattle.arrival_journal.specs.Journals.{admission_by}
 use Rattle.trace_assembly.specs.Rows.{spots_of}
 use Rattle.trace_assembly.specs.Located.{located_events}
 use Rattle.arrival_names.specs.Kept.{IsKept as NamesKept}
-use Rattle.arrival_names.proofs.Numbering.{length-arrivals}
 use Rattle.service_places.specs.Reported.{IsKept as PlacesKept}
 use Rattle.span_store.specs.Kept.{Follows, IsNamed, IsPlaced}
-use Rattle.span_store.proofs.Keeping.{Grows, kept_more, kept_room, kept_within, spans_fit}
+use Rattle.span_store.proofs.Keeping.{Grows, arrivals_fit, kept_more, kept_room, kept_within, spans_fit}
 use Rattle.span_store.proofs.store.SpanStore.add.Goals as goal
 
 pub follow-requires-clause-within : goal.follow-requires-clause-within
@@ -68,20 +66,8 @@ invariant_of-self c =
 
 pub add-requires-2-clause-numbers : goal.add-requires-2-clause-numbers
 add-requires-2-clause-numbers c =
-    let was = c.self.inside in
-    let held : c.append_prepared.new.self.held ≡ followed_by was.journal.held (c.args.entry) = c.append_prepared.ensures.appended in
-    let within = c.append_prepared.ensures.legal.spans in
-    let most = ap (λ (v : Held). v.limits.spans) held in
-    let count = length-arrivals (map (arc_value {X = Entry} {Z = Global}) c.entries-entries.result.now) ∙ ap span_count c.entries-entries.ensures in
-    let room = c.self.invariant.named.numbers in
-    omega arith
+    arrivals_fit c.self.inside.journal.held _ (c.args.entry) (map (arc_value {X = Entry} {Z = Global}) c.entries-entries.result.now) _ c.append_prepared.ensures.appended c.append_prepared.ensures.legal c.entries-entries.ensures c.self.invariant.named.numbers
 
 pub add-requires-2-clause-index : goal.add-requires-2-clause-index
 add-requires-2-clause-index c =
-    let was = c.self.inside in
-    let held : c.append_prepared.new.self.held ≡ followed_by was.journal.held (c.args.entry) = c.append_prepared.ensures.appended in
-    let within = c.append_prepared.ensures.legal.spans in
-    let most = ap (λ (v : Held). v.limits.spans) held in
-    let count = length-arrivals (map (arc_value {X = Entry} {Z = Global}) c.entries-entries.result.now) ∙ ap span_count c.entries-entries.ensures in
-    let room = c.self.invariant.named.index in
-    omega arith
+    arrivals_fit c.self.inside.journal.held _ (c.args.entry) (map (arc_value {X = Entry} {Z = Global}) c.entries-entries.result.now) _ c.append_prepared.ensures.appended c.append_prepared.ensures.legal c.entries-entries.ensures c.self.invariant.named.index

@@ -13,12 +13,7 @@ use Rattle.span_store.proofs.Picking.{found_reported}
 use Rattle.span_store.proofs.store.SpanStore.candidates_reported.Goals as goal
 
 pub spots_reported-requires-clause-few : goal.spots_reported-requires-clause-few
-spots_reported-requires-clause-few c =
-    let placed = c.self.invariant.placed in
-    let room = placed.batches in
-    let fits = placed.kept.fits in
-    let within = c.len-legal.ensures.legal.batches in
-    omega (arith, room, fits, within)
+spots_reported-requires-clause-few c = omega (arith, c.self.invariant.placed.batches, c.self.invariant.placed.kept.fits, c.len-legal.ensures.legal.batches)
 
 pub spots_reported-requires-clause-numbers : goal.spots_reported-requires-clause-numbers
 spots_reported-requires-clause-numbers c = c.self.invariant.placed.kept.grouped

@@ -41,12 +41,7 @@ returns-clause-numbered c =
     (service_at h, (group_in h, c.in_ok-traces.ensures.numbered))
 
 pub see_within-requires-clause-few : goal.see_within-requires-clause-few
-see_within-requires-clause-few c =
-    let placed = c.self.invariant.placed in
-    let room = placed.batches in
-    let fits = placed.kept.fits in
-    let within = c.len-legal.ensures.legal.batches in
-    omega (arith, room, fits, within)
+see_within-requires-clause-few c = omega (arith, c.self.invariant.placed.batches, c.self.invariant.placed.kept.fits, c.len-legal.ensures.legal.batches)
 
 pub see_within-requires-clause-numbers : goal.see_within-requires-clause-numbers
 see_within-requires-clause-numbers c = c.self.invariant.placed.kept.grouped
