@@ -1,6 +1,6 @@
 -- What a session wrote before memory ran out.
 use Rattle.std.proofs.Common.{◌≡◌, ℕ, ◌+◌, ◌≤◌, Bool, true, false, List, [], ◌∷◌, ◌++◌, length, refl, inl, sym, ap, ◌∙◌, subst, arith, append_assoc, append-nil, length-append, Option, Some, None, All}
-use Rattle.std.specs.Io.KnownBytes.{Consumes}
+use Rattle.std.specs.Io.KnownBytes.{Consumes, Appends}
 use Rattle.std.proofs.lemmas.Bool.{false≢true}
 use Rattle.std.proofs.lemmas.List.Elements.{All-head, All-tail, All-cons, All-nil}
 use Rattle.std.proofs.lemmas.Grind.{flat_map-append}
@@ -90,35 +90,31 @@ stopped_there bytes before taken rest left s t ys zs read split opens run memory
       memory = subst NeverWants alone memory;
     }
 
+-- what was answered before some exchange was written first, whatever was written behind
+written_first : (bytes before taken rest tail : List ℕ) (left out : Option (List ℕ)) (s t : Held) (opens last ys zs : List Exchange) (z : Exchange) → length last ≤ 1 → All IsOpen opens → opens ++ last ≡ ys ++ z ∷ zs → NeverWants ys
+    → Consumes (Some bytes) left taken → taken ≡ texts (opens ++ last) ++ rest → Run DirectSubmits DirectReads s (opens ++ last) t → Appends (Some before) out (responses opens ++ tail) → WroteFirst bytes before out s (responses ys)
+written_first bytes before taken rest tail left None s t opens last ys zs z few each e memory read split run written = absurd written
+written_first bytes before taken rest tail left (Some o) s t opens last ys zs z few each e memory read split run written =
+    let mid = front opens last ys zs z few e in
+    record {
+      more = responses mid.0 ++ tail;
+      written = ap Some (written ∙ ap (λ (l : List ℕ). before ++ l) (
+          ap (λ (l : List Exchange). responses l ++ tail) mid.1
+          ∙ ap (λ (l : List ℕ). l ++ tail) (responses_parts ys mid.0)
+          ∙ append_assoc (responses ys) (responses mid.0) tail));
+      failed = stopped_there bytes before taken rest left s t ys (z ∷ zs) read (split ∙ ap (λ (l : List Exchange). texts l ++ rest) e)
+          (all_front IsOpen ys mid.0 (subst (All IsOpen) mid.1 each)) (subst (λ (l : List Exchange). Run DirectSubmits DirectReads s l t) e run) memory;
+    }
+
 pub ended_before : (bytes before : List ℕ) (left out : Option (List ℕ)) (s t : Held) (n : ℕ) (c : Bool) (ends : EndsAs DirectSubmits DirectReads (Some bytes) left (Some before) out s t n c)
     (ys zs : List Exchange) (z : Exchange) → ends.opens ++ last_of ends.ending ≡ ys ++ z ∷ zs → NeverWants ys → WroteFirst bytes before out s (responses ys)
-ended_before bytes before left None s t n c ends ys zs z e memory = absurd ends.written
-ended_before bytes before left (Some o) s t n c ends ys zs z e memory =
-    let mid = front ends.opens (last_of ends.ending) ys zs z (last_few ends.ending) e in
-    let all_open : All IsOpen ys = all_front IsOpen ys mid.0 (subst (All IsOpen) mid.1 ends.each) in
-    record {
-      more = responses (z ∷ zs) ++ parting ends.ending;
-      written = ap Some (ends.written ∙ ap (λ (l : List ℕ). before ++ l) (
-          ap (λ (l : List Exchange). responses l ++ parting ends.ending) e
-          ∙ ap (λ (l : List ℕ). l ++ parting ends.ending) (responses_parts ys (z ∷ zs))
-          ∙ append_assoc (responses ys) (responses (z ∷ zs)) (parting ends.ending)));
-      failed = stopped_there bytes before ends.taken ends.rest left s t ys (z ∷ zs) ends.read (ends.split ∙ ap (λ (l : List Exchange). texts l ++ ends.rest) e) all_open
-          (subst (λ (l : List Exchange). Run DirectSubmits DirectReads s l t) e ends.run) memory;
-    }
+ended_before bytes before left out s t n c ends ys zs z e memory =
+    let last = last_of ends.ending in
+    let parts = ap (λ (l : List ℕ). l ++ parting ends.ending) (responses_parts ends.opens last) ∙ append_assoc (responses ends.opens) (responses last) (parting ends.ending) in
+    written_first bytes before ends.taken ends.rest (responses last ++ parting ends.ending) left out s t ends.opens last ys zs z (last_few ends.ending) ends.each e memory ends.read ends.split ends.run
+    (subst (λ (w : List ℕ). Appends (Some before) out w) parts ends.written)
 
 pub failed_before : (bytes before : List ℕ) (left out : Option (List ℕ)) (s t : Held) (i o : Bool) (error : SessionError) (fails : FailsAs DirectSubmits DirectReads (Some bytes) left (Some before) out s t i o error)
     (ys zs : List Exchange) (z : Exchange) → fails.opens ++ exchange_due fails.next ≡ ys ++ z ∷ zs → NeverWants ys → WroteFirst bytes before out s (responses ys)
-failed_before bytes before left None s t i o error fails ys zs z e memory = absurd fails.written
-failed_before bytes before left (Some p) s t i o error fails ys zs z e memory =
-    let mid = front fails.opens (exchange_due fails.next) ys zs z (due_few fails.next) e in
-    let all_open : All IsOpen ys = all_front IsOpen ys mid.0 (subst (All IsOpen) mid.1 fails.each) in
-    let last : List ℕ = take error.written (bytes_due fails.next) in
-    record {
-      more = responses mid.0 ++ last;
-      written = ap Some (fails.written ∙ ap (λ (l : List ℕ). before ++ l) (
-          ap (λ (l : List Exchange). responses l ++ last) mid.1
-          ∙ ap (λ (l : List ℕ). l ++ last) (responses_parts ys mid.0)
-          ∙ append_assoc (responses ys) (responses mid.0) last));
-      failed = stopped_there bytes before fails.taken fails.rest left s t ys (z ∷ zs) fails.read (fails.split ∙ ap (λ (l : List Exchange). texts l ++ fails.rest) e) all_open
-          (subst (λ (l : List Exchange). Run DirectSubmits DirectReads s l t) e fails.run) memory;
-    }
+failed_before bytes before left out s t i o error fails ys zs z e memory =
+    written_first bytes before fails.taken fails.rest (take error.written (bytes_due fails.next)) left out s t fails.opens (exchange_due fails.next) ys zs z (due_few fails.next) fails.each e memory fails.read fails.split fails.run fails.written
