@@ -72,10 +72,7 @@ fn take_batch(
 fn say_fault(said: &mut Vec<u8>, number: u64, fault: LineFault) -> Result<(), AllocError>
     ensures { OnOk result (said.new.items ≡ said.old.items ++ fault_line number (Some fault)) }
 {
-    match writeln!(said, "line {number}: {fault}") {
-        Ok(()) => Ok(()),
-        Err(_) => Err(AllocError),
-    }
+    writeln!(said, "line {number}: {fault}").map_err(|_| AllocError)
 }
 
 /// A store that takes a batch from each line, and says why where it can't.

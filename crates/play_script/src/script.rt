@@ -22,10 +22,7 @@ use trace_model::{Limits, Refusal};
 fn say_fault(said: &mut Vec<u8>, number: u64, fault: StepFault) -> Result<(), AllocError>
     ensures { OnOk result (said.new.items ≡ said.old.items ++ step_fault_line number fault) }
 {
-    match writeln!(said, "line {number}: {fault}") {
-        Ok(()) => Ok(()),
-        Err(_) => Err(AllocError),
-    }
+    writeln!(said, "line {number}: {fault}").map_err(|_| AllocError)
 }
 
 /// The outcome says that memory ran out.
@@ -50,10 +47,7 @@ fn make(world: &mut World, step: Step) -> Result<Outcome, AllocError>
 fn say_line(said: &mut Vec<u8>, text: &str) -> Result<(), AllocError>
     ensures { OnOk result (said.new.items ≡ said.old.items ++ (text.now ++ codes "\n")) }
 {
-    match writeln!(said, "{text}") {
-        Ok(()) => Ok(()),
-        Err(_) => Err(AllocError),
-    }
+    writeln!(said, "{text}").map_err(|_| AllocError)
 }
 
 /// Says what came of a step.
