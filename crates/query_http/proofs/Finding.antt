@@ -1,5 +1,5 @@
 -- The rows of the endpoints find an endpoint's path, and no other path.
-use Rattle.std.proofs.Common.{◌≡◌, ℕ, List, [], ◌∷◌, ◌++◌, Some, None, refl, sym, ap, ◌∙◌, subst, inl, inr, ◌⊎◌, arith}
+use Rattle.std.proofs.Common.{◌≡◌, ℕ, List, [], ◌∷◌, ◌++◌, Some, None, refl, sym, ap, ◌∙◌, subst, inl, inr, ◌⊎◌, arith, append-nil}
 use Rattle.std.specs.Prelude.{codes}
 use Rattle.matchit.specs.Rows.{RowsOf}
 use Rattle.matchit.specs.Router.{RouteOf}
@@ -22,20 +22,21 @@ the_trace = record { pattern = trace_pattern; text = codes "/api/traces/{id}"; n
 abbrev the_names : Found
 the_names = record { pattern = names_pattern; text = codes "/api/services/{service}/operations"; names = (15, 22) ∷ []; value = OperationNames }
 
-abbrev end : Found → RowsOf Found
-end r = ([], r) ∷ []
+-- an endpoint whose path ends with a word
+abbrev ends_at : List ℕ → Endpoint → RowsOf Found
+ends_at word e = ([], literal (codes "/api/" ++ word) e) ∷ []
 
 abbrev dependencies_rows : RowsOf Found
-dependencies_rows = end (literal (codes "/api/dependencies") Dependencies)
+dependencies_rows = ends_at (codes "dependencies") Dependencies
 
 abbrev operations_rows : RowsOf Found
-operations_rows = end (literal (codes "/api/operations") Operations)
+operations_rows = ends_at (codes "operations") Operations
 
 abbrev services_end : RowsOf Found
-services_end = end (literal (codes "/api/services") Services)
+services_end = ends_at (codes "services") Services
 
 abbrev traces_end : RowsOf Found
-traces_end = end (literal (codes "/api/traces") Traces)
+traces_end = ends_at (codes "traces") Traces
 
 abbrev names_rows : RowsOf Found
 names_rows = (256 ∷ codes "/operations", the_names) ∷ []
@@ -107,53 +108,47 @@ Is r rest = (part : List ℕ) × IsPath r.value part (codes "/api/" ++ rest)
 made : (r s : Found) (rest : List ℕ) (part : List ℕ) → r ≡ s → IsPath s.value part (codes "/api/" ++ rest) → Is r rest
 made r s rest part e p = (part, subst (λ (x : Found). IsPath x.value part (codes "/api/" ++ rest)) (sym e) p)
 
+ended : (word path rest : List ℕ) (x : Endpoint) (r : Found) → IsPath x [] (codes "/api/" ++ word) → path ≡ word ++ rest → seek 0 (ends_at word x) rest ≡ Some r → Is r path
+ended word path rest x r is cut e =
+    let last = literal (codes "/api/" ++ word) x in
+    let g = found_end last rest r e in
+    let here : path ≡ word = cut ∙ ap (λ (l : List ℕ). word ++ l) g.0 ∙ append-nil word in
+    made r last path [] g.1 (subst (λ (l : List ℕ). IsPath x [] (codes "/api/" ++ l)) (sym here) is)
+
+-- a path that ends with a word, or goes on behind it
+ended_or_below : (word : List ℕ) (rows : RowsOf Found) (x : Endpoint) → IsPath x [] (codes "/api/" ++ word) → AreLiteral word → Apart 47 (ends_at word x)
+    → ((rest : List ℕ) (r : Found) → seek 0 rows rest ≡ Some r → Is r (word ++ 47 ∷ rest))
+    → (path : List ℕ) (r : Found) → seek 0 (behind word (behind (47 ∷ []) rows ++ ends_at word x)) path ≡ Some r → Is r path
+ended_or_below word rows x is are_literal apart below path r e = by (found_in_either 47 [] rows (ends_at word x) slash_literal apart f.0 r f.2)
+  where
+    f : (rest : List ℕ) × (path ≡ word ++ rest) × (seek 0 (behind (47 ∷ []) rows ++ ends_at word x) rest ≡ Some r)
+    f = found_behind word (behind (47 ∷ []) rows ++ ends_at word x) path r are_literal e
+
+    by : (seek 0 (behind (47 ∷ []) rows) f.0 ≡ Some r) ⊎ (seek 0 (ends_at word x) f.0 ≡ Some r) → Is r path
+    by (inl h) =
+        let b = found_behind (47 ∷ []) rows f.0 r slash_literal h in
+        subst (λ (p : List ℕ). Is r p) (sym (f.1 ∙ ap (λ (l : List ℕ). word ++ l) b.1)) (below b.0 r b.2)
+    by (inr h) = ended word path f.0 x r is f.1 h
+
 in_dependencies : (path : List ℕ) (r : Found) → seek 0 (behind (codes "dependencies") dependencies_rows) path ≡ Some r → Is r path
 in_dependencies path r e =
     let f = found_behind (codes "dependencies") dependencies_rows path r d_literal e in
-    let g = found_end (literal (codes "/api/dependencies") Dependencies) f.0 r f.2 in
-    let here : path ≡ codes "dependencies" = f.1 ∙ ap (λ (x : List ℕ). codes "dependencies" ++ x) g.0 in
-    made r (literal (codes "/api/dependencies") Dependencies) path [] g.1 (refl, ap (λ (x : List ℕ). codes "/api/" ++ x) here)
+    ended (codes "dependencies") path f.0 Dependencies r (refl, refl) f.1 f.2
 
 in_operations : (path : List ℕ) (r : Found) → seek 0 (behind (codes "operations") operations_rows) path ≡ Some r → Is r path
 in_operations path r e =
     let f = found_behind (codes "operations") operations_rows path r o_literal e in
-    let g = found_end (literal (codes "/api/operations") Operations) f.0 r f.2 in
-    let here : path ≡ codes "operations" = f.1 ∙ ap (λ (x : List ℕ). codes "operations" ++ x) g.0 in
-    made r (literal (codes "/api/operations") Operations) path [] g.1 (refl, ap (λ (x : List ℕ). codes "/api/" ++ x) here)
+    ended (codes "operations") path f.0 Operations r (refl, refl) f.1 f.2
 
 in_services : (path : List ℕ) (r : Found) → seek 0 (behind (codes "services") services_rows) path ≡ Some r → Is r path
-in_services path r e = by (found_in_either 47 [] names_rows services_end slash_literal names_apart f.0 r f.2)
-  where
-    f : (rest : List ℕ) × (path ≡ codes "services" ++ rest) × (seek 0 services_rows rest ≡ Some r)
-    f = found_behind (codes "services") services_rows path r s_literal e
-
-    by : (seek 0 (behind (47 ∷ []) names_rows) f.0 ≡ Some r) ⊎ (seek 0 services_end f.0 ≡ Some r) → Is r path
-    by (inl h) =
-        let b = found_behind (47 ∷ []) names_rows f.0 r slash_literal h in
-        let g = found_between the_names (codes "operations") more_literal (omega arith) b.0 r b.2 in
-        let here : path ≡ codes "services" ++ ((47 ∷ []) ++ (g.part ++ codes "/operations")) = f.1 ∙ ap (λ (x : List ℕ). codes "services" ++ x) (b.1 ∙ ap (λ (x : List ℕ). (47 ∷ []) ++ x) g.path_is) in
-        made r the_names path g.part g.found_is (g.is_part, ap (λ (x : List ℕ). codes "/api/" ++ x) here)
-    by (inr h) =
-        let g = found_end (literal (codes "/api/services") Services) f.0 r h in
-        let here : path ≡ codes "services" = f.1 ∙ ap (λ (x : List ℕ). codes "services" ++ x) g.0 in
-        made r (literal (codes "/api/services") Services) path [] g.1 (refl, ap (λ (x : List ℕ). codes "/api/" ++ x) here)
+in_services = ended_or_below (codes "services") names_rows Services (refl, refl) s_literal names_apart (λ rest r e.
+    let g = found_between the_names (codes "operations") more_literal (omega arith) rest r e in
+    made r the_names (codes "services/" ++ rest) g.part g.found_is (g.is_part, ap (λ (l : List ℕ). codes "/api/services/" ++ l) g.path_is))
 
 in_traces : (path : List ℕ) (r : Found) → seek 0 from_traces path ≡ Some r → Is r path
-in_traces path r e = by (found_in_either 47 [] trace_rows traces_end slash_literal trace_apart f.0 r f.2)
-  where
-    f : (rest : List ℕ) × (path ≡ codes "traces" ++ rest) × (seek 0 traces_rows rest ≡ Some r)
-    f = found_behind (codes "traces") traces_rows path r t_literal e
-
-    by : (seek 0 (behind (47 ∷ []) trace_rows) f.0 ≡ Some r) ⊎ (seek 0 traces_end f.0 ≡ Some r) → Is r path
-    by (inl h) =
-        let b = found_behind (47 ∷ []) trace_rows f.0 r slash_literal h in
-        let g = found_last the_trace b.0 r b.2 in
-        let here : path ≡ codes "traces" ++ ((47 ∷ []) ++ b.0) = f.1 ∙ ap (λ (x : List ℕ). codes "traces" ++ x) b.1 in
-        made r the_trace path b.0 g.1 (g.0, ap (λ (x : List ℕ). codes "/api/" ++ x) here)
-    by (inr h) =
-        let g = found_end (literal (codes "/api/traces") Traces) f.0 r h in
-        let here : path ≡ codes "traces" = f.1 ∙ ap (λ (x : List ℕ). codes "traces" ++ x) g.0 in
-        made r (literal (codes "/api/traces") Traces) path [] g.1 (refl, ap (λ (x : List ℕ). codes "/api/" ++ x) here)
+in_traces = ended_or_below (codes "traces") trace_rows Traces (refl, refl) t_literal trace_apart (λ rest r e.
+    let g = found_last the_trace rest r e in
+    made r the_trace (codes "traces/" ++ rest) rest g.1 (g.0, refl))
 
 in_all : (path : List ℕ) (r : Found) → seek 0 all_rows path ≡ Some r → Is r path
 in_all path r e = one (found_in_either 100 (codes "ependencies") dependencies_rows from_operations d_literal d_apart path r e)
