@@ -1,22 +1,25 @@
 -- How a body is taken, piece by piece.
-use Rattle.std.proofs.Common.{All, ◌≡◌, ℕ, ◌+◌, ◌-◌, ◌≤◌, ◌<◌, Bool, true, false, List, [], ◌∷◌, ◌++◌, length, take, drop, replicate, Result, Ok, Err, IfOk, IfErr, refl, sym, ap, ◌∙◌, subst, arith, inl, inr, append_assoc, append-nil, length-append}
+use Rattle.std.proofs.Common.{All, ◌≡◌, ℕ, ◌+◌, ◌-◌, ◌≤◌, ◌<◌, Bool, true, false, List, [], ◌∷◌, ◌++◌, length, take, drop, replicate, Ok, Err, refl, sym, ap, ◌∙◌, subst, arith, inl, inr, append_assoc, append-nil, length-append}
 use Rattle.std.proofs.lemmas.Grind.{flat_map-append}
 use Rattle.std.proofs.lemmas.Bool.Decides.{nat_tests}
 use Rattle.std.proofs.lemmas.List.{take-append-drop, length-take-le, length-replicate, drop_all}
 use Rattle.std.proofs.lemmas.List.Elements.{All-append, All-cons, All-nil}
 use Rattle.std.specs.Io.KnownBytes.{IsAtEnd}
 use Rattle.httparse.specs.Ascii.{crlf_bytes}
-use Rattle.chunked_bodies.specs.Chunks.{IsSizeLine, IsSomeSizeLine, IsTrailer, IsContent, IsDecided, Chunk, IsChunk, texts, contents, HasNone, Lacks}
+use Rattle.chunked_bodies.specs.Chunks.{IsSizeLine, IsSomeSizeLine, IsTrailer, IsContent, IsDecided, Chunk, IsChunk, texts, contents, HasNone, NeverHas, Lacks}
+use Rattle.chunked_bodies.specs.declared.looks.Look.{Look}
+use Rattle.chunked_bodies.specs.declared.looks.Look.TheVariants.{Whole, More, Never}
 use Rattle.chunked_bodies.proofs.Once.{same_cut}
 use Rattle.chunked_bodies.proofs.Sizes.{zero_line, zero_line_is}
 use Rattle.chunked_bodies.proofs.Behind.{lacks_behind, behind_chunks, no_line, no_content, no_trailer}
 use Rattle.http_requests.specs.declared.asked.TheConstants.{MOST_BODY_BYTES}
 use Rattle.http_requests.specs.Requests.{IsShorter, AwaitsChunks, AwaitsBody}
+use Rattle.http_requests.specs.Searching.{LooksFor, KnowsItEnded}
 use Rattle.http_requests.specs.Waiting.{Source}
 use Rattle.http_requests.specs.Receiving.{ReadBuffer, ReadsOn, ReadsOnWhile, IsRead, ReadFails, StopsWhile, put_back}
 use Rattle.http_requests.specs.declared.read_buffer.ReadError.{ReadError}
 use Rattle.session_devices.specs.Takings.{Takings, TakesNothing, TakesJoined}
-use Rattle.http_requests.specs.Bodies.{Takes, Misses, AwaitsLine, AwaitsRest, IsLineEnd, Begins, begins_line_end, may_begin_line_end, TakesOrMisses, Gathers, Gathered, TakesContent, TakesContentOr, Fails, ChunksSoFar, TakesBody, BreaksBody, ReadsBody}
+use Rattle.http_requests.specs.Bodies.{Takes, Misses, AwaitsLine, AwaitsRest, IsLineEnd, Begins, begins_line_end, may_begin_line_end, Gathers, Gathered, TakesContent, Fails, ChunksSoFar, TakesBody, BreaksBody, ReadsBody}
 use Rattle.http_requests.specs.declared.asked.BodyLength.TheVariants.{Bytes, Chunked, Unreadable, TooLarge}
 use Rattle.http_requests.specs.declared.asked.Breach.TheVariants as breach
 use Rattle.http_requests.specs.LineLaws.{cut_before}
@@ -31,6 +34,12 @@ module _ {R : Type 0} (source : Source R) (Awaits : List ℕ → Type 0) (s t : 
     is = begins.0;
     reads = beginning_taken source Awaits s t old here (take count here.held) (drop count here.held) reads (sym (take-append-drop count here.held));
   })
+
+  pub missed : {T : Type 0} (Finds : List ℕ → T → Type 0) (look : Look T) → ((found : T) → look ≡ Whole found → ⊥) → ((h : List ℕ) → Awaits h → HasNone Is h)
+      → LooksFor Awaits Finds (NeverHas Is) here.held look → KnowsItEnded (source.remaining t) look → Misses source Awaits s t old here Is
+  missed Finds (Whole found) not none finds ended = absurd (not found refl)
+  missed Finds More not none awaits ended = record { reads = reads; lacks = inr (ended, none here.held awaits) }
+  missed Finds Never not none never ended = record { reads = reads; lacks = inl never }
 
 -- one more read, where more was awaited of what is there
 pub reads_more : {R : Type 0} (source : Source R) (Awaits : List ℕ → Type 0) (s m t : R) (old here new : ReadBuffer) (bytes : List ℕ) → ReadsOnWhile source Awaits s m old here → bytes ≡ here.held
@@ -187,20 +196,12 @@ module _ {S R : Type 0} (takes : Takings S) (source : Source R) (s m t : R) (old
         lacks = inr (short.2, too_few (g.content ++ here.held) (omega (arith, short.0, ap length short.1, length-append g.content here.held)));
       }
 
-  -- what the line end makes of it
-  pub content_then : (r : Result Bool ReadError) → Gathers takes source s m old here before after size true
-      → IfOk r (TakesOrMisses source (AwaitsRest IsLineEnd) m t here new IsLineEnd) → IfOk r (TakesContentOr takes source s t old new before after size)
-  content_then (Ok true) g e = content_whole g e
-  content_then (Ok false) g e = content_open g e
-  content_then (Err why) g e = tt
-
   pub content_stops : (failed : Bool) (why : ReadError) → StopsWhile source (IsShorter size) s m failed old why → StopsWhile source (AwaitsRest (IsContent size)) s m failed old why
   content_stops failed why stops = widened_stop source (AwaitsRest (IsContent size)) (IsShorter size) s m failed old why shorter stops
 
-  pub end_stops : (failed : Bool) (r : Result Bool ReadError) → Gathers takes source s m old here before after size true → IfErr r (λ why. StopsWhile source (AwaitsRest IsLineEnd) m t failed here why)
-      → IfErr r (λ why. StopsWhile source (AwaitsRest (IsContent size)) s t failed old why)
-  end_stops failed (Ok b) g stops = tt
-  end_stops failed (Err why) g stops =
+  pub end_stops : (failed : Bool) (why : ReadError) → Gathers takes source s m old here before after size true → StopsWhile source (AwaitsRest IsLineEnd) m t failed here why
+      → StopsWhile source (AwaitsRest (IsContent size)) s t failed old why
+  end_stops failed why g stops =
       stops_behind source (AwaitsRest (IsContent size)) (AwaitsRest IsLineEnd) s m t failed old here g.content why (end_awaited g.content (g.whole refl)) (first g) stops
 
 -- ---- chunks

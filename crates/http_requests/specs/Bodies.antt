@@ -1,8 +1,8 @@
 -- What reading a body does to the bytes received and to the sink.
-use Rattle.std.specs.Prelude.{◌≡◌, ℕ, ◌+◌, ◌<◌, ◌≤◌, ◌==◌, ◌&&◌, Bool, true, false, List, [], ◌∷◌, ◌++◌, length, take, All, Option, Some, None, Result, Ok, Err}
+use Rattle.std.specs.Prelude.{◌≡◌, ℕ, ◌+◌, ◌<◌, ◌≤◌, ◌==◌, ◌&&◌, Bool, true, false, List, [], ◌∷◌, ◌++◌, length, take, All, Result, Ok, Err}
 use Rattle.std.specs.Io.KnownBytes.{IsAtEnd}
 use Rattle.httparse.specs.Ascii.{crlf_bytes}
-use Rattle.chunked_bodies.specs.Chunks.{IsSizeLine, IsSomeSizeLine, IsContent, Chunk, IsChunk, texts, contents, HasNone, Lacks}
+use Rattle.chunked_bodies.specs.Chunks.{IsSomeSizeLine, IsContent, Chunk, IsChunk, texts, contents, HasNone, Lacks}
 use Rattle.chunked_bodies.specs.Looks.{EndsNoLine}
 use Rattle.http_requests.specs.declared.asked.TheConstants.{MOST_BODY_BYTES}
 use Rattle.http_requests.specs.Requests.{HasBody, BodyBreaks, IsShorter, AwaitsBody}
@@ -33,16 +33,6 @@ pub record Misses {R : Type 0} (source : Source R) (Awaits : List ℕ → Type 0
 -- no size line stands at the beginning, and none has ended
 abbrev pub AwaitsLine : List ℕ → Type 0
 AwaitsLine bytes = HasNone IsSomeSizeLine bytes × EndsNoLine bytes
-
--- a size line was taken, or there is none
-abbrev pub TakesSize : {R : Type 0} → Source R → R → R → ReadBuffer → ReadBuffer → Option ℕ → Type 0
-TakesSize source s t old new (Some size) = Takes source AwaitsLine s t old new (λ text. IsSizeLine text size)
-TakesSize source s t old new None = Misses source AwaitsLine s t old new IsSomeSizeLine
-
--- a text of this kind was taken, or there is none
-abbrev pub TakesOrMisses : {R : Type 0} → Source R → (List ℕ → Type 0) → R → R → ReadBuffer → ReadBuffer → (List ℕ → Type 0) → Bool → Type 0
-TakesOrMisses source Awaits s t old new Is true = Takes source Awaits s t old new Is
-TakesOrMisses source Awaits s t old new Is false = Misses source Awaits s t old new Is
 
 abbrev pub IsLineEnd : List ℕ → Type 0
 IsLineEnd text = text ≡ crlf_bytes

@@ -6,8 +6,6 @@ use Rattle.httparse.specs.declared.spans.RequestSpans.{RequestSpans}
 use Rattle.httparse.specs.declared.spans.HeaderSpan.{HeaderSpan}
 use Rattle.httparse.specs.Spans.{IsRequestAt, IsRequestWithin}
 use Rattle.http_requests.specs.declared.head.TheConstants.{MOST_HEAD_BYTES, MOST_FIELDS}
-use Rattle.chunked_bodies.specs.declared.looks.Look.{Look}
-use Rattle.http_requests.specs.Searching.{LooksFor}
 
 -- Bytes are a head that a session takes, and then rest. The limits are a session's own: RFC 9112 sets none.
 pub record TakesHead (bytes : List ℕ) (h : RequestHead) (rest : List ℕ) : Type 0 where
@@ -42,6 +40,3 @@ pub record IsWholeHead (bytes : List ℕ) (headers : List HeaderSpan) (spans : R
   pub beginning_is : beginning ≡ take MOST_HEAD_BYTES bytes
   pub at : IsRequestAt beginning headers spans head
   pub within : IsRequestWithin beginning headers spans
-
-abbrev pub Looks : List ℕ → List HeaderSpan → Look RequestSpans → Type 0
-Looks bytes headers = LooksFor AwaitsHead (λ b spans. IsWholeHead b headers spans) NeverHasHead bytes

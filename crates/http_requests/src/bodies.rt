@@ -3,7 +3,7 @@ ghost use Rattle.chunked_bodies.specs.Chunks.{IsSizeLine, IsSomeSizeLine, IsTrai
 ghost use Rattle.http_requests.specs.Requests.{IsShorter, AwaitsBody};
 ghost use Rattle.http_requests.specs.Waiting.{source_of};
 ghost use Rattle.http_requests.specs.Receiving.{KnowsItsEnd, StopsWhile, SameUnlessReading};
-ghost use Rattle.http_requests.specs.Bodies.{TakesSize, TakesOrMisses, AwaitsLine, AwaitsRest, IsLineEnd, Begins, begins_line_end, may_begin_line_end, Gathers, TakesContentOr, ReadsBody};
+ghost use Rattle.http_requests.specs.Bodies.{AwaitsLine, AwaitsRest, IsLineEnd, Begins, begins_line_end, may_begin_line_end, Gathers, TakesContentOr, ReadsBody};
 ghost use Rattle.http_requests.specs.declared.asked.BodyLength.TheVariants.{Chunked};
 
 use crate::asked::{BodyLength, Breach, MOST_BODY_BYTES};
@@ -151,60 +151,6 @@ impl Sought for Trailer {
     }
 }
 
-/// Takes CR LF; whether it was there.
-fn take_line_end<R: Input>(input: &mut R, received: &mut ReadBuffer) -> Result<bool, ReadError>
-    requires end { KnowsItsEnd received.old.ended (R.remaining input.old) }
-    ensures takes { IfOk result (TakesOrMisses (source_of R.remaining R.gives)
-        (AwaitsRest IsLineEnd) input.old input.new received.old received.new IsLineEnd) }
-    ensures err { IfErr result (λ why. StopsWhile (source_of R.remaining R.gives)
-        (AwaitsRest IsLineEnd) input.old input.new (R.has_failed input.new) received.old why) }
-    ensures same { SameUnlessReading (R.has_failed input.old) (R.has_failed input.new) result }
-{
-    match read_until(input, received, &mut LineEnd)? {
-        Look::Whole(length) => {
-            received.take(length);
-            Ok(true)
-        }
-        Look::More | Look::Never => Ok(false),
-    }
-}
-
-/// Takes a size line; the size, or none where there is no such line.
-fn take_size<R: Input>(input: &mut R, received: &mut ReadBuffer) -> Result<Option<u64>, ReadError>
-    requires end { KnowsItsEnd received.old.ended (R.remaining input.old) }
-    ensures takes { IfOk result (TakesSize (source_of R.remaining R.gives) input.old input.new
-        received.old received.new) }
-    ensures err { IfErr result (λ why. StopsWhile (source_of R.remaining R.gives)
-        AwaitsLine input.old input.new (R.has_failed input.new) received.old why) }
-    ensures same { SameUnlessReading (R.has_failed input.old) (R.has_failed input.new) result }
-{
-    match read_until(input, received, &mut SizeLine)? {
-        Look::Whole((length, size)) => {
-            received.take(length);
-            Ok(Some(size))
-        }
-        Look::More | Look::Never => Ok(None),
-    }
-}
-
-/// Takes a trailer; whether there was one.
-fn take_trailer<R: Input>(input: &mut R, received: &mut ReadBuffer) -> Result<bool, ReadError>
-    requires end { KnowsItsEnd received.old.ended (R.remaining input.old) }
-    ensures takes { IfOk result (TakesOrMisses (source_of R.remaining R.gives)
-        (HasNone IsTrailer) input.old input.new received.old received.new IsTrailer) }
-    ensures err { IfErr result (λ why. StopsWhile (source_of R.remaining R.gives)
-        (HasNone IsTrailer) input.old input.new (R.has_failed input.new) received.old why) }
-    ensures same { SameUnlessReading (R.has_failed input.old) (R.has_failed input.new) result }
-{
-    match read_until(input, received, &mut Trailer)? {
-        Look::Whole(length) => {
-            received.take(length);
-            Ok(true)
-        }
-        Look::More | Look::Never => Ok(false),
-    }
-}
-
 /// Takes the data of a chunk, and CR LF behind them, and puts the data into the sink; whether they were
 /// there.
 fn take_content<R: Input, S: Sink>(
@@ -221,11 +167,14 @@ fn take_content<R: Input, S: Sink>(
         received.old why) }
     ensures same { SameUnlessReading (R.has_failed input.old) (R.has_failed input.new) result }
 {
-    if gather(input, received, sink, size)? {
-        take_line_end(input, received)
-    } else {
-        Ok(false)
+    if !gather(input, received, sink, size)? {
+        return Ok(false);
     }
+    let Look::Whole(length) = read_until(input, received, &mut LineEnd)? else {
+        return Ok(false);
+    };
+    received.take(length);
+    Ok(true)
 }
 
 /// Takes a chunked body, and puts its data into the sink.
@@ -243,14 +192,16 @@ fn read_chunks<R: Input, S: Sink>(
 {
     let mut left = MOST_BODY_BYTES;
     'chunks: loop {
-        let Some(size) = take_size(input, received)? else {
+        let Look::Whole((length, size)) = read_until(input, received, &mut SizeLine)? else {
             return Ok(Err(Breach::Body));
         };
+        received.take(length);
         if size == 0 {
-            if take_trailer(input, received)? {
-                return Ok(Ok(()));
-            }
-            return Ok(Err(Breach::Body));
+            let Look::Whole(length) = read_until(input, received, &mut Trailer)? else {
+                return Ok(Err(Breach::Body));
+            };
+            received.take(length);
+            return Ok(Ok(()));
         }
         if size > left {
             return Ok(Err(Breach::TooLarge));

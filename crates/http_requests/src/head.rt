@@ -1,5 +1,4 @@
-ghost use Rattle.std.specs.Prelude.{◌≤◌, length};
-ghost use Rattle.http_requests.specs.Heads.{AwaitsHead, Looks};
+ghost use Rattle.http_requests.specs.Heads.{AwaitsHead};
 
 use crate::searching::Sought;
 use chunked_bodies::{Look, beginning_of, look_by};
@@ -13,25 +12,6 @@ pub(crate) const MOST_FIELDS: usize = 64;
 
 /// Room for one field more than a head may have.
 const FIELD_ROOM: usize = 65;
-
-/// Looks for a head at the beginning of the bytes.
-fn look_for_head(bytes: &[u8], headers: &mut [HeaderSpan]) -> Look<RequestSpans>
-    requires { MOST_FIELDS ≤ length headers.old }
-    ensures { Looks bytes.now headers.new result }
-{
-    let parsed = parse_request(beginning_of(bytes, MOST_HEAD_BYTES), headers);
-    match look_by(parsed, bytes.len(), MOST_HEAD_BYTES) {
-        Look::Whole(spans) => {
-            if spans.headers > MOST_FIELDS {
-                Look::Never
-            } else {
-                Look::Whole(spans)
-            }
-        }
-        Look::More => Look::More,
-        Look::Never => Look::Never,
-    }
-}
 
 /// A head, and room for its fields.
 #[derive(Drop)]
@@ -68,6 +48,12 @@ impl Sought for HeadSearch {
     ghost awaited_still = { head_not_due };
 
     fn look(&mut self, bytes: &[u8]) -> Look<RequestSpans> {
-        look_for_head(bytes, &mut self.headers)
+        let parsed = parse_request(beginning_of(bytes, MOST_HEAD_BYTES), &mut self.headers);
+        match look_by(parsed, bytes.len(), MOST_HEAD_BYTES) {
+            Look::Whole(spans) if spans.headers > MOST_FIELDS => Look::Never,
+            Look::Whole(spans) => Look::Whole(spans),
+            Look::More => Look::More,
+            Look::Never => Look::Never,
+        }
     }
 }

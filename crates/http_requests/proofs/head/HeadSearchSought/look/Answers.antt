@@ -1,17 +1,17 @@
-use Rattle.std.proofs.Common.{arith}
+use Rattle.std.proofs.Common.{length, arith}
 use Rattle.http_requests.proofs.Beginnings.{never_with_many, whole}
 use Rattle.http_requests.proofs.Ends.{awaits_head}
 use Rattle.http_requests.proofs.Found.{never_found}
-use Rattle.http_requests.proofs.head.look_for_head.Goals as goal
+use Rattle.http_requests.proofs.head.HeadSearchSought.look.Goals as goal
 
-pub returns-then-spans-gt-MOST_FIELDS : goal.returns-then-spans-gt-MOST_FIELDS
-returns-then-spans-gt-MOST_FIELDS c =
+pub returns-in-Whole : goal.returns-in-Whole
+returns-in-Whole c =
     let parsed = c.parse_request-parsed.ensures in
     let is = c.in-Whole.ensures in
     never_with_many c.args.bytes.now c.beginning_of.result.now c.parse_request-parsed.new.headers c.in-Whole.spans c.beginning_of.ensures c.if-spans-gt-MOST_FIELDS.true (rw is at parsed.complete) (rw is at parsed.within)
 
-pub returns-else-spans-gt-MOST_FIELDS : goal.returns-else-spans-gt-MOST_FIELDS
-returns-else-spans-gt-MOST_FIELDS c =
+pub returns-in-Whole-2 : goal.returns-in-Whole-2
+returns-in-Whole-2 c =
     let parsed = c.parse_request-parsed.ensures in
     let is = c.in-Whole.ensures in
     whole c.args.bytes.now c.beginning_of.result.now c.parse_request-parsed.new.headers c.in-Whole.spans c.beginning_of.ensures c.if-spans-gt-MOST_FIELDS.false (rw is at parsed.complete) (rw is at parsed.within)
@@ -25,4 +25,4 @@ returns-in-More c =
 pub returns-in-Never : goal.returns-in-Never
 returns-in-Never c =
     let parsed = c.parse_request-parsed.ensures in
-    never_found c.args.bytes.now c.beginning_of.result.now _ _ c.beginning_of.ensures c.requires parsed.partial parsed.no_room c.in-Never.ensures
+    never_found c.args.bytes.now c.beginning_of.result.now (length c.args.self.now.headers) _ c.beginning_of.ensures (omega arith) parsed.partial parsed.no_room c.in-Never.ensures
