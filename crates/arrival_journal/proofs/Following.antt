@@ -1,8 +1,6 @@
 -- What an entry that may follow leaves true.
-use Rattle.std.proofs.Common.{◌≡◌, ℕ, ◌+◌, ◌<◌, ◌≤◌, Bool, true, false, ◌&&◌, max, subst, get_or, List, [], ◌∷◌, ◌++◌, length, refl, sym, ap, ◌∙◌, arith, eqb-true, Some, None, map}
+use Rattle.std.proofs.Common.{◌≡◌, ℕ, ◌+◌, ◌<◌, Bool, true, false, max, subst, get_or, List, [], ◌∷◌, ◌++◌, length, refl, sym, ap, ◌∙◌, arith, eqb-true, Some, map}
 use Rattle.std.specs.Prelude.{◌==◌, Ok, if◌then◌else◌, slice_get, option_map}
-use Rattle.std.proofs.lemmas.Bool.{leb-true, leb-false, false≢true}
-use Rattle.std.proofs.lemmas.List.Sums.{fold_push}
 use Rattle.trace_model.specs.declared.entry.Entry.{Entry}
 use Rattle.trace_model.specs.declared.limits.Limits.{Limits}
 use Rattle.trace_model.specs.Histories.{last_number, span_count}
@@ -11,15 +9,12 @@ use Rattle.trace_model.specs.declared.admission.Admission.TheVariants.{Added}
 use Rattle.trace_model.specs.Refusals.{admission}
 use Rattle.trace_model.proofs.Admissions.{MayFollow, IsSaid, admission_says}
 use Rattle.sent_batches.specs.Sent.{Sent, IsKept as SentKept}
-use Rattle.trace_model.proofs.Legality.{legal_push, span_count_push}
+use Rattle.trace_model.proofs.Legality.{legal_push, span_count_push, last_number_push}
 use Rattle.arrival_journal.specs.Invariants.{IsKept}
 use Rattle.arrival_journal.specs.declared.outline.Outline.{Outline}
 use Rattle.arrival_journal.specs.Outlines.{outline_in, outlines_kept, with_outline}
 use Rattle.std.proofs.lemmas.List.{map_push}
 use Rattle.std.proofs.lemmas.Option.{slice_get-map}
-
-last_number_push : (seat : ℕ) (h : List Entry) (e : Entry) → last_number seat (h ++ e ∷ []) ≡ (if e.seat == seat then max (last_number seat h) e.number else last_number seat h)
-last_number_push seat h e = fold_push (λ n (x : Entry). if x.seat == seat then max n x.number else n) 0 h e
 
 last_push : (h : List Entry) (e : Entry) (old new : List ℕ) → ((seat : ℕ) → get_or old seat 0 ≡ last_number seat h) → last_number e.seat h < e.number
     → ((seat : ℕ) → get_or new seat 0 ≡ (if e.seat == seat then e.number else get_or old seat 0)) → (seat : ℕ) → get_or new seat 0 ≡ last_number seat (h ++ e ∷ [])

@@ -1,14 +1,9 @@
 -- Elements by their places.
-use Rattle.std.proofs.Common.{◌≡◌, ℕ, zero, suc, ◌<◌, List, [], ◌∷◌, length, get_or, refl, sym, ap, ◌∙◌, arith, Some, None, Bor}
+use Rattle.std.proofs.Common.{◌≡◌, ℕ, List, [], get_or, sym, ap, ◌∙◌, Some, None, Bor}
 use Rattle.std.specs.Prelude.{Option, slice_get}
 use Rattle.std.specs.Option.{option_copied}
 use Rattle.std.specs.Slice.{IsItemAt}
-use Rattle.std.proofs.lemmas.Option.{slice_get_past}
-
-slice_get-get_or : {X : Type 0} (xs : List X) (i : ℕ) (d : X) → i < length xs → slice_get xs i ≡ Some (get_or xs i d)
-slice_get-get_or [] i d h = absurd (omega arith)
-slice_get-get_or (x ∷ xs) zero d h = refl
-slice_get-get_or (x ∷ xs) (suc i) d h = slice_get-get_or xs i d (omega arith)
+use Rattle.std.proofs.lemmas.Option.{slice_get_past, slice_get-get_or}
 
 -- what a look-up by place lends
 pub lent_item : {X : Type 0} (xs : List X) (i : ℕ) (r : Option (Bor X)) → IsItemAt xs i r → option_copied r ≡ slice_get xs i

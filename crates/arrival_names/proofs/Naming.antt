@@ -21,10 +21,9 @@ use Rattle.service_index.specs.Listing.{Listed, listed, listed_in, listed_cmp}
 use Rattle.service_index.specs.Naming.{Extends, IsGroupOf, service_alone}
 use Rattle.service_index.specs.Indexes.{Index, IsIndexed, listing_by, has_service}
 use Rattle.service_index.proofs.Extending.{listing_extends}
-use Rattle.service_index.proofs.Probing.{text_is}
 use Rattle.service_index.proofs.Sets.{listed_exact}
 use Rattle.trace_model.proofs.Rising.{any_set}
-use Rattle.trace_model.proofs.NameLaws.{any_map}
+use Rattle.trace_model.proofs.NameLaws.{any_map, text_is}
 use Rattle.trace_model.specs.Histories.{before_last}
 use Rattle.service_places.specs.Reported.{service_brought, reporters, service_at, group_in, group_of}
 use Rattle.trace_model.proofs.LastEntries.{last_of}

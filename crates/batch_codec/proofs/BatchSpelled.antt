@@ -1,9 +1,9 @@
 -- A batch that is read is spelled so, and one that is spelled so is read.
-use Rattle.std.proofs.Common.{◌≡◌, ℕ, ℤ, pos, eqb, ◌&&◌, List, [], ◌∷◌, ◌++◌, length, Some, Result, Ok, Err, refl, sym, ap, subst, ◌∙◌, arith, ◌⊎◌, inl, inr}
+use Rattle.std.proofs.Common.{◌≡◌, ℕ, ℤ, pos, eqb, ◌&&◌, List, [], ◌++◌, length, Some, Result, Ok, Err, refl, sym, ap, subst, ◌∙◌, ◌⊎◌, inl, inr}
 use Rattle.std.specs.Ordering.{int_eq}
 use Rattle.std.specs.Prelude.{IfOk}
 use Rattle.std.proofs.lemmas.Bool.{eqb-true}
-use Rattle.std.proofs.lemmas.List.{append-nil}
+use Rattle.std.proofs.lemmas.List.{append-nil, nil_from_length}
 use Rattle.jaeger_model.specs.declared.batch.Batch.{Batch}
 use Rattle.thrift_binary.proofs.Found.{bind_ok, pass_ok, ok_is}
 use Rattle.batch_codec.specs.declared.fault.DecodeError.{DecodeError}
@@ -57,14 +57,10 @@ batch_found w b e =
     let x = bind_ok (batch_at w) at_end b e in
     let p = pass_ok (eqb (length x.0.1) 0) Trailing x.0.0 b x.2 in
     let f = is_batch.found w x.0.0 x.0.1 x.1 in
-    let none : x.0.1 ≡ [] = no_bytes x.0.1 (eqb-true (length x.0.1) 0 p.0) in
+    let none : x.0.1 ≡ [] = nil_from_length x.0.1 (eqb-true (length x.0.1) 0 p.0) in
     let same : f.text ≡ w = sym (f.parts ∙ ap (λ (v : List ℕ). f.text ++ v) none ∙ append-nil f.text) in
     let spells : IsBatch w x.0.0 = subst (λ (v : List ℕ). IsBatch v x.0.0) same f.spells in
     subst (λ (y : Batch). IsBatch w y) p.1 spells
-  where
-    no_bytes : (v : List ℕ) → length v ≡ 0 → v ≡ []
-    no_bytes [] e = refl
-    no_bytes (y ∷ v) e = absurd (omega arith)
 
 pub batch_again : (w : List ℕ) (b : Batch) → IsBatch w b → decoded w ≡ Ok b
 unfolding decoded

@@ -1,6 +1,6 @@
 -- The law of cuts for whole batches.
 use Rattle.std.proofs.Common.{◌≡◌, ℕ, ◌-◌, ◌+◌, ◌≤◌, Bool, true, false, eqb, ltb, List, [], ◌∷◌, ◌++◌, length, take, Result, Ok, Err, refl, sym, ap, subst, ◌∙◌, append-nil, length-append, arith}
-use Rattle.std.proofs.Math.Seq.{take-append_seam, take-append-add, take-length}
+use Rattle.std.proofs.Math.Seq.{take-append_seam, take-length}
 use Rattle.std.proofs.lemmas.Bool.{ltb-true, ltb-false, ne_eqb}
 use Rattle.std.proofs.lemmas.List.{take-append-le}
 use Rattle.jaeger_model.specs.declared.batch.Batch.{Batch}
@@ -11,6 +11,7 @@ use Rattle.batch_codec.specs.declared.fault.DecodeError.TheVariants.{Wire, Trail
 use Rattle.batch_codec.specs.BatchReading.{batch_at, at_end, decoded}
 use Rattle.batch_codec.specs.Cuts.{IsTruncated, IsPlace, FaultsHavePlaces, TrailingHasAPlace, TruncatedBeginsTruncated, BatchesEnd}
 use Rattle.batch_codec.proofs.CutBatches.{batch_safe, batch_never}
+use Rattle.thrift_binary.proofs.Cuts.{take_past}
 
 abbrev bad : DecodeError → Result Batch DecodeError
 bad e = Err e
@@ -43,11 +44,6 @@ end_some b (x ∷ v) ne = let some : eqb (length (x ∷ v)) 0 ≡ false = ne_eqb
 
 no_some : (x : ℕ) (v : List ℕ) → x ∷ v ≡ [] → ⊥
 no_some x v e = absurd (omega (arith, ap length e))
-
-take_past : (m : ℕ) (a b : List ℕ) → length a ≤ m → take m (a ++ b) ≡ a ++ take (m - length a) b
-take_past m a b le =
-    let split : m ≡ length a + (m - length a) = omega arith in
-    ap (λ (k : ℕ). take k (a ++ b)) split ∙ take-append-add a b (m - length a)
 
 -- ---- places
 

@@ -1,7 +1,8 @@
 -- A text whose last byte has come.
-use Rattle.std.proofs.Common.{◌≡◌, ℕ, List, Bool, true, false, Ok, refl}
+use Rattle.std.proofs.Common.{◌≡◌, ℕ, List, true, false, Ok, refl}
 use Rattle.std.specs.Str.{is_utf8, IsUtf8}
 use Rattle.std.proofs.lemmas.Str.{IsUtf8-from_is_utf8}
+use Rattle.std.proofs.lemmas.Bool.{false_from_ne_true}
 use Rattle.thrift_binary.specs.declared.fault.WireError.TheVariants.{Truncated, BadText}
 use Rattle.thrift_binary.specs.Reading.{◌>>=◌, Read, lift}
 use Rattle.wire_pieces.specs.Pieces.{Comes}
@@ -19,8 +20,4 @@ pub text-bad : (a : List ℕ → Read (List ℕ)) (t p q : List ℕ) → is_utf8
 text-bad a t p q isnt g = ends-faults (λ w. lift wire (a w)) checked_text t p q (Wire BadText) (λ h. absurd (let k : Wire BadText ≡ Wire Truncated = h in cc)) (λ rest. rw isnt refl) (comes-lift wire g)
 
 pub not_text : (t : List ℕ) → ¬ IsUtf8 t → is_utf8 t ≡ false
-not_text t n = by (is_utf8 t) (λ y. n (IsUtf8-from_is_utf8 t y))
-  where
-    by : (b : Bool) → ¬ (b ≡ true) → b ≡ false
-    by true f = absurd (f refl)
-    by false f = refl
+not_text t n = false_from_ne_true (is_utf8 t) (λ y. n (IsUtf8-from_is_utf8 t y))

@@ -7,7 +7,7 @@ use Rattle.std.specs.BTreeMap.{insert_entry, is_at}
 use denote.Ref.{Bor}
 use Rattle.std.specs.declared.cmp.Ordering.{Ordering}
 use Rattle.std.specs.declared.cmp.Ordering.TheVariants.{Less, Equal, Greater}
-use Rattle.std.specs.Ordering.{nat_cmp, is_eq, eq_by_cmp, ordering_reverse, ordering_then, match_ordering}
+use Rattle.std.specs.Ordering.{nat_cmp, is_eq, eq_by_cmp, match_ordering}
 use Rattle.std.specs.Cmp.{IsTotalOrder, tied_itself, on_total, unsigned_ties}
 use Rattle.std.proofs.lemmas.Cmp.{then_total, nat_cmp_total}
 use Rattle.std.specs.Cmp.Lexicographic.{nat_list_cmp_total}
@@ -18,7 +18,7 @@ use Rattle.std.proofs.lemmas.Map.Lookups.{exact_bytes, exact_pairs, exact_unsign
 use Rattle.jaeger_model.specs.declared.text.Text.{Text}
 use Rattle.jaeger_model.specs.Texts.{insert_once, sorted_set, placed_by, text_cmp}
 use Rattle.trace_model.specs.Linking.{call_cmp, same_call, counted}
-use Rattle.trace_model.proofs.NameLaws.{any_map}
+use Rattle.trace_model.proofs.NameLaws.{any_map, then_eq, is_eq-reverse}
 use Rattle.trace_model.proofs.Rising.{Below, has, sorted_set-rises, sorted_set-has, rises_insert, rises_same, any_set}
 use Rattle.std.specs.List.Sorted.{IsStrictlySortedBy}
 use Rattle.call_links.specs.declared.counts.Tally.{Tally}
@@ -105,11 +105,6 @@ number_total = then_total (on_total (λ (c : Numbers). c.0) nat_cmp_total) (on_t
 number_exact : (x y : Numbers) → number_cmp x y ≡ Equal → x ≡ y
 number_exact = exact_pairs nat_cmp nat_cmp exact_unsigned exact_unsigned
 
-then_eq : (a b : Ordering) → is_eq (ordering_then a b) ≡ (is_eq a && is_eq b)
-then_eq Less b = refl
-then_eq Equal b = refl
-then_eq Greater b = refl
-
 -- the test of two pairs of numbers is the tie of their order
 same_is : (c k : Numbers) → same_numbers c k ≡ is_eq (number_cmp c k)
 same_is c k = (λ i. unsigned_ties c.0 k.0 i && unsigned_ties c.1 k.1 i) ∙ sym (then_eq (nat_cmp c.0 k.0) (nat_cmp c.1 k.1))
@@ -124,13 +119,8 @@ none_counted c (k ∷ cs) e = sum_by-cons (λ x. cond (same_numbers c x) 1 0) k 
   | false ↦ λ q h. ap (λ b. cond b 1 0 + times cs c) (same_is c k ∙ q) ∙ zero-add (times cs c) ∙ none_counted c cs h
 ] refl e
 
-reversed_tie : (a : Ordering) → is_eq (ordering_reverse a) ≡ is_eq a
-reversed_tie Less = refl
-reversed_tie Equal = refl
-reversed_tie Greater = refl
-
 flip : (c k : Numbers) → same_numbers k c ≡ is_eq (number_cmp c k)
-flip c k = same_is k c ∙ ap is_eq (number_total.antisymm k c) ∙ reversed_tie (number_cmp c k)
+flip c k = same_is k c ∙ ap is_eq (number_total.antisymm k c) ∙ is_eq-reverse (number_cmp c k)
 
 itself : (c : Numbers) → same_numbers c c ≡ true
 itself c = same_is c c ∙ ap is_eq (tied_itself number_total c)

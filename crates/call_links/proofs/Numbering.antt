@@ -3,7 +3,6 @@ use Rattle.std.proofs.Common.{◌≡◌, ℕ, Bool, true, false, cond, List, [],
 use Rattle.std.specs.Prelude.{Option, Some, None, option_map, find, filter_map, flat_map, ◌==◌, if◌then◌else◌, Vec}
 use Rattle.std.specs.Global.{Global}
 use Rattle.std.specs.List.{All, AllByRecursion, cons_option}
-use Rattle.std.specs.Cmp.Lexicographic.{bytes_decides}
 use Rattle.std.proofs.lemmas.List.{map-append}
 use Rattle.std.proofs.lemmas.List.Elements.{All-head, All-tail}
 use Rattle.jaeger_model.specs.declared.ids.SpanId.{SpanId}
@@ -12,12 +11,7 @@ use Rattle.jaeger_model.specs.Texts.{same_text}
 use Rattle.trace_model.specs.Linking.{has_id, parent_in, call_from, calls_of}
 use Rattle.call_links.specs.declared.numbered.NumberedSpan.{NumberedSpan}
 use Rattle.call_links.specs.Seen.{NumberedService, NumberedCall, service_in, span_of, service_of, call_between, call_by, calls_in_trace, calls_in_traces, seen_all, seen_traces, texts_called, StandsFor, AreCallsNumberedBy, AreNumberedBy}
-
-pub same_is : (t u : List ℕ) → same_text t u ≡ true → t ≡ u
-same_is t u e = (bytes_decides t u).0 e
-
-pub itself : (t : List ℕ) → same_text t t ≡ true
-itself t = (bytes_decides t t).1 refl
+use Rattle.trace_model.proofs.NameLaws.{text_is, text_self}
 
 by_recursion : {X : Type 0} (P : X → Type 0) (xs : List X) → All P xs → AllByRecursion P xs
 by_recursion P [] a = tt
@@ -32,10 +26,10 @@ module _ (text : ℕ → List ℕ) (number : List ℕ → ℕ) where
   same_by_number a b p q = elim (a.0 == b.0) as (λ v. (a.0 == b.0) ≡ v → v ≡ same_text a.1 b.1) [
     | true ↦ λ e.
         let one : a.1 ≡ b.1 = sym p.1 ∙ ap text (eqb-true a.0 b.0 e) ∙ q.1 in
-        sym (ap (same_text a.1) (sym one) ∙ itself a.1)
+        sym (ap (same_text a.1) (sym one) ∙ text_self a.1)
     | false ↦ λ e. elim (same_text a.1 b.1) as (λ w. same_text a.1 b.1 ≡ w → false ≡ w) [
       | true ↦ λ f.
-          let one : a.0 ≡ b.0 = p.0 ∙ ap number (same_is a.1 b.1 f) ∙ sym q.0 in
+          let one : a.0 ≡ b.0 = p.0 ∙ ap number (text_is a.1 b.1 f) ∙ sym q.0 in
           sym e ∙ eq-eqb a.0 b.0 one
       | false ↦ λ f. refl
     ] refl

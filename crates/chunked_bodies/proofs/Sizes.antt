@@ -6,6 +6,7 @@ use Rattle.std.proofs.lemmas.Bool.Decides.{nat_tests}
 use Rattle.std.proofs.lemmas.List.Folds.{list_any-append, list_any_none}
 use Rattle.std.proofs.lemmas.List.{take_all}
 use Rattle.std.proofs.lemmas.List.Elements.{All-nil, All-from_recursion}
+use Rattle.std.proofs.lemmas.Bool.{or_parts}
 use Rattle.httparse.specs.Grammar.{ChunkLine, IsChunkLine, print_chunk_line, print_extension, IsExtension, AllPass, is_ows, is_extension_byte, chunk_size, MayBecomeChunkLine}
 use Rattle.chunked_bodies.specs.declared.line.TheConstants.{MOST_LINE_BYTES}
 use Rattle.chunked_bodies.specs.Chunks.{IsSizeLine, IsSomeSizeLine, IsDecided, IsSized, texts, HasNone, BeginsWith}
@@ -15,7 +16,7 @@ has_feed bytes = list_any (λ b. b == 10) bytes
 
 -- ---- a line that hasn't ended
 
-quiet : (test : ℕ → Bool) (bytes : List ℕ) → test 10 ≡ false → AllPass test bytes → has_feed bytes ≡ false
+pub quiet : (test : ℕ → Bool) (bytes : List ℕ) → test 10 ≡ false → AllPass test bytes → has_feed bytes ≡ false
 quiet test bytes off pass = list_any_none (λ b. b == 10) bytes (λ k d l. one _ (pass k d l))
   where
     one : (b : ℕ) → IsTrue (test b) → (b == 10) ≡ false
@@ -57,11 +58,7 @@ nothing_behind (x ∷ beginning) [] c none e = absurd (first x e none)
         absurd (cc (ap (λ b. b == 10 || has_feed beginning) (sym is) ∙ none))
 nothing_behind (x ∷ beginning) (y ∷ a) c none e =
     let later : beginning ++ 10 ∷ [] ≡ a ++ 10 ∷ c = cc e in
-    nothing_behind beginning a c (rest (x == 10) (has_feed beginning) none) later
-  where
-    rest : (a b : Bool) → (a || b) ≡ false → b ≡ false
-    rest true b e = absurd (cc e)
-    rest false b e = e
+    nothing_behind beginning a c (or_parts (x == 10) (has_feed beginning) none).1 later
 
 -- a line feed stands somewhere
 feed_at : (bytes : List ℕ) → has_feed bytes ≡ true → (a : List ℕ) × (b : List ℕ) × (bytes ≡ a ++ 10 ∷ b)

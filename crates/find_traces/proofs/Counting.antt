@@ -8,12 +8,10 @@ use Rattle.std.proofs.lemmas.List.Folds.{list_any-append}
 use Rattle.std.proofs.lemmas.Map.Keys.{IsDistinct-push}
 use Rattle.std.proofs.lemmas.Map.Made.{length-le_from_is_member, length-from_keys}
 use Rattle.std.proofs.lemmas.Map.Steps.{list_any_congr}
+use Rattle.std.proofs.lemmas.Bool.{or_right}
+use Rattle.std.proofs.Math.Bool.{and-false}
 
 -- ---- tests
-or_last : (e m : Bool) → m ≡ true → (e || m) ≡ true
-or_last true m h = refl
-or_last false m h = h
-
 pub and_first : (a b : Bool) → (a && b) ≡ true → a ≡ true
 and_first true b h = refl
 and_first false b h = h
@@ -54,7 +52,7 @@ module _ {K : Type 0} {eq : K → K → Bool} (laws : IsEquivalence eq) where
   distinct_both [] ys d e h = e
   distinct_both (x ∷ xs) ys d e h = (
     all_both x xs ys d.0 (apart x ys (h x (ap (λ b. b || is_member eq xs x) (laws.refl x)))),
-    distinct_both xs ys d.1 e (λ q m. h q (or_last (eq q x) (is_member eq xs q) m)),
+    distinct_both xs ys d.1 e (λ q m. h q (or_right (eq q x) (is_member eq xs q) m)),
   )
 
   -- ---- the different ones of a list
@@ -97,7 +95,7 @@ module _ {K : Type 0} {eq : K → K → Bool} (laws : IsEquivalence eq) where
     where
       by : (b : Bool) → f x ≡ b → (b && list_all f xs) ≡ false → (list_all f xs ≡ false → (y : K) × (is_member eq xs y ≡ true) × (f y ≡ false)) → (y : K) × (is_member eq (x ∷ xs) y ≡ true) × (f y ≡ false)
       by false e g more = (x, ap (λ b. b || is_member eq xs x) (laws.refl x), e)
-      by true e g more = let rest = more g in (rest.0, or_last (eq rest.0 x) (is_member eq xs rest.0) rest.1, rest.2)
+      by true e g more = let rest = more g in (rest.0, or_right (eq rest.0 x) (is_member eq xs rest.0) rest.1, rest.2)
 
   passes : (f : K → Bool) → ((q x : K) → eq q x ≡ true → f q ≡ f x) → (xs : List K) → list_all f xs ≡ true → (q : K) → is_member eq xs q ≡ true → f q ≡ true
   passes f alike [] h q m = absurd (true≢false (sym m))
@@ -113,7 +111,7 @@ module _ {K : Type 0} {eq : K → K → Bool} (laws : IsEquivalence eq) where
   none_left f s p either_is xs met d met_is count = by (list_all f xs) refl
     where
       missed : (x : K) → (b : Bool) → is_member eq met x ≡ b → is_member eq xs x ≡ true → f x ≡ false → true ≡ false
-      missed x true t m e = sym (either_is x ∙ ap (λ b. s x || b) (and_last (is_member eq xs x) (p x) (sym (met_is x) ∙ t)) ∙ or_last (s x) true refl) ∙ e
+      missed x true t m e = sym (either_is x ∙ ap (λ b. s x || b) (and_last (is_member eq xs x) (p x) (sym (met_is x) ∙ t)) ∙ or_right (s x) true refl) ∙ e
       missed x false t m e = let less = fewer xs met x d (λ q n. and_first (is_member eq xs q) (p q) (sym (met_is q) ∙ n)) t m in absurd (omega arith)
 
       by : (b : Bool) → list_all f xs ≡ b → true ≡ b
@@ -154,13 +152,9 @@ module _ {K : Type 0} {eq : K → K → Bool} (laws : IsEquivalence eq) where
     too_few : list_all f xs ≡ false → length own + length met + 1 ≤ distinct_count eq xs
     too_few h =
         let gap = lacking f xs h in
-        let less = fewer xs (own ++ met) gap.0 both within (is_met gap.0 ∙ ap (λ b. is_member eq xs gap.0 && b) gap.2 ∙ no (is_member eq xs gap.0)) gap.1 in
+        let less = fewer xs (own ++ met) gap.0 both within (is_met gap.0 ∙ ap (λ b. is_member eq xs gap.0 && b) gap.2 ∙ and-false (is_member eq xs gap.0)) gap.1 in
         let sum = length-append own met in
         omega arith
-      where
-        no : (b : Bool) → (b && false) ≡ false
-        no true = refl
-        no false = refl
 
     -- as many of the own as were left say that each of the list passes
     pub counted : (left : ℕ) → left + length met ≡ distinct_count eq xs → (length own == left) ≡ list_all f xs

@@ -5,6 +5,7 @@ use Rattle.std.specs.List.{list_any, All, filter_map, cons_option}
 use Rattle.std.proofs.lemmas.List.{append-nil, length-take-le, map_push, take_more}
 use Rattle.std.proofs.lemmas.List.Elements.{All-nil, All-cons, All-head, All-tail, All-take, All-filter, filter-append, filter_map-append}
 use Rattle.std.proofs.lemmas.List.Sorted.{All-permutation}
+use Rattle.std.proofs.lemmas.Simd.{map-map}
 use Rattle.jaeger_model.specs.declared.placed.Placed.{Placed}
 use Rattle.trace_model.specs.declared.query.Find.{Find}
 use Rattle.trace_model.specs.Searching.{matches, matching, first_start, first_id, ids_of, ranked_by_start, cut, found_in}
@@ -26,10 +27,6 @@ map_take f (suc n) (x ∷ xs) = ap (λ l. f x ∷ l) (map_take f n xs)
 pub map_cut : {X Y : Type 0} (f : X → Y) (n : ℕ) (xs : List X) → map f (cut n xs) ≡ cut n (map f xs)
 map_cut f n xs = elim (n == 0) as (λ b. map f (if b then xs else take n xs) ≡ (if b then map f xs else take n (map f xs))) [ true ↦ refl | false ↦ map_take f n xs ]
 
-pub map_twice : {X Y Z : Type 0} (g : Y → Z) (f : X → Y) (xs : List X) → map g (map f xs) ≡ map (λ x. g (f x)) xs
-map_twice g f [] = refl
-map_twice g f (x ∷ xs) = ap (λ l. g (f x) ∷ l) (map_twice g f xs)
-
 map_agree : {X Y : Type 0} (f g : X → Y) (xs : List X) → All (λ x. f x ≡ g x) xs → map f xs ≡ map g xs
 map_agree f g [] h = refl
 map_agree f g (x ∷ xs) h =
@@ -40,7 +37,7 @@ map_agree f g (x ∷ xs) h =
 -- what the sorted and cut hits name
 pub places_of_hits : (q : Find) (ts : List (List Placed)) → map reverse_key_place (cut q.limit (map reverse_key_of (ranked_by_start start_of (hits q ts)))) ≡ places_found q ts
 places_of_hits q ts =
-    ap (map reverse_key_place) (sym (map_cut reverse_key_of q.limit (ranked_by_start start_of (hits q ts)))) ∙ map_twice reverse_key_place reverse_key_of (cut q.limit (ranked_by_start start_of (hits q ts)))
+    ap (map reverse_key_place) (sym (map_cut reverse_key_of q.limit (ranked_by_start start_of (hits q ts)))) ∙ map-map reverse_key_place reverse_key_of (cut q.limit (ranked_by_start start_of (hits q ts)))
 
 -- ---- each number leads back to its trace
 found_at : (before : List (List Placed)) (t : List Placed) (rest : List (List Placed)) → trace_at (before ++ t ∷ rest) (length before) ≡ t
@@ -81,7 +78,7 @@ hits_match q n (t ∷ ts) = elim (list_any (matches q) t) as (λ b. map trace (c
 
 pub traces_found : (q : Find) (ts : List (List Placed)) → map (trace_at ts) (places_found q ts) ≡ found_in q ts
 traces_found q ts =
-    map_twice (trace_at ts) place (cut q.limit (ranked_by_start start_of (hits q ts)))
+    map-map (trace_at ts) place (cut q.limit (ranked_by_start start_of (hits q ts)))
     ∙ map_agree (λ e. trace_at ts (place e)) trace (cut q.limit (ranked_by_start start_of (hits q ts))) (hits_lead q ts)
     ∙ map_cut trace q.limit (ranked_by_start start_of (hits q ts))
     ∙ ap (cut q.limit) (ranked-map trace first_start (hits q ts) ∙ ap (ranked_by_start first_start) (hits_match q 0 ts))

@@ -5,6 +5,7 @@ use Rattle.std.specs.List.{list_any, All}
 use Rattle.std.proofs.lemmas.List.Elements.{All-head, All-tail}
 use Rattle.std.specs.List.Sorted.{IsPermutation, IsStrictlySortedBy}
 use Rattle.std.proofs.lemmas.List.Sorted.{All-permutation, IsPermutation-map, IsPermutation-sym, IsPermutation-trans}
+use Rattle.std.proofs.lemmas.Simd.{map-map}
 use Rattle.jaeger_model.specs.declared.placed.Placed.{Placed}
 use Rattle.trace_model.specs.declared.query.Find.{Find}
 use Rattle.trace_model.specs.Searching.{matches, ranked_by_start, cut}
@@ -14,7 +15,7 @@ use Rattle.find_traces.specs.declared.key.Key.{Key}
 use Rattle.find_traces.specs.Keys.{found_at, key_of, key_place, key_judged, best_cmp}
 use Rattle.find_traces.proofs.Choosing.{ranked-filter}
 use Rattle.find_traces.proofs.Order.{ranked_rises, strict_map}
-use Rattle.find_traces.proofs.Found.{Leads, all_lead, map_cut, map_twice}
+use Rattle.find_traces.proofs.Found.{Leads, all_lead, map_cut}
 use Rattle.find_traces.proofs.Walking.{answer}
 
 filter_through : {X Y : Type 0} (f : X → Y) (p : Y → Bool) (q : X → Bool) (xs : List X) → All (λ x. p (f x) ≡ q x) xs → filter p (map f xs) ≡ map f (filter q xs)
@@ -51,4 +52,4 @@ ranking_found q ts =
     (filter_through key_of (key_judged q ts) (is_hit q) (ranked_by_start start_of all) (ranked_judged q ts all (all_lead ts))
     ∙ ap (map key_of) (ranked-filter start_of (is_hit q) all))
     ∙ ap (map key_place) (sym (map_cut key_of q.limit (ranked_by_start start_of (hits q ts))))
-    ∙ map_twice key_place key_of (cut q.limit (ranked_by_start start_of (hits q ts)))
+    ∙ map-map key_place key_of (cut q.limit (ranked_by_start start_of (hits q ts)))

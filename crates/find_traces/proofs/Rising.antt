@@ -11,6 +11,7 @@ use Rattle.std.proofs.lemmas.List.Elements.{All-from_recursion, recursion_from_A
 use Rattle.std.proofs.lemmas.List.Sorted.{list_any-IsPermutation, ranks_by, sorted_far}
 use Rattle.std.proofs.lemmas.Map.Keys.{IsDistinct-IsPermutation, IsDistinct-from_sorted}
 use Rattle.trace_model.proofs.Rising.{rises_same}
+use Rattle.trace_model.proofs.NameLaws.{is_eq-reverse}
 
 module _ {K : Type 0} {cmp : K → K → Ordering} (o : IsTotalOrder cmp) (exact : IsAntisymmetric cmp) where
   less : (r : Ordering) → is_lt (ordering_reverse r) ≡ false → is_eq r ≡ false → r ≡ Less
@@ -36,12 +37,7 @@ module _ {K : Type 0} {cmp : K → K → Ordering} (o : IsTotalOrder cmp) (exact
   )
 
   pub flips : (x y : K) → eq_by_cmp cmp x y ≡ eq_by_cmp cmp y x
-  flips x y = ap is_eq (o.antisymm x y) ∙ turned (cmp y x)
-    where
-      turned : (r : Ordering) → is_eq (ordering_reverse r) ≡ is_eq r
-      turned Less = refl
-      turned Equal = refl
-      turned Greater = refl
+  flips x y = ap is_eq (o.antisymm x y) ∙ is_eq-reverse (cmp y x)
 
   pub distinct_moved : (xs ys : List K) → IsStrictlySortedBy cmp xs → IsPermutation xs ys → IsDistinct (eq_by_cmp cmp) ys
   distinct_moved xs ys strict moved = IsDistinct-IsPermutation (eq_by_cmp cmp) flips xs ys moved (IsDistinct-from_sorted cmp xs strict)

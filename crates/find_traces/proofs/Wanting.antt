@@ -5,9 +5,7 @@ use Rattle.std.specs.Int.{bit_at}
 use Rattle.std.specs.Int.Bits.{bit_or}
 use Rattle.std.specs.List.{IsDistinct, fold, list_any, list_all}
 use Rattle.std.specs.List.Sorted.{IsStrictlySortedBy}
-use Rattle.std.specs.declared.cmp.Ordering.{Ordering}
-use Rattle.std.specs.declared.cmp.Ordering.TheVariants.{Less, Equal, Greater}
-use Rattle.std.specs.Ordering.{ordering_then, eq_by_cmp, is_eq, nat_cmp}
+use Rattle.std.specs.Ordering.{eq_by_cmp, is_eq, nat_cmp}
 use Rattle.std.specs.Cmp.{IsEquivalence, IsTotalOrder, on_total, then_total, eq_by_cmp_equiv, nat_cmp_total}
 use Rattle.std.specs.Cmp.Lexicographic.{nat_list_cmp_total, texts_ties, bytes_decides}
 use Rattle.std.proofs.Math.Bool.{and-false, or-false}
@@ -31,6 +29,7 @@ use Rattle.trace_model.specs.Searching.{tag_matches, has_tag, tags_of}
 use Rattle.find_traces.specs.Wanting.{pair_of, same_pair, with_key, key_bits, asks, asked_count, if_asked, has_pair, is_in, wants}
 use Rattle.find_traces.specs.Prepared.{IsJudged}
 use Rattle.find_traces.proofs.Counting.{and_first, few, counted, none_left}
+use Rattle.trace_model.proofs.NameLaws.{then_eq}
 
 pub text_laws : IsEquivalence (eq_by_cmp text_cmp)
 text_laws = eq_by_cmp_equiv nat_list_cmp_total
@@ -69,11 +68,6 @@ put_more {same = same} laws f n o xs i x y le is put_is k put before =
     ∙ sym (list_any_more (λ (a : List ℕ × List ℕ). same k (f a)) xs i x le)
 
 -- ---- what is asked
-then_both : (r s : Ordering) → is_eq (ordering_then r s) ≡ (is_eq r && is_eq s)
-then_both Less s = refl
-then_both Equal s = refl
-then_both Greater s = refl
-
 -- a pair that differs from each pair that fails a test is not among pairs that all fail it
 no_part : (p : List ℕ × List ℕ → Bool) (a : List ℕ × List ℕ) → ((x : List ℕ × List ℕ) → p x ≡ false → same_pair a x ≡ false) → (xs : List (List ℕ × List ℕ)) → list_any p xs ≡ false → list_any (same_pair a) xs ≡ false
 no_part p a apart [] h = refl
@@ -82,7 +76,7 @@ no_part p a apart (x ∷ xs) h =
     or_from (same_pair a x) (list_any (same_pair a) xs) (apart x parts.0) (no_part p a apart xs parts.1)
 
 pub no_key : (xs : List (List ℕ × List ℕ)) (k t : List ℕ) → list_any (λ (a : List ℕ × List ℕ). eq_by_cmp text_cmp k a.0) xs ≡ false → list_any (same_pair (k, t)) xs ≡ false
-no_key xs k t = no_part (λ a. eq_by_cmp text_cmp k a.0) (k, t) (λ x e. then_both (text_cmp k x.0) (text_cmp t x.1) ∙ and_left (is_eq (text_cmp k x.0)) (is_eq (text_cmp t x.1)) e) xs
+no_key xs k t = no_part (λ a. eq_by_cmp text_cmp k a.0) (k, t) (λ x e. then_eq (text_cmp k x.0) (text_cmp t x.1) ∙ and_left (is_eq (text_cmp k x.0)) (is_eq (text_cmp t x.1)) e) xs
 
 -- ---- bits for the lengths of keys
 pub bits_put : (xs : List (List ℕ × List ℕ)) (i : ℕ) (x : List ℕ × List ℕ) → i < length xs → x ≡ get_or xs i x → with_key (key_bits (take i xs)) x ≡ key_bits (take (i + 1) xs)
@@ -92,7 +86,7 @@ bit_still : (b : ℕ) (xs : List (List ℕ × List ℕ)) (k : ℕ) → bit_at b 
 bit_still b [] k e = e
 bit_still b (x ∷ xs) k e = bit_still (with_key b x) xs k (bit_at_or b (2 ^ (length x.0 % 64)) k ∙ omega (arith, e, bit_at-lt (2 ^ (length x.0 % 64)) k))
 
-bit_own : (b k : ℕ) → bit_at (bit_or b (2 ^ k)) k ≡ 1
+pub bit_own : (b k : ℕ) → bit_at (bit_or b (2 ^ k)) k ≡ 1
 bit_own b k = bit_at_or b (2 ^ k) k ∙ omega (arith, bit_at-pow_same k, bit_at-lt b k)
 
 any_bit : (b : ℕ) (xs : List (List ℕ × List ℕ)) (k : List ℕ) → list_any (λ (a : List ℕ × List ℕ). eq_by_cmp text_cmp k a.0) xs ≡ true → bit_at (fold with_key b xs) (length k % 64) ≡ 1
@@ -116,7 +110,7 @@ other_length s t h = false_from_ne_true (is_eq (text_cmp s t)) (λ e.
 
 pub no_length : (xs : List (List ℕ × List ℕ)) (k t : List ℕ) → list_any (λ (a : List ℕ × List ℕ). eq_by_cmp nat_cmp (length t) (length a.1)) xs ≡ false → list_any (same_pair (k, t)) xs ≡ false
 no_length xs k t =
-    no_part (λ a. eq_by_cmp nat_cmp (length t) (length a.1)) (k, t) (λ x e. then_both (text_cmp k x.0) (text_cmp t x.1) ∙ and_right (is_eq (text_cmp k x.0)) (is_eq (text_cmp t x.1)) (other_length t x.1 e)) xs
+    no_part (λ a. eq_by_cmp nat_cmp (length t) (length a.1)) (k, t) (λ x e. then_eq (text_cmp k x.0) (text_cmp t x.1) ∙ and_right (is_eq (text_cmp k x.0)) (is_eq (text_cmp t x.1)) (other_length t x.1 e)) xs
 
 pub asked_some : (q : Find) (x p : List ℕ × List ℕ) → if_asked q x ≡ Some p → (asks q x ≡ true) × (p ≡ x)
 asked_some q x p h = by (asks q x) refl h
@@ -187,7 +181,7 @@ log_more q others n o first ls i l le is a put before =
 
 -- ---- the tags of a span
 tag_matches-same : (a : List ℕ × List ℕ) (t : Tag) → tag_matches a t ≡ same_pair a (pair_of t)
-tag_matches-same a t = (λ i. texts_ties a.0 t.key i && texts_ties a.1 (tag_text t.value) i) ∙ sym (then_both (text_cmp a.0 t.key) (text_cmp a.1 (tag_text t.value)))
+tag_matches-same a t = (λ i. texts_ties a.0 t.key i && texts_ties a.1 (tag_text t.value) i) ∙ sym (then_eq (text_cmp a.0 t.key) (text_cmp a.1 (tag_text t.value)))
 
 any_has_pair : (a : List ℕ × List ℕ) (ts : List Tag) → list_any (tag_matches a) ts ≡ has_pair ts a
 any_has_pair a [] = refl

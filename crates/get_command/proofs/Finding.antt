@@ -16,12 +16,9 @@ lines_of_found (Some ps) spans is =
     let same : spans ≡ map unadjusted ps = cc in
     ap (flat_map shown_line) same ∙ same_lines ps
 
-lines_of_none : (found : Option (List Placed)) → None ≡ option_map (map unadjusted) found → codes "trace not found\n" ≡ trace_lines found
-lines_of_none None is = refl
-lines_of_none (Some ps) is = absurd cc
-
 pub text_found : (found : Option (List Placed)) (spans now : List Shown) → now ≡ spans → Some spans ≡ option_map (map unadjusted) found → flat_map shown_line now ≡ trace_lines found
 text_found found spans now same is = ap (flat_map shown_line) same ∙ lines_of_found found spans is
 
 pub text_lost : (found : Option (List Placed)) → None ≡ option_map (map unadjusted) found → codes "trace not found\n" ≡ trace_lines found
-text_lost found is = lines_of_none found is
+text_lost None is = refl
+text_lost (Some ps) is = absurd cc

@@ -7,6 +7,7 @@ use Rattle.std.proofs.lemmas.Grind.{common_steps}
 use Rattle.std.proofs.lemmas.Option.{none-some}
 use Rattle.std.proofs.lemmas.List.{take_all, length-drop}
 use Rattle.std.specs.List.{position_or_len, slice_split}
+use Rattle.std.proofs.Math.Bool.{or-false}
 use Rattle.httparse.specs.Grammar.{trim_ows}
 use Rattle.http_requests.specs.Fields.{cut_at, has_token, same_name}
 
@@ -37,11 +38,7 @@ one_part c xs none =
 
 -- a list without a comma has the token where it is the token
 pub last_item : (token list : List ℕ) → cut_at 44 list ≡ None → has_token token list ≡ same_name (trim_ows list) token
-last_item token list none = rw (one_part 44 list none) (or_false (same_name (trim_ows list) token))
-  where
-    or_false : (b : Bool) → (b || false) ≡ b
-    or_false true = refl
-    or_false false = refl
+last_item token list none = rw (one_part 44 list none) (or-false (same_name (trim_ows list) token))
 
 some_only : {A : Type 0} (b : Bool) (x y : A) → (if b then Some x else None) ≡ Some y → (b ≡ true) × (x ≡ y)
 some_only true x y e = (refl, ap (λ o. unwrap_or o x) e)

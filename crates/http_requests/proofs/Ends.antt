@@ -1,28 +1,22 @@
 -- Where a head is awaited, the lines received whole may still begin with one.
-use Rattle.std.proofs.Common.{◌≡◌, ℕ, ◌==◌, ◌||◌, ◌<◌, Bool, false, List, [], ◌∷◌, ◌++◌, length, take, IsTrue, refl, sym, ap, ◌∙◌, subst, arith, inl, inr, append_assoc}
-use Rattle.std.proofs.lemmas.Bool.Decides.{nat_tests}
+use Rattle.std.proofs.Common.{◌≡◌, ℕ, ◌==◌, ◌||◌, ◌<◌, false, List, [], ◌∷◌, ◌++◌, length, take, refl, sym, ap, ◌∙◌, subst, arith, inl, inr, append_assoc}
 use Rattle.std.proofs.lemmas.List.{take_all}
-use Rattle.std.proofs.lemmas.List.Folds.{list_any-append, list_any_none}
-use Rattle.httparse.specs.Grammar.{AllPass, is_token_byte, is_uri_byte, print_blank, print_request, HasNoRequest, NeverHasRequest, MayBecomeRequest, EndsInTarget}
+use Rattle.std.proofs.lemmas.List.Folds.{list_any-append}
+use Rattle.httparse.specs.Grammar.{is_token_byte, is_uri_byte, print_blank, print_request, HasNoRequest, NeverHasRequest, MayBecomeRequest, EndsInTarget}
+use Rattle.chunked_bodies.proofs.Sizes.{quiet}
 use Rattle.http_requests.specs.declared.head.TheConstants.{MOST_HEAD_BYTES}
 use Rattle.http_requests.specs.Heads.{EndsLine, AwaitsHead}
 use Rattle.http_requests.specs.LineLaws.{has_feed, cut_before}
 use Rattle.http_requests.proofs.Beginnings.{more_when_short}
 use Rattle.http_requests.proofs.Once.{some_head, some_with, some_behind, token_quiet}
 
-feeds_nowhere : (test : ℕ → Bool) (bytes : List ℕ) → test 10 ≡ false → AllPass test bytes → has_feed bytes ≡ false
-feeds_nowhere test bytes off pass = list_any_none (λ b. b == 10) bytes (λ k d l. one _ (pass k d l))
-  where
-    one : (b : ℕ) → IsTrue (test b) → (b == 10) ≡ false
-    one b pass = grind (arith, nat_tests, off, pass)
-
 -- the first line may still go on
 target_may : (bytes lines rest : List ℕ) → EndsInTarget bytes → bytes ≡ lines ++ rest → EndsLine lines → NeverHasRequest lines → ⊥
 target_may bytes lines rest (blank, method, target, token, uri, is) e ends never =
     let line = method ++ 32 ∷ target in
-    let quiet : has_feed line ≡ false = list_any-append (λ b. b == 10) method (32 ∷ target)
-    ∙ (λ i. feeds_nowhere is_token_byte method token_quiet token.1 i || feeds_nowhere is_uri_byte target refl uri i) in
-    let cut = cut_before (print_blank blank) line lines rest ends (sym (append_assoc (print_blank blank) method (32 ∷ target)) ∙ sym is ∙ e) quiet in
+    let none : has_feed line ≡ false = list_any-append (λ b. b == 10) method (32 ∷ target)
+    ∙ (λ i. quiet is_token_byte method token_quiet token.1 i || quiet is_uri_byte target refl uri i) in
+    let cut = cut_before (print_blank blank) line lines rest ends (sym (append_assoc (print_blank blank) method (32 ∷ target)) ∙ sym is ∙ e) none in
     let some = print_request some_head ++ [] in
     never (cut.0 ++ some) (record some_head { blank = blank }) [] (
       some_with blank,

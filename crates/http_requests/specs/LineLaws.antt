@@ -4,6 +4,7 @@ use Rattle.std.specs.List.{list_any, flat_map}
 use Rattle.std.proofs.lemmas.Bool.Decides.{nat_tests}
 use Rattle.std.proofs.lemmas.List.{take-append-drop}
 use Rattle.std.proofs.lemmas.List.Folds.{list_any-append}
+use Rattle.std.proofs.Math.Bool.{or-true}
 use Rattle.httparse.specs.Ascii.{crlf_bytes}
 use Rattle.httparse.specs.Grammar.{LineEnd.{crlf, lf}, LineEnd, ChunkLine, print_chunk_line, print_extension, Field, RequestHead, print_end, print_field, print_section, print_blank, print_version, print_request}
 use Rattle.httparse.proofs.GrammarLemmas.{print_request-append}
@@ -21,12 +22,8 @@ has_feed bytes = list_any (λ b. b == 10) bytes
 ends_before : (seen part front rest : List ℕ) → seen ++ part ≡ front ++ 10 ∷ rest → has_feed part ≡ false → (left : List ℕ) × (seen ≡ (front ++ 10 ∷ []) ++ left)
 ends_before [] part front rest e none = absurd (cc (sym none ∙ ap has_feed e ∙ has_one front rest))
   where
-    or_true : (b : Bool) → (b || true) ≡ true
-    or_true true = refl
-    or_true false = refl
-
     has_one : (front rest : List ℕ) → has_feed (front ++ 10 ∷ rest) ≡ true
-    has_one front rest = list_any-append (λ b. b == 10) front (10 ∷ rest) ∙ or_true (has_feed front)
+    has_one front rest = list_any-append (λ b. b == 10) front (10 ∷ rest) ∙ or-true (has_feed front)
 ends_before (x ∷ xs) part [] rest e none = (xs, λ i. first e i ∷ xs)
   where
     first : {a b : ℕ} {xs ys : List ℕ} → a ∷ xs ≡ b ∷ ys → a ≡ b

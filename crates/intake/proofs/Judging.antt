@@ -11,7 +11,6 @@ use Rattle.trace_model.specs.declared.entry.Entry.{Entry}
 use Rattle.trace_model.specs.declared.limits.Limits.{Limits}
 use Rattle.trace_model.specs.declared.refusal.Refusal.{Refusal}
 use Rattle.trace_model.specs.declared.refusal.Refusal.TheVariants.{JournalFull, Stale, NoMemory, Conflict}
-use Rattle.trace_model.specs.Places.{entry_at}
 use Rattle.trace_model.specs.Refusals.{place_of}
 use Rattle.trace_model.specs.Resending.{is_sent}
 use Rattle.trace_model.proofs.Admissions.{IsSaid, admission_says}
@@ -20,6 +19,7 @@ use Rattle.read_side.specs.Keepers.{Lists, Answers, accepted, after_admission, a
 use Rattle.read_side.specs.Receipts.{StandsAt, AnsweredAt}
 use Rattle.intake.specs.Seats.{IsUnacknowledged}
 use Rattle.intake.specs.Books.{is_accepted, AnsweredIfPlaced}
+use Rattle.read_side.proofs.Admitting.{last_stands, entry_stands}
 
 -- whatever a keeper turns an entry away for, without accepting it, is one of four refusals
 pub one-of-four : (P : Refusal → Type 0) (limits : Limits) (k : Lists) (e : Entry) → P NoMemory → ((last : ℕ) → P (Stale last)) → ((batches spans : ℕ) → P (JournalFull batches spans)) → ((place : ℕ) → P (Conflict place)) → P (unwrap_or (refusal_after limits k e) NoMemory)
@@ -72,22 +72,12 @@ snoc_get [] j (suc n) e = absurd (omega (arith, e))
 snoc_get (x ∷ xs) j zero e = absurd (omega (arith, e))
 snoc_get (x ∷ xs) j (suc n) e = snoc_get xs j n (omega (arith, e))
 
-last-stands : (h : List Entry) (j : Entry) → StandsAt (h ++ j ∷ []) (length h + 1) j
-last-stands h j = (omega arith, snoc_get h j (length h + 1 - 1) (omega arith))
-
-entry-stands : (h : List Entry) (place : ℕ) (d : Entry) → entry_at h place ≡ Some d → StandsAt h place d
-entry-stands h zero d is = absurd (cc is)
-entry-stands h (suc n) d is =
-    let P : ℕ → Type 0 = λ i. slice_get h i ≡ Some d in
-    let same : n ≡ suc n - 1 = omega arith in
-    (omega arith, subst P same is)
-
 -- an entry that is taken is answered for in the accepted list that it leaves
 answered-after : (limits : Limits) (k : Lists) (j : Entry) (a : Admission) → IsSaid limits (accepted k) j (Ok a) → AnsweredAt (accepted (after_admission k j a)) (place_of (accepted k) a) j
 answered-after limits k j Added s =
     let P : List Entry → Type 0 = λ z. StandsAt z (length (accepted k) + 1) j in
-    (j, subst P (append_assoc k.published k.pending (j ∷ [])) (last-stands (accepted k) j), inl refl)
-answered-after limits k j (Resent place) s = (s.by, entry-stands (accepted k) place s.by s.stands, inr (s.resent, s.same))
+    (j, subst P (append_assoc k.published k.pending (j ∷ [])) (last_stands (accepted k) j), inl refl)
+answered-after limits k j (Resent place) s = (s.by, entry_stands (accepted k) place s.by s.stands, inr (s.resent, s.same))
 
 -- a list that goes on has at a place what it had there
 pub answered-on : (list more : List Entry) (place : ℕ) (j : Entry) → IsPrefix list more → AnsweredAt list place j → AnsweredAt more place j

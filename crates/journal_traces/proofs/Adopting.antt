@@ -2,6 +2,7 @@
 use Rattle.std.proofs.Common.{◌≡◌, ℤ, Bool, true, false, cond, List, [], ◌∷◌, ◌++◌, map, refl, sym, ap, ◌∙◌, Option, Some, None}
 use Rattle.std.specs.Prelude.{filter_map, flat_map, find, option_map, Vec, if◌then◌else◌, ◌==◌}
 use Rattle.std.specs.Global.{Global}
+use Rattle.std.proofs.lemmas.Simd.{map-map}
 use Rattle.jaeger_model.specs.declared.ids.SpanId.{SpanId}
 use Rattle.jaeger_model.specs.declared.span.Span.{Span}
 use Rattle.jaeger_model.specs.declared.placed.Placed.{Placed}
@@ -21,10 +22,6 @@ abbrev placed_if : Bool → Placed → Placed
 placed_if b p = record { process = p.process; span = with_if b p.span }
 
 -- ---- lists
-pub map_map : {X Y Z : Type 0} (f : Y → Z) (g : X → Y) (xs : List X) → map f (map g xs) ≡ map (λ x. f (g x)) xs
-map_map f g [] = refl
-map_map f g (x ∷ xs) = ap (λ l. f (g x) ∷ l) (map_map f g xs)
-
 filter_map_same : {X Y Z : Type 0} (p : Y → Option Z) (q : X → Option Z) (f : X → Y) → ((x : X) → p (f x) ≡ q x) → (xs : List X) → filter_map p (map f xs) ≡ filter_map q xs
 filter_map_same p q f h [] = refl
 filter_map_same {X} {Y} {Z} p q f h (x ∷ xs) = let rest : filter_map p (map f xs) ≡ filter_map q xs = filter_map_same p q f h xs in cc (h x, rest)
@@ -75,7 +72,7 @@ links-adopted ts = ap counted (flat_map_same calls_of calls_of (map adopted) cal
 -- ---- the traces that are looked at
 given-seen : (ts : List (Vec NumberedSpan Global)) → given_traces ts ≡ map (map adopted) (seen_traces ts)
 given-seen [] = refl
-given-seen (t ∷ ts) = λ i. sym (map_map adopted span_of t.items) i ∷ given-seen ts i
+given-seen (t ∷ ts) = λ i. sym (map-map adopted span_of t.items) i ∷ given-seen ts i
 
 pub links-given : (ts : List (Vec NumberedSpan Global)) → links_in (seen_traces ts) ≡ links_in (given_traces ts)
 links-given ts = sym (ap links_in (given-seen ts) ∙ links-adopted (seen_traces ts))

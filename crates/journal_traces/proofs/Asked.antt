@@ -1,10 +1,10 @@
 -- Where the bit of an asked tag is not set, no span of the entry has the tag.
-use Rattle.std.proofs.Common.{◌≡◌, ℕ, ◌^◌, Bool, true, false, ◌&&◌, ◌||◌, List, [], ◌∷◌, ◌++◌, flat_map, refl, sym, ap, ◌∙◌, arith, eq-eqb, bit_or}
+use Rattle.std.proofs.Common.{◌≡◌, ℕ, Bool, true, false, ◌&&◌, ◌||◌, List, [], ◌∷◌, ◌++◌, flat_map, refl, sym, ap, ◌∙◌, arith, eq-eqb, bit_or}
 use Rattle.std.specs.Int.{bit_at}
 use Rattle.std.specs.List.{list_any, list_all, AllByRecursion, fold}
 use Rattle.std.specs.Cmp.Lexicographic.{same_text as texts_are}
-use Rattle.std.proofs.lemmas.Bool.{false≢true}
-use Rattle.std.proofs.lemmas.Nat.Bits.{bit_at_or, bit_at-lt, bit_at-pow_same}
+use Rattle.std.proofs.lemmas.Bool.{false≢true, and_parts}
+use Rattle.std.proofs.lemmas.Nat.Bits.{bit_at_or, bit_at-lt}
 use Rattle.jaeger_model.specs.declared.tag.Tag.{Tag}
 use Rattle.jaeger_model.specs.declared.span.Span.{Span}
 use Rattle.jaeger_model.specs.declared.batch.Batch.{Batch}
@@ -15,6 +15,7 @@ use Rattle.jaeger_model.specs.Texts.{same_text}
 use Rattle.trace_model.specs.Searching.{tag_matches, has_tag, tags_of}
 use Rattle.arrival_journal.specs.Tagging.{tag_place, bit_of, with_tag, fields_of, own_tags, bits_of}
 use Rattle.journal_traces.specs.Pruned.{is_marked}
+use Rattle.find_traces.proofs.Wanting.{bit_own}
 
 -- the tag's bit is among these
 abbrev pub IsSet : ℕ → Tag → Type 0
@@ -24,16 +25,13 @@ IsSet bits t = bit_at bits (tag_place t.key (tag_text t.value)) ≡ 1
 set_more : (b n k : ℕ) → bit_at b k ≡ 1 → bit_at (bit_or b n) k ≡ 1
 set_more b n k e = bit_at_or b n k ∙ omega (arith, e, bit_at-lt n k)
 
-set_own : (b k : ℕ) → bit_at (bit_or b (2 ^ k)) k ≡ 1
-set_own b k = bit_at_or b (2 ^ k) k ∙ omega (arith, bit_at-pow_same k, bit_at-lt b k)
-
 set_still : (b : ℕ) (ts : List Tag) (k : ℕ) → bit_at b k ≡ 1 → bit_at (fold with_tag b ts) k ≡ 1
 set_still b [] k e = e
 set_still b (t ∷ ts) k e = set_still (with_tag b t) ts k (set_more b (bit_of t) k e)
 
 each_set : (b : ℕ) (ts : List Tag) → AllByRecursion (IsSet (fold with_tag b ts)) ts
 each_set b [] = tt
-each_set b (t ∷ ts) = (set_still (with_tag b t) ts (tag_place t.key (tag_text t.value)) (set_own b (tag_place t.key (tag_text t.value))), each_set (with_tag b t) ts)
+each_set b (t ∷ ts) = (set_still (with_tag b t) ts (tag_place t.key (tag_text t.value)) (bit_own b (tag_place t.key (tag_text t.value))), each_set (with_tag b t) ts)
 
 -- ---- those of each span, of its process and of its logs
 module _ (P : Tag → Type 0) where
@@ -68,13 +66,9 @@ all_set b =
     each_span (bits_of b) b.process b.spans (in_front (IsSet (bits_of b)) b.process.tags (flat_map own_tags b.spans) each) (behind (IsSet (bits_of b)) b.process.tags (flat_map own_tags b.spans) each)
 
 -- ---- what matches is marked
-both_true : (a b : Bool) → (a && b) ≡ true → (a ≡ true) × (b ≡ true)
-both_true true b e = (refl, e)
-both_true false b e = absurd (false≢true e)
-
 matching_place : (asked : List ℕ × List ℕ) (t : Tag) → tag_matches asked t ≡ true → tag_place t.key (tag_text t.value) ≡ tag_place asked.0 asked.1
 matching_place asked t e =
-    let ab = both_true (same_text asked.0 t.key) (same_text asked.1 (tag_text t.value)) e in
+    let ab = and_parts (same_text asked.0 t.key) (same_text asked.1 (tag_text t.value)) e in
     let key = texts_are asked.0 t.key (sym ab.0) in
     let text = texts_are asked.1 (tag_text t.value) (sym ab.1) in
     λ i. tag_place (sym key i) (sym text i)
@@ -93,7 +87,7 @@ one_marked bits asked (t ∷ ts) set e = by (tag_matches asked t) refl e (one_ma
 pub all_marked : (bits : ℕ) (p : Placed) (asked : List (List ℕ × List ℕ)) → AllByRecursion (IsSet bits) (tags_of p) → list_all (has_tag p) asked ≡ true → list_all (is_marked bits) asked ≡ true
 all_marked bits p [] set e = refl
 all_marked bits p (a ∷ more) set e =
-    let ab = both_true (has_tag p a) (list_all (has_tag p) more) e in
+    let ab = and_parts (has_tag p a) (list_all (has_tag p) more) e in
     let first = one_marked bits a (tags_of p) set ab.0 in
     let rest = all_marked bits p more set ab.1 in
     λ i. first i && rest i

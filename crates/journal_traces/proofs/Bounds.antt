@@ -2,7 +2,7 @@
 use Rattle.std.proofs.Common.{◌≡◌, ℤ, ◌≤ℤ◌, Bool, true, false, ◌&&◌, cond, List, [], ◌∷◌, refl, sym, ap, ◌∙◌, arith}
 use Rattle.std.specs.Prelude.{Option, Some, None, int_le, not, option_map}
 use Rattle.std.specs.List.{list_all, AllByRecursion}
-use Rattle.std.proofs.lemmas.Bool.{false≢true}
+use Rattle.std.proofs.lemmas.Bool.{false≢true, and_parts}
 use Rattle.std.proofs.lemmas.Int.{fold-int_min_bounds, fold-int_max_bounds, ints}
 use Rattle.std.proofs.lemmas.List.Elements.{recursion_from_All}
 use Rattle.jaeger_model.specs.declared.placed.Placed.{Placed}
@@ -47,10 +47,6 @@ all_within ss =
     (recursion_from_All (λ x. t.duration_min ≤ℤ x) (durations ss) (fold-int_min_bounds latest (durations ss) t.duration_min refl).1)
     (recursion_from_All (λ x. x ≤ℤ t.duration_max) (durations ss) (fold-int_max_bounds earliest (durations ss) t.duration_max refl).1)
 
-pub both : (a b : Bool) → (a && b) ≡ true → (a ≡ true) × (b ≡ true)
-both true b e = (refl, e)
-both false b e = absurd (false≢true e)
-
 raised : (low : Option ℤ) (x y : ℤ) → x ≤ℤ y → at_least low x ≡ true → at_least low y ≡ true
 raised None x y le e = refl
 raised (Some l) x y le e = by (int_le l y) refl
@@ -81,15 +77,15 @@ meeting q o ol s known m =
     let p : Placed = record { process = o; span = s } in
     let t = ol.times in
     let w = known.within in
-    let parts = both (is_named q p && is_timed q p) (list_all (has_tag p) q.tags) m in
-    let timed = (both (is_named q p) (is_timed q p) parts.0).1 in
+    let parts = and_parts (is_named q p && is_timed q p) (list_all (has_tag p) q.tags) m in
+    let timed = (and_parts (is_named q p) (is_timed q p) parts.0).1 in
     let long : Bool = at_least (bound q.duration_min) s.duration in
     let short : Bool = at_most (bound q.duration_max) s.duration in
     let late : Bool = at_least q.start_min s.start in
     let early : Bool = at_most q.start_max s.start in
-    let d = both (long && short && late) early timed in
-    let c = both (long && short) late d.0 in
-    let ab = both long short c.0 in
+    let d = and_parts (long && short && late) early timed in
+    let c = and_parts (long && short) late d.0 in
+    let ab = and_parts long short c.0 in
     let a' = raised (bound q.duration_min) s.duration t.duration_max w.duration_high ab.0 in
     let b' = lowered (bound q.duration_max) s.duration t.duration_min w.duration_low ab.1 in
     let c' = raised q.start_min s.start t.start_max w.start_high c.1 in

@@ -3,12 +3,13 @@ use Rattle.std.proofs.Common.{◌≡◌, ℕ, zero, suc, ◌+◌, ◌-◌, ◌<�
 use Rattle.std.specs.Prelude.{filter, slice_get, if◌then◌else◌, not, Option}
 use Rattle.std.specs.List.{list_any, position, position_or_len}
 use Rattle.std.proofs.Math.ListN.{set}
-use Rattle.std.proofs.lemmas.Bool.{false≢true}
+use Rattle.std.proofs.lemmas.Bool.{false≢true, or_parts}
 use Rattle.std.proofs.lemmas.List.{append-nil, take_more, take_all, flat_map_more, map_push}
 use Rattle.std.proofs.lemmas.List.Elements.{filter-append, filter_more}
 use Rattle.std.proofs.lemmas.List.Folds.{list_any-append}
 use Rattle.std.proofs.lemmas.List.Quantifiers.{position-Some}
 use Rattle.std.proofs.lemmas.Option.{slice_get-get_or}
+use Rattle.std.proofs.Math.Bool.{or_assoc, or-true}
 use Rattle.jaeger_model.specs.declared.ids.TraceId.{TraceId}
 use Rattle.jaeger_model.specs.declared.placed.Placed.{Placed}
 use Rattle.jaeger_model.specs.declared.span.Span.{Span}
@@ -20,7 +21,7 @@ use Rattle.trace_model.specs.Rings.{holds, newest, arrive}
 use Rattle.trace_model.specs.Events.{Event, came, limited}
 use Rattle.trace_model.specs.Showing.{ring, limit_after, trace_of}
 use Rattle.trace_model.proofs.Shows.{by_pushes, ring_came, ring_limited}
-use Rattle.trace_model.proofs.Traces.{same_is, same_self, or_true}
+use Rattle.trace_model.proofs.Traces.{same_is, same_self}
 use Rattle.trace_ring.specs.Windows.{NoneTwice}
 use Rattle.trace_assembly.specs.declared.spot.Spot.{Spot}
 use Rattle.trace_assembly.specs.Rows.{is_of}
@@ -28,14 +29,10 @@ use Rattle.trace_assembly.proofs.Written.{same_swap}
 use Rattle.journal_traces.specs.Picked.{reaches, meets, met, met_at, met_along, same_before}
 
 -- ---- no trace stands in the ring twice
-either_false : (a b : Bool) → (a || b) ≡ false → (a ≡ false) × (b ≡ false)
-either_false true b e = absurd (false≢true (sym e))
-either_false false b e = (refl, e)
-
 twice_push : (ids : List TraceId) (t : TraceId) → NoneTwice ids → holds ids t ≡ false → NoneTwice (ids ++ t ∷ [])
 twice_push [] t once absent = (refl, tt)
 twice_push (x ∷ xs) t once absent =
-    let apart = either_false (same_trace t x) (holds xs t) absent in
+    let apart = or_parts (same_trace t x) (holds xs t) absent in
     let other : same_trace x t ≡ false = same_swap x t ∙ apart.0 in
     (list_any-append (same_trace x) xs (t ∷ []) ∙ (λ i. once.0 i || (other i || false)), twice_push xs t once.1 apart.1)
 
@@ -65,7 +62,7 @@ ring_once n = by_pushes (λ es. NoneTwice (ring n es)) tt go
 held : (r : List TraceId) (k : ℕ) (t : TraceId) → slice_get r k ≡ Some t → holds r t ≡ true
 held [] k t e = absurd cc
 held (x ∷ xs) zero t e = let same : x ≡ t = cc e in ap (λ y. same_trace t y || holds xs t) same ∙ ap (λ b. b || holds xs t) (same_self t)
-held (x ∷ xs) (suc k) t e = ap (λ b. same_trace t x || b) (held xs k t e) ∙ or_true (same_trace t x)
+held (x ∷ xs) (suc k) t e = ap (λ b. same_trace t x || b) (held xs k t e) ∙ or-true (same_trace t x)
 
 -- where a trace is found is its place
 placed_at : (r : List TraceId) (t : TraceId) (place : ℕ) → position (same_trace t) r ≡ Some place → slice_get r place ≡ Some t
@@ -103,7 +100,7 @@ beside p x t other = or_same (p x) ∙ ap (λ b. p x || b) (sym other)
 unmarked : (p : TraceId → Bool) (r : List TraceId) (t : TraceId) → holds r t ≡ false → map p r ≡ map (λ u. p u || same_trace u t) r
 unmarked p [] t e = refl
 unmarked p (x ∷ xs) t e =
-    let apart = either_false (same_trace t x) (holds xs t) e in
+    let apart = or_parts (same_trace t x) (holds xs t) e in
     let first : p x ≡ (p x || same_trace x t) = beside p x t (same_swap x t ∙ apart.0) in
     let rest = unmarked p xs t apart.1 in
     λ i. first i ∷ rest i
@@ -112,7 +109,7 @@ marked_at : (p : TraceId → Bool) (r : List TraceId) (t : TraceId) (k : ℕ) �
 marked_at p [] t k once e = absurd cc
 marked_at p (x ∷ xs) t zero once e =
     let same : x ≡ t = cc e in
-    let first : true ≡ (p x || same_trace x t) = sym (ap (λ y. p x || same_trace y t) same ∙ ap (λ b. p x || b) (same_self t) ∙ or_true (p x)) in
+    let first : true ≡ (p x || same_trace x t) = sym (ap (λ y. p x || same_trace y t) same ∙ ap (λ b. p x || b) (same_self t) ∙ or-true (p x)) in
     let rest = unmarked p xs t (ap (holds xs) (sym same) ∙ once.0) in
     λ i. first i ∷ rest i
 marked_at p (x ∷ xs) t (suc k) once e =
@@ -133,10 +130,6 @@ pub marked_absent : (p : TraceId → Bool) (r : List TraceId) (t : TraceId) → 
 marked_absent p r t e = unmarked p r t (position_none r t e)
 
 -- ---- one more of the spans
-or_assoc : (a b c : Bool) → ((a || b) || c) ≡ (a || (b || c))
-or_assoc true b c = refl
-or_assoc false b c = refl
-
 pub marked_none : (p : TraceId → Bool) (r : List TraceId) → map p r ≡ map (λ u. p u || false) r
 marked_none p r = λ i. map (λ u. or_same (p u) i) r
 
@@ -169,7 +162,7 @@ module _ (q : Find) (o : Process) (ss : List Span) (i : ℕ) (s : Span) (le : i 
 
   still : reaches (met q o (take i ss)) s.trace ≡ true → (u : TraceId) → reaches (met q o (take i ss)) u ≡ (reaches (met q o (take i ss)) u || same_trace u s.trace)
   still there u = elim (same_trace u s.trace) as (λ b. same_trace u s.trace ≡ b → reaches (met q o (take i ss)) u ≡ (reaches (met q o (take i ss)) u || b)) [
-    | true ↦ λ e. ap (reaches (met q o (take i ss))) (same_is u s.trace e) ∙ there ∙ sym (or_true (reaches (met q o (take i ss)) u))
+    | true ↦ λ e. ap (reaches (met q o (take i ss))) (same_is u s.trace e) ∙ there ∙ sym (or-true (reaches (met q o (take i ss)) u))
     | false ↦ λ _. or_same (reaches (met q o (take i ss)) u)
   ] refl
 
@@ -185,7 +178,7 @@ module _ (q : Find) (o : Process) (ss : List Span) (i : ℕ) (s : Span) (le : i 
   marked_again p r there = λ j. map (λ u. p u || sym (same_reach there u) j) r
 
   pub reached_own : (t : TraceId) → meets q o s ≡ true → s.trace ≡ t → reaches (met q o (take (i + 1) ss)) t ≡ true
-  reached_own t m own = reach_more m t ∙ ap (λ x. reaches (met q o (take i ss)) t || same_trace t x) own ∙ ap (λ b. reaches (met q o (take i ss)) t || b) (same_self t) ∙ or_true (reaches (met q o (take i ss)) t)
+  reached_own t m own = reach_more m t ∙ ap (λ x. reaches (met q o (take i ss)) t || same_trace t x) own ∙ ap (λ b. reaches (met q o (take i ss)) t || b) (same_self t) ∙ or-true (reaches (met q o (take i ss)) t)
 
   pub reached_still : (t : TraceId) → (meets q o s ≡ true → reaches (met q o (take i ss)) s.trace ≡ true) → reaches (met q o (take i ss)) t ≡ true → reaches (met q o (take (i + 1) ss)) t ≡ true
   reached_still t there before = same_reach there t ∙ before

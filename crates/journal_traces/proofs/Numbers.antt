@@ -13,12 +13,12 @@ use Rattle.trace_model.specs.declared.entry.Entry.{Entry}
 use Rattle.trace_model.specs.declared.entry.Work.{Work}
 use Rattle.trace_model.specs.declared.entry.Work.TheVariants as brings
 use Rattle.trace_model.specs.Works.{batch_brought}
+use Rattle.trace_model.proofs.NameLaws.{text_is}
 use Rattle.trace_assembly.specs.declared.spot.Spot.{Spot}
 use Rattle.trace_assembly.specs.Located.{span_at}
 use Rattle.service_places.specs.Reported.{service_brought, reporters, service_at, group_in, AreGroups}
 use Rattle.service_places.proofs.Grouping.{group_within, as_many_reporters}
 use Rattle.call_links.specs.Seen.{StandsFor}
-use Rattle.call_links.proofs.Numbering.{same_is}
 use Rattle.journal_traces.specs.Standing.{process_at}
 use Rattle.journal_traces.proofs.Processes.{process_there}
 
@@ -58,7 +58,7 @@ number_there h groups s q kept e =
     let first : group_in h q.process.service ≡ group_in h (service_at h n) = ap (group_in h) same in
     let many = as_many_reporters h in
     let known : q.process.service ≡ service_at h (group_in h q.process.service) =
-    same_is q.process.service (service_at h (group_in h q.process.service)) (passes_at_first (same_text q.process.service) (reporters h) [] (omega (arith, within, first, many, below))) in
+    text_is q.process.service (service_at h (group_in h q.process.service)) (passes_at_first (same_text q.process.service) (reporters h) [] (omega (arith, within, first, many, below))) in
     (number, ap (service_at h) number ∙ sym known)
 
 -- one more of a list

@@ -2,7 +2,7 @@
 use Rattle.std.proofs.Common.{◌≡◌, ℕ, ℤ, zero, suc, ◌≤ℤ◌, Bool, true, false, ◌&&◌, ◌||◌, List, [], ◌∷◌, map, refl, sym, ap, ◌∙◌, arith}
 use Rattle.std.specs.Prelude.{Option, Some, None, pos, ◌-ℤ◌, ◌*ℤ◌, int_lt, option_map, option_and_then, slice_get}
 use Rattle.std.specs.List.{list_any, cons_option, AllByRecursion}
-use Rattle.std.proofs.lemmas.Bool.{false≢true}
+use Rattle.std.proofs.lemmas.Bool.{false≢true, and_parts}
 use Rattle.std.proofs.lemmas.Int.{ints}
 use Rattle.jaeger_model.specs.declared.batch.Batch.{Batch}
 use Rattle.jaeger_model.specs.declared.span.Span.{Span}
@@ -21,7 +21,7 @@ use Rattle.trace_assembly.specs.declared.spot.Spot.{Spot}
 use Rattle.journal_traces.specs.Pruned.{may_reach}
 use Rattle.journal_traces.specs.Standing.{spans_named}
 use Rattle.journal_traces.proofs.Adopting.{window-adopted}
-use Rattle.journal_traces.proofs.Bounds.{Within, all_within, both}
+use Rattle.journal_traces.proofs.Bounds.{Within, all_within}
 
 later : (b x y : ℤ) → x ≤ℤ y → int_lt b x ≡ true → int_lt b y ≡ true
 later b x y le e = by (int_lt b y) refl
@@ -39,7 +39,7 @@ sooner b x y le e = by (int_lt y b) refl
 
 reaching : (e l : ℤ) (t : Times) (s : Span) → Within t s → is_between e l s.start ≡ true → may_reach e l t ≡ true
 reaching e l t s w in_it =
-    let ab = both (int_lt (pos 1000 *ℤ (e -ℤ l)) s.start) (int_lt s.start (pos 1000 *ℤ e)) in_it in
+    let ab = and_parts (int_lt (pos 1000 *ℤ (e -ℤ l)) s.start) (int_lt s.start (pos 1000 *ℤ e)) in_it in
     let a' = later (pos 1000 *ℤ (e -ℤ l)) s.start t.start_max w.start_high ab.0 in
     let b' = sooner (pos 1000 *ℤ e) s.start t.start_min w.start_low ab.1 in
     λ i. a' i && b' i

@@ -1,17 +1,17 @@
 -- The clock of a span for a program that goes up to the root and down again.
 use Rattle.std.proofs.Common.{◌≡◌, ℕ, zero, suc, pos, ◌+◌, ◌-◌, ◌<◌, ◌≤◌, nat_lt, Bool, true, false, cond, List, [], ◌∷◌, ◌++◌, map, length, get_or, reverse, refl, sym, ap, ◌∙◌, subst, arith, append_assoc}
-use Rattle.std.specs.Prelude.{Option, Some, None, option_map, option_and_then, is_some, find, fold, not, ◌==◌, if◌then◌else◌}
+use Rattle.std.specs.Prelude.{Option, Some, None, option_map, option_and_then, find, fold, not, ◌==◌, if◌then◌else◌}
 use Rattle.std.specs.List.{position, position_or_len, AllByRecursion}
-use Rattle.std.proofs.lemmas.Bool.{false≢true}
 use Rattle.std.proofs.lemmas.Bool.Decides.{nat_tests}
 use Rattle.std.proofs.lemmas.List.{get_or-map, length-map, reverse-append}
 use Rattle.std.proofs.lemmas.List.Quantifiers.{position-Some}
+use Rattle.std.proofs.lemmas.Option.{none-some}
 use Rattle.jaeger_model.specs.declared.placed.Placed.{Placed}
 use Rattle.jaeger_model.specs.Parents.{parent}
 use Rattle.trace_model.specs.Linking.{has_id, parent_in}
 use Rattle.trace_model.specs.declared.clock.Clock.{Clock}
 use Rattle.trace_model.specs.Adjusting.{chain, chain_through, clock_along, clock_of, clock_at, clock_below, host_of}
-use Rattle.trace_model.proofs.Chains.{chain_step}
+use Rattle.trace_model.proofs.Chains.{chain_step, chain_none}
 use Rattle.plain_store.specs.Climbing.{parent_at, path, path_through, next_clock, downward, clock_down}
 
 -- ---- what stands at the first place that passes
@@ -33,9 +33,6 @@ found_at t (x ∷ xs) d = elim (t x) as (λ b. option_map (λ j. get_or (x ∷ x
     past false = refl
     past true = let e : 1 + position_or_len t xs ≡ suc (position_or_len t xs) = omega arith in ap (λ k. Some (get_or (x ∷ xs) k d)) e
 
-none_some : {X : Type 0} (x : X) → None ≡ Some x → ⊥
-none_some x e = false≢true (ap is_some e)
-
 some_is : {X : Type 0} (a b : X) → Some a ≡ Some b → a ≡ b
 some_is a b e = cc
 
@@ -44,9 +41,8 @@ path_step : (n : ℕ) (ps : List (Option ℕ)) (k : ℕ) → path (suc n) ps k �
 unfolding path
 path_step n ps k = refl
 
-no_chain : (trace : List Placed) (p : Placed) → chain 0 trace p ≡ None
 unfolding chain
-no_chain trace p = refl
+chain_none trace p = refl
 
 path_none : (ps : List (Option ℕ)) (k : ℕ) → path 0 ps k ≡ None
 unfolding path
@@ -91,7 +87,7 @@ module _ (trace : List Placed) (d : Placed) where
 
   within_at : (p : Placed) (j : ℕ) → parent_at trace p ≡ Some j → j < length trace
   within_at p j e = elim ((parent p.span).0 == 0) as (λ b. (if b then None else position (has_id (parent p.span)) trace) ≡ Some j → j < length trace) [
-    | true ↦ λ e. absurd (none_some j e)
+    | true ↦ λ e. absurd (none-some j e)
     | false ↦ λ e. (position-Some (has_id (parent p.span)) trace j d e).0
   ] e
 
@@ -100,7 +96,7 @@ module _ (trace : List Placed) (d : Placed) where
 
   -- the places up to a root are the spans down from it
   path_chain : (n k : ℕ) → k < length trace → chain n trace (at k) ≡ option_map (λ ks. downward trace ks d) (path n parents k)
-  path_chain zero k l = no_chain trace (at k) ∙ ap (option_map (λ ks. downward trace ks d)) (sym (path_none parents k))
+  path_chain zero k l = chain_none trace (at k) ∙ ap (option_map (λ ks. downward trace ks d)) (sym (path_none parents k))
   path_chain (suc n) k l = chain_step n trace (at k) ∙ by_parent (path_chain n) (get_or parents k None) refl ∙ ap (option_map (λ ks. downward trace ks d)) (sym (path_step n parents k))
     where
       above : (o : Option ℕ) → get_or parents k None ≡ o → parent_in trace (at k) ≡ option_map at o
@@ -119,11 +115,11 @@ module _ (trace : List Placed) (d : Placed) where
 
   -- and each of them is of the trace
   path_below : (n k : ℕ) (ks : List ℕ) → k < length trace → path n parents k ≡ Some ks → AllByRecursion (λ j. j < length trace) ks
-  path_below zero k ks l e = absurd (none_some ks (sym (path_none parents k) ∙ e))
+  path_below zero k ks l e = absurd (none-some ks (sym (path_none parents k) ∙ e))
   path_below (suc n) k ks l e = by_parent (path_below n) (get_or parents k None) refl (sym (path_step n parents k) ∙ e)
     where
       on : ((j : ℕ) (ks : List ℕ) → j < length trace → path n parents j ≡ Some ks → AllByRecursion (λ j. j < length trace) ks) → (j : ℕ) (o : Option (List ℕ)) → j < length trace → path n parents j ≡ o → option_map (λ above. k ∷ above) o ≡ Some ks → AllByRecursion (λ j. j < length trace) ks
-      on up j None lj e f = absurd (none_some ks f)
+      on up j None lj e f = absurd (none-some ks f)
       on up j (Some above) lj e f = subst (AllByRecursion (λ j. j < length trace)) (some_is (k ∷ above) ks f) (l, up j above lj e)
 
       by_parent : ((j : ℕ) (ks : List ℕ) → j < length trace → path n parents j ≡ Some ks → AllByRecursion (λ j. j < length trace) ks) → (o : Option ℕ) → get_or parents k None ≡ o → path_through k (λ j. path n parents j) o ≡ Some ks → AllByRecursion (λ j. j < length trace) ks

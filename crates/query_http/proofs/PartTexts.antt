@@ -1,6 +1,7 @@
 -- A part of a path as text.
-use Rattle.std.proofs.Common.{◌≡◌, ℕ, List, Ok, Err, true, false, refl, Bool}
+use Rattle.std.proofs.Common.{◌≡◌, ℕ, List, Ok, Err, true, false, refl}
 use Rattle.std.specs.Str.{IsUtf8, is_utf8}
+use Rattle.std.proofs.lemmas.Bool.{false_from_ne_true}
 use Rattle.std.proofs.lemmas.Str.{is_utf8-from_IsUtf8, IsUtf8-from_is_utf8}
 use Rattle.percent_encoding.specs.Percent.{percent_decode}
 use Rattle.query_http.specs.declared.fault.Parameter.TheVariants as bad
@@ -12,8 +13,4 @@ text_part_is part t e u = let yes' : is_utf8 (percent_decode part) ≡ true = is
 
 pub text_part_bad : (part : List ℕ) → ¬ IsUtf8 (percent_decode part) → text_part part ≡ Err bad.Service
 unfolding text_part
-text_part_bad part n = let none : is_utf8 (percent_decode part) ≡ false = not_true (is_utf8 (percent_decode part)) (λ y. n (IsUtf8-from_is_utf8 (percent_decode part) y)) in rw none refl
-  where
-    not_true : (b : Bool) → ¬ (b ≡ true) → b ≡ false
-    not_true true f = absurd (f refl)
-    not_true false f = refl
+text_part_bad part n = let none : is_utf8 (percent_decode part) ≡ false = false_from_ne_true (is_utf8 (percent_decode part)) (λ y. n (IsUtf8-from_is_utf8 (percent_decode part) y)) in rw none refl

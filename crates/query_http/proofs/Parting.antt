@@ -2,8 +2,9 @@
 use Rattle.std.proofs.Common.{◌≡◌, ◌≢◌, ℕ, ◌+◌, ◌-◌, ◌<◌, ◌≤◌, List, [], ◌∷◌, ◌++◌, length, drop, Option, Some, None, Bool, true, false, cond, refl, sym, ap, ◌∙◌, subst, rules, eqb, ltb, arith, inl, inr, ◌⊎◌, length-append}
 use Rattle.std.proofs.lemmas.Bool.Decides.{nat_tests}
 use Rattle.std.proofs.lemmas.Bool.{lt-ltb}
-use Rattle.std.proofs.lemmas.List.{append-nil, drop_at, length-drop}
+use Rattle.std.proofs.lemmas.List.{append-nil, drop_at, length-drop, nil_from_length}
 use Rattle.std.specs.List.{AllByRecursion}
+use Rattle.std.proofs.lemmas.Option.{none-some}
 use Rattle.matchit.specs.Rows.{RowsOf}
 use Rattle.matchit.specs.Seek.{seek, or_else, step, param_step, has_slash, segment, cuts}
 use Rattle.query_http.specs.Paths.{IsPart}
@@ -37,9 +38,6 @@ slash_cut (b ∷ t) = by (eqb b 47) refl (slash_cut t)
     by false e (inr h) =
         let other : b ≢ 47 = λ q. grind (arith, nat_tests) in
         inr (record { part = b ∷ h.part; tail = h.tail; is = ap (λ (x : List ℕ). b ∷ x) h.is; front = rw (e, h.front) refl; some = rw e h.some; plain = (other, h.plain) })
-
-none_some : {K : Type 0} (k : K) → None ≡ Some k → ⊥
-none_some k e = absurd cc
 
 or_some : {K : Type 0} (x y : Option K) (k : K) → or_else x y ≡ Some k → (x ≡ Some k) ⊎ (y ≡ Some k)
 or_some None y k e = inr e
@@ -76,7 +74,7 @@ module _ {K : Type 0} (k : K) where
           (record { some = omega arith; plain = h.plain }, f.1)
       by (inr h) =
           let e' : seek (0 - 1) [] path ≡ Some found = subst (λ (s : ℕ × RowsOf K). seek (s.0 - 1) s.1 path ≡ Some found) (goes true h.some) e in
-          absurd (none_some found (sym (seek_none (0 - 1) path) ∙ e'))
+          absurd (none-some found (sym (seek_none (0 - 1) path) ∙ e'))
 
   step_last : (b : ℕ) → step b ((256 ∷ [], k) ∷ []) ≡ cond (eqb 256 b) (([], k) ∷ []) []
   step_last b = refl
@@ -84,7 +82,7 @@ module _ {K : Type 0} (k : K) where
   -- what is found by a part at the end is one part
   pub found_last : (path : List ℕ) (found : K) → seek 0 ((256 ∷ [], k) ∷ []) path ≡ Some found → IsPart path × (found ≡ k)
   unfolding seek
-  found_last [] found e = absurd (none_some found e)
+  found_last [] found e = absurd (none-some found e)
   found_last (b ∷ path) found e = by (or_some _ _ found e)
     where
       literal : (v : Bool) → eqb 256 b ≡ v → seek 0 (step b ((256 ∷ [], k) ∷ [])) path ≡ Some found → IsPart (b ∷ path) × (found ≡ k)
@@ -93,7 +91,7 @@ module _ {K : Type 0} (k : K) where
           let f = found_end k path found (sym (ap (λ r. seek 0 r path) (step_last b ∙ rw s refl)) ∙ h) in
           let other : b ≢ 47 = λ q. omega arith in
           (record { some = omega arith; plain = (other, subst (λ (p : List ℕ). AllByRecursion (λ b. b ≢ 47) p) (sym f.0) tt) }, f.1)
-      literal false s h = absurd (none_some found (sym (seek_none 0 path) ∙ sym (ap (λ r. seek 0 r path) (step_last b ∙ rw s refl)) ∙ h))
+      literal false s h = absurd (none-some found (sym (seek_none 0 path) ∙ sym (ap (λ r. seek 0 r path) (step_last b ∙ rw s refl)) ∙ h))
 
       by : (seek 0 (step b ((256 ∷ [], k) ∷ [])) path ≡ Some found) ⊎ (or_else (seek ((param_step (([], k) ∷ []) (b ∷ path)).0 - 1) (param_step (([], k) ∷ []) (b ∷ path)).1 path) None ≡ Some found) → IsPart (b ∷ path) × (found ≡ k)
       by (inl h) = literal (eqb 256 b) refl h
@@ -101,7 +99,7 @@ module _ {K : Type 0} (k : K) where
         where
           last : (seek ((param_step (([], k) ∷ []) (b ∷ path)).0 - 1) (param_step (([], k) ∷ []) (b ∷ path)).1 path ≡ Some found) ⊎ (None ≡ Some found) → IsPart (b ∷ path) × (found ≡ k)
           last (inl g) = last_one b path found g
-          last (inr g) = absurd (none_some found g)
+          last (inr g) = absurd (none-some found g)
 
   -- and one part at the end is found
   pub part_last : (part : List ℕ) → IsPart part → seek 0 ((256 ∷ [], k) ∷ []) part ≡ None → ⊥
@@ -120,14 +118,10 @@ module _ {K : Type 0} (k : K) where
           let goes : param_step (([], k) ∷ []) (b ∷ path) ≡ (length (b ∷ path), ([], k) ∷ []) = taken_last-is (b ∷ path) ∙ rw h.none refl in
           let e' : seek (length (b ∷ path) - 1) (([], k) ∷ []) path ≡ None = subst (λ (s : ℕ × RowsOf K). seek (s.0 - 1) s.1 path ≡ None) goes none in
           let gone : drop (length (b ∷ path) - 1) path ≡ [] = all_gone path in
-          none_some k (sym (sym (seek_skips (length (b ∷ path) - 1) (([], k) ∷ []) path) ∙ e') ∙ ap (λ p. seek 0 (([], k) ∷ []) p) gone)
+          none-some k (sym (sym (seek_skips (length (b ∷ path) - 1) (([], k) ∷ []) path) ∙ e') ∙ ap (λ p. seek 0 (([], k) ∷ []) p) gone)
         where
           all_gone : (p : List ℕ) → drop (length (b ∷ p) - 1) p ≡ []
-          all_gone p = no_list (drop (length (b ∷ p) - 1) p) (omega (arith, length-drop (length (b ∷ p) - 1) p))
-            where
-              no_list : (x : List ℕ) → length x ≡ 0 → x ≡ []
-              no_list [] z = refl
-              no_list (y ∷ x) z = absurd (omega arith)
+          all_gone p = nil_from_length (drop (length (b ∷ p) - 1) p) (omega (arith, length-drop (length (b ∷ p) - 1) p))
       by (inr h) = not_plain h.part h.tail (subst (λ (t : List ℕ). AllByRecursion (λ b. b ≢ 47) t) h.is p.plain)
         where
           not_plain : (x y : List ℕ) → AllByRecursion (λ b. b ≢ 47) (x ++ (47 ∷ y)) → ⊥
@@ -211,7 +205,7 @@ module _ {K : Type 0} (k : K) (w : List ℕ) (l : AreLiteral (47 ∷ w)) (long :
       absurd (omega (arith, ap length f.0, length-drop (length (b ∷ path) - 1) path))
   between_whole b path found e (inr h) =
       let e' : seek (0 - 1) [] path ≡ Some found = subst (λ (v : Bool). seek ((cond {A = ℕ × RowsOf K} v (0, []) (length (b ∷ path), ((47 ∷ w), k) ∷ [])).0 - 1) (cond {A = ℕ × RowsOf K} v (0, []) (length (b ∷ path), ((47 ∷ w), k) ∷ [])).1 path ≡ Some found) h.some e in
-      absurd (none_some found (sym (seek_none (0 - 1) path) ∙ e'))
+      absurd (none-some found (sym (seek_none (0 - 1) path) ∙ e'))
 
   between_param : (b : ℕ) (path : List ℕ) (found : K) → seek ((param_step (((47 ∷ w), k) ∷ []) (b ∷ path)).0 - 1) (param_step (((47 ∷ w), k) ∷ []) (b ∷ path)).1 path ≡ Some found → Between (b ∷ path) found
   unfolding cut_step
@@ -230,7 +224,7 @@ module _ {K : Type 0} (k : K) (w : List ℕ) (l : AreLiteral (47 ∷ w)) (long :
   -- what is found by a part with bytes behind it is one part and those bytes
   pub found_between : (path : List ℕ) (found : K) → seek 0 ((256 ∷ (47 ∷ w), k) ∷ []) path ≡ Some found → Between path found
   unfolding seek
-  found_between [] found e = absurd (none_some found e)
+  found_between [] found e = absurd (none-some found e)
   found_between (b ∷ path) found e = by (or_some _ _ found e)
     where
       literal : (v : Bool) → eqb 256 b ≡ v → seek 0 (step b ((256 ∷ (47 ∷ w), k) ∷ [])) path ≡ Some found → Between (b ∷ path) found
@@ -239,11 +233,11 @@ module _ {K : Type 0} (k : K) (w : List ℕ) (l : AreLiteral (47 ∷ w)) (long :
           let f = found_more path found (sym (ap (λ r. seek 0 r path) (step_more b ∙ rw s refl)) ∙ h) in
           let other : b ≢ 47 = λ q. omega arith in
           record { part = b ∷ []; is_part = record { some = omega arith; plain = (other, tt) }; path_is = ap (λ (p : List ℕ). b ∷ p) f.0; found_is = f.1 }
-      literal false s h = absurd (none_some found (sym (seek_none 0 path) ∙ sym (ap (λ r. seek 0 r path) (step_more b ∙ rw s refl)) ∙ h))
+      literal false s h = absurd (none-some found (sym (seek_none 0 path) ∙ sym (ap (λ r. seek 0 r path) (step_more b ∙ rw s refl)) ∙ h))
 
       last : (seek ((param_step (((47 ∷ w), k) ∷ []) (b ∷ path)).0 - 1) (param_step (((47 ∷ w), k) ∷ []) (b ∷ path)).1 path ≡ Some found) ⊎ (None ≡ Some found) → Between (b ∷ path) found
       last (inl g) = between_param b path found g
-      last (inr g) = absurd (none_some found g)
+      last (inr g) = absurd (none-some found g)
 
       by : (seek 0 (step b ((256 ∷ (47 ∷ w), k) ∷ [])) path ≡ Some found) ⊎ (or_else (seek ((param_step (((47 ∷ w), k) ∷ []) (b ∷ path)).0 - 1) (param_step (((47 ∷ w), k) ∷ []) (b ∷ path)).1 path) None ≡ Some found) → Between (b ∷ path) found
       by (inl h) = literal (eqb 256 b) refl h
@@ -294,4 +288,4 @@ module _ {K : Type 0} (k : K) (w : List ℕ) (l : AreLiteral (47 ∷ w)) (long :
   part_between [] p e = absurd (omega (arith, p.some))
   part_between (c ∷ part) p e =
       let after = seek ((param_step (((47 ∷ w), k) ∷ []) ((c ∷ part) ++ (47 ∷ w))).0 - 1) (param_step (((47 ∷ w), k) ∷ []) ((c ∷ part) ++ (47 ∷ w))).1 (part ++ (47 ∷ w)) in
-      none_some k (sym (or_left after None (or_right (seek 0 (step c ((256 ∷ (47 ∷ w), k) ∷ [])) (part ++ (47 ∷ w))) (or_else after None) e)) ∙ between_found c part p.plain)
+      none-some k (sym (or_left after None (or_right (seek 0 (step c ((256 ∷ (47 ∷ w), k) ∷ [])) (part ++ (47 ∷ w))) (or_else after None) e)) ∙ between_found c part p.plain)

@@ -2,6 +2,7 @@
 use Rattle.std.proofs.Common.{◌≡◌, ℕ, ◌-◌, suc, zero, List, [], ◌∷◌, ◌++◌, length, drop, Option, Some, None, Bool, true, false, cond, refl, sym, ap, ◌∙◌, subst, rules, eqb, arith, inl, inr, ◌⊎◌}
 use Rattle.std.proofs.lemmas.Bool.Decides.{nat_tests}
 use Rattle.std.proofs.lemmas.List.{append-nil}
+use Rattle.std.proofs.lemmas.Option.{none-some}
 use Rattle.matchit.specs.Rows.{RowsOf}
 use Rattle.matchit.specs.Seek.{seek, own, or_else, step, param_step, has_slash}
 
@@ -61,9 +62,6 @@ AreLiteral (x ∷ w) = (eqb x 256 ≡ false) × (eqb x 257 ≡ false) × AreLite
 abbrev pub FoundBehind : {K : Type 0} → List ℕ → RowsOf K → List ℕ → K → Type 0
 FoundBehind w rs path found = (rest : List ℕ) × (path ≡ w ++ rest) × (seek 0 rs rest ≡ Some found)
 
-none_some : {K : Type 0} (k : K) → None ≡ Some k → ⊥
-none_some k e = absurd cc
-
 found_at : {K : Type 0} (x : ℕ) (w : List ℕ) (rs : RowsOf K) (b : ℕ) (path : List ℕ) (found : K) (v : Bool) → eqb x b ≡ v
     → seek 0 (step b (behind (x ∷ w) rs)) path ≡ Some found → (seek 0 (behind w rs) path ≡ Some found → FoundBehind w rs path found) → FoundBehind (x ∷ w) rs (b ∷ path) found
 found_at x w rs b path found true same e deeper =
@@ -71,14 +69,14 @@ found_at x w rs b path found true same e deeper =
     let here : x ≡ b = search (rules, nat_tests) in
     (f.0, ap (λ n. n ∷ path) (sym here) ∙ ap (λ l. x ∷ l) f.1, f.2)
 found_at {K = K} x w rs b path found false other e deeper =
-    absurd (none_some found (sym (seek_none {K = K} 0 path) ∙ sym (ap (λ r. seek 0 r path) (step_other b x w rs other)) ∙ e))
+    absurd (none-some found (sym (seek_none {K = K} 0 path) ∙ sym (ap (λ r. seek 0 r path) (step_other b x w rs other)) ∙ e))
 
 -- what is found behind literal bytes is found behind just those bytes
 pub found_behind : {K : Type 0} (w : List ℕ) (rs : RowsOf K) (path : List ℕ) (found : K) → AreLiteral w → seek 0 (behind w rs) path ≡ Some found
     → FoundBehind w rs path found
 unfolding seek
 found_behind [] rs path found l e = (path, refl, subst (λ (r : _). seek 0 r path ≡ Some found) (behind_nil rs) e)
-found_behind (x ∷ w) rs [] found l e = absurd (none_some found (sym (own_none x w rs) ∙ e))
+found_behind (x ∷ w) rs [] found l e = absurd (none-some found (sym (own_none x w rs) ∙ e))
 found_behind {K = K} (x ∷ w) rs (b ∷ path) found l e =
     found_at x w rs b path found (eqb x b) refl (sym (seek_literal (behind (x ∷ w) rs) b path (step_other 256 x w rs l.0) (step_other 257 x w rs l.1)) ∙ e)
     (λ d. found_behind w rs path found l.2 d)
@@ -160,4 +158,4 @@ module _ {K : Type 0} (x : ℕ) (w : List ℕ) (rs ys : RowsOf K) (l : AreLitera
 pub found_end : {K : Type 0} (k : K) (path : List ℕ) (found : K) → seek 0 (([], k) ∷ []) path ≡ Some found → (path ≡ []) × (found ≡ k)
 unfolding seek
 found_end k [] found e = (refl, cc)
-found_end {K = K} k (b ∷ path) found e = absurd (none_some found (sym (seek_none {K = K} 0 path) ∙ sym (seek_literal (([], k) ∷ []) b path refl refl) ∙ e))
+found_end {K = K} k (b ∷ path) found e = absurd (none-some found (sym (seek_none {K = K} 0 path) ∙ sym (seek_literal (([], k) ∷ []) b path refl refl) ∙ e))

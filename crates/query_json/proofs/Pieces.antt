@@ -2,8 +2,7 @@
 use Rattle.std.proofs.Common.{◌≡◌, ◌<◌, ◌≤◌, ◌+◌, ◌∙◌, ℕ, suc, List, [], ◌∷◌, ◌++◌, true, false, Bool, length, length-drop, drop, get_or, map, refl, sym, ap, append_assoc, append-nil, arith, inl, inr}
 use Rattle.std.specs.Prelude.{nat_lt, if◌then◌else◌, vec_capacity}
 use Rattle.std.proofs.lemmas.List.{drop_all, drop_more, length-map}
-use Rattle.std.proofs.lemmas.Bool.{cases_lt}
-use Rattle.std.proofs.lemmas.Bool.Decides.{nat_tests}
+use Rattle.std.proofs.lemmas.Bool.{cases_lt, lt-ltb, le-ltb, cond-true, cond-false}
 use Rattle.serde_json.specs.Data.{Data}
 use Rattle.serde_json.specs.Written.{compact_text}
 use Rattle.query_json.specs.declared.writing.page.Page.{Page}
@@ -15,23 +14,11 @@ use Rattle.query_json.specs.Trees.{items_tree, list, trace_tree}
 use Rattle.query_json.proofs.Answers.{items_around}
 use Rattle.query_json.proofs.Pages.{rest_text, items_rest}
 
-choose : {b : Bool} (xs ys : List ℕ) → b ≡ false → (if b then xs else ys) ≡ ys
-choose xs ys e = ap (λ (b : Bool). if b then xs else ys) e
-
-choose_first : {b : Bool} (xs ys : List ℕ) → b ≡ true → (if b then xs else ys) ≡ xs
-choose_first xs ys e = ap (λ (b : Bool). if b then xs else ys) e
-
-within_not : (n k : ℕ) → k ≤ n → nat_lt n k ≡ false
-within_not n k h = grind (arith, nat_tests)
-
-beyond : (n k : ℕ) → n < k → nat_lt n k ≡ true
-beyond n k h = grind (arith, nat_tests)
-
 pub rest_within : (ts : List LentTrace) (k : ℕ) → k ≤ length ts → rest_pieces ts k ≡ pieces (length ts) (drop k ts)
-rest_within ts k h = choose [] (pieces (length ts) (drop k ts)) (within_not (length ts) k h)
+rest_within ts k h = cond-false (nat_lt (length ts) k) [] (pieces (length ts) (drop k ts)) (le-ltb (length ts) k h)
 
 pub rest_beyond : (ts : List LentTrace) (k : ℕ) → length ts < k → rest_pieces ts k ≡ []
-rest_beyond ts k h = choose_first [] (pieces (length ts) (drop k ts)) (beyond (length ts) k h)
+rest_beyond ts k h = cond-true (nat_lt (length ts) k) [] (pieces (length ts) (drop k ts)) (lt-ltb (length ts) k h)
 
 abbrev tail_of : List LentTrace → List LentTrace
 tail_of [] = []

@@ -6,7 +6,7 @@ use Rattle.std.specs.declared.sync.Arc.{Arc}
 use Rattle.std.specs.Global.{Global}
 use Rattle.std.specs.Option.{is_some, option_map_or, unwrap_or}
 use Rattle.std.specs.List.{list_any, position_or_len}
-use Rattle.std.proofs.lemmas.Bool.{false≢true, lt-ltb}
+use Rattle.std.proofs.lemmas.Bool.{false≢true, lt-ltb, and_parts}
 use Rattle.std.proofs.lemmas.List.Sums.{position_or_len_is}
 use Rattle.std.proofs.lemmas.List.Folds.{list_any_at, list_any_none}
 use Rattle.std.proofs.lemmas.List.{get_or_append_left, append-nil, length-map, map_push}
@@ -28,10 +28,6 @@ use Rattle.sent_batches.specs.Hashing.{hash_of, batch_hash}
 use Rattle.sent_batches.specs.Sent.{has_number, numbered_from, work_hash, hash_behind, is_behind, Sent, IsKept}
 use Rattle.row_places.specs.Leading.{LeadsTo}
 
-both : (a b : Bool) → (a && b) ≡ true → (a ≡ true) × (b ≡ true)
-both true b e = (refl, e)
-both false b e = absurd (false≢true e)
-
 -- ---- batches that were sent as one another
 pub record IsSentAs (a b : Batch) : Type 0 where
   pub numbered : is_some a.seq_no ≡ true
@@ -40,8 +36,8 @@ pub record IsSentAs (a b : Batch) : Type 0 where
 
 pub sent_as : (a b : Batch) → is_sent_as a b ≡ true → IsSentAs a b
 sent_as a b e =
-    let first = both (is_some a.seq_no) (same_number a.seq_no b.seq_no && same_process a.process b.process) e in
-    let second = both (same_number a.seq_no b.seq_no) (same_process a.process b.process) first.1 in
+    let first = and_parts (is_some a.seq_no) (same_number a.seq_no b.seq_no && same_process a.process b.process) e in
+    let second = and_parts (same_number a.seq_no b.seq_no) (same_process a.process b.process) first.1 in
     record {
       numbered = first.0;
       number = (same_number-decides a.seq_no b.seq_no).0 second.0;

@@ -2,9 +2,8 @@
 use Rattle.std.proofs.Common.{◌≡◌, Bool, true, ◌||◌, ◌&&◌, List, [], ◌∷◌, refl, sym, ap, ◌∙◌}
 use Rattle.std.specs.List.{list_any}
 use Rattle.std.specs.List.Sorted.{IsStrictlySortedBy}
-use Rattle.std.specs.declared.cmp.Ordering.{Ordering}
 use Rattle.std.specs.declared.cmp.Ordering.TheVariants.{Less, Equal, Greater}
-use Rattle.std.specs.Ordering.{ordering_then, is_eq, eq_by_cmp}
+use Rattle.std.specs.Ordering.{is_eq, eq_by_cmp}
 use Rattle.std.specs.Cmp.Lexicographic.{texts_ties}
 use Rattle.jaeger_model.specs.Texts.{text_cmp, insert_once}
 use Rattle.trace_model.specs.declared.answer.Operation.{Operation}
@@ -12,15 +11,11 @@ use Rattle.trace_model.specs.Names.{operation_cmp, same_operation}
 use Rattle.trace_model.proofs.Rising.{rises_same, rises_insert, any_insert}
 use Rattle.service_index.specs.Listing.{Listed, listed_cmp, same_listed}
 use Rattle.service_index.proofs.Sets.{listed_total, listed_exact}
+use Rattle.trace_model.proofs.NameLaws.{then_eq}
 
 pub any_agree : {X : Type 0} (p q : X → Bool) → ((x : X) → p x ≡ q x) → (xs : List X) → list_any p xs ≡ list_any q xs
 any_agree p q h [] = refl
 any_agree p q h (x ∷ xs) = λ i. h x i || any_agree p q h xs i
-
-then_eq : (a b : Ordering) → is_eq (ordering_then a b) ≡ (is_eq a && is_eq b)
-then_eq Less b = refl
-then_eq Equal b = refl
-then_eq Greater b = refl
 
 pub same_operation_by_cmp : (a b : Operation) → same_operation a b ≡ is_eq (operation_cmp a b)
 same_operation_by_cmp a b = (λ i. texts_ties a.name b.name i && texts_ties a.kind b.kind i) ∙ sym (then_eq (text_cmp a.name b.name) (text_cmp a.kind b.kind))

@@ -2,10 +2,11 @@
 use Rattle.std.proofs.Common.{◌≡◌, ℕ, suc, zero, ◌+◌, ◌-◌, ◌<◌, ◌≤◌, Bool, true, false, ◌||◌, ◌&&◌, not, cond, nat_lt, List, [], ◌∷◌, ◌++◌, map, length, get_or, drop, refl, sym, ap, subst, ◌∙◌, inl, inr, arith, length-append}
 use Rattle.std.specs.Prelude.{◌==◌, filter, Some, None, if◌then◌else◌}
 use Rattle.std.specs.List.{list_any, position_or_len}
+use Rattle.std.proofs.Math.Bool.{and-true}
 use Rattle.std.proofs.Math.ListN.{set}
 use Rattle.std.proofs.Math.Path.{transport}
 use Rattle.std.proofs.Math.Seq.{drop-cons}
-use Rattle.std.proofs.lemmas.Bool.{false≢true, ltb-true, lt-ltb, cases_eq, cases_lt}
+use Rattle.std.proofs.lemmas.Bool.{false≢true, lt-ltb, le-ltb, cases_eq, cases_lt}
 use Rattle.std.proofs.lemmas.List.{length-set, length-map, map_push, drop_all, get_or-map, get_or-set_same, get_or-set_other, get_or_append_left, get_or_push, get_or_past}
 use Rattle.std.proofs.lemmas.List.Sums.{fold_push, passes_at_first, fails_before_first, position_or_len_is, prefix_len-le-length}
 use Rattle.std.proofs.lemmas.List.Folds.{list_any-append, list_any_at}
@@ -13,7 +14,7 @@ use Rattle.jaeger_model.specs.Texts.{same_text, text_cmp, sorted_set, insert_onc
 use Rattle.trace_model.specs.declared.answer.Operation.{Operation}
 use Rattle.trace_model.specs.Names.{operation_cmp, same_operation}
 use Rattle.trace_model.proofs.Rising.{any_set, sorted_set-rises}
-use Rattle.trace_model.proofs.NameLaws.{text_total, text_exact, operation_total, operation_exact, any_map, any_filter}
+use Rattle.trace_model.proofs.NameLaws.{text_total, text_exact, operation_total, operation_exact, any_map, any_filter, text_is, text_self, text_apart}
 use Rattle.row_places.specs.Leading.{AreOnce}
 use Rattle.service_index.specs.Listing.{Listed, listed_cmp, same_listed, services_in, operations_of, names_of}
 use Rattle.service_index.specs.Naming.{Names, IsGrouped, IsGroupOf, service_alone, LabelValue, same_label, Labelling, group_alone, operation_labels, group_labels}
@@ -22,15 +23,9 @@ use Rattle.service_index.specs.LinkedRows.{newest_with}
 use Rattle.service_index.specs.Indexes.{Index, listing_by, service_row, has_service, owners, IsNewest, IsChain, IsLinked, IsIndexed}
 use Rattle.service_index.proofs.Known.{known_again}
 use Rattle.service_index.proofs.Sets.{same_set, set_more, listed_total, listed_exact}
-use Rattle.service_index.proofs.Probing.{same_is, text_is, text_self, label_of}
+use Rattle.service_index.proofs.Probing.{same_is, label_of}
 
 -- ---- rows and tests
-pub not_lt : (a n : ℕ) → n ≤ a → nat_lt a n ≡ false
-not_lt a n past = elim (nat_lt a n) as (λ b. nat_lt a n ≡ b → b ≡ false) [
-  | true ↦ λ t. let below = ltb-true a n t in absurd (omega arith)
-  | false ↦ λ _. refl
-] refl
-
 none_is : {X : Type 0} (p : X → Bool) (xs : List X) (d : X) → ((k : ℕ) → k < length xs → p (get_or xs k d) ≡ false) → list_any p xs ≡ false
 none_is p [] d none = refl
 none_is p (x ∷ xs) d none = ap (λ b. b || list_any p xs) (none 0 (omega arith)) ∙ none_is p xs d (λ k below. none (suc k) (omega arith))
@@ -39,7 +34,7 @@ none_is p (x ∷ xs) d none = ap (λ b. b || list_any p xs) (none 0 (omega arith
 pub is_position : {X : Type 0} (p : X → Bool) (xs : List X) (d : X) → nat_lt (position_or_len p xs) (length xs) ≡ list_any p xs
 is_position p xs d = elim (cases_lt (position_or_len p xs) (length xs)) [
   | inl below ↦ lt-ltb (position_or_len p xs) (length xs) below ∙ sym (list_any_at p xs (position_or_len p xs) d below (passes_at_first p xs d below))
-  | inr past ↦ not_lt (position_or_len p xs) (length xs) past ∙ sym (none_is p xs d (λ k within. fails_before_first p xs k d (omega arith)))
+  | inr past ↦ le-ltb (position_or_len p xs) (length xs) past ∙ sym (none_is p xs d (λ k within. fails_before_first p xs k d (omega arith)))
 ]
 
 -- a test of the numbers' keys passes where the label is the sought one
@@ -71,27 +66,20 @@ pub number_known : (labels : Labelling) (numbers : List ℕ) (n : ℕ) → row_o
 number_known labels numbers n below = ap (λ b. cond b numbers (numbers ++ n ∷ [])) (lt-ltb (row_of labels numbers (labels.at n)) (length numbers) below)
 
 pub number_new : (labels : Labelling) (numbers : List ℕ) (n : ℕ) → length numbers ≤ row_of labels numbers (labels.at n) → with_number labels numbers n ≡ numbers ++ n ∷ []
-number_new labels numbers n past = elim (nat_lt (row_of labels numbers (labels.at n)) (length numbers)) as (λ b. nat_lt (row_of labels numbers (labels.at n)) (length numbers) ≡ b → cond b numbers (numbers ++ n ∷ []) ≡ numbers ++ n ∷ []) [
-  | true ↦ λ t. let below = ltb-true (row_of labels numbers (labels.at n)) (length numbers) t in absurd (omega arith)
-  | false ↦ λ _. refl
-] refl
+number_new labels numbers n past = ap (λ b. cond b numbers (numbers ++ n ∷ [])) (le-ltb (row_of labels numbers (labels.at n)) (length numbers) past)
 
 -- ---- services
-pub and_true : (b : Bool) → (b && true) ≡ b
-and_true true = refl
-and_true false = refl
-
 pub service_own : (services : List (List ℕ)) (s : List ℕ) (r : ℕ) → r ≡ position_or_len (same_text s) services → r < length services → get_or services r [] ≡ s
 service_own services s r is below = ap (λ k. get_or services k []) is ∙ sym (text_is s (get_or services (position_or_len (same_text s) services) []) (passes_at_first (same_text s) services [] (omega arith)))
 
 pub service_new : (services : List (List ℕ)) (s : List ℕ) (r : ℕ) → r ≡ position_or_len (same_text s) services → length services ≤ r → list_any (same_text s) services ≡ false
-service_new services s r is past = sym (is_position (same_text s) services []) ∙ not_lt (position_or_len (same_text s) services) (length services) (omega arith)
+service_new services s r is past = sym (is_position (same_text s) services []) ∙ le-ltb (position_or_len (same_text s) services) (length services) (omega arith)
 
 -- numbers have one label exactly where they have one key
 abbrev pub AreKeys : Labelling → (ℕ → List ℕ) → Type 0
 AreKeys labels key = (m : ℕ) → m < labels.count → FindsLabel labels (labels.at m) key (same_text (key m))
 
-pub distinct : (labels : Labelling) (key : ℕ → List ℕ) (t : Table) → AreKeys labels key → IsNamed labels t → AreOnce [] (map key t.numbers)
+distinct : (labels : Labelling) (key : ℕ → List ℕ) (t : Table) → AreKeys labels key → IsNamed labels t → AreOnce [] (map key t.numbers)
 distinct labels key t are h i j below within same =
     let l = length-map t.numbers labels.at in
     let m = length-map t.numbers key in
@@ -107,14 +95,14 @@ abbrev alone : Names → ℕ → List ℕ
 alone names n = (names.at n).service
 
 pub groups_keyed : (names : Names) → IsGrouped names → AreKeys (group_labels names) (λ n. (names.at n).service)
-groups_keyed names g m below n within = and_true (names.group m == names.group n) ∙ g.same m n below within
+groups_keyed names g m below n within = and-true (names.group m == names.group n) ∙ g.same m n below within
 
 operations_keyed : (names : Names) → IsGrouped names → (m : ℕ) → m < names.count → FindsLabel (operation_labels names) ((operation_labels names).at m) names.at (same_listed (names.at m))
 operations_keyed names g m below n within = ap (λ b. b && same_operation (names.at m).operation (names.at n).operation) (g.same m n below within)
 
 -- what is asked for
 group_asked : (names : Names) (s : List ℕ) (group : ℕ) → IsGroupOf names s (Some group) → FindsLabel (group_labels names) (group_alone group) (alone names) (same_text s)
-group_asked names s group is n within = and_true (group == names.group n) ∙ is n within
+group_asked names s group is n within = and-true (group == names.group n) ∙ is n within
 
 operation_asked : (names : Names) (l : Listed) (group : ℕ) → IsGroupOf names l.service (Some group)
     → FindsLabel (operation_labels names) (record { group = group; name = l.operation.name; kind = l.operation.kind }) names.at (same_listed l)
@@ -174,7 +162,7 @@ or_known true b h = refl
 or_known false true h = h refl
 or_known false false h = refl
 
-pub linked_known : (rows services : List (List ℕ)) (newest earlier : List ℕ) (s : ℕ) (new : List ℕ) → IsLinked rows services newest earlier → AreOnce [] services → s < length services → get_or services s [] ≡ new
+linked_known : (rows services : List (List ℕ)) (newest earlier : List ℕ) (s : ℕ) (new : List ℕ) → IsLinked rows services newest earlier → AreOnce [] services → s < length services → get_or services s [] ≡ new
     → IsLinked (rows ++ new ∷ []) services (set newest s (length rows + 1)) (earlier ++ get_or newest s 0 ∷ [])
 linked_known rows services newest earlier s new h apart within own =
     let a = h.as_many in
@@ -204,7 +192,7 @@ linked_known rows services newest earlier s new h apart within own =
 pub none_of : (xs : List (List ℕ)) (s : List ℕ) → list_any (same_text s) xs ≡ false → (k : ℕ) → k < length xs → s ≡ get_or xs k [] → ⊥
 none_of xs s none k below is = false≢true (sym none ∙ list_any_at (same_text s) xs k [] below (ap (same_text s) (sym is) ∙ text_self s))
 
-pub linked_new : (rows services : List (List ℕ)) (newest earlier : List ℕ) (new : List ℕ) → IsLinked rows services newest earlier → list_any (same_text new) services ≡ false
+linked_new : (rows services : List (List ℕ)) (newest earlier : List ℕ) (new : List ℕ) → IsLinked rows services newest earlier → list_any (same_text new) services ≡ false
     → IsLinked (rows ++ new ∷ []) (services ++ new ∷ []) (newest ++ (length rows + 1) ∷ []) (earlier ++ 0 ∷ [])
 linked_new rows services newest earlier new h absent =
     let a = h.as_many in
@@ -239,11 +227,11 @@ linked_empty = record {
 }
 
 -- the newest rows with one of a service that has rows, and with one of the next service
-pub newest_known : (newest : List ℕ) (s row : ℕ) → s < length newest → newest_with newest s row ≡ set newest s row
+newest_known : (newest : List ℕ) (s row : ℕ) → s < length newest → newest_with newest s row ≡ set newest s row
 newest_known newest s row below = ap (λ b. if b then set newest s row else newest ++ row ∷ []) (lt-ltb s (length newest) below)
 
-pub newest_fresh : (newest : List ℕ) (s row : ℕ) → length newest ≤ s → newest_with newest s row ≡ newest ++ row ∷ []
-newest_fresh newest s row past = ap (λ b. if b then set newest s row else newest ++ row ∷ []) (not_lt s (length newest) past)
+newest_fresh : (newest : List ℕ) (s row : ℕ) → length newest ≤ s → newest_with newest s row ≡ newest ++ row ∷ []
+newest_fresh newest s row past = ap (λ b. if b then set newest s row else newest ++ row ∷ []) (le-ltb s (length newest) past)
 
 -- ---- one more number
 pub row_within : (labels : Labelling) (numbers : List ℕ) (label : LabelValue) → row_of labels numbers label ≤ length numbers
@@ -258,6 +246,30 @@ listed_again names numbers n g held below known =
     ∙ sym (known_by_key labels (labels.at n) names.at (same_listed (names.at n)) numbers (service_alone []) (operations_keyed names g n below) (record { held = held.held }))
     ∙ lt-ltb (row_of labels numbers (labels.at n)) (length numbers) known))
 
+-- one more row, of the service that is the key of the number n
+pub linked_more : (labels : Labelling) (key : ℕ → List ℕ) (old : Table) (rows : List (List ℕ)) (newest earlier now later numbers : List ℕ) (n s : ℕ) → AreKeys labels key → IsNamed labels old → IsLinked rows (map key old.numbers) newest earlier
+    → numbers ≡ with_number labels old.numbers n → s ≡ row_of labels old.numbers (labels.at n) → s ≡ position_or_len (same_text (key n)) (map key old.numbers)
+    → now ≡ newest_with newest s (length rows + 1) → later ≡ earlier ++ get_or newest s 0 ∷ []
+    → IsLinked (rows ++ key n ∷ []) (map key numbers) now later
+linked_more labels key old rows newest earlier now later numbers n s keyed named h less at found e f =
+    let others = old.numbers in
+    let m = length-map others key in
+    let as_many = h.as_many in
+    elim (cases_lt s (length others)) [
+      | inl below ↦
+          let same : numbers ≡ others = less ∙ number_known labels others n (omega arith) in
+          let set_in : now ≡ set newest s (length rows + 1) = e ∙ newest_known newest s (length rows + 1) (omega arith) in
+          transport (λ i. IsLinked (rows ++ key n ∷ []) (map key (sym same i)) (sym set_in i) (sym f i))
+          (linked_known rows (map key others) newest earlier s (key n) h (distinct labels key old keyed named) (omega arith)
+          (service_own (map key others) (key n) s found (omega arith)))
+      | inr beyond ↦
+          let fresh : map key numbers ≡ map key others ++ key n ∷ [] = ap (map key) (less ∙ number_new labels others n (omega arith)) ∙ map_push key others n in
+          let put : now ≡ newest ++ (length rows + 1) ∷ [] = e ∙ newest_fresh newest s (length rows + 1) (omega arith) in
+          let none : later ≡ earlier ++ 0 ∷ [] = f ∙ ap (λ x. earlier ++ x ∷ []) (get_or_past newest s 0 (omega arith)) in
+          transport (λ i. IsLinked (rows ++ key n ∷ []) (sym fresh i) (sym put i) (sym none i))
+          (linked_new rows (map key others) newest earlier (key n) h (service_new (map key others) (key n) s found (omega arith)))
+    ]
+
 pub indexed_more : (names : Names) (g : IsGrouped names) (old : Index) (operations services : Table) (newest earlier : List ℕ) (n s row used room : ℕ) → n < names.count → IsIndexed names old → IsNamed (operation_labels names) operations → IsNamed (group_labels names) services
     → operations.numbers ≡ with_number (operation_labels names) old.operations.numbers n → row ≡ row_of (operation_labels names) old.operations.numbers ((operation_labels names).at n) → length old.operations.numbers ≤ row
     → services.numbers ≡ with_number (group_labels names) old.services.numbers n → s ≡ row_of (group_labels names) old.services.numbers (group_alone (names.group n))
@@ -265,31 +277,19 @@ pub indexed_more : (names : Names) (g : IsGrouped names) (old : Index) (operatio
     → IsIndexed names (record { operations = operations; services = services; newest = newest; earlier = earlier; used = used; room = room })
 indexed_more names g old operations services newest earlier n s row used room held h named alone_named more is past less at e f =
     let numbers = old.operations.numbers in
-    let others = old.services.numbers in
     let l = length-map numbers (λ k. (names.at k).service) in
-    let m = length-map others (λ k. (names.at k).service) in
-    let as_many = h.linked.as_many in
     let w = row_within (operation_labels names) numbers ((operation_labels names).at n) in
     let new : row ≡ length (owners names numbers) = omega arith in
-    let found : s ≡ position_or_len (same_text (alone names n)) (owners names others) = at ∙ row_by_key (group_labels names) (group_alone (names.group n)) (alone names) (same_text (alone names n)) others [] (groups_keyed names g n held) h.services.numbers in
+    let found : s ≡ position_or_len (same_text (alone names n)) (owners names old.services.numbers) =
+    at ∙ row_by_key (group_labels names) (group_alone (names.group n)) (alone names) (same_text (alone names n)) old.services.numbers [] (groups_keyed names g n held) h.services.numbers in
     let rows : owners names operations.numbers ≡ owners names numbers ++ alone names n ∷ [] = ap (owners names) (more ∙ number_new (operation_labels names) numbers n (omega arith)) ∙ map_push (alone names) numbers n in
     record {
       operations = named;
       services = alone_named;
-      linked = elim (cases_lt s (length others)) [
-        | inl below ↦
-            let same : services.numbers ≡ others = less ∙ number_known (group_labels names) others n (omega arith) in
-            let set_in : newest ≡ set old.newest s (length (owners names numbers) + 1) = e ∙ newest_known old.newest s (row + 1) (omega arith) ∙ ap (λ k. set old.newest s (k + 1)) new in
-            transport (λ i. IsLinked (sym rows i) (owners names (sym same i)) (sym set_in i) (sym f i))
-            (linked_known (owners names numbers) (owners names others) old.newest old.earlier s (alone names n) h.linked (distinct (group_labels names) (alone names) old.services (groups_keyed names g) h.services) (omega arith)
-            (service_own (owners names others) (alone names n) s found (omega arith)))
-        | inr beyond ↦
-            let fresh : owners names services.numbers ≡ owners names others ++ alone names n ∷ [] = ap (owners names) (less ∙ number_new (group_labels names) others n (omega arith)) ∙ map_push (alone names) others n in
-            let put : newest ≡ old.newest ++ (length (owners names numbers) + 1) ∷ [] = e ∙ newest_fresh old.newest s (row + 1) (omega arith) ∙ ap (λ k. old.newest ++ (k + 1) ∷ []) new in
-            let none : earlier ≡ old.earlier ++ 0 ∷ [] = f ∙ ap (λ x. old.earlier ++ x ∷ []) (get_or_past old.newest s 0 (omega arith)) in
-            transport (λ i. IsLinked (sym rows i) (sym fresh i) (sym put i) (sym none i))
-            (linked_new (owners names numbers) (owners names others) old.newest old.earlier (alone names n) h.linked (service_new (owners names others) (alone names n) s found (omega arith)))
-      ];
+      linked =
+          subst (λ (x : List (List ℕ)). IsLinked x (owners names services.numbers) newest earlier) (sym rows)
+          (linked_more (group_labels names) (alone names) old.services (owners names numbers) old.newest old.earlier newest earlier services.numbers n s (groups_keyed names g) h.services h.linked
+          less at found (e ∙ ap (λ k. newest_with old.newest s (k + 1)) new) f);
     }
 
 -- ---- answers
@@ -375,15 +375,9 @@ from_other : (names : Names) (numbers : List ℕ) (s : List ℕ) (k : ℕ) → k
 from_other names numbers s k below other =
     let n = get_or numbers k 0 in
     let rest = map names.at (drop (suc k) numbers) in
-    let apart : same_text s (names.at n).service ≡ false = differ s (names.at n).service (λ e. other (get_or-map (λ j. (names.at j).service) numbers k 0 [] below ∙ sym e)) in
+    let apart : same_text s (names.at n).service ≡ false = text_apart s (names.at n).service (λ e. other (get_or-map (λ j. (names.at j).service) numbers k 0 [] below ∙ sym e)) in
     ap (λ x. operations_of s (map names.at x)) (drop-cons numbers k 0 below)
     ∙ ap (λ b. map (λ (x : Listed). x.operation) (cond b (names.at n ∷ filter (λ (x : Listed). same_text s x.service) rest) (filter (λ (x : Listed). same_text s x.service) rest))) apart
-  where
-    differ : (a b : List ℕ) → (a ≡ b → ⊥) → same_text a b ≡ false
-    differ a b other = elim (same_text a b) as (λ t. same_text a b ≡ t → t ≡ false) [
-      | true ↦ λ e. absurd (other (text_is a b e))
-      | false ↦ λ _. refl
-    ] refl
 
 from_own : (names : Names) (numbers : List ℕ) (s : List ℕ) (k : ℕ) → k < length numbers → get_or (owners names numbers) k [] ≡ s
     → operations_of s (map names.at (drop k numbers)) ≡ (names.at (get_or numbers k 0)).operation ∷ operations_of s (map names.at (drop (suc k) numbers))

@@ -13,10 +13,7 @@ use Rattle.std.proofs.lemmas.List.Sorted.{list_any-IsPermutation}
 use Rattle.jaeger_model.specs.Texts.{sorted_set}
 use Rattle.service_index.proofs.Probing.{is_equal}
 use Rattle.service_index.proofs.Sets.{is_set}
-
-or_again : (a c : Bool) → (a || c) ≡ (a || (a || c))
-or_again true c = refl
-or_again false c = refl
+use Rattle.trace_model.proofs.Rising.{or_again}
 
 module _ {K : Type 0} {cmp : K → K → Ordering} (o : IsTotalOrder cmp) (exact : IsAntisymmetric cmp) {same : K → K → Bool} (ties : (x y : K) → same x y ≡ eq_by_cmp cmp x y) where
   any_from : (p : K → Bool) (k : K) (xs : List K) → list_any p (dedup_from same k xs) ≡ (p k || list_any p xs)

@@ -1,5 +1,5 @@
 -- Labels among the rows of a table.
-use Rattle.std.proofs.Common.{◌≡◌, ℕ, ◌^◌, ◌<◌, Bool, true, List, [], ◌∷◌, ◌++◌, map, length, get_or, Option, Some, None, refl, sym, ap, subst, ◌∙◌, inl, inr, arith, length-append}
+use Rattle.std.proofs.Common.{◌≡◌, ℕ, ◌^◌, ◌<◌, Bool, true, false, List, [], ◌∷◌, ◌++◌, map, length, get_or, Option, Some, None, refl, sym, ap, subst, ◌∙◌, inl, inr, arith, length-append}
 use Rattle.std.specs.Prelude.{◌==◌}
 use Rattle.std.specs.Ordering.{is_eq}
 use Rattle.std.specs.Cmp.Lexicographic.{bytes_decides}
@@ -22,12 +22,6 @@ is_equal Equal e = refl
 is_equal Greater e = absurd (false≢true e)
 
 -- ---- texts and labels that are the same
-pub text_is : (a b : List ℕ) → same_text a b ≡ true → a ≡ b
-text_is a b = (bytes_decides a b).0
-
-pub text_self : (a : List ℕ) → same_text a a ≡ true
-text_self a = (bytes_decides a a).1 refl
-
 same_label-decides : (a b : LabelValue) → Decides (same_label a b) (a ≡ b)
 same_label-decides a b =
     Decides-like (same_label a b) (λ p. λ i. record { group = p.0 i; name = p.1.0 i; kind = p.1.1 i })

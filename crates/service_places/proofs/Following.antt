@@ -1,17 +1,18 @@
 -- One more entry.
 use Rattle.std.proofs.Common.{◌≡◌, ℕ, false, ◌+◌, ◌-◌, ◌<◌, ◌≤◌, cond, List, [], ◌∷◌, ◌++◌, map, length, get_or, Some, None, sym, ap, subst, ◌∙◌, inl, inr, arith, length-append}
-use Rattle.std.proofs.Math.ListN.{set}
+use Rattle.std.proofs.Math.Bool.{and-true}
 use Rattle.std.proofs.lemmas.Bool.{false≢true, lt-ltb, cases_eq, cases_lt}
-use Rattle.std.proofs.lemmas.List.{length-map, map_push, get_or-map, get_or_append_left, get_or_push}
+use Rattle.std.proofs.lemmas.List.{length-map, get_or-map, get_or_append_left, get_or_push}
 use Rattle.std.proofs.lemmas.List.Sums.{passes_at_first}
 use Rattle.std.proofs.lemmas.List.Folds.{list_any_at}
 use Rattle.std.specs.List.{list_any, position_or_len}
 use Rattle.jaeger_model.specs.Texts.{same_text}
 use Rattle.trace_model.specs.declared.entry.Entry.{Entry}
 use Rattle.service_index.specs.Probes.{Table, AreNumbers, IsNamed, row_of, with_number}
+use Rattle.service_index.specs.LinkedRows.{newest_with}
 use Rattle.service_index.specs.Indexes.{IsNewest, IsLinked}
 use Rattle.service_index.proofs.Extending.{Grows, map_agree, named_extends}
-use Rattle.service_index.proofs.Linking.{FindsLabel, AreKeys, distinct, linked_known, linked_new, row_by_key, row_within, number_known, number_new, service_own, service_new, none_of, and_true, is_position}
+use Rattle.service_index.proofs.Linking.{FindsLabel, AreKeys, linked_more, row_by_key, row_within, number_known, number_new, service_own, service_new, none_of, is_position}
 use Rattle.service_places.specs.Reported.{Reported, service_brought, reporters, service_at, service_label, service_labels, group_in, group_of, AreGroups, IsKept}
 use Rattle.service_places.proofs.Grouping.{reporters_push, as_many_reporters, service_old, service_last, group_old, group_new, groups_more}
 
@@ -30,10 +31,10 @@ extends_one h0 h e is =
 
 -- ---- labels tell services
 services_keyed : (h : List Entry) → AreKeys (service_labels h) (service_at h)
-services_keyed h m below n within = and_true (same_text (service_at h m) (service_at h n))
+services_keyed h m below n within = and-true (same_text (service_at h m) (service_at h n))
 
 service_asked : (h : List Entry) (s : List ℕ) → FindsLabel (service_labels h) (service_label s) (service_at h) (same_text s)
-service_asked h s n within = and_true (same_text s (service_at h n))
+service_asked h s n within = and-true (same_text s (service_at h n))
 
 -- the row of a service
 pub row_is : (h : List Entry) (numbers : List ℕ) (s : List ℕ) → AreNumbers (length h) numbers → row_of (service_labels h) numbers (service_label s) ≡ position_or_len (same_text s) (map (service_at h) numbers)
@@ -101,86 +102,81 @@ followed h0 h e old services groups s n group m =
       named = still;
     }
 
-pub kept_own : (h0 h : List Entry) (e : Entry) (old : Reported) (services : Table) (newest earlier groups : List ℕ) (s n group : ℕ) → HasOneMore h0 h e old services groups s n group
-    → s < length old.services.numbers → newest ≡ set old.newest s (n + 1) → earlier ≡ old.earlier ++ get_or old.newest s 0 ∷ []
-    → IsKept h (record { services = services; newest = newest; earlier = earlier; groups = groups; batches = old.batches })
-kept_own h0 h e old services newest earlier groups s n group m below to f =
-    let labels = service_labels h in
-    let numbers = old.services.numbers in
-    let new = service_brought e.work in
-    let b = followed h0 h e old services groups s n group m in
-    let own : get_or (map (service_at h) numbers) s [] ≡ new = service_own (map (service_at h) numbers) (service_at h n) s b.found (omega (arith, b.listed, below)) ∙ b.last in
-    let linked = linked_known (reporters h0) (map (service_at h) numbers) old.newest old.earlier s new b.linked (distinct labels (service_at h) old.services (services_keyed h) b.named) (omega (arith, b.listed, below)) own in
-    let same : services.numbers ≡ numbers = m.numbers ∙ number_known labels numbers n (omega (arith, m.row, below)) in
-    let count : length (reporters h0) + 1 ≡ n + 1 = omega (arith, b.reported, m.at) in
-    let fewer : length services.numbers ≤ length h = subst (λ (x : List ℕ). length x ≤ length h) (sym same) (omega (arith, b.longer, b.few)) in
-    let q = get_or numbers s 0 in
-    let there : service_at h q ≡ new = sym (get_or-map (service_at h) numbers s 0 [] below) ∙ own in
-    let one : group ≡ group_in h new =
-    m.number ∙ ap (λ (x : List ℕ). get_or x s 0) same ∙ sym (first_old h0 h e numbers s m.is b.held m.kept.first below) ∙ ap (group_in h) there in
-    record {
-      fits = m.kept.fits;
-      room = m.room ∙ m.kept.room;
-      few = fewer;
-      named = m.named;
-      linked =
-          subst (λ (x : List ℕ). IsLinked (reporters h) (map (service_at h) x) newest earlier) (sym same)
-          (subst (λ (x : List (List ℕ)). IsLinked x (map (service_at h) numbers) newest earlier) (sym (reporters_push h0 h e m.is))
-          (subst (λ (x : List ℕ). IsLinked (reporters h0 ++ new ∷ []) (map (service_at h) numbers) x earlier) (sym (to ∙ ap (set old.newest s) (sym count)))
-          (subst (λ (x : List ℕ). IsLinked (reporters h0 ++ new ∷ []) (map (service_at h) numbers) (set old.newest s (length (reporters h0) + 1)) x) (sym f) linked)));
-      first =
-          subst (λ (x : List ℕ). (r : ℕ) → r < length x → group_in h (service_at h (get_or x r 0)) ≡ get_or x r 0) (sym same)
-          (λ r low. first_old h0 h e numbers r m.is b.held m.kept.first low);
-      grouped = subst (λ (x : List ℕ). AreGroups h x) (sym m.noted) (groups_more h0 h e old.groups group m.is m.kept.grouped one);
-    }
+-- The numbers of services are those of the first entries of each, and the one in row s is of this service.
+record IsNumbered (h : List Entry) (numbers : List ℕ) (s : ℕ) (service : List ℕ) : Type 0 where
+  pub few : length numbers ≤ length h
+  pub first : (r : ℕ) → r < length numbers → group_in h (service_at h (get_or numbers r 0)) ≡ get_or numbers r 0
+  pub number : get_or numbers s 0 ≡ group_in h service
 
-pub kept_new : (h0 h : List Entry) (e : Entry) (old : Reported) (services : Table) (newest earlier groups : List ℕ) (s n group : ℕ) → HasOneMore h0 h e old services groups s n group
-    → length old.services.numbers ≤ s → newest ≡ old.newest ++ (n + 1) ∷ [] → earlier ≡ old.earlier ++ 0 ∷ []
-    → IsKept h (record { services = services; newest = newest; earlier = earlier; groups = groups; batches = old.batches })
-kept_new h0 h e old services newest earlier groups s n group m beyond to f =
+-- where a row has the service
+numbered_own : (h0 h : List Entry) (e : Entry) (old : Reported) (services : Table) (groups : List ℕ) (s n group : ℕ) → HasOneMore h0 h e old services groups s n group → s < length old.services.numbers
+    → IsNumbered h services.numbers s (service_brought e.work)
+numbered_own h0 h e old services groups s n group m below =
+    let numbers = old.services.numbers in
+    let b = followed h0 h e old services groups s n group m in
+    let same : services.numbers ≡ numbers = m.numbers ∙ number_known (service_labels h) numbers n (omega (arith, m.row, below)) in
+    let there : service_at h (get_or numbers s 0) ≡ service_brought e.work =
+    sym (get_or-map (service_at h) numbers s 0 [] below) ∙ service_own (map (service_at h) numbers) (service_at h n) s b.found (omega (arith, b.listed, below)) ∙ b.last in
+    subst (λ (x : List ℕ). IsNumbered h x s (service_brought e.work)) (sym same) (record {
+      few = omega (arith, b.longer, b.few);
+      first = λ r low. first_old h0 h e numbers r m.is b.held m.kept.first low;
+      number = sym (first_old h0 h e numbers s m.is b.held m.kept.first below) ∙ ap (group_in h) there;
+    })
+
+-- where none has it
+numbered_new : (h0 h : List Entry) (e : Entry) (old : Reported) (services : Table) (groups : List ℕ) (s n group : ℕ) → HasOneMore h0 h e old services groups s n group → length old.services.numbers ≤ s
+    → IsNumbered h services.numbers s (service_brought e.work)
+numbered_new h0 h e old services groups s n group m beyond =
     let labels = service_labels h in
     let numbers = old.services.numbers in
     let new = service_brought e.work in
     let b = followed h0 h e old services groups s n group m in
     let w = row_within labels numbers (labels.at n) in
     let absent : list_any (same_text new) (map (service_at h) numbers) ≡ false = ap (λ (x : List ℕ). list_any (same_text x) (map (service_at h) numbers)) (sym b.last) ∙ service_new (map (service_at h) numbers) (service_at h n) s b.found (omega (arith, b.listed, beyond)) in
-    let linked = linked_new (reporters h0) (map (service_at h) numbers) old.newest old.earlier new b.linked absent in
     let fresh : services.numbers ≡ numbers ++ n ∷ [] = m.numbers ∙ number_new labels numbers n (omega (arith, m.row, beyond)) in
-    let count : length (reporters h0) + 1 ≡ n + 1 = omega (arith, b.reported, m.at) in
     let one = length-append numbers (n ∷ []) in
-    let fewer : length services.numbers ≤ length h = subst (λ (x : List ℕ). length x ≤ length h) (sym fresh) (omega (arith, one, b.longer, b.few)) in
     let none : length h0 ≤ group_in h0 new = subst (λ (x : ℕ). x ≤ group_in h0 new) b.reported (none_first (reporters h0) new (sym (b.linked.same (same_text new)) ∙ absent)) in
     let number : group_in h new ≡ n = group_new h0 h e m.is none ∙ sym m.at in
     let row_last : length numbers ≡ s = omega (arith, m.row, w, beyond) in
-    let added : group ≡ group_in h new = m.number ∙ ap (λ (x : List ℕ). get_or x s 0) fresh ∙ get_or_push numbers n 0 s row_last ∙ sym number in
-    record {
-      fits = m.kept.fits;
-      room = m.room ∙ m.kept.room;
-      few = fewer;
-      named = m.named;
-      linked =
-          subst (λ (x : List ℕ). IsLinked (reporters h) (map (service_at h) x) newest earlier) (sym fresh)
-          (subst (λ (x : List (List ℕ)). IsLinked (reporters h) x newest earlier) (sym (map_push (service_at h) numbers n ∙ ap (λ (x : List ℕ). map (service_at h) numbers ++ x ∷ []) b.last))
-          (subst (λ (x : List (List ℕ)). IsLinked x (map (service_at h) numbers ++ new ∷ []) newest earlier) (sym (reporters_push h0 h e m.is))
-          (subst (λ (x : List ℕ). IsLinked (reporters h0 ++ new ∷ []) (map (service_at h) numbers ++ new ∷ []) x earlier) (sym (to ∙ ap (λ (q : ℕ). old.newest ++ q ∷ []) (sym count)))
-          (subst (λ (x : List ℕ). IsLinked (reporters h0 ++ new ∷ []) (map (service_at h) numbers ++ new ∷ []) (old.newest ++ (length (reporters h0) + 1) ∷ []) x) (sym f) linked))));
-      first =
-          subst (λ (x : List ℕ). (r : ℕ) → r < length x → group_in h (service_at h (get_or x r 0)) ≡ get_or x r 0) (sym fresh)
-          (λ r low. elim (cases_eq r (length numbers)) [
-            | inl e ↦ let here = get_or_push numbers n 0 r (sym e) in ap (λ (x : ℕ). group_in h (service_at h x)) here ∙ ap (group_in h) b.last ∙ number ∙ sym here
-            | inr other ↦
-                let below : r < length numbers = omega arith in
-                let here = get_or_append_left numbers (n ∷ []) 0 r below in
-                ap (λ (x : ℕ). group_in h (service_at h x)) here ∙ first_old h0 h e numbers r m.is b.held m.kept.first below ∙ sym here
-          ]);
-      grouped = subst (λ (x : List ℕ). AreGroups h x) (sym m.noted) (groups_more h0 h e old.groups group m.is m.kept.grouped added);
-    }
+    subst (λ (x : List ℕ). IsNumbered h x s new) (sym fresh) (record {
+      few = omega (arith, one, b.longer, b.few);
+      first = λ r low. elim (cases_eq r (length numbers)) [
+        | inl e ↦ let here = get_or_push numbers n 0 r (sym e) in ap (λ (x : ℕ). group_in h (service_at h x)) here ∙ ap (group_in h) b.last ∙ number ∙ sym here
+        | inr other ↦
+            let below : r < length numbers = omega arith in
+            let here = get_or_append_left numbers (n ∷ []) 0 r below in
+            ap (λ (x : ℕ). group_in h (service_at h x)) here ∙ first_old h0 h e numbers r m.is b.held m.kept.first below ∙ sym here
+      ];
+      number = get_or_push numbers n 0 s row_last ∙ sym number;
+    })
   where
     none_first : (rows : List (List ℕ)) (s : List ℕ) → list_any (same_text s) rows ≡ false → length rows ≤ position_or_len (same_text s) rows
     none_first rows s none = elim (cases_lt (position_or_len (same_text s) rows) (length rows)) [
       | inl below ↦ absurd (false≢true (sym none ∙ list_any_at (same_text s) rows (position_or_len (same_text s) rows) [] below (passes_at_first (same_text s) rows [] below)))
       | inr past ↦ omega arith
     ]
+
+pub kept_more : (h0 h : List Entry) (e : Entry) (old : Reported) (services : Table) (newest earlier groups : List ℕ) (s n group : ℕ) → HasOneMore h0 h e old services groups s n group
+    → newest ≡ newest_with old.newest s (n + 1) → earlier ≡ old.earlier ++ get_or old.newest s 0 ∷ []
+    → IsKept h (record { services = services; newest = newest; earlier = earlier; groups = groups; batches = old.batches })
+kept_more h0 h e old services newest earlier groups s n group m to f =
+    let b = followed h0 h e old services groups s n group m in
+    let numbered : IsNumbered h services.numbers s (service_brought e.work) = elim (cases_lt s (length old.services.numbers)) [
+      | inl below ↦ numbered_own h0 h e old services groups s n group m below
+      | inr beyond ↦ numbered_new h0 h e old services groups s n group m beyond
+    ] in
+    record {
+      fits = m.kept.fits;
+      room = m.room ∙ m.kept.room;
+      few = numbered.few;
+      named = m.named;
+      linked =
+          subst (λ (x : List (List ℕ)). IsLinked x (map (service_at h) services.numbers) newest earlier) (ap (λ (x : List ℕ). reporters h0 ++ x ∷ []) b.last ∙ sym (reporters_push h0 h e m.is))
+          (linked_more (service_labels h) (service_at h) old.services (reporters h0) old.newest old.earlier newest earlier services.numbers n s (services_keyed h) b.named b.linked
+          m.numbers m.row b.found (to ∙ ap (λ (k : ℕ). newest_with old.newest s (k + 1)) (m.at ∙ sym b.reported)) f);
+      first = numbered.first;
+      grouped = subst (λ (x : List ℕ). AreGroups h x) (sym m.noted) (groups_more h0 h e old.groups group m.is m.kept.grouped (m.number ∙ numbered.number));
+    }
 
 -- ---- the newest place of a service
 pub newest_own : (h : List Entry) (kept : Reported) (s : List ℕ) (r at : ℕ) → IsKept h kept → r ≡ row_of (service_labels h) kept.services.numbers (service_label s) → r < length kept.services.numbers → at ≡ get_or kept.newest r 0

@@ -6,7 +6,7 @@ use Rattle.std.proofs.lemmas.List.{length-map, map_push, get_or_append_left, get
 use Rattle.std.proofs.lemmas.List.Sums.{position_or_len_is, fails_before_first, passes_at_first}
 use Rattle.jaeger_model.specs.Texts.{same_text}
 use Rattle.trace_model.specs.declared.entry.Entry.{Entry}
-use Rattle.service_index.proofs.Probing.{text_self}
+use Rattle.trace_model.proofs.NameLaws.{text_self}
 use Rattle.service_places.specs.Reported.{service_brought, reporters, service_at, group_in, AreGroups}
 
 -- ---- the first that passes

@@ -1,14 +1,10 @@
 -- The places along a chain are those of the service.
-use Rattle.std.proofs.Common.{◌≡◌, ℕ, suc, zero, ◌-◌, ◌<◌, ◌≤◌, true, false, List, [], ◌∷◌, length, get_or, refl, sym, ap, subst, ◌∙◌, inl, inr, arith}
+use Rattle.std.proofs.Common.{◌≡◌, ℕ, suc, zero, ◌-◌, ◌<◌, ◌≤◌, List, [], ◌∷◌, length, get_or, refl, sym, ap, subst, ◌∙◌, inl, inr, arith}
 use Rattle.std.specs.Prelude.{if◌then◌else◌}
-use Rattle.std.specs.Ordering.{is_eq}
-use Rattle.std.specs.Cmp.{tied_itself}
-use Rattle.std.specs.Cmp.Lexicographic.{texts_ties}
 use Rattle.std.proofs.lemmas.Bool.{cases_eq}
-use Rattle.jaeger_model.specs.Texts.{same_text, text_cmp}
-use Rattle.trace_model.proofs.NameLaws.{text_total, text_exact}
+use Rattle.trace_model.proofs.NameLaws.{text_self, text_apart}
+use Rattle.jaeger_model.specs.Texts.{same_text}
 use Rattle.service_index.specs.Indexes.{IsNewest, IsChain}
-use Rattle.service_index.proofs.Probing.{is_equal}
 use Rattle.service_places.specs.Along.{along, IsBack}
 use Rattle.service_places.specs.Reported.{places_upto}
 
@@ -34,23 +30,13 @@ along_step earlier (suc k) next h pos e =
     let is : next ≡ get_or earlier k 0 = e ∙ ap (λ j. get_or earlier j 0) same in
     ap (λ l. suc k ∷ l) (along_enough earlier h.back k (get_or earlier k 0) (get_or earlier k 0) less (omega arith) (omega arith) ∙ ap (λ j. along j earlier j) (sym is))
 
--- services
-same_self : (s : List ℕ) → same_text s s ≡ true
-same_self s = texts_ties s s ∙ ap is_eq (tied_itself text_total s)
-
-differ : (a b : List ℕ) → (a ≡ b → ⊥) → same_text a b ≡ false
-differ a b other = elim (same_text a b) as (λ t. same_text a b ≡ t → t ≡ false) [
-  | true ↦ λ e. absurd (other (text_exact a b (is_equal (text_cmp a b) (sym (texts_ties a b) ∙ e))))
-  | false ↦ λ _. refl
-] refl
-
 -- entries of other services between
 skip : (s : List ℕ) (rows : List (List ℕ)) (k m : ℕ) → k ≤ m → ((j : ℕ) → k ≤ j → j < m → get_or rows j [] ≡ s → ⊥) → places_upto s rows m ≡ places_upto s rows k
 skip s rows k zero le none = let same : zero ≡ k = omega arith in ap (places_upto s rows) same
 skip s rows k (suc m) le none = elim (cases_eq k (suc m)) [
   | inl e ↦ ap (places_upto s rows) (sym e)
   | inr other ↦
-      ap (λ b. if b then suc m ∷ places_upto s rows m else places_upto s rows m) (differ (get_or rows m []) s (none m (omega arith) (omega arith)))
+      ap (λ b. if b then suc m ∷ places_upto s rows m else places_upto s rows m) (text_apart (get_or rows m []) s (none m (omega arith) (omega arith)))
       ∙ skip s rows k m (omega arith) (λ j low below. none j low (omega arith))
 ]
 
@@ -65,4 +51,4 @@ walked s rows earlier chain (suc n) (suc k) below a w h =
     let next : IsNewest rows s (get_or earlier k 0) k = subst (λ (x : List ℕ). IsNewest rows x (get_or earlier k 0) k) own (chain.before k (omega arith)) in
     let less = next.within in
     ap (λ l. suc k ∷ l) (walked s rows earlier chain n (get_or earlier k 0) k (omega arith) (omega arith) next)
-    ∙ sym (skip s rows (suc k) below v h.none ∙ ap (λ b. if b then suc k ∷ places_upto s rows k else places_upto s rows k) (ap (λ (x : List ℕ). same_text x s) own ∙ same_self s))
+    ∙ sym (skip s rows (suc k) below v h.none ∙ ap (λ b. if b then suc k ∷ places_upto s rows k else places_upto s rows k) (ap (λ (x : List ℕ). same_text x s) own ∙ text_self s))

@@ -1,5 +1,5 @@
 -- Ring and spots follow the events.
-use Rattle.std.proofs.Common.{◌≡◌, ℕ, ◌+◌, ◌<◌, ◌≤◌, true, false, List, [], ◌∷◌, ◌++◌, map, length, Some, None, refl, sym, ap, subst, ◌∙◌, arith}
+use Rattle.std.proofs.Common.{◌≡◌, ℕ, ◌+◌, ◌<◌, ◌≤◌, false, List, [], ◌∷◌, ◌++◌, map, length, Some, None, refl, sym, ap, subst, ◌∙◌, arith}
 use Rattle.std.proofs.lemmas.List.{map_push, take_all}
 use Rattle.std.specs.Prelude.{Option, option_map, IfSome, option_to_list, if◌then◌else◌}
 use Rattle.jaeger_model.specs.declared.ids.TraceId.{TraceId}
@@ -14,7 +14,7 @@ use Rattle.trace_model.specs.Showing.{trace_of, ring, limit_after, spans_of_trac
 use Rattle.trace_model.specs.Histories.{events}
 use Rattle.trace_model.specs.declared.answer.Shown.{Shown}
 use Rattle.trace_model.proofs.Shows.{ring_more, ring_fewer, limit_came, limit_limited}
-use Rattle.trace_model.proofs.Traces.{ring_within, newest_short}
+use Rattle.trace_model.proofs.Traces.{ring_within, arrive_short}
 use Rattle.trace_ring.specs.Windows.{Window, opened_by}
 use Rattle.trace_assembly.specs.declared.spot.Spot.{Spot}
 use Rattle.trace_assembly.specs.Rows.{with_spot}
@@ -35,12 +35,9 @@ follows_within n es newest spots f some =
     subst (λ k. length newest.ids ≤ k) (sym f.limit) (subst (λ (r : List TraceId). length r ≤ limit_after n (events_in es)) (sym f.ring) least)
 
 -- and so is one that a trace was let into
-arrive_within : (m : ℕ) (r : List TraceId) (t : TraceId) → (0 < m → length r ≤ m) → 0 < m → length (arrive m r t) ≤ m
-arrive_within m r t short some = elim (holds r t) as (λ b. length (if b then r else newest m (r ++ t ∷ [])) ≤ m) [ true ↦ short some | false ↦ newest_short m (r ++ t ∷ []) some ]
-
 pub arrived_within : (old new : Window) (t : TraceId) → IsWithin old → new.limit ≡ old.limit → new.ids ≡ arrive old.limit old.ids t → IsWithin new
 arrived_within old new t short same is some =
-    let most = arrive_within old.limit old.ids t short (subst (λ k. 0 < k) same some) in
+    let most = arrive_short old.limit old.ids t short (subst (λ k. 0 < k) same some) in
     subst (λ k. length new.ids ≤ k) (sym same) (subst (λ (r : List TraceId). length r ≤ old.limit) (sym is) most)
 
 -- one more arrival: its trace is let in, the trace that leaves is hidden, the spot is added

@@ -1,5 +1,6 @@
 -- What is kept beside the entries is kept.
 use Rattle.std.proofs.Common.{◌≡◌, ℕ, ◌+◌, ◌^◌, ◌<◌, ◌≤◌, List, [], ◌∷◌, ◌++◌, length, map, Ok, sym, ap, subst, ◌∙◌, arith}
+use Rattle.std.proofs.lemmas.Simd.{map-map}
 use Rattle.jaeger_model.specs.declared.ids.TraceId.{TraceId}
 use Rattle.trace_model.specs.declared.entry.Entry.{Entry}
 use Rattle.trace_model.specs.declared.admission.Admission.TheVariants.{Added}
@@ -21,7 +22,6 @@ use Rattle.arrival_names.specs.Kept.{Kept as Names}
 use Rattle.arrival_names.proofs.Numbering.{length-arrivals}
 use Rattle.service_places.specs.Reported.{Reported}
 use Rattle.journal_traces.specs.Standing.{spans_named, traces_named}
-use Rattle.journal_traces.proofs.Adopting.{map_map}
 use Rattle.span_store.specs.Kept.{Follows, IsWithin, IsKept, IsNamed, IsPlaced}
 use Rattle.span_store.proofs.Following.{follows_within, trace_stands}
 
@@ -91,6 +91,6 @@ pub found_kept : (q : Find) (held : Held) (shown : Assembled) (index : Names) (r
 found_kept q held shown index reported k ids spots are same =
     let stands = trace_stands held.limits.traces held.entries (spots_of shown) (kept_spots held shown index reported k) in
     ap (λ ss. found_in q (map (spans_named held.entries) ss)) are
-    ∙ ap (found_in q) (map_map (spans_named held.entries) (spots_of shown) ids ∙ (λ i. map (λ t. stands t i) ids))
+    ∙ ap (found_in q) (map-map (spans_named held.entries) (spots_of shown) ids ∙ (λ i. map (λ t. stands t i) ids))
     ∙ same
     ∙ ap (found_in q) (kept_traces held shown index reported k)

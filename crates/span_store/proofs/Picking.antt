@@ -3,10 +3,9 @@ use Rattle.std.proofs.Common.{◌≡◌, ℕ, suc, ◌-◌, eq-eqb, Some, None, 
 use Rattle.std.specs.Prelude.{filter, flat_map, if◌then◌else◌, take, ◌==◌, nat_lt, is_some, slice_get}
 use Rattle.std.specs.List.{list_any, list_all, cons_option}
 use Rattle.std.specs.Option.{option_and_then}
-use Rattle.std.specs.Cmp.Lexicographic.{lists_equiv, same_text as texts_are}
-use Rattle.std.specs.Cmp.{nat_eq_equiv}
+use Rattle.std.specs.Cmp.Lexicographic.{same_text as texts_are}
 use Rattle.std.proofs.Math.Seq.{take-nil}
-use Rattle.std.proofs.lemmas.Bool.{false≢true}
+use Rattle.std.proofs.lemmas.Bool.{false≢true, and_parts, and_from, or_right}
 use Rattle.std.proofs.lemmas.List.{take_more, take_all, get_or-map}
 use Rattle.std.proofs.lemmas.List.Folds.{list_any-append}
 use Rattle.std.proofs.lemmas.Option.{slice_get-get_or}
@@ -26,7 +25,7 @@ use Rattle.trace_model.specs.Histories.{arrivals, events}
 use Rattle.trace_model.proofs.Arriving.{came_of}
 use Rattle.trace_model.specs.Searching.{matches, matching, found_in, ranked_by_start, first_start, cut, is_named, is_timed, has_tag, traces}
 use Rattle.trace_model.specs.Showing.{ring, shown, spans_of_trace, lasting_after, longer_beginnings, stands, trace_of}
-use Rattle.trace_model.proofs.NameLaws.{any_filter}
+use Rattle.trace_model.proofs.NameLaws.{any_filter, text_turned}
 use Rattle.jaeger_model.proofs.Referred.{trace_stays}
 use Rattle.trace_model.specs.Places.{entry_at}
 use Rattle.trace_assembly.specs.declared.spot.Spot.{Spot}
@@ -40,29 +39,15 @@ use Rattle.journal_traces.specs.Reporting.{is_reported, are_reported}
 use Rattle.journal_traces.specs.Standing.{spans_named}
 use Rattle.journal_traces.proofs.Adopting.{matches-adopted}
 use Rattle.journal_traces.proofs.Numbers.{number_there}
-
-and_true : (a b : Bool) → (a && b) ≡ true → (a ≡ true) × (b ≡ true)
-and_true true b e = (refl, e)
-and_true false b e = absurd (false≢true e)
+use Rattle.trace_model.proofs.Traces.{or_cases}
 
 first_true : (a b c : Bool) → (a && b && c) ≡ true → a ≡ true
 first_true true b c e = refl
 first_true false b c e = absurd (false≢true e)
 
-both_true : (a b : Bool) → a ≡ true → b ≡ true → (a && b) ≡ true
-both_true a b e f = λ i. e i && f i
-
-or_right : (a b : Bool) → b ≡ true → (a || b) ≡ true
-or_right true b e = refl
-or_right false b e = e
-
 or_more : (a b c : Bool) → (b ≡ true → c ≡ true) → (a || b) ≡ true → (a || c) ≡ true
 or_more true b c f e = refl
 or_more false b c f e = f e
-
-or_cases : {P : Type 0} (a b : Bool) → (a || b) ≡ true → (a ≡ true → P) → (b ≡ true → P) → P
-or_cases true b e f g = f refl
-or_cases false b e f g = g e
 
 any_lasting : {X : Type 0} (q : X → Bool) (keeps : List (Event X) → Event X → Bool) (before rest : List (Event X)) → list_any q (without_limits (lasting_after keeps before rest)) ≡ true → list_any q (without_limits rest) ≡ true
 any_lasting q keeps before [] h = h
@@ -88,14 +73,11 @@ any_weaker p q h (x ∷ xs) e = elim (p x) as (λ b. p x ≡ b → (b || list_an
 abbrev is_hit : Find → TraceId → Placed → Bool
 is_hit q t p = same_trace t (trace_of p) && matches q p
 
-turned : (a b : List ℕ) → same_text a b ≡ same_text b a
-turned a b = (lists_equiv nat_eq_equiv).symm a b
-
 -- a span meets no search by another service
 match_reported : (q : Find) (p : Placed) → matches q p ≡ true → same_text p.process.service q.service ≡ true
 match_reported q p e =
     let named = first_true (is_named q p) (is_timed q p) (list_all (has_tag p) q.tags) e in
-    turned p.process.service q.service ∙ (and_true (same_text q.service p.process.service) (same_text q.operation [] || same_text q.operation p.span.operation) named).0
+    text_turned p.process.service q.service ∙ (and_parts (same_text q.service p.process.service) (same_text q.operation [] || same_text q.operation p.span.operation) named).0
 
 own_spans : (q : Find) (t : TraceId) (b : Batch) (ss : List Span) → list_any (is_hit q t) (map (placed b) ss) ≡ true
     → (same_text b.process.service q.service ≡ true) × (reaches (met q b.process ss) t ≡ true)
@@ -106,7 +88,7 @@ own_spans q t b (x ∷ xs) h =
     let rest : Type 0 = (same_text b.process.service q.service ≡ true) × (list_any (is_of t) (cond (meets q b.process x) (x ∷ met q b.process xs) (met q b.process xs)) ≡ true) in
     elim (is_hit q t (placed b x)) as (λ c. is_hit q t (placed b x) ≡ c → (c || list_any (is_hit q t) (map (placed b) xs)) ≡ true → rest) [
       | true ↦ λ e _.
-          let w = and_true (same_trace t (trace_of (placed b x))) (matches q (placed b x)) e in
+          let w = and_parts (same_trace t (trace_of (placed b x))) (matches q (placed b x)) e in
           let own : is_of t x ≡ true = ap (same_trace t) (sym (trace_stays x)) ∙ w.0 in (
             match_reported q (placed b x) w.1,
             ap (λ c. list_any (is_of t) (cond c (x ∷ met q b.process xs) (met q b.process xs))) (sym same ∙ w.1) ∙ ap (λ c. c || list_any (is_of t) (met q b.process xs)) own,
@@ -210,7 +192,7 @@ module _ (q : Find) (h : List Entry) (groups : List ℕ) (k : ℕ) (kept : AreGr
   own_spot s p at m =
       let service : p.process.service ≡ q.service = texts_are p.process.service q.service (sym (match_reported q p m)) in
       let number : get_or groups (s.place - 1) 0 ≡ k = (number_there h groups s p kept (sym at)).0 ∙ ap (group_in h) service ∙ number_is h q.service k known in
-      both_true (is_some (entry_at h s.place)) (get_or groups (s.place - 1) 0 == k) (entry_there h s p at) (eq-eqb (get_or groups (s.place - 1) 0) k number)
+      and_from (is_some (entry_at h s.place)) (get_or groups (s.place - 1) 0 == k) (entry_there h s p at) (eq-eqb (get_or groups (s.place - 1) 0) k number)
 
   own_spots : (ss : List Spot) → list_any (matches q) (spans_named h ss) ≡ true → are_reported h groups k ss ≡ true
   own_spots [] e = absurd (false≢true e)
@@ -244,7 +226,7 @@ none_matches q f h (x ∷ xs) = ap (λ b. cond b (f x ∷ matching q (map f xs))
 -- of no arrival the search has the name
 unnamed : (q : Find) (n : ℕ) (es : List (Event Placed)) → list_any (is_named q) (without_limits es) ≡ false → found_in q (traces n es) ≡ []
 unnamed q n es e =
-    ap (λ l. cut q.limit (ranked_by_start first_start l)) (none_matches q (spans_of_trace n es) (λ t. denied (list_any (matches q) (spans_of_trace n es t)) (list_any (is_named q) (without_limits es)) (λ m. any_weaker (λ p. same_trace t (trace_of p) && matches q p) (is_named q) (λ p own. name_of p (and_true (same_trace t (trace_of p)) (matches q p) own).1) (without_limits es) (matched_arrival q n es t m)) e) (ring n es))
+    ap (λ l. cut q.limit (ranked_by_start first_start l)) (none_matches q (spans_of_trace n es) (λ t. denied (list_any (matches q) (spans_of_trace n es t)) (list_any (is_named q) (without_limits es)) (λ m. any_weaker (λ p. same_trace t (trace_of p) && matches q p) (is_named q) (λ p own. name_of p (and_parts (same_trace t (trace_of p)) (matches q p) own).1) (without_limits es) (matched_arrival q n es t m)) e) (ring n es))
     ∙ nothing_found q
   where
     name_of : (p : Placed) → matches q p ≡ true → is_named q p ≡ true
@@ -252,7 +234,7 @@ unnamed q n es e =
 
 pub unknown_service : (q : Find) (n : ℕ) (es : List (Event Placed)) → reports_service q.service (without_limits es) ≡ false → found_in q (traces n es) ≡ []
 unknown_service q n es e = unnamed q n es (denied (list_any (is_named q) (without_limits es)) (reports_service q.service (without_limits es)) (any_weaker (is_named q) (λ p. same_text q.service p.process.service)
-    (λ p m. (and_true (same_text q.service p.process.service) (same_text q.operation [] || same_text q.operation p.span.operation) m).0) (without_limits es)) e)
+    (λ p m. (and_parts (same_text q.service p.process.service) (same_text q.operation [] || same_text q.operation p.span.operation) m).0) (without_limits es)) e)
 
 pub unknown_operation : (q : Find) (n : ℕ) (es : List (Event Placed)) → same_text q.operation [] ≡ false → reports_operation q.service q.operation (without_limits es) ≡ false → found_in q (traces n es) ≡ []
 unknown_operation q n es asked e = unnamed q n es (denied (list_any (is_named q) (without_limits es)) (reports_operation q.service q.operation (without_limits es))

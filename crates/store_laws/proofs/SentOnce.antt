@@ -1,9 +1,9 @@
 -- In a legal list no batch with a number stands twice, and how one that is handed in again is answered.
-use Rattle.std.proofs.Common.{◌≡◌, ℕ, suc, ◌+◌, ◌<◌, Bool, true, false, ◌&&◌, Option, Some, None, List, [], ◌∷◌, ◌++◌, length, fold, refl, sym, ap, ◌∙◌, subst, append_assoc, arith, add-one, inl, inr, get_or, zero, ◌≤◌}
-use Rattle.std.specs.Prelude.{◌||◌, Result, Ok, Err, position, slice_get, nat_le, if◌then◌else◌}
+use Rattle.std.proofs.Common.{◌≡◌, ℕ, suc, ◌+◌, ◌<◌, Bool, true, false, ◌&&◌, Some, None, List, [], ◌∷◌, ◌++◌, length, fold, refl, sym, ap, ◌∙◌, subst, append_assoc, arith, add-one, inl, inr, get_or, zero, ◌≤◌}
+use Rattle.std.specs.Prelude.{Result, Ok, Err, position, slice_get, nat_le, if◌then◌else◌}
 use Rattle.std.specs.Option.{is_some}
 use Rattle.std.specs.List.{list_any}
-use Rattle.std.proofs.lemmas.Bool.{false≢true, leb-true, leb-false}
+use Rattle.std.proofs.lemmas.Bool.{false≢true, false_from_ne_true, leb-true, leb-false, and_parts, and_from, or_parts, or_from}
 use Rattle.std.proofs.lemmas.List.{append-nil}
 use Rattle.std.proofs.lemmas.List.Folds.{list_any-append, list_any_at}
 use Rattle.std.proofs.lemmas.List.Quantifiers.{position-Some}
@@ -20,7 +20,7 @@ use Rattle.trace_model.specs.declared.limits.Limits.{Limits}
 use Rattle.trace_model.specs.declared.refusal.Refusal.{Refusal}
 use Rattle.trace_model.specs.declared.refusal.Refusal.TheVariants.{Conflict}
 use Rattle.trace_model.specs.Histories.{IsLegal}
-use Rattle.trace_model.specs.Resending.{is_sent_as, resends, is_sent, SentOnceAfter, AnswersFor}
+use Rattle.trace_model.specs.Resending.{resends, is_sent, SentOnceAfter, AnswersFor}
 use Rattle.trace_model.specs.Refusals.{admission, admitted_anew, with_admitted, behind, history_of}
 use Rattle.trace_model.specs.WorkLaws.{same_work-decides}
 use Rattle.trace_model.specs.Works.{same_work}
@@ -33,13 +33,6 @@ use Rattle.store_laws.proofs.LegalLists.{legal_snoc}
 use mathlib.Core.List.{IsPrefix}
 
 -- ---- batches of one process and number
-both : (a b : Bool) → (a && b) ≡ true → (a ≡ true) × (b ≡ true)
-both true b e = (refl, e)
-both false b e = absurd (false≢true e)
-
-both_is : (a b : Bool) → a ≡ true → b ≡ true → (a && b) ≡ true
-both_is a b e f = ap (λ x. x && b) e ∙ f
-
 -- the one has the number and the process of the other
 abbrev AreOne : Work → Work → Type 0
 AreOne (brings.Batch a) (brings.Batch b) = (a.seq_no ≡ b.seq_no) × (a.process ≡ b.process)
@@ -47,8 +40,8 @@ AreOne v w = ⊥
 
 are_one : (v w : Work) → resends v w ≡ true → AreOne v w
 are_one (brings.Batch a) (brings.Batch b) e =
-    let parts = both (is_some a.seq_no) _ e in
-    let same = both (same_number a.seq_no b.seq_no) _ parts.1 in
+    let parts = and_parts (is_some a.seq_no) _ e in
+    let same = and_parts (same_number a.seq_no b.seq_no) _ parts.1 in
     ((same_number-decides a.seq_no b.seq_no).0 same.0, (same_process-decides a.process b.process).0 same.1)
 are_one (brings.Batch a) (brings.TraceLimit n) e = absurd (false≢true e)
 are_one (brings.TraceLimit m) (brings.Batch b) e = absurd (false≢true e)
@@ -68,9 +61,9 @@ alike (brings.TraceLimit m) (brings.TraceLimit n) e x = absurd (false≢true e)
 back_true : (v w : Work) → resends v w ≡ true → resends w v ≡ true
 back_true (brings.Batch a) (brings.Batch b) e =
     let o = are_one (brings.Batch a) (brings.Batch b) e in
-    let numbered = (both (is_some a.seq_no) _ e).0 in
-    both_is (is_some b.seq_no) _ (sym (ap is_some o.0) ∙ numbered)
-    (both_is (same_number b.seq_no a.seq_no) _ ((same_number-decides b.seq_no a.seq_no).1 (sym o.0)) ((same_process-decides b.process a.process).1 (sym o.1)))
+    let numbered = (and_parts (is_some a.seq_no) _ e).0 in
+    and_from (is_some b.seq_no) _ (sym (ap is_some o.0) ∙ numbered)
+    (and_from (same_number b.seq_no a.seq_no) _ ((same_number-decides b.seq_no a.seq_no).1 (sym o.0)) ((same_process-decides b.process a.process).1 (sym o.1)))
 back_true (brings.Batch a) (brings.TraceLimit n) e = absurd (false≢true e)
 back_true (brings.TraceLimit m) (brings.Batch b) e = absurd (false≢true e)
 back_true (brings.TraceLimit m) (brings.TraceLimit n) e = absurd (false≢true e)
@@ -82,18 +75,11 @@ back_false v w e = elim (resends w v) as (λ b. resends w v ≡ b → b ≡ fals
 ] refl
 
 -- ---- lists
-neither : (a b : Bool) → (a || b) ≡ false → (a ≡ false) × (b ≡ false)
-neither true b e = absurd (false≢true (sym e))
-neither false b e = (refl, e)
-
-either_is : (a b : Bool) → a ≡ false → b ≡ false → (a || b) ≡ false
-either_is a b e f = ap (λ x. x || b) e ∙ f
-
 -- what none of the list passes, none of its parts does
 pub none_passed : {X : Type 0} (p : X → Bool) (front : List X) (x : X) (rest : List X) → list_any p (front ++ x ∷ rest) ≡ false → (list_any p front ≡ false) × (p x ≡ false) × (list_any p rest ≡ false)
 none_passed p front x rest e =
-    let parts = neither (list_any p front) _ (sym (list_any-append p front (x ∷ rest)) ∙ e) in
-    let last = neither (p x) _ parts.1 in (parts.0, last.0, last.1)
+    let parts = or_parts (list_any p front) _ (sym (list_any-append p front (x ∷ rest)) ∙ e) in
+    let last = or_parts (p x) _ parts.1 in (parts.0, last.0, last.1)
 
 at_split : {X : Type 0} (front : List X) (x : X) (rest : List X) (d : X) → get_or (front ++ x ∷ rest) (length front) d ≡ x
 at_split [] x rest d = refl
@@ -135,7 +121,7 @@ unsent_behind : (d e : Entry) → resends e.work d.work ≡ true → (front mid 
 unsent_behind d e s front mid [] r = refl
 unsent_behind d e s front mid (x ∷ rest) r =
     let other = (none_passed (λ (y : Entry). resends x.work y.work) front d mid r.0).1 in
-    either_is (resends e.work x.work) _ (alike e.work d.work s x.work ∙ back_false x.work d.work other)
+    or_from (resends e.work x.work) _ (alike e.work d.work s x.work ∙ back_false x.work d.work other)
     (unsent_behind d e s front (mid ++ x ∷ []) rest (subst (λ l. SentOnceAfter l rest) (append_assoc front (d ∷ mid) (x ∷ [])) r.1))
 
 -- of two entries of a legal list the later one was not sent as the other
@@ -152,7 +138,7 @@ unsent_in_front limits front d rest e l s = all_alike front (sent_once_at limits
   where
     all_alike : (xs : List Entry) → is_sent xs d ≡ false → is_sent xs e ≡ false
     all_alike [] n = refl
-    all_alike (x ∷ xs) n = let parts = neither (resends d.work x.work) _ n in either_is (resends e.work x.work) _ (alike e.work d.work s x.work ∙ parts.0) (all_alike xs parts.1)
+    all_alike (x ∷ xs) n = let parts = or_parts (resends d.work x.work) _ n in or_from (resends e.work x.work) _ (alike e.work d.work s x.work ∙ parts.0) (all_alike xs parts.1)
 
 again_at : (limits : Limits) (front : List Entry) (d : Entry) (rest : List Entry) (e : Entry) → IsLegal limits (front ++ d ∷ rest) → resends e.work d.work ≡ true
     → admission limits (front ++ d ∷ rest) e ≡ (if same_work e.work d.work then Ok (Resent (suc (length front))) else Err (Conflict (suc (length front))))
@@ -171,12 +157,8 @@ pub damaged_is_refused : (limits : Limits) (front : List Entry) (d : Entry) (res
     → admission limits (front ++ d ∷ rest) e ≡ Err (Conflict (length front + 1))
 damaged_is_refused limits front d rest e l s other =
     again_at limits front d rest e l s
-    ∙ ap (λ (b : Bool). if b then Ok (Resent (suc (length front))) else Err (Conflict (suc (length front)))) (differs (same_work e.work d.work) (λ t. other (sym ((same_work-decides e.work d.work).0 t))))
+    ∙ ap (λ (b : Bool). if b then Ok (Resent (suc (length front))) else Err (Conflict (suc (length front)))) (false_from_ne_true (same_work e.work d.work) (λ t. other (sym ((same_work-decides e.work d.work).0 t))))
     ∙ ap (λ n. Err (Conflict n)) (sym (add-one (length front)))
-  where
-    differs : (b : Bool) → (b ≡ true → ⊥) → b ≡ false
-    differs true n = absurd (n refl)
-    differs false n = refl
 
 -- what was sent nowhere before is judged by its number and the limits
 nowhere : (limits : Limits) (h : List Entry) (e : Entry) → ((x : Work) → resends e.work x ≡ false) → admission limits h e ≡ admitted_anew limits h e
@@ -184,7 +166,7 @@ nowhere limits h e never = admission_anew limits h e (sent_nowhere h e (none h))
   where
     none : (xs : List Entry) → is_sent xs e ≡ false
     none [] = refl
-    none (x ∷ xs) = either_is (resends e.work x.work) _ (never x.work) (none xs)
+    none (x ∷ xs) = or_from (resends e.work x.work) _ (never x.work) (none xs)
 
 unnumbered_never : (b : Batch) → b.seq_no ≡ None → (x : Work) → resends (brings.Batch b) x ≡ false
 unnumbered_never b none (brings.Batch c) = ap (λ n. is_some n && (same_number n c.seq_no && same_process b.process c.process)) none

@@ -2,6 +2,7 @@
 use Rattle.std.proofs.Common.{◌≡◌, ℕ, ◌+◌, ◌≤◌, Bool, true, false, ◌||◌, inl, inr, List, [], ◌∷◌, ◌++◌, length, Option, Some, None, refl, sym, ap, ◌∙◌, subst, arith, append-nil, append_assoc, length-append}
 use Rattle.std.specs.Io.KnownBytes.{Appends, Consumes, IsAtEnd}
 use Rattle.std.proofs.KnownBytes.{Consumes-nil, Consumes-trans}
+use Rattle.std.proofs.Math.Bool.{or-false, or_assoc}
 use Rattle.text_lines.specs.declared.run_error.RunError.{RunError}
 use Rattle.text_lines.specs.declared.run_error.RunError.TheVariants.{Device, Memory}
 use Rattle.text_lines.specs.declared.line_buffer.TheConstants.{MOST_READS}
@@ -11,14 +12,6 @@ use Rattle.text_lines.specs.RunErrors.{Holds, IsWhy, Moves}
 use Rattle.text_lines.specs.Taking.{AnswersAll, AnswersSome, Said, SoFar, Takes, TakesEach, TookAll, TookSome, joined, nothing_said}
 use Rattle.text_lines.proofs.Pages.{moves_nothing, moves_more, moves_then, some_written}
 
-or_false : (b : Bool) → (b || false) ≡ b
-or_false true = refl
-or_false false = refl
-
-or_assoc : (a b c : Bool) → ((a || b) || c) ≡ (a || (b || c))
-or_assoc true b c = refl
-or_assoc false b c = refl
-
 abbrev said_of : List ℕ → Bool → Said
 said_of text faulty = record { text = text; faulty = faulty }
 
@@ -26,7 +19,7 @@ said_is : (a b : List ℕ) (f g : Bool) → a ≡ b → f ≡ g → said_of a f 
 said_is a b f g e h = ap (λ t. said_of t f) e ∙ ap (said_of b) h
 
 joined_last : (x : Said) → joined nothing_said x ≡ joined x nothing_said
-joined_last x = said_is x.text (x.text ++ []) x.faulty (x.faulty || false) (sym (append-nil x.text)) (sym (or_false x.faulty))
+joined_last x = said_is x.text (x.text ++ []) x.faulty (x.faulty || false) (sym (append-nil x.text)) (sym (or-false x.faulty))
 
 joined_assoc : (a b c : Said) → joined (joined a b) c ≡ joined a (joined b c)
 joined_assoc a b c = said_is _ _ _ _ (append_assoc a.text b.text c.text) (or_assoc a.faulty b.faulty c.faulty)

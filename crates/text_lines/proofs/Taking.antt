@@ -1,20 +1,17 @@
 -- Taking a line off what was read.
-use Rattle.std.proofs.Common.{◌≡◌, ℕ, suc, zero, ◌+◌, ◌≤◌, ◌<◌, ◌==◌, Bool, true, false, not, MatchBool, List, [], ◌∷◌, ◌++◌, length, take, drop, Option, refl, sym, ap, ◌∙◌, subst, arith, slice_index, append_assoc, append-nil, length-append, length-drop, add-one}
+use Rattle.std.proofs.Common.{◌≡◌, ℕ, suc, zero, ◌+◌, ◌≤◌, ◌<◌, ◌==◌, true, false, not, MatchBool, List, [], ◌∷◌, ◌++◌, length, take, drop, Option, refl, sym, ap, ◌∙◌, subst, arith, slice_index, append_assoc, append-nil, length-append, length-drop, add-one}
 use Rattle.std.proofs.Math.Seq.{take-length}
+use Rattle.std.proofs.lemmas.Bool.{false_from_ne_true}
 use Rattle.std.proofs.KnownBytes.{Consumes-nil, Consumes-trans}
 use Rattle.text_lines.specs.Lines.{lines_of, without_return, HasNoFeed}
 use Rattle.text_lines.specs.Reading.{Feed, Fills, Gathers, TakesLine, TakesNone}
 use Rattle.text_lines.proofs.LineEnds.{HasNoFeed-append, line_first, line_last}
 
-not_true : (b : Bool) → (b ≡ true → ⊥) → b ≡ false
-not_true true h = absurd (h refl)
-not_true false h = refl
-
 pub no_feed_below : (hay : List ℕ) (k : ℕ) → ((j : ℕ) → 0 ≤ j → j < k → (slice_index hay j == 10) ≡ true → ⊥) → HasNoFeed (take k hay)
 no_feed_below hay zero none = tt
 no_feed_below [] (suc k) none = tt
 no_feed_below (c ∷ hay) (suc k) none =
-    (not_true (c == 10) (none 0 (omega arith) (omega arith)), no_feed_below hay k (λ j low below. none (suc j) (omega arith) (omega arith)))
+    (false_from_ne_true (c == 10) (none 0 (omega arith) (omega arith)), no_feed_below hay k (λ j low below. none (suc j) (omega arith) (omega arith)))
 
 pub no_feed : (hay : List ℕ) → ((j : ℕ) → 0 ≤ j → j < length hay → (slice_index hay j == 10) ≡ true → ⊥) → HasNoFeed hay
 no_feed hay none = subst HasNoFeed (take-length hay) (no_feed_below hay (length hay) none)

@@ -13,7 +13,7 @@ use Rattle.thrift_binary.specs.Cuts.{Settled, Cut, whole, faulty, unsettled, IsC
 take_beginning : (m : ℕ) (a b : List ℕ) → m < length a → take m (a ++ b) ≡ take m a
 take_beginning m a b lt = take-append-le m a b (omega arith)
 
-take_past : (m : ℕ) (a b : List ℕ) → length a ≤ m → take m (a ++ b) ≡ a ++ take (m - length a) b
+pub take_past : (m : ℕ) (a b : List ℕ) → length a ≤ m → take m (a ++ b) ≡ a ++ take (m - length a) b
 take_past m a b le =
     let split : m ≡ length a + (m - length a) = omega arith in
     ap (λ (k : ℕ). take k (a ++ b)) split ∙ take-append-add a b (m - length a)

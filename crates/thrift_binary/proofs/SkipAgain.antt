@@ -2,8 +2,9 @@
 use Rattle.std.proofs.Common.{◌≡◌, ℕ, zero, suc, ◌<◌, Bool, true, false, cond, eqb, ltb, ◌&&◌, ◌||◌, List, [], ◌∷◌, ◌++◌, length, Result, Ok, Err, refl, sym, ap, ◌∙◌, append_assoc, length-append, arith}
 use Rattle.std.specs.Prelude.{MatchBool, OnOk}
 use Rattle.std.specs.List.{AllByRecursion}
-use Rattle.std.proofs.lemmas.Bool.{le-ltb, lt-ltb, ltb-true, eqb-true, ne_eqb}
+use Rattle.std.proofs.lemmas.Bool.{le-ltb, lt-ltb, ltb-true, eqb-true, ne_eqb, and_parts}
 use Rattle.std.proofs.lemmas.List.{drop_at}
+use Rattle.std.proofs.Math.Bool.{or-true}
 use Rattle.thrift_binary.specs.declared.fault.WireError.{WireError}
 use Rattle.thrift_binary.specs.declared.fault.WireError.TheVariants.{BadType, TooDeep}
 use Rattle.thrift_binary.specs.Reading.{Reads, size_at, list_at, map_at, is_code}
@@ -15,14 +16,6 @@ use Rattle.thrift_binary.proofs.Again.{size_again, string_again, fields_again}
 
 gone_is_no_err : (r : List ℕ) (e : WireError) → gone r ≡ Err e → ⊥
 gone_is_no_err r e h = absurd cc
-
-or_true : (a : Bool) → (a || true) ≡ true
-or_true true = refl
-or_true false = refl
-
-both_true : (a b : Bool) → (a && b) ≡ true → (a ≡ true) × (b ≡ true)
-both_true true b e = (refl, e)
-both_true false b e = absurd cc
 
 -- a reading that takes each such text, whatever follows
 abbrev pub Passes : Skip → (List ℕ → Type 0) → Type 0
@@ -64,7 +57,7 @@ module _ (value : ℕ → Skip) (Value : ℕ → List ℕ → Type 0) (again : (
 
   first_coded : (c n : ℕ) (w : List ℕ) → IsRun (Value c) n w → (eqb n 0 || is_code c) ≡ true
   first_coded c zero w run = refl
-  first_coded c (suc n) w (first, rest, f, is, more) = let known = coded c first f in rw known (or_true (eqb (suc n) 0))
+  first_coded c (suc n) w (first, rest, f, is, more) = let known = coded c first f in rw known (or-true (eqb (suc n) 0))
 
   items_again : Passes (items value) (IsListOf Value)
   unfolding items list_at
@@ -80,7 +73,7 @@ module _ (value : ℕ → Skip) (Value : ℕ → List ℕ → Type 0) (again : (
 
   first_pair_coded : (k c n : ℕ) (w : List ℕ) → IsRun (IsPair Value k c) n w → (eqb n 0 || (is_code k && is_code c)) ≡ true
   first_pair_coded k c zero w run = refl
-  first_pair_coded k c (suc n) w (first, rest, (a, b, va, vb, pair), is, more) = let one = coded k a va in let two = coded c b vb in rw one (rw two (or_true (eqb (suc n) 0)))
+  first_pair_coded k c (suc n) w (first, rest, (a, b, va, vb, pair), is, more) = let one = coded k a va in let two = coded c b vb in rw one (rw two (or-true (eqb (suc n) 0)))
 
   pairs_again : Passes (pairs value) (IsMapOf Value)
   unfolding pairs map_at
@@ -120,11 +113,11 @@ wide_coded false false false false false false g h = absurd (omega arith)
 
 container_coded : (c : ℕ) → is_container c ≡ true → is_code c ≡ true
 container_coded c e =
-    let parts = both_true (ltb 11 c) (ltb c 16) e in
+    let parts = and_parts (ltb 11 c) (ltb c 16) e in
     let more : 11 < c = ltb-true 11 c parts.0 in
     let above : ltb 10 c ≡ true = lt-ltb 10 c (omega arith) in
     let below : ltb c 16 ≡ true = parts.1 in
-    rw (above, below) (or_true (eqb c 2 || eqb c 3 || eqb c 4 || eqb c 6 || eqb c 8 || eqb c 10))
+    rw (above, below) (or-true (eqb c 2 || eqb c 3 || eqb c 4 || eqb c 6 || eqb c 8 || eqb c 10))
 
 leaf_coded : (c : ℕ) (t : List ℕ) → IsLeaf c t → is_code c ≡ true
 leaf_coded c t is = by (eqb c 11) refl is

@@ -1,9 +1,9 @@
 -- Spans moved by deltas that are held.
 use Rattle.std.proofs.Common.{◌≡◌, ℕ, ℤ, pos, ◌+◌, ◌<◌, Bool, true, false, List, [], ◌∷◌, ◌++◌, map, take, length, length-append, get_or, refl, sym, ap, ◌∙◌, arith}
-use Rattle.std.specs.Prelude.{Option, ◌&&◌, not, nat_le, nat_abs, drop, if◌then◌else◌}
+use Rattle.std.specs.Prelude.{Option, not, nat_le, nat_abs, drop, if◌then◌else◌}
 use Rattle.std.specs.List.{list_all}
 use Rattle.std.specs.Ordering.{int_eq}
-use Rattle.std.proofs.lemmas.Bool.{false≢true}
+use Rattle.std.proofs.lemmas.Bool.{false≢true, and_parts}
 use Rattle.std.proofs.lemmas.List.{take_more, length-take-le}
 use Rattle.jaeger_model.specs.declared.placed.Placed.{Placed}
 use Rattle.trace_model.specs.declared.answer.Shown.{Shown}
@@ -39,13 +39,8 @@ delta_more m ps cs g i p d had has l here known first one many inv put =
 abbrev pub all_zero : List ℤ → Bool
 all_zero ds = list_all (λ (d : ℤ). int_eq d (pos 0)) ds
 
-both : (a b : Bool) → (a && b) ≡ true → (a ≡ true) × (b ≡ true)
-both true true e = (refl, refl)
-both true false e = absurd (false≢true e)
-both false b e = absurd (false≢true e)
-
 no_delta : (d : ℤ) (ds : List ℤ) → all_zero (d ∷ ds) ≡ true → (int_eq d (pos 0) ≡ true) × (all_zero ds ≡ true)
-no_delta d ds e = both (int_eq d (pos 0)) (all_zero ds) e
+no_delta d ds e = and_parts (int_eq d (pos 0)) (all_zero ds) e
 
 -- a delta that isn't 0
 abbrev shifted_else : ℕ → ℤ → Placed → Shown

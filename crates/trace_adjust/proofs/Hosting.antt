@@ -3,7 +3,7 @@ use Rattle.std.proofs.Common.{◌≡◌, ℕ, zero, suc, pos, ◌+◌, ◌-◌, 
 use Rattle.std.specs.Prelude.{Option, Some, None, option_map, is_some, not, ◌||◌, ◌==◌, cond, unwrap_or, codes, if◌then◌else◌}
 use Rattle.std.specs.Option.{option_or}
 use Rattle.std.specs.Ordering.{is_eq}
-use Rattle.std.specs.Cmp.Lexicographic.{bytes_decides, texts_ties}
+use Rattle.std.specs.Cmp.Lexicographic.{texts_ties}
 use Rattle.std.proofs.lemmas.Bool.{false≢true}
 use Rattle.std.proofs.lemmas.List.{map-set, map-append, map_more, map_push, get_or-map, length-map, length-take-le, take-append-drop}
 use Rattle.jaeger_model.specs.declared.placed.Placed.{Placed}
@@ -16,6 +16,8 @@ use Rattle.trace_adjust.specs.Settling.{near, is_unset, written, clock_delta, de
 use Rattle.trace_model.specs.Sharing.{ShareProcesses}
 use Rattle.trace_adjust.specs.Hosts.{hosts_of, number_in, hosted, all_hosted, AreNumbers, IsNumber, IsNumbered, AreNumbered, clock_by, below_by, near_by, host_delta, delta_by}
 use Rattle.trace_adjust.proofs.Places.{one_more, or_none}
+use Rattle.trace_model.proofs.NameLaws.{text_is, text_self}
+use Rattle.trace_model.proofs.Chains.{is_some-map}
 
 -- ---- processes
 first_process : (ps : List Placed) (k : ℕ) (d : Placed) → (get_or (spans_of (map unadjusted (map with_parent_first ps))) k d).process ≡ (get_or ps k d).process
@@ -27,17 +29,11 @@ pub shared_first : (ps : List Placed) (places : List ℕ) → ShareProcesses ps 
 shared_first ps places share k d l e = first_process ps k d ∙ share k d l e ∙ sym (first_process ps (k + 1) d)
 
 -- ---- numbers
-same_is : (t u : List ℕ) → same_text t u ≡ true → t ≡ u
-same_is t u e = (bytes_decides t u).0 e
-
-itself : (t : List ℕ) → same_text t t ≡ true
-itself t = (bytes_decides t t).1 refl
-
 -- the host with the number
 pub number_there : (hosts : List (List ℕ)) (t : List ℕ) (n : ℕ) → number_in hosts t ≡ Some n → get_or hosts n [] ≡ t
 number_there [] t n e = absurd (false≢true (ap is_some e))
 number_there (h ∷ hosts) t n e = elim (same_text t h) as (λ b. same_text t h ≡ b → (if b then Some 0 else option_map suc (number_in hosts t)) ≡ Some n → get_or (h ∷ hosts) n [] ≡ t) [
-  | true ↦ λ s q. let z : 0 ≡ n = cc q in ap (λ k. get_or (h ∷ hosts) k []) (sym z) ∙ sym (same_is t h s)
+  | true ↦ λ s q. let z : 0 ≡ n = cc q in ap (λ k. get_or (h ∷ hosts) k []) (sym z) ∙ sym (text_is t h s)
   | false ↦ λ s q. later (λ k. number_there hosts t k) (number_in hosts t) refl q
 ] refl e
   where
@@ -51,10 +47,10 @@ is_number hosts t n e = ap (number_in hosts) (number_there hosts t n e) ∙ e
 -- two hosts have one number where they are the same
 pub same_number : (hosts : List (List ℕ)) (t u : List ℕ) (n k : ℕ) → number_in hosts t ≡ Some n → number_in hosts u ≡ Some k → (n == k) ≡ same_text t u
 same_number hosts t u n k e f = elim (n == k) as (λ b. (n == k) ≡ b → b ≡ same_text t u) [
-  | true ↦ λ s. sym (ap (same_text t) (sym (sym (number_there hosts t n e) ∙ ap (λ j. get_or hosts j []) (eqb-true n k s) ∙ number_there hosts u k f)) ∙ itself t)
+  | true ↦ λ s. sym (ap (same_text t) (sym (sym (number_there hosts t n e) ∙ ap (λ j. get_or hosts j []) (eqb-true n k s) ∙ number_there hosts u k f)) ∙ text_self t)
   | false ↦ λ s. elim (same_text t u) as (λ b. same_text t u ≡ b → false ≡ b) [
     | true ↦ λ q.
-        let both : Some n ≡ Some k = sym e ∙ ap (number_in hosts) (same_is t u q) ∙ f in
+        let both : Some n ≡ Some k = sym e ∙ ap (number_in hosts) (text_is t u q) ∙ f in
         let one : n ≡ k = cc both in
         sym s ∙ eq-eqb n k one
     | false ↦ λ q. refl
@@ -94,14 +90,10 @@ pub hosted_none : {X Y : Type 0} (f : X → Y) (o : Option X) → option_map f o
 hosted_none f None e = refl
 hosted_none f (Some x) e = absurd (false≢true (sym (ap is_some e)))
 
-hosted_some : {X Y : Type 0} (f : X → Y) (o : Option X) → is_some (option_map f o) ≡ is_some o
-hosted_some f None = refl
-hosted_some f (Some x) = refl
-
 pub written_hosted : {X Y : Type 0} (f : X → Y) (cs : List (Option X)) (i : ℕ) (o : Option X) → map (option_map f) (written cs i o) ≡ written (map (option_map f) cs) i (option_map f o)
 written_hosted f cs i o =
     by_test (is_unset (get_or cs i None))
-    ∙ ap (λ b. if not b then set (map (option_map f) cs) i (option_map f o) else map (option_map f) cs) (sym (ap is_some (hosted_at f cs i) ∙ hosted_some f (get_or cs i None)))
+    ∙ ap (λ b. if not b then set (map (option_map f) cs) i (option_map f o) else map (option_map f) cs) (sym (ap is_some (hosted_at f cs i) ∙ is_some-map f (get_or cs i None)))
   where
     by_test : (b : Bool) → map (option_map f) (if b then set cs i o else cs) ≡ (if b then set (map (option_map f) cs) i (option_map f o) else map (option_map f) cs)
     by_test true = map-set (option_map f) cs i o
@@ -155,7 +147,7 @@ number_push (g ∷ hosts) h t = one_more (same_text t g) (same_text t h) (number
 pub number_again : (hosts : List (List ℕ)) (h : List ℕ) (n : ℕ) → number_in hosts h ≡ Some n → (t : List ℕ) → number_in (hosts ++ h ∷ []) t ≡ number_in hosts t
 number_again hosts h n e t = number_push hosts h t ∙ elim (same_text t h) as (λ b. same_text t h ≡ b → option_or (number_in hosts t) (cond b (Some (length hosts)) None) ≡ number_in hosts t) [
   | true ↦ λ s.
-      let there : number_in hosts t ≡ Some n = ap (number_in hosts) (same_is t h s) ∙ e in
+      let there : number_in hosts t ≡ Some n = ap (number_in hosts) (text_is t h s) ∙ e in
       ap (λ o. option_or o (Some (length hosts))) there ∙ sym there
   | false ↦ λ s. or_none (number_in hosts t)
 ] refl
@@ -229,7 +221,7 @@ module _ (ps : List Placed) (i : ℕ) (p : Placed) (l : i < length ps) (e : p �
 -- the number that a host gets
 pub number_given : (hosts : List (List ℕ)) (h : List ℕ) (o : Option ℕ) (n fresh : ℕ) → o ≡ number_in hosts h → n ≡ unwrap_or o fresh → length hosts ≡ fresh → number_in (hosts ++ h ∷ []) h ≡ Some n
 number_given hosts h o n fresh is given long =
-    number_push hosts h h ∙ (λ i. option_or ((sym is) i) (cond (itself h i) (Some (long i)) None)) ∙ by_cases o ∙ ap Some (sym given)
+    number_push hosts h h ∙ (λ i. option_or ((sym is) i) (cond (text_self h i) (Some (long i)) None)) ∙ by_cases o ∙ ap Some (sym given)
   where
     by_cases : (o : Option ℕ) → option_or o (cond true (Some fresh) None) ≡ Some (unwrap_or o fresh)
     by_cases None = refl
@@ -244,10 +236,10 @@ table_given hosts h old new fresh is long put t = put t ∙ (λ i. option_or (is
 pub entry_made : (g : List ℕ → Option ℕ) (h : List ℕ) (o : Option ℕ) (fresh : ℕ) (t : List ℕ) → g h ≡ None → o ≡ cond (is_eq (text_cmp h t)) (Some fresh) (g t) → o ≡ option_or (g t) (cond (same_text t h) (Some fresh) None)
 entry_made g h o fresh t none put = put ∙ ap (λ b. cond b (Some fresh) (g t)) (sym (texts_ties h t)) ∙ elim (same_text h t) as (λ b. same_text h t ≡ b → cond b (Some fresh) (g t) ≡ option_or (g t) (cond (same_text t h) (Some fresh) None)) [
   | true ↦ λ s.
-      let same : h ≡ t = same_is h t s in
-      (λ i. option_or ((sym none ∙ ap g same) i) (cond ((sym (itself h) ∙ ap (λ x. same_text x h) same) i) (Some fresh) None))
+      let same : h ≡ t = text_is h t s in
+      (λ i. option_or ((sym none ∙ ap g same) i) (cond ((sym (text_self h) ∙ ap (λ x. same_text x h) same) i) (Some fresh) None))
   | false ↦ λ s. elim (same_text t h) as (λ b. same_text t h ≡ b → g t ≡ option_or (g t) (cond b (Some fresh) None)) [
-    | true ↦ λ q. absurd (false≢true (sym s ∙ ap (same_text h) (same_is t h q) ∙ itself h))
+    | true ↦ λ q. absurd (false≢true (sym s ∙ ap (same_text h) (text_is t h q) ∙ text_self h))
     | false ↦ λ q. sym (or_none (g t))
   ] refl
 ] refl

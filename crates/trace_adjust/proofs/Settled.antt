@@ -1,5 +1,6 @@
 -- Clocks that are set from above are the spans' clocks, and where none can be set any more all are known.
 use Rattle.std.proofs.Common.{◌≡◌, ℕ, zero, suc, ◌+◌, ◌<◌, ◌⊎◌, inl, inr, ⊎_elim, Bool, true, false, ◌&&◌, cond, List, [], ◌∷◌, map, length, get_or, set, refl, sym, ap, ◌∙◌, arith, subst, length-set, get_or-set_same, get_or-set_other}
+use Rattle.std.specs.List.{AllByRecursion}
 use Rattle.std.proofs.lemmas.List.{length-map, get_or_default, set-get_or, get_or-map}
 use Rattle.std.specs.Prelude.{Option, Some, None, option_map, is_some, if◌then◌else◌}
 use Rattle.std.proofs.lemmas.Bool.{false≢true, cases_eq}
@@ -9,14 +10,14 @@ use Rattle.trace_model.specs.declared.clock.Clock.{Clock}
 use Rattle.trace_model.specs.Linking.{parent_in}
 use Rattle.trace_model.specs.Adjusting.{host_of, clock_below, clock_within, clock_of}
 use Rattle.trace_model.specs.Steadiness.{clock_by}
-use Rattle.trace_model.proofs.Chains.{Each, clocks, within_step, within_none}
+use Rattle.trace_model.proofs.Chains.{clocks, within_step, within_none}
 use Rattle.trace_adjust.specs.Settling.{place_in, near, is_unset, written, writes, AreRight, IsClosed, AreClosed, AreClocks, unset_count}
 use Rattle.trace_adjust.specs.declared.clock.HostClock.{HostClock}
 use Rattle.trace_adjust.specs.Hosts.{hosts_of, number_in, hosted, all_hosted, near_by, IsNumbered, AreNumbered, AreSet}
 use Rattle.trace_adjust.proofs.Hosting.{hosted_at, hosted_none, written_hosted, written_numbered, near_hosted, near_numbered}
 use Rattle.trace_adjust.proofs.Places.{parent_there, place_below}
 
-each_at : {X : Type 0} (P : X → Type 0) (xs : List X) (k : ℕ) (d : X) → k < length xs → Each P xs → P (get_or xs k d)
+each_at : {X : Type 0} (P : X → Type 0) (xs : List X) (k : ℕ) (d : X) → k < length xs → AllByRecursion P xs → P (get_or xs k d)
 each_at P [] k d l h = absurd (omega arith)
 each_at P (x ∷ xs) zero d l h = h.0
 each_at P (x ∷ xs) (suc k) d l h = each_at P xs k d (omega arith) h.1

@@ -1,7 +1,7 @@
 -- The spots of each trace as they change with one more event.
 use Rattle.std.proofs.Common.{◌≡◌, ℕ, Bool, true, false, ◌||◌, ◌&&◌, cond, List, [], ◌∷◌, ◌++◌, map, refl, sym, ap, ◌∙◌, Some, None}
 use Rattle.std.specs.Prelude.{Option, filter, not, IfSome, option_to_list, if◌then◌else◌}
-use Rattle.std.proofs.lemmas.Bool.{false≢true}
+use Rattle.std.proofs.lemmas.Bool.{false≢true, or_parts}
 use Rattle.std.proofs.lemmas.List.{append-nil, map-append, map_push}
 use Rattle.std.proofs.lemmas.List.Elements.{filter-append}
 use Rattle.std.proofs.lemmas.List.Folds.{list_any-append}
@@ -15,9 +15,10 @@ use Rattle.trace_model.specs.Rings.{holds, newest, arrive, LimitedRing, limited_
 use Rattle.trace_model.specs.Showing.{trace_of, ring, limit_after, shown, of_trace, spans_of_trace}
 use Rattle.trace_model.proofs.Shows.{by_pushes, in_ring, in_ring_by, ring_came, ring_limited, limited_ring-mapped, shown_push, shown_by_push}
 use Rattle.trace_model.proofs.Traces.{same_is, spans_gone, arrived}
+use Rattle.trace_ring.specs.Windows.{opened_by}
 use Rattle.trace_assembly.specs.declared.spot.Spot.{Spot}
 use Rattle.trace_assembly.specs.Rows.{with_spot}
-use Rattle.trace_assembly.specs.Located.{spans_in, spots_in, located_trace, events_in, shown_in, own_of, shown_spots, with_event, without_left, located_events, span_at, after_leaving, after_arrival, with_trace, AreShown, ComesIn, Lowers}
+use Rattle.trace_assembly.specs.Located.{spans_in, spots_in, located_trace, events_in, shown_in, own_of, shown_spots, with_event, without_left, located_events, span_at, after_leaving, after_arrival, AreShown, ComesIn, Lowers}
 use Rattle.trace_assembly.proofs.Lists.{filter_within, map_filter, map_nil}
 use Rattle.trace_assembly.proofs.Places.{at_spots, shown-lies, events-located}
 
@@ -92,14 +93,10 @@ pub shown_spots-gone : (n : ℕ) (es : List (Event (Spot × Placed))) (t : Trace
 shown_spots-gone n es t gone = ap spots_in (map_nil span_of (own_of t (shown_in n es)) (spans-own n es t ∙ spans_gone n (events_in es) t gone))
 
 -- ---- spots added and hidden as the ring says are those of the shown spans
-or_false : (a b : Bool) → (a || b) ≡ false → a ≡ false
-or_false true b e = absurd (false≢true (sym e))
-or_false false b e = refl
-
-before_too : (r : List TraceId) (t u : TraceId) → holds (with_trace r t) u ≡ false → holds r u ≡ false
+before_too : (r : List TraceId) (t u : TraceId) → holds (opened_by r t) u ≡ false → holds r u ≡ false
 before_too r t u e = elim (holds r t) as (λ b. holds (if b then r else r ++ t ∷ []) u ≡ false → holds r u ≡ false) [
   | true ↦ λ e. e
-  | false ↦ λ e. or_false (holds r u) (holds (t ∷ []) u) (sym (list_any-append (same_trace u) r (t ∷ [])) ∙ e)
+  | false ↦ λ e. (or_parts (holds r u) (holds (t ∷ []) u) (sym (list_any-append (same_trace u) r (t ∷ [])) ∙ e)).0
 ] e
 
 kept : (left : Option TraceId) (r : List TraceId) (spots : TraceId → List Spot) (t : TraceId) → IfSome left (λ gone. holds r gone ≡ false) → holds r t ≡ true → after_leaving left spots t ≡ spots t
@@ -118,7 +115,7 @@ gone (Some g) old r spots t split out none = elim (same_trace t g) as (λ s. sam
 ] refl
 
 pub after_arrival_law : (n limit : ℕ) (es : List (Event (Spot × Placed))) (l : Spot × Placed) (left : Option TraceId) (old new : List TraceId) (spots : TraceId → List Spot)
-    → limit ≡ limit_after n (events_in es) → old ≡ ring n (events_in es) → new ≡ arrive limit old (trace_of l.1) → with_trace old (trace_of l.1) ≡ option_to_list left ++ new → IfSome left (λ gone. holds new gone ≡ false)
+    → limit ≡ limit_after n (events_in es) → old ≡ ring n (events_in es) → new ≡ arrive limit old (trace_of l.1) → opened_by old (trace_of l.1) ≡ option_to_list left ++ new → IfSome left (λ gone. holds new gone ≡ false)
     → ((t : TraceId) → spots t ≡ shown_spots n es t) → (t : TraceId) → after_arrival l left spots t ≡ shown_spots n (es ++ came l ∷ []) t
 after_arrival_law n limit es l left old new spots now_limit was is split out same t =
     let now : new ≡ ring n (events_in (es ++ came l ∷ [])) =
@@ -127,7 +124,7 @@ after_arrival_law n limit es l left old new spots now_limit was is split out sam
     elim (holds new t) as (λ b. holds new t ≡ b → after_arrival l left spots t ≡ (if b then with_spot (trace_of l.1) l.0 (shown_spots n es) t else [])) [
       | true ↦ λ held. ap (λ k. if same_trace t (trace_of l.1) then k ++ l.0 ∷ [] else k) (kept left new spots t out held ∙ same t)
       | false ↦ λ lost.
-          let none : after_leaving left spots t ≡ [] = gone left (with_trace old (trace_of l.1)) new spots t split lost (λ e. same t ∙ shown_spots-gone n es t (ap (λ r. holds r t) (sym was) ∙ before_too old (trace_of l.1) t e)) in
+          let none : after_leaving left spots t ≡ [] = gone left (opened_by old (trace_of l.1)) new spots t split lost (λ e. same t ∙ shown_spots-gone n es t (ap (λ r. holds r t) (sym was) ∙ before_too old (trace_of l.1) t e)) in
           elim (same_trace t (trace_of l.1)) as (λ s. same_trace t (trace_of l.1) ≡ s → (if s then after_leaving left spots t ++ l.0 ∷ [] else after_leaving left spots t) ≡ []) [
             | true ↦ λ e. absurd (false≢true (sym lost ∙ ap (holds new) (same_is t (trace_of l.1) e) ∙ own))
             | false ↦ λ _. none

@@ -1,5 +1,6 @@
 -- Where the spans of a history lie.
 use Rattle.std.proofs.Common.{◌≡◌, ℕ, suc, ◌+◌, List, [], ◌∷◌, ◌++◌, length, map, refl, sym, ap, subst, ◌∙◌, arith, append_assoc, length-append, Some, ◌<◌, take, get_or}
+use Rattle.std.specs.List.{AllByRecursion}
 use Rattle.std.specs.Prelude.{slice_get}
 use Rattle.std.specs.Option.{option_and_then}
 use Rattle.std.proofs.lemmas.List.{append-nil, map-append, map_more, take_all, length-map, length-take}
@@ -18,7 +19,7 @@ use Rattle.trace_model.specs.Works.{events_brought, placed_brought}
 use Rattle.trace_model.specs.Showing.{stands}
 use Rattle.trace_assembly.specs.declared.spot.Spot.{Spot}
 use Rattle.trace_assembly.specs.Located.{located_in, located_by, located_from, located_events, span_at, spans_in, spots_in, events_in, located_trace, shown_in, own_of, located_upto}
-use Rattle.trace_assembly.proofs.Lists.{Each, OfCame, each_append, each_came, each_filter, each_lasting, each_without_limits, slice_get_middle}
+use Rattle.trace_assembly.proofs.Lists.{OfCame, each_append, each_came, each_filter, each_lasting, each_without_limits, slice_get_middle}
 
 spans-located_in : (place index : ℕ) (ps : List Placed) → spans_in (located_in place index ps) ≡ ps
 spans-located_in place index [] = refl
@@ -63,34 +64,34 @@ located_in-push place index last (q ∷ ps) p at = ap (λ l. (record { place = p
 abbrev pub LiesIn : List Entry → Spot × Placed → Type 0
 LiesIn h l = span_at h l.0 ≡ Some l.1
 
-located_in-lies : (h : List Entry) (e : Entry) (before : ℕ) → slice_get h before ≡ Some e → (done ps : List Placed) → placed_brought e.work ≡ done ++ ps → Each (LiesIn h) (located_in (suc before) (length done) ps)
+located_in-lies : (h : List Entry) (e : Entry) (before : ℕ) → slice_get h before ≡ Some e → (done ps : List Placed) → placed_brought e.work ≡ done ++ ps → AllByRecursion (LiesIn h) (located_in (suc before) (length done) ps)
 located_in-lies h e before at done [] all = tt
 located_in-lies h e before at done (p ∷ ps) all =
     let here : span_at h (record { place = suc before; index = length done }) ≡ Some p =
     ap (option_and_then (λ (e : Entry). slice_get (placed_brought e.work) (length done))) at ∙ ap (λ ds. slice_get ds (length done)) all ∙ slice_get_middle done p ps in
     let long : length (done ++ p ∷ []) ≡ suc (length done) = omega (arith, length-append done (p ∷ [])) in
-    (here, subst (λ k. Each (LiesIn h) (located_in (suc before) k ps)) long (located_in-lies h e before at (done ++ p ∷ []) ps (all ∙ sym (append_assoc done (p ∷ []) ps))))
+    (here, subst (λ k. AllByRecursion (LiesIn h) (located_in (suc before) k ps)) long (located_in-lies h e before at (done ++ p ∷ []) ps (all ∙ sym (append_assoc done (p ∷ []) ps))))
 
-located_by-lies : (h : List Entry) (e : Entry) (before : ℕ) (c : Work) → e.work ≡ c → slice_get h before ≡ Some e → Each (OfCame (LiesIn h)) (located_by (suc before) c)
+located_by-lies : (h : List Entry) (e : Entry) (before : ℕ) (c : Work) → e.work ≡ c → slice_get h before ≡ Some e → AllByRecursion (OfCame (LiesIn h)) (located_by (suc before) c)
 located_by-lies h e before (brings.Batch b) is at = each_came (LiesIn h) (located_in (suc before) 0 (domain b)) (located_in-lies h e before at [] (domain b) (ap placed_brought is))
 located_by-lies h e before (brings.TraceLimit n) is at = (tt, tt)
 
-located_from-lies : (before rest : List Entry) → Each (OfCame (LiesIn (before ++ rest))) (located_from (suc (length before)) rest)
+located_from-lies : (before rest : List Entry) → AllByRecursion (OfCame (LiesIn (before ++ rest))) (located_from (suc (length before)) rest)
 located_from-lies before [] = tt
 located_from-lies before (e ∷ es) =
     let long : length (before ++ e ∷ []) ≡ suc (length before) = omega (arith, length-append before (e ∷ [])) in
-    let later : Each (OfCame (LiesIn (before ++ e ∷ es))) (located_from (suc (suc (length before))) es) =
-    subst (λ k. Each (OfCame (LiesIn (before ++ e ∷ es))) (located_from (suc k) es)) long
-    (subst (λ h. Each (OfCame (LiesIn h)) (located_from (suc (length (before ++ e ∷ []))) es)) (append_assoc before (e ∷ []) es) (located_from-lies (before ++ e ∷ []) es)) in
+    let later : AllByRecursion (OfCame (LiesIn (before ++ e ∷ es))) (located_from (suc (suc (length before))) es) =
+    subst (λ k. AllByRecursion (OfCame (LiesIn (before ++ e ∷ es))) (located_from (suc k) es)) long
+    (subst (λ h. AllByRecursion (OfCame (LiesIn h)) (located_from (suc (length (before ++ e ∷ []))) es)) (append_assoc before (e ∷ []) es) (located_from-lies (before ++ e ∷ []) es)) in
     each_append (OfCame (LiesIn (before ++ e ∷ es))) (located_by (suc (length before)) e.work) (located_from (suc (suc (length before))) es)
     (located_by-lies (before ++ e ∷ es) e (length before) e.work refl (slice_get_middle before e es)) later
 
 -- each span of a history lies at its spot
-pub located-lies : (h : List Entry) → Each (OfCame (LiesIn h)) (located_events h)
+pub located-lies : (h : List Entry) → AllByRecursion (OfCame (LiesIn h)) (located_events h)
 located-lies h = located_from-lies [] h
 
 -- what lies at its spot is found there
-pub at_spots : (h : List Entry) (ls : List (Spot × Placed)) → Each (LiesIn h) ls → map (span_at h) (spots_in ls) ≡ map (λ p. Some p) (spans_in ls)
+pub at_spots : (h : List Entry) (ls : List (Spot × Placed)) → AllByRecursion (LiesIn h) ls → map (span_at h) (spots_in ls) ≡ map (λ p. Some p) (spans_in ls)
 at_spots h [] lies = refl
 at_spots h (l ∷ ls) lies = λ i. lies.0 i ∷ at_spots h ls lies.1 i
 
@@ -105,7 +106,7 @@ spans_at_located_law h =
     at_spots h (without_limits (located_events h)) (each_without_limits (LiesIn h) (located_events h) (located-lies h))
     ∙ ap (map (λ p. Some p)) (spans_of_events (located_events h) ∙ ap without_limits (events-located h) ∙ came_of h)
 
-pub shown-lies : (h : List Entry) (n : ℕ) (t : TraceId) → Each (LiesIn h) (own_of t (shown_in n (located_events h)))
+pub shown-lies : (h : List Entry) (n : ℕ) (t : TraceId) → AllByRecursion (LiesIn h) (own_of t (shown_in n (located_events h)))
 shown-lies h n t =
     each_filter (LiesIn h) _ (shown_in n (located_events h)) (each_without_limits (LiesIn h) _ (each_lasting (OfCame (LiesIn h)) (stands located_trace n) [] (located_events h) (located-lies h)))
 

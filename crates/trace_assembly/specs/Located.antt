@@ -15,6 +15,7 @@ use Rattle.trace_model.specs.Events.{Event, came, limited, event_map}
 use Rattle.trace_model.specs.Showing.{trace_of, ring, limit_after, shown_by}
 use Rattle.trace_assembly.specs.declared.spot.Spot.{Spot}
 use Rattle.trace_assembly.specs.Rows.{with_spot, without_spots}
+use Rattle.trace_ring.specs.Windows.{opened_by}
 
 -- the spans of the entry at this place from this index on, each with its spot
 abbrev pub located_in : ℕ → ℕ → List Placed → List (Spot × Placed)
@@ -93,16 +94,12 @@ after_arrival l left spots t = with_spot (trace_of l.1) l.0 (after_leaving left 
 abbrev pub AreShown : ℕ → List (Event (Spot × Placed)) → (TraceId → List Spot) → Type 0
 AreShown n es spots = (t : TraceId) → spots t ≡ shown_spots n es t
 
--- the ring with the trace of an arrival in it
-abbrev pub with_trace : List TraceId → TraceId → List TraceId
-with_trace r t = if holds r t then r else r ++ t ∷ []
-
 -- behind these events a span comes into the ring, whose traces were the old ones and are the new ones; for it this trace has left, if one has
 pub record ComesIn (n limit : ℕ) (es : List (Event (Spot × Placed))) (l : Spot × Placed) (left : Option TraceId) (old new : List TraceId) : Type 0 where
   pub limit_is : limit ≡ limit_after n (events_in es)
   pub before : old ≡ ring n (events_in es)
   pub after : new ≡ arrive limit old (trace_of l.1)
-  pub split : with_trace old (trace_of l.1) ≡ option_to_list left ++ new
+  pub split : opened_by old (trace_of l.1) ≡ option_to_list left ++ new
   pub gone : IfSome left (λ gone. holds new gone ≡ false)
 
 -- behind these events a limit is set, which leaves these traces of the old ones

@@ -4,7 +4,7 @@ use Rattle.std.proofs.Common.{◌≡◌, ℕ, suc, ◌+◌, ◌<◌, ◌≤◌, 
 use Rattle.std.specs.Prelude.{Result, Ok, Err, nat_le, position, if◌then◌else◌}
 use Rattle.std.specs.List.{list_any, position_or_len}
 use Rattle.std.specs.Option.{option_map_or}
-use Rattle.std.proofs.lemmas.Bool.{leb-true, leb-false, false≢true}
+use Rattle.std.proofs.lemmas.Bool.{leb-true, leb-false, false≢true, and_parts}
 use Rattle.std.proofs.lemmas.Grind.{common_steps}
 use Rattle.std.proofs.lemmas.List.Sums.{fails_before_first}
 use Rattle.std.proofs.lemmas.List.Quantifiers.{position-Some}
@@ -75,16 +75,12 @@ IsSaid limits h e (Err (JournalFull batches spans)) = (batches ≡ length h) × 
 IsSaid limits h e (Err (Conflict place)) = IsInConflict h e place
 IsSaid limits h e (Err why) = ⊥
 
-both : (a b : Bool) → (a && b) ≡ true → (a ≡ true) × (b ≡ true)
-both true b e = (refl, e)
-both false b e = absurd (false≢true e)
-
 anew_said : (limits : Limits) (h : List Entry) (e : Entry) → is_sent h e ≡ false → IsSaid limits h e (admitted_anew limits h e)
 anew_said limits h e unsent = elim (nat_le e.number (last_number e.seat h)) as (λ b. nat_le e.number (last_number e.seat h) ≡ b → IsSaid limits h e (if b then Err (Stale (last_number e.seat h)) else if has_room limits h e then Ok Added else Err (JournalFull (length h) (span_count h)))) [
   | true ↦ λ t. (refl, leb-true e.number (last_number e.seat h) t, unsent)
   | false ↦ λ f. elim (has_room limits h e) as (λ b. has_room limits h e ≡ b → IsSaid limits h e (if b then Ok Added else Err (JournalFull (length h) (span_count h)))) [
     | true ↦ λ r.
-        let rooms = both (nat_le (length h + 1) limits.batches) (nat_le (span_count h + length (spans_brought e.work)) limits.spans) r in
+        let rooms = and_parts (nat_le (length h + 1) limits.batches) (nat_le (span_count h + length (spans_brought e.work)) limits.spans) r in
         record {
           rises = leb-false e.number (last_number e.seat h) f;
           unsent = unsent;

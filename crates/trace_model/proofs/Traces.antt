@@ -2,10 +2,11 @@
 use Rattle.std.proofs.Common.{◌≡◌, ℕ, suc, zero, ◌+◌, ◌-◌, ◌<◌, ◌≤◌, Bool, true, false, ◌&&◌, ◌||◌, cond, List, [], ◌∷◌, ◌++◌, length, drop, refl, sym, ap, subst, ◌∙◌, arith, eqb-true, length-append, append_assoc}
 use Rattle.std.specs.Prelude.{filter, if◌then◌else◌}
 use Rattle.std.specs.List.{list_any, list_all}
-use Rattle.std.proofs.lemmas.Bool.{false≢true}
+use Rattle.std.proofs.lemmas.Bool.{false≢true, false_from_ne_true}
 use Rattle.std.proofs.lemmas.List.{drop-append-le, append-nil, length-drop}
 use Rattle.std.proofs.lemmas.List.Elements.{filter-append}
 use Rattle.std.proofs.lemmas.List.Folds.{list_any-append}
+use Rattle.std.proofs.Math.Bool.{or-true}
 use Rattle.jaeger_model.specs.declared.ids.TraceId.{TraceId}
 use Rattle.jaeger_model.specs.declared.placed.Placed.{Placed}
 use Rattle.jaeger_model.specs.Parents.{same_trace}
@@ -59,19 +60,15 @@ pub spans_gone : (n : ℕ) (es : List (Event Placed)) (t : TraceId) → holds (r
 spans_gone n es t e =
     ap (of_trace t) (sym (shown_in_ring n es)) ∙ of_trace-in_ring t (ring n es) (shown n es) ∙ ap (λ b. if b then of_trace t (shown n es) else []) e
 
-pub or_true : (a : Bool) → (a || true) ≡ true
-or_true true = refl
-or_true false = refl
-
 -- the newest are kept
 holds-newest : (n : ℕ) (r : List TraceId) (t : TraceId) → holds (newest n (r ++ t ∷ [])) t ≡ true
-holds-newest zero r t = list_any-append (same_trace t) r (t ∷ []) ∙ ap (λ b. list_any (same_trace t) r || (b || false)) (same_self t) ∙ or_true (list_any (same_trace t) r)
+holds-newest zero r t = list_any-append (same_trace t) r (t ∷ []) ∙ ap (λ b. list_any (same_trace t) r || (b || false)) (same_self t) ∙ or-true (list_any (same_trace t) r)
 holds-newest (suc n) r t =
     let few : length (r ++ t ∷ []) - suc n ≤ length r = omega (arith, length-append r (t ∷ [])) in
     ap (list_any (same_trace t)) (drop-append-le (length (r ++ t ∷ []) - suc n) r (t ∷ []) few)
     ∙ list_any-append (same_trace t) (drop (length (r ++ t ∷ []) - suc n) r) (t ∷ [])
     ∙ ap (λ b. list_any (same_trace t) (drop (length (r ++ t ∷ []) - suc n) r) || (b || false)) (same_self t)
-    ∙ or_true (list_any (same_trace t) (drop (length (r ++ t ∷ []) - suc n) r))
+    ∙ or-true (list_any (same_trace t) (drop (length (r ++ t ∷ []) - suc n) r))
 
 -- the trace of the newest arrival is in the ring
 pub arrived : (n : ℕ) (r : List TraceId) (t : TraceId) → holds (arrive n r t) t ≡ true
@@ -148,14 +145,14 @@ pub shown_all : (es : List (Event Placed)) → list_all limits_none es ≡ true 
 shown_all es none = (all_stay es none).2
 
 -- ---- each trace of the ring has a span
-or_cases : {P : Type 0} (a b : Bool) → (a || b) ≡ true → (a ≡ true → P) → (b ≡ true → P) → P
+pub or_cases : {P : Type 0} (a b : Bool) → (a || b) ≡ true → (a ≡ true → P) → (b ≡ true → P) → P
 or_cases true b e f g = f refl
 or_cases false b e f g = g e
 
 drop_any : (q : TraceId → Bool) (k : ℕ) (r : List TraceId) → list_any q (drop k r) ≡ true → list_any q r ≡ true
 drop_any q zero r e = e
 drop_any q (suc k) [] e = e
-drop_any q (suc k) (x ∷ r) e = ap (λ b. q x || b) (drop_any q k r e) ∙ or_true (q x)
+drop_any q (suc k) (x ∷ r) e = ap (λ b. q x || b) (drop_any q k r e) ∙ or-true (q x)
 
 holds-from_newest : (n : ℕ) (r : List TraceId) (t : TraceId) → holds (newest n r) t ≡ true → holds r t ≡ true
 holds-from_newest zero r t e = e
@@ -191,15 +188,11 @@ has_spans n t = by_pushes (λ es. holds (ring n es) t ≡ true → 0 < length (s
 pub spans_limited : (n : ℕ) (es : List (Event Placed)) (m : ℕ) (t : TraceId) → spans_of_trace n (es ++ limited m ∷ []) t ≡ (if holds (newest m (ring n es)) t then spans_of_trace n es t else [])
 spans_limited n es m t = spans_push n es (limited m) t ∙ (λ i. if holds (ring_limited n es m i) t then append-nil (spans_of_trace n es t) i else [])
 
-not_true : (a : Bool) → (a ≡ true → ⊥) → a ≡ false
-not_true true h = absurd (h refl)
-not_true false h = refl
-
 -- a trace that isn't in the ring stays out by an event that doesn't bring it, whatever limit is set
 out_one : (n : ℕ) (es : List (Event Placed)) (t : TraceId) (e : Event Placed) → comes_for t e ≡ false → holds (ring n es) t ≡ false → holds (ring n (es ++ e ∷ [])) t ≡ false
-out_one n es t (came p) other out = not_true _ (λ h.
+out_one n es t (came p) other out = false_from_ne_true _ (λ h.
     old_or_own (limit_after n es) (ring n es) (trace_of p) t (ap (λ r. holds r t) (sym (ring_came n es p)) ∙ h) (λ old. false≢true (sym out ∙ old)) (λ own. false≢true (sym other ∙ own)))
-out_one n es t (limited m) other out = not_true _ (λ h.
+out_one n es t (limited m) other out = false_from_ne_true _ (λ h.
     false≢true (sym out ∙ holds-from_newest m (ring n es) t (ap (λ r. holds r t) (sym (ring_limited n es m)) ∙ h)))
 
 or_both : {P : Type 0} (a b : Bool) → (a || b) ≡ false → (a ≡ false → b ≡ false → P) → P
@@ -224,7 +217,7 @@ pub newest_short : (m : ℕ) (r : List TraceId) → 0 < m → length (newest m r
 newest_short zero r some = absurd (omega arith)
 newest_short (suc m) r some = drop_short m r
 
-arrive_short : (m : ℕ) (r : List TraceId) (t : TraceId) → (0 < m → length r ≤ m) → 0 < m → length (arrive m r t) ≤ m
+pub arrive_short : (m : ℕ) (r : List TraceId) (t : TraceId) → (0 < m → length r ≤ m) → 0 < m → length (arrive m r t) ≤ m
 arrive_short m r t short some = elim (holds r t) as (λ b. length (if b then r else newest m (r ++ t ∷ [])) ≤ m) [ true ↦ short some | false ↦ newest_short m (r ++ t ∷ []) some ]
 
 -- under a limit the ring is no longer than the limit in force

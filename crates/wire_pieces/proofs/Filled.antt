@@ -5,9 +5,10 @@ use Rattle.std.proofs.lemmas.Bool.{le-ltb, lt-ltb}
 use Rattle.std.specs.Int.{Width, cast_signed}
 use Rattle.byteorder.specs.Endian.{big_number}
 use Rattle.thrift_binary.specs.declared.fault.WireError.TheVariants.{Truncated, BadLength}
-use Rattle.thrift_binary.specs.Reading.{bytes_at, number_at, signed_at, size_at}
+use Rattle.thrift_binary.specs.Reading.{number_at, signed_at, size_at}
 use Rattle.thrift_binary.proofs.Found.{big_number-take, size_found}
 use Rattle.wire_pieces.specs.Pieces.{Comes, NeedsMore, Refuses}
+use Rattle.thrift_binary.proofs.Again.{signed_again, size_again}
 
 module _ {X E : Type 0} (read : List ℕ → Result X E) where
   same_bytes : (got g piece left rest : List ℕ) → g ++ left ≡ got ++ piece → got ++ (piece ++ rest) ≡ g ++ (left ++ rest)
@@ -36,29 +37,22 @@ module _ {X E : Type 0} (read : List ℕ → Result X E) where
 few : (n : ℕ) (w : List ℕ) → length w < n → ltb (length w) n ≡ true
 few n w lt = lt-ltb _ _ lt
 
-enough : (n : ℕ) (g rest : List ℕ) → length g ≡ n → ltb (length (g ++ rest)) n ≡ false
-enough n g rest e = le-ltb _ _ (omega (arith, length-append g rest))
-
 same_number : (n : ℕ) (g rest : List ℕ) → length g ≡ n → big_number n (g ++ rest) ≡ big_number n g
 same_number n g rest e =
     big_number-take n (g ++ rest) (omega (arith, length-append g rest)) ∙ ap (big_number n) (take_at g rest n e)
 
 pub signed-whole : (width : Width) (n : ℕ) (g rest : List ℕ) → length g ≡ n → signed_at width n (g ++ rest) ≡ Ok (cast_signed width (big_number n g), rest)
-signed-whole width n g rest e = rw (enough n g rest e, same_number n g rest e, drop_at g rest n e) refl
-
-pub bytes-whole : (n : ℕ) (g rest : List ℕ) → length g ≡ n → bytes_at n (g ++ rest) ≡ Ok (g, rest)
-bytes-whole n g rest e = rw (enough n g rest e, take_at g rest n e, drop_at g rest n e) refl
+signed-whole width n g rest e = signed_again width n g rest _ e refl
 
 number-whole : (n : ℕ) (g rest : List ℕ) → length g ≡ n → number_at n (g ++ rest) ≡ Ok (big_number n g, rest)
-number-whole n g rest e = rw (enough n g rest e, same_number n g rest e, drop_at g rest n e) refl
+number-whole n g rest e = let enough : ltb (length (g ++ rest)) n ≡ false = le-ltb _ _ (omega (arith, length-append g rest)) in rw (enough, same_number n g rest e, drop_at g rest n e) refl
 
 pub size-short : (w : List ℕ) → length w < 4 → size_at w ≡ Err Truncated
 unfolding size_at
 size-short w lt = rw (few 4 w lt) refl
 
 pub size-whole : (g rest : List ℕ) → length g ≡ 4 → big_number 4 g ≤ 2147483647 → size_at (g ++ rest) ≡ Ok (big_number 4 g, rest)
-unfolding size_at
-size-whole g rest e le = let small : ltb (big_number 4 g) (2 ^ 31) ≡ true = lt-ltb _ _ (omega arith) in rw (number-whole 4 g rest e, small) refl
+size-whole g rest e le = size_again g rest (big_number 4 g) (e, refl, omega arith)
 
 pub size-bad : (g rest : List ℕ) → length g ≡ 4 → 2147483647 < big_number 4 g → size_at (g ++ rest) ≡ Err BadLength
 unfolding size_at

@@ -5,9 +5,9 @@ use Rattle.std.proofs.lemmas.Bool.{lt-ltb}
 use Rattle.thrift_binary.specs.declared.fault.WireError.TheVariants.{Truncated}
 use Rattle.thrift_binary.specs.Reading.{◌>>=◌, Read, bytes_at, size_at, string_at}
 use Rattle.thrift_binary.specs.Skipping.{past, text}
+use Rattle.thrift_binary.proofs.Again.{bytes_again}
 use Rattle.wire_pieces.specs.Pieces.{Comes, NeedsMore}
 use Rattle.wire_pieces.specs.Strings.{bytes_end}
-use Rattle.wire_pieces.proofs.Filled.{bytes-whole}
 use Rattle.wire_pieces.proofs.Steps.{comes-trans, comes-inside}
 
 pub nothing : {A : Type 0} (w : List A) → length w ≡ 0 → w ≡ []
@@ -111,4 +111,4 @@ pub string-at-once : (a : List ℕ → Read ℕ) (p v left beginning got : List 
     → Comes (λ w. a w >>= λ x. bytes_end [] x.0 x.1) (λ w. Ok (got, w)) p left
 string-at-once a p v left beginning got n m same g parts size is =
     comes-trans (comes-inside (λ x. bytes_end [] x.0 x.1) g)
-    (record { same = λ rest. bytes_end-fresh n (v ++ rest) ∙ rw (parts, is, append_assoc) (bytes-whole n beginning (left ++ rest) (size ∙ same)) })
+    (record { same = λ rest. bytes_end-fresh n (v ++ rest) ∙ rw (parts, is, append_assoc) (bytes_again n beginning (left ++ rest) (size ∙ same)) })

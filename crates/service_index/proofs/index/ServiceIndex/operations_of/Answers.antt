@@ -1,13 +1,14 @@
 use Rattle.std.proofs.Common.{◌≡◌, ◌∙◌, ℕ, ◌<◌, nat_lt, List, length, map, get_or, ap, sym, arith}
 use Rattle.std.specs.Prelude.{Vec}
 use Rattle.std.specs.Global.{Global}
+use Rattle.std.proofs.lemmas.Bool.{le-ltb}
 use Rattle.std.proofs.lemmas.Result.{IfOk-weaker}
 use Rattle.jaeger_model.specs.Texts.{sorted_set}
 use Rattle.trace_model.specs.declared.answer.Operation.{Operation}
 use Rattle.trace_model.specs.Names.{operation_cmp}
 use Rattle.service_index.specs.Listing.{operations_of}
 use Rattle.service_index.specs.Indexes.{Index, listing_by, owners, IsNewest}
-use Rattle.service_index.proofs.Linking.{service_known, operations_none, operations_are, newest_of, not_lt}
+use Rattle.service_index.proofs.Linking.{service_known, operations_none, operations_are, newest_of}
 use Rattle.service_index.proofs.index.ServiceIndex.operations_of.Goals as goal
 
 pub returns-then-row-services : goal.returns-then-row-services
@@ -16,7 +17,7 @@ returns-then-row-services g c =
     let index = c.args.self.now in
     let rows : c.services.result ≡ length index.services.numbers = c.services.ensures ∙ c.self.invariant.1.newest_rows ∙ ap (λ (i : Index). length i.services.numbers) c.self.view_is in
     let row = c.service_row-row.ensures in
-    let none = sym (service_known names index c.args.service.now c.requires) ∙ ap (λ r. nat_lt r (length index.services.numbers)) (sym row) ∙ not_lt c.service_row-row.result (length index.services.numbers) (omega (arith, c.if-row-services.true)) in
+    let none = sym (service_known names index c.args.service.now c.requires) ∙ ap (λ r. nat_lt r (length index.services.numbers)) (sym row) ∙ le-ltb c.service_row-row.result (length index.services.numbers) (omega (arith, c.if-row-services.true)) in
     ap (sorted_set operation_cmp) c.new.ensures.items ∙ operations_none c.args.service.now (listing_by names index) none
 
 pub returns : goal.returns

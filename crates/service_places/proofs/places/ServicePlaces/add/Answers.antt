@@ -1,18 +1,16 @@
-use Rattle.std.proofs.Common.{◌≡◌, ◌∙◌, ◌+◌, ◌-◌, ◌<◌, List, ℕ, [], ◌∷◌, ◌++◌, map, inl, inr, length, get_or, ap, sym, subst, arith}
+use Rattle.std.proofs.Common.{◌≡◌, ◌∙◌, ◌+◌, ◌-◌, ◌<◌, List, ℕ, map, length, get_or, ap, sym, subst, arith}
 use Rattle.std.specs.Arc.{arc_value}
 use Rattle.std.specs.Global.{Global}
-use Rattle.std.proofs.lemmas.Bool.{cases_lt}
-use Rattle.std.proofs.lemmas.List.{length-map, get_or_past}
+use Rattle.std.proofs.lemmas.List.{length-map}
 use Rattle.trace_model.specs.declared.entry.Entry.{Entry}
 use Rattle.service_index.specs.Probes.{Table}
 use Rattle.service_index.specs.LinkedRows.{newest_with}
-use Rattle.service_index.proofs.Linking.{newest_known, newest_fresh}
 use Rattle.service_index.proofs.Extending.{named_extends}
 use Rattle.trace_model.specs.Histories.{before_last}
 use Rattle.service_places.specs.Reported.{Reported, IsKept, service_labels}
 use Rattle.trace_model.proofs.LastEntries.{last_of}
 use Rattle.service_places.proofs.Grouping.{as_many_reporters}
-use Rattle.service_places.proofs.Following.{HasOneMore, last_number, extends_one, row_added, kept_own, kept_new, newest_rows}
+use Rattle.service_places.proofs.Following.{HasOneMore, last_number, extends_one, row_added, kept_more}
 use Rattle.service_places.proofs.places.ServicePlaces.add.Goals as goal
 
 abbrev seen : Table → List ℕ → List ℕ → List ℕ → ℕ → Reported
@@ -43,7 +41,6 @@ returns-clause-kept c =
     let n = length c.args.entries.now - 1 in
     let at = last_number (before_last h) h last.0 (length c.args.entries.now) last.1 l in
     let s = c.add-service.result in
-    let rows = newest_rows (before_last h) old kept in
     let all = kept.linked.chain.as_many in
     let reported = as_many_reporters (before_last h) in
     let row : length old.earlier + 1 ≡ n + 1 = omega arith in
@@ -59,11 +56,4 @@ returns-clause-kept c =
       number = ap (λ (x : List ℕ). get_or x s 0) c.numbers.ensures;
       noted = c.push_reserved.ensures.items;
     } in
-    elim (cases_lt s (length old.newest)) [
-      | inl within ↦
-          kept_own (before_last h) h last.0 old c.add-service.new.self c.add_row.new.self.newest c.add_row.new.self.earlier c.push_reserved.new.self.items s n (get_or c.numbers.result.now s 0) more (omega arith)
-          (newest ∙ newest_known old.newest s (n + 1) within) c.add_row.ensures.earlier
-      | inr beyond ↦
-          kept_new (before_last h) h last.0 old c.add-service.new.self c.add_row.new.self.newest c.add_row.new.self.earlier c.push_reserved.new.self.items s n (get_or c.numbers.result.now s 0) more (omega arith)
-          (newest ∙ newest_fresh old.newest s (n + 1) beyond) (c.add_row.ensures.earlier ∙ ap (λ x. old.earlier ++ x ∷ []) (get_or_past old.newest s 0 beyond))
-    ]
+    kept_more (before_last h) h last.0 old c.add-service.new.self c.add_row.new.self.newest c.add_row.new.self.earlier c.push_reserved.new.self.items s n (get_or c.numbers.result.now s 0) more newest c.add_row.ensures.earlier
