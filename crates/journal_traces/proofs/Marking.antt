@@ -1,5 +1,5 @@
 -- The marks of the traces that a search by a service looks at.
-use Rattle.std.proofs.Common.{◌≡◌, ℕ, zero, suc, ◌+◌, ◌-◌, ◌<◌, drop, lt-ltb, ◌≤◌, Bool, true, false, ◌||◌, ◌&&◌, cond, List, [], ◌∷◌, ◌++◌, map, length, take, get_or, refl, sym, ap, subst, ◌∙◌, arith, Some, None}
+use Rattle.std.proofs.Common.{◌≡◌, ℕ, zero, suc, ◌+◌, ◌-◌, ◌<◌, lt-ltb, ◌≤◌, Bool, true, false, ◌||◌, ◌&&◌, cond, List, [], ◌∷◌, ◌++◌, map, length, take, get_or, refl, sym, ap, ◌∙◌, arith, Some, None}
 use Rattle.std.specs.Prelude.{filter, slice_get, if◌then◌else◌, not, Option}
 use Rattle.std.specs.List.{list_any, position, position_or_len}
 use Rattle.std.proofs.Math.ListN.{set}
@@ -11,52 +11,19 @@ use Rattle.std.proofs.lemmas.List.Quantifiers.{position-Some}
 use Rattle.std.proofs.lemmas.Option.{slice_get-get_or}
 use Rattle.std.proofs.Math.Bool.{or_assoc, or-true}
 use Rattle.jaeger_model.specs.declared.ids.TraceId.{TraceId}
-use Rattle.jaeger_model.specs.declared.placed.Placed.{Placed}
 use Rattle.jaeger_model.specs.declared.span.Span.{Span}
 use Rattle.jaeger_model.specs.declared.batch.Process.{Process}
 use Rattle.trace_model.specs.declared.query.Find.{Find}
 use Rattle.jaeger_model.specs.Parents.{same_trace}
 use Rattle.trace_model.specs.declared.entry.Entry.{Entry}
-use Rattle.trace_model.specs.Rings.{holds, newest, arrive}
-use Rattle.trace_model.specs.Events.{Event, came, limited}
-use Rattle.trace_model.specs.Showing.{ring, limit_after, trace_of}
-use Rattle.trace_model.proofs.Shows.{by_pushes, ring_came, ring_limited}
+use Rattle.trace_model.specs.Rings.{holds}
+use Rattle.trace_model.specs.Showing.{ring}
 use Rattle.trace_model.proofs.Traces.{same_is, same_self}
 use Rattle.trace_ring.specs.Windows.{NoneTwice}
 use Rattle.trace_assembly.specs.declared.spot.Spot.{Spot}
 use Rattle.trace_assembly.specs.Rows.{is_of}
 use Rattle.trace_assembly.proofs.Written.{same_swap}
 use Rattle.journal_traces.specs.Picked.{reaches, meets, met, met_at, met_along, same_before}
-
--- ---- no trace stands in the ring twice
-twice_push : (ids : List TraceId) (t : TraceId) → NoneTwice ids → holds ids t ≡ false → NoneTwice (ids ++ t ∷ [])
-twice_push [] t once absent = (refl, tt)
-twice_push (x ∷ xs) t once absent =
-    let apart = or_parts (same_trace t x) (holds xs t) absent in
-    let other : same_trace x t ≡ false = same_swap x t ∙ apart.0 in
-    (list_any-append (same_trace x) xs (t ∷ []) ∙ (λ i. once.0 i || (other i || false)), twice_push xs t once.1 apart.1)
-
-twice_drop : (k : ℕ) (ids : List TraceId) → NoneTwice ids → NoneTwice (drop k ids)
-twice_drop zero ids once = once
-twice_drop (suc k) [] once = once
-twice_drop (suc k) (x ∷ xs) once = twice_drop k xs once.1
-
-twice_newest : (n : ℕ) (ids : List TraceId) → NoneTwice ids → NoneTwice (newest n ids)
-twice_newest zero ids once = once
-twice_newest (suc n) ids once = twice_drop (length ids - suc n) ids once
-
-twice_arrive : (n : ℕ) (ids : List TraceId) (t : TraceId) → NoneTwice ids → NoneTwice (arrive n ids t)
-twice_arrive n ids t once = elim (holds ids t) as (λ b. holds ids t ≡ b → NoneTwice (if b then ids else newest n (ids ++ t ∷ []))) [
-  | true ↦ λ _. once
-  | false ↦ λ absent. twice_newest n (ids ++ t ∷ []) (twice_push ids t once absent)
-] refl
-
-pub ring_once : (n : ℕ) (es : List (Event Placed)) → NoneTwice (ring n es)
-ring_once n = by_pushes (λ es. NoneTwice (ring n es)) tt go
-  where
-    go : (es : List (Event Placed)) (e : Event Placed) → NoneTwice (ring n es) → NoneTwice (ring n (es ++ e ∷ []))
-    go es (came p) once = subst NoneTwice (sym (ring_came n es p)) (twice_arrive (limit_after n es) (ring n es) (trace_of p) once)
-    go es (limited m) once = subst NoneTwice (sym (ring_limited n es m)) (twice_newest m (ring n es) once)
 
 -- ---- where a trace stands in the ring
 held : (r : List TraceId) (k : ℕ) (t : TraceId) → slice_get r k ≡ Some t → holds r t ≡ true

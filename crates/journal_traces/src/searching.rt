@@ -149,7 +149,6 @@ fn marks_along(
     places: Places<'_>,
     wanted: &Wanted<'_>,
 ) -> Result<Vec<bool>, AllocError>
-    requires { NoneTwice assembly.now.newest.ids }
     ensures { IfOk result (λ v. v.items ≡
         map (reaches (met_along wanted.now journal.now.held.entries places.entry))
         assembly.now.newest.ids) }
@@ -201,7 +200,6 @@ pub fn spots_along<'a>(
     places: Places<'_>,
     wanted: &Wanted<'_>,
 ) -> Result<Vec<Spots<'a>>, AllocError>
-    requires { NoneTwice assembly.now.newest.ids }
     ensures { IfOk result (λ v. v.items ≡ map (spots_of assembly.now)
         (filter (reaches (met_along wanted.now journal.now.held.entries places.entry))
         assembly.now.newest.ids)) }

@@ -1,7 +1,6 @@
-use Rattle.std.proofs.Common.{◌≡◌, ◌∙◌, ℕ, List, [], ◌∷◌, ◌++◌, ap, sym, subst, length, false, arith, map, append_assoc}
+use Rattle.std.proofs.Common.{◌≡◌, ◌∙◌, ℕ, List, [], ◌∷◌, ◌++◌, ap, sym, length, false, arith, map, append_assoc}
 use Rattle.std.proofs.lemmas.Simd.{splat_is_map}
 use Rattle.std.proofs.lemmas.List.{length-map, take-append-le, take_all, append-nil}
-use Rattle.trace_ring.specs.Windows.{Window, NoneTwice}
 use Rattle.journal_traces.specs.Picked.{reaches, met_along}
 use Rattle.journal_traces.proofs.Marking.{marked_place}
 use Rattle.journal_traces.proofs.searching.marks_along.Goals as goal
@@ -14,7 +13,7 @@ loop-place-init c = (
 )
 
 pub mark_entry-requires-clause-once : goal.mark_entry-requires-clause-once
-mark_entry-requires-clause-once c = subst (λ (w : Window). NoneTwice w.ids) (sym c.ring-ring.ensures) c.requires
+mark_entry-requires-clause-once c = c.len.ensures.once
 
 pub mark_entry-requires-clause-size : goal.mark_entry-requires-clause-size
 mark_entry-requires-clause-size c =

@@ -1,4 +1,4 @@
-use Rattle.std.proofs.Common.{◌≡◌, ◌∙◌, ap, sym, subst, map, filter, List, ℕ, refl}
+use Rattle.std.proofs.Common.{◌≡◌, ◌∙◌, ap, subst, map, filter, List, ℕ, refl}
 use Rattle.jaeger_model.specs.declared.ids.TraceId.{TraceId}
 use Rattle.jaeger_model.specs.declared.placed.Placed.{Placed}
 use Rattle.trace_model.specs.declared.query.Find.{Find}
@@ -6,19 +6,12 @@ use Rattle.trace_model.specs.Held.{Held}
 use Rattle.trace_model.specs.Histories.{events}
 use Rattle.trace_model.specs.Searching.{traces, found_in}
 use Rattle.trace_model.specs.Showing.{spans_of_trace}
-use Rattle.trace_ring.specs.Windows.{NoneTwice}
 use Rattle.service_places.specs.Reported.{places_of}
 use Rattle.journal_traces.specs.Picked.{reaches, met_along}
 use Rattle.journal_traces.specs.Standing.{traces_named}
-use Rattle.span_store.proofs.Keeping.{found_kept, kept_ring}
-use Rattle.journal_traces.proofs.Marking.{ring_once}
+use Rattle.span_store.proofs.Keeping.{found_kept}
 use Rattle.span_store.proofs.Picking.{found_among}
 use Rattle.span_store.proofs.store.SpanStore.candidates_met.Goals as goal
-
-pub spots_along-requires : goal.spots_along-requires
-spots_along-requires c =
-    let was = c.self.inside in
-    subst NoneTwice (sym (kept_ring was.journal.held was.shown was.names was.reported c.self.invariant)) (ring_once was.journal.held.limits.traces (events was.journal.held.entries))
 
 pub returns : goal.returns
 returns c =
