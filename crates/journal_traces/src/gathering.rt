@@ -8,7 +8,7 @@ ghost use Rattle.journal_traces.specs.Standing.{spans_named, AreAt};
 use arrival_journal::Journal;
 use std::alloc::{AllocError, Global};
 use trace_assembly::{Spot, Spots};
-use trace_model::KeptSpan;
+use trace_model::{KeptSpan, KeptTrace, Limits};
 
 /// The span that a spot names.
 fn kept_at(journal: &Journal, spot: Spot) -> Result<Option<KeptSpan>, AllocError>
@@ -25,13 +25,6 @@ fn kept_at(journal: &Journal, spot: Spot) -> Result<Option<KeptSpan>, AllocError
     }
 }
 
-/// Spans where their entries keep them, and the place in the journal of the entry that brought each of them.
-#[derive(Drop)]
-pub struct GatheredSpans {
-    pub spans: Vec<KeptSpan>,
-    pub places: Vec<u64>,
-}
-
 /// How many spots there are, for the room that is taken.
 fn spot_count(spots: Spots<'_>) -> usize {
     let mut count = 0usize;
@@ -41,8 +34,8 @@ fn spot_count(spots: Spots<'_>) -> usize {
     count
 }
 
-/// The spans that the spots name, in their order. The spots are gone through twice, so that no more memory is taken
-/// than they need.
+/// The trace of the spans that the spots name, in their order, and how it is to be shown: within the store's limits,
+/// and `raw` as they came. The spots are gone through twice, so that no more memory is taken than they need.
 ///
 /// # Errors
 ///
@@ -51,11 +44,14 @@ pub fn gather(
     alloc: Global,
     journal: &Journal,
     spots: Spots<'_>,
-) -> Result<GatheredSpans, AllocError>
+    limits: Limits,
+    raw: bool,
+) -> Result<KeptTrace, AllocError>
     ensures spans { IfOk result (λ g. spans_there g.spans.items ≡
         spans_named journal.now.held.entries spots.entry) }
     ensures places { IfOk result (λ g.
         AreAt journal.now.held.entries (spans_there g.spans.items) g.places.items) }
+    ensures form { IfOk result (λ g. (g.limits ≡ limits) × (g.raw ≡ raw)) }
 {
     let count = spot_count(spots.again());
     let mut spans = Vec::with_capacity(alloc, count)?;
@@ -66,5 +62,10 @@ pub fn gather(
             places.push(spot.place)?;
         }
     }
-    Ok(GatheredSpans { spans, places })
+    Ok(KeptTrace {
+        spans,
+        places,
+        limits,
+        raw,
+    })
 }

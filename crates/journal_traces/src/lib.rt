@@ -21,7 +21,7 @@ mod seeing;
 mod standing;
 
 pub use candidates::Candidates;
-pub use gathering::{GatheredSpans, gather};
+pub use gathering::gather;
 pub use reporting::spots_reported;
 pub use searching::spots_along;
 pub use seeing::{ring_ids, see_within};

@@ -11,7 +11,7 @@ use call_links::NumberedSpan;
 use jaeger_model::{Seq, TraceId};
 use journal_traces::{Candidates, gather};
 use std::alloc::{AllocError, Global};
-use trace_model::{AnsweredTrace, KeptTrace, Limits, Link, ShownTrace};
+use trace_model::{AnsweredTrace, Limits, Link, ShownTrace};
 
 /// The trace at a place as it is to be shown, without spans where there is none.
 fn kept_at(
@@ -27,14 +27,8 @@ fn kept_at(
         let none = ShownTrace::of_unknown(alloc, Seq::new(alloc));
         return Ok(AnsweredTrace::made(none));
     };
-    let gathered = gather(alloc, traces.journal, spots.again())?;
-    let kept = KeptTrace {
-        spans: gathered.spans,
-        places: gathered.places,
-        limits,
-        raw: false,
-    };
-    Ok(AnsweredTrace::kept(kept))
+    let trace = gather(alloc, traces.journal, spots.again(), limits, false)?;
+    Ok(AnsweredTrace::kept(trace))
 }
 
 /// The traces at the places as they are to be shown.

@@ -34,9 +34,7 @@ use std::hash::RandomState;
 use std::marker::Model;
 use std::sync::Arc;
 use trace_assembly::{Assembly, Spots};
-use trace_model::{
-    Admission, Answer, AnsweredTrace, Entry, Find, KeptTrace, Limits, Query, Refusal, Work,
-};
+use trace_model::{Admission, Answer, AnsweredTrace, Entry, Find, Limits, Query, Refusal, Work};
 
 /// The accepted entries of one store, and quick answers from them.
 ///
@@ -422,13 +420,7 @@ impl SpanStore {
         if spots.is_empty() {
             return Ok(Answer::Trace(None));
         }
-        let gathered = gather(self.alloc, &self.journal, spots)?;
-        let kept = KeptTrace {
-            spans: gathered.spans,
-            places: gathered.places,
-            limits: self.limits(),
-            raw,
-        };
-        Ok(Answer::Trace(Some(AnsweredTrace::kept(kept))))
+        let trace = gather(self.alloc, &self.journal, spots, self.limits(), raw)?;
+        Ok(Answer::Trace(Some(AnsweredTrace::kept(trace))))
     }
 }
