@@ -4,9 +4,9 @@ ghost use Rattle.std.specs.Prelude.{◌≡◌, List, [], ◌∷◌, map, IfOk, o
 ghost use Rattle.std.specs.Arc.{arc_value};
 ghost use Rattle.trace_model.specs.Adjusting.{adjusted, shown_as};
 ghost use Rattle.trace_model.specs.Answers.{answer};
-ghost use Rattle.trace_model.specs.Histories.{arrivals, events};
+ghost use Rattle.trace_model.specs.Histories.{events};
 ghost use Rattle.trace_model.specs.Events.{came, without_limits};
-ghost use Rattle.trace_model.specs.Works.{placed_brought, events_brought};
+ghost use Rattle.trace_model.specs.Works.{events_brought};
 ghost use Rattle.plain_store.specs.Happened.{event_of};
 ghost use Rattle.trace_model.specs.Searching.{traces};
 ghost use Rattle.trace_model.specs.Showing.{trace_found};
@@ -21,36 +21,6 @@ use span_steps::all_unadjusted;
 use std::alloc::{AllocError, Global};
 use std::sync::Arc;
 use trace_model::{Answer, AnsweredTrace, Entry, Limits, Query, Shown, ShownTrace, Work};
-
-/// The spans that an entry brings.
-fn spans_of(alloc: Global, work: &Work) -> Result<Vec<Placed>, AllocError>
-    ensures { IfOk result (λ v. v.items ≡ placed_brought work.now) }
-{
-    match work {
-        Work::Batch(batch) => domain(alloc, batch),
-        Work::TraceLimit(_) => Ok(Vec::new(alloc)),
-    }
-}
-
-/// The spans of all entries, in order.
-fn all_arrivals(alloc: Global, entries: &[Arc<Entry>]) -> Result<Vec<Placed>, AllocError>
-    ensures { IfOk result (λ v. v.items ≡ arrivals (map arc_value entries.now)) }
-{
-    let mut all = Vec::new(alloc);
-    for entry in entries {
-        let mut spans = spans_of(alloc, &entry.work)?;
-        all.append(&mut spans)?;
-    }
-    Ok(all)
-}
-
-/// The spans of all that happened, in order.
-#[tactic(auto, using(trace_model::proofs::Arriving::came_of))]
-fn all_came(alloc: Global, entries: &[Arc<Entry>]) -> Result<Vec<Placed>, AllocError>
-    ensures { IfOk result (λ v. v.items ≡ without_limits (events (map arc_value entries.now))) }
-{
-    all_arrivals(alloc, entries)
-}
 
 /// What happens as the spans come.
 #[tactic(auto, using(std::proofs::lemmas::List::map_push))]
@@ -92,6 +62,20 @@ fn all_happened(alloc: Global, entries: &[Arc<Entry>]) -> Result<Vec<Happening>,
         all.append(&mut happened)?;
     }
     Ok(all)
+}
+
+/// The spans of all that happened, in order.
+fn all_came(alloc: Global, entries: &[Arc<Entry>]) -> Result<Vec<Placed>, AllocError>
+    ensures { IfOk result (λ v. v.items ≡ without_limits (events (map arc_value entries.now))) }
+{
+    let mut spans = Vec::new(alloc);
+    for happening in all_happened(alloc, entries)? {
+        match happening {
+            Happening::Came(placed) => spans.push(placed)?,
+            Happening::Limited(_) => {}
+        }
+    }
+    Ok(spans)
 }
 
 /// The traces that are shown, the one opened longest ago first.
