@@ -2,7 +2,7 @@
 use Rattle.std.proofs.Common.{◌≡◌, ℤ, ◌≤ℤ◌, Bool, true, false, ◌&&◌, cond, List, [], ◌∷◌, refl, sym, ap, ◌∙◌, arith}
 use Rattle.std.specs.Prelude.{Option, Some, None, int_le, not, option_map}
 use Rattle.std.specs.List.{list_all, AllByRecursion}
-use Rattle.std.proofs.lemmas.Bool.{false≢true, and_parts}
+use Rattle.std.proofs.lemmas.Bool.{false≢true, and_parts, true_from_ne_false}
 use Rattle.std.proofs.lemmas.Int.{fold-int_min_bounds, fold-int_max_bounds, ints}
 use Rattle.std.proofs.lemmas.List.Elements.{recursion_from_All}
 use Rattle.jaeger_model.specs.declared.placed.Placed.{Placed}
@@ -49,19 +49,11 @@ all_within ss =
 
 raised : (low : Option ℤ) (x y : ℤ) → x ≤ℤ y → at_least low x ≡ true → at_least low y ≡ true
 raised None x y le e = refl
-raised (Some l) x y le e = by (int_le l y) refl
-  where
-    by : (b : Bool) → int_le l y ≡ b → b ≡ true
-    by true f = refl
-    by false f = absurd (omega (arith, ints))
+raised (Some l) x y le e = true_from_ne_false (int_le l y) (λ f. absurd (omega (arith, ints)))
 
 lowered : (high : Option ℤ) (x y : ℤ) → y ≤ℤ x → at_most high x ≡ true → at_most high y ≡ true
 lowered None x y le e = refl
-lowered (Some h) x y le e = by (int_le y h) refl
-  where
-    by : (b : Bool) → int_le y h ≡ b → b ≡ true
-    by true f = refl
-    by false f = absurd (omega (arith, ints))
+lowered (Some h) x y le e = true_from_ne_false (int_le y h) (λ f. absurd (omega (arith, ints)))
 
 -- what is known of a span of this process by an outline
 record Outlined (ol : Outline) (o : Process) (s : Span) : Type 0 where

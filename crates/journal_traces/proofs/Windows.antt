@@ -2,7 +2,7 @@
 use Rattle.std.proofs.Common.{◌≡◌, ℕ, ℤ, zero, suc, ◌≤ℤ◌, Bool, true, false, ◌&&◌, ◌||◌, List, [], ◌∷◌, map, refl, sym, ap, ◌∙◌, arith}
 use Rattle.std.specs.Prelude.{Option, Some, None, pos, ◌-ℤ◌, ◌*ℤ◌, int_lt, option_map, option_and_then, slice_get}
 use Rattle.std.specs.List.{list_any, cons_option, AllByRecursion}
-use Rattle.std.proofs.lemmas.Bool.{false≢true, and_parts}
+use Rattle.std.proofs.lemmas.Bool.{false≢true, and_parts, true_from_ne_false}
 use Rattle.std.proofs.lemmas.Int.{ints}
 use Rattle.jaeger_model.specs.declared.batch.Batch.{Batch}
 use Rattle.jaeger_model.specs.declared.span.Span.{Span}
@@ -24,18 +24,10 @@ use Rattle.journal_traces.proofs.Adopting.{window-adopted}
 use Rattle.journal_traces.proofs.Bounds.{Within, all_within}
 
 later : (b x y : ℤ) → x ≤ℤ y → int_lt b x ≡ true → int_lt b y ≡ true
-later b x y le e = by (int_lt b y) refl
-  where
-    by : (t : Bool) → int_lt b y ≡ t → t ≡ true
-    by true f = refl
-    by false f = absurd (omega (arith, ints))
+later b x y le e = true_from_ne_false (int_lt b y) (λ f. absurd (omega (arith, ints)))
 
 sooner : (b x y : ℤ) → y ≤ℤ x → int_lt x b ≡ true → int_lt y b ≡ true
-sooner b x y le e = by (int_lt y b) refl
-  where
-    by : (t : Bool) → int_lt y b ≡ t → t ≡ true
-    by true f = refl
-    by false f = absurd (omega (arith, ints))
+sooner b x y le e = true_from_ne_false (int_lt y b) (λ f. absurd (omega (arith, ints)))
 
 reaching : (e l : ℤ) (t : Times) (s : Span) → Within t s → is_between e l s.start ≡ true → may_reach e l t ≡ true
 reaching e l t s w in_it =
