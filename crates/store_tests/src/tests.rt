@@ -6,6 +6,7 @@ mod journals;
 mod large;
 mod limits;
 mod names;
+mod queries;
 mod replays;
 mod rings;
 mod sameness;

@@ -4,7 +4,7 @@
 //! Each constructor says exactly what it makes. A test names what it wants and changes a field where
 //! it wants another value, as `span.start = 900`. Nothing but tests stands on this crate.
 //!
-//! * `parts`: tags, processes, spans, batches of them, and searches.
+//! * `parts`: tags, processes, spans, batches and entries of them, and searches.
 //! * `seeing`: spans that are only looked at.
 //! * `exchanges`: requests that hand a batch in and look for it, and what is answered to them, as bytes.
 //! * `spellings`: batches as hexadecimal digits, as Apache Thrift spells them among them.
@@ -15,5 +15,7 @@ mod parts;
 mod seeing;
 pub mod spellings;
 
-pub use parts::{batch, host_process, list_of, placed, process, service_find, span, text_tag};
+pub use parts::{
+    batch, handed_in, host_process, kept, list_of, placed, process, service_find, span, text_tag,
+};
 pub use seeing::{seen_trace, seen_traces};

@@ -1,11 +1,14 @@
 ghost use Rattle.std.specs.Prelude.{◌≡◌, ◌∷◌, [], IfOk, None};
+ghost use Rattle.std.specs.Arc.{arc_value};
+ghost use Rattle.std.specs.Result.{result_map_both};
 ghost use Rattle.trace_samples.specs.Samples.{text_tag, plain_process, host_process, root_span, service_find};
 
 use jaeger_model::{
     Batch, Placed, Process, Seq, SharedProcess, Span, SpanId, Tag, TagValue, Text, TraceId, Value,
 };
 use std::alloc::{AllocError, Global};
-use trace_model::Find;
+use std::sync::Arc;
+use trace_model::{Entry, Find, Work};
 
 /// A list of one item.
 ///
@@ -115,6 +118,33 @@ pub fn batch(alloc: Global, service: &str, spans: Vec<Span>) -> Result<Batch, Al
         spans: Seq::from_vec(spans),
         seq_no: None,
     })
+}
+
+/// What a seat handed in under a number.
+///
+/// # Errors
+///
+/// Out of memory, and nothing else.
+pub fn handed_in(
+    alloc: Global,
+    seat: u16,
+    number: u64,
+    work: Work,
+) -> Result<Arc<Entry>, AllocError>
+    ensures { IfOk result (λ entry.
+        arc_value entry ≡ record { seat = seat; number = number; work = work }) }
+{
+    Ok(Arc::new(alloc, Entry { seat, number, work })?)
+}
+
+/// The value, where what was done with it succeeded.
+pub fn kept<T: Drop, E>(value: T, done: Result<(), E>) -> Result<T, E>
+    ensures { result ≡ result_map_both (λ _. value) (λ why. why) done }
+{
+    match done {
+        Ok(()) => Ok(value),
+        Err(why) => Err(why),
+    }
 }
 
 /// A search by a service, without any other condition and without a limit.

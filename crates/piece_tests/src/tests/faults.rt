@@ -116,23 +116,15 @@ const CLAIMS: [&[u8]; 9] = [
     b"\x0d\x00\x09\x0f\x0c\x7f\xff\xff\xff\x08\x7f\xff\xff\xff",
 ];
 
-/// How many of them are fed and too few, before one that isn't.
-fn short_claims(alloc: Global) -> usize {
-    let mut count = 0usize;
-    for bytes in &CLAIMS {
-        if !is_short(alloc, *bytes) {
-            break;
-        }
-        count = count.saturating_add(1);
-    }
-    count
-}
-
 /// However little memory there is: the check of allocations sees that all of it takes four, one for each list, set
 /// or map that is skipped, and refuses each.
 #[test]
 fn sizes_beyond_the_bytes(rt: HostRuntime) {
-    assert_eq!(rt; short_claims(rt.alloc()), CLAIMS.len());
+    let alloc = rt.alloc();
+    assert_eq!(rt;
+        CLAIMS.iter().position(|bytes| !is_short(alloc, *bytes)),
+        None
+    );
 }
 
 /// The bytes before the last four.
@@ -143,21 +135,15 @@ fn before_the_size(bytes: &[u8]) -> &[u8] {
     }
 }
 
-/// How many of them are too few before their size too, before one that isn't.
-fn short_before_a_size(alloc: Global) -> usize {
-    let mut count = 0usize;
-    for bytes in &CLAIMS {
-        if !is_short(alloc, before_the_size(*bytes)) {
-            break;
-        }
-        count = count.saturating_add(1);
-    }
-    count
-}
-
 #[test]
 fn bytes_before_a_size(rt: HostRuntime) {
-    assert_eq!(rt; short_before_a_size(rt.alloc()), CLAIMS.len());
+    let alloc = rt.alloc();
+    assert_eq!(rt;
+        CLAIMS
+            .iter()
+            .position(|bytes| !is_short(alloc, before_the_size(*bytes))),
+        None
+    );
 }
 
 /// The bytes with a size below 0 in the place of theirs are too few before its last byte, and refused with it.
@@ -172,22 +158,20 @@ fn is_refused_below_0(alloc: Global, claim: &[u8]) -> Result<bool, AllocError> {
     Ok(short && fed && fault_of(alloc, &bytes) == Some(fault))
 }
 
-/// How many of them are, before one that isn't.
-fn refused_below_0(alloc: Global) -> Result<usize, AllocError> {
-    let mut count = 0usize;
-    for claim in &CLAIMS {
+/// The first of them that isn't; None where each is.
+fn first_not_refused(alloc: Global) -> Result<Option<usize>, AllocError> {
+    for (number, claim) in CLAIMS.iter().enumerate() {
         if !is_refused_below_0(alloc, *claim)? {
-            break;
+            return Ok(Some(number));
         }
-        count = count.saturating_add(1);
     }
-    Ok(count)
+    Ok(None)
 }
 
 /// A size that is refused is so by the piece that has its last byte, and by decoding.
 #[test]
 fn sizes_below_0(rt: HostRuntime) -> Result<(), Fail> {
-    assert_eq!(rt; refused_below_0(rt.alloc())?, CLAIMS.len());
+    assert_eq!(rt; first_not_refused(rt.alloc())?, None);
     Ok(())
 }
 

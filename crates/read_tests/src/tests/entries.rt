@@ -3,7 +3,7 @@ use std::alloc::Global;
 use std::sync::Arc;
 use std::test::*;
 use trace_model::{Entry, Work};
-use trace_samples::{batch, list_of, span};
+use trace_samples::{batch, handed_in, kept, list_of, span};
 
 /// A batch of service `a` with one span of this trace.
 pub fn batch_of(alloc: Global, trace: u64) -> Result<Batch, Fail> {
@@ -20,12 +20,7 @@ pub fn numbered_batch(alloc: Global, sent: u64, trace: u64) -> Result<Batch, Fai
 
 /// What seat 0 handed in under the number.
 fn entry(alloc: Global, number: u64, work: Work) -> Result<Arc<Entry>, Fail> {
-    let entry = Entry {
-        seat: 0,
-        number,
-        work,
-    };
-    Ok(Arc::new(alloc, entry)?)
+    Ok(handed_in(alloc, 0, number, work)?)
 }
 
 /// The entry of seat 0 with this number, which holds a span of the trace of that number.
@@ -67,14 +62,6 @@ pub fn batch_under(alloc: Global, number: u64) -> Result<Batch, Fail> {
         6 => numbered_batch(alloc, number.saturating_sub(3), number),
         0 | 1 => batch_of(alloc, number),
         _ => numbered_batch(alloc, number, number),
-    }
-}
-
-/// The value, where what was done with it succeeded.
-pub fn kept<T: Drop>(value: T, done: Result<(), Fail>) -> Result<T, Fail> {
-    match done {
-        Ok(()) => Ok(value),
-        Err(why) => Err(why),
     }
 }
 

@@ -1,4 +1,4 @@
-use crate::tests::entries::{batch_under, kept, limit_under, works_to};
+use crate::tests::entries::{batch_under, limit_under, works_to};
 use crate::tests::fixture::{Row, plays};
 use jaeger_model::TraceId;
 use read_side::{Keeper, Pass, Reading, StoreName};
@@ -9,6 +9,7 @@ use std::mem::drop;
 use std::sync::{Arc, Wait};
 use std::test::*;
 use trace_model::{Answer, Entry, Limits, Query, Refusal};
+use trace_samples::kept;
 
 /// What is seen of a store, one line of text after another.
 type Lines = Vec<String>;

@@ -1,4 +1,4 @@
-use crate::tests::entries::{entry, kept};
+use crate::tests::entries::entry;
 use crate::tests::replays::replayed;
 use crate::tests::sameness::same_answer;
 use id_table::IdTable;
@@ -10,7 +10,7 @@ use std::mem::drop;
 use std::sync::Arc;
 use std::test::*;
 use trace_model::{Entry, Limits, Query};
-use trace_samples::{list_of, span};
+use trace_samples::{kept, list_of, span};
 
 /// What there is room for.
 const ROOM: u32 = 40;

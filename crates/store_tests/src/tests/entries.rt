@@ -4,15 +4,7 @@ use jaeger_model::{Span, TraceId};
 use std::alloc::{AllocError, Global};
 use std::sync::Arc;
 use trace_model::{Entry, Work};
-use trace_samples::batch;
-
-/// The value, where what was done with it succeeded.
-pub(crate) fn kept<T: Drop>(value: T, done: Result<(), AllocError>) -> Result<T, AllocError> {
-    match done {
-        Ok(()) => Ok(value),
-        Err(why) => Err(why),
-    }
-}
+use trace_samples::{batch, handed_in};
 
 /// The trace with this low half of an id, and 0 above it.
 pub(crate) fn id(low: u64) -> TraceId {
@@ -29,12 +21,7 @@ pub(crate) fn sent_entry(
 ) -> Result<Arc<Entry>, AllocError> {
     let mut batch = batch(alloc, service, spans)?;
     batch.seq_no = seq_no;
-    let entry = Entry {
-        seat,
-        number,
-        work: Work::Batch(batch),
-    };
-    Ok(Arc::new(alloc, entry)?)
+    handed_in(alloc, seat, number, Work::Batch(batch))
 }
 
 /// What the seat handed in under the number: these spans of the service, without a `seqNo`.
@@ -50,10 +37,5 @@ pub(crate) fn entry(
 
 /// The limit of traces that seat 0 handed in under the number.
 pub(crate) fn limit(alloc: Global, number: u64, traces: u32) -> Result<Arc<Entry>, AllocError> {
-    let entry = Entry {
-        seat: 0,
-        number,
-        work: Work::TraceLimit(traces),
-    };
-    Ok(Arc::new(alloc, entry)?)
+    handed_in(alloc, 0, number, Work::TraceLimit(traces))
 }

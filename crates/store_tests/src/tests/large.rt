@@ -1,4 +1,5 @@
-use crate::tests::entries::{entry, id, kept};
+use crate::tests::entries::{entry, id};
+use crate::tests::queries::{operation_names, operations};
 use crate::tests::replays::store_answer;
 use jaeger_model::{Placed, Text};
 use plain_store::get_trace;
@@ -8,7 +9,7 @@ use std::mem::drop;
 use std::sync::Arc;
 use std::test::*;
 use trace_model::{Answer, AnsweredTrace, Entry, Limits, Query, TraceForm};
-use trace_samples::{list_of, service_find, span};
+use trace_samples::{kept, list_of, service_find, span};
 
 const MANY: u32 = 10_000;
 
@@ -68,17 +69,6 @@ fn answered(
     Ok(count)
 }
 
-fn operation_names(alloc: Global) -> Result<Query, AllocError> {
-    let service = Text::from_str(alloc, "a")?;
-    Ok(Query::OperationNames { service })
-}
-
-fn operations(alloc: Global) -> Result<Query, AllocError> {
-    let service = Text::from_str(alloc, "a")?;
-    let kind = Text::new(alloc);
-    Ok(Query::Operations { service, kind })
-}
-
 /// The trace of the last entry.
 fn last_trace() -> Query {
     Query::Trace {
@@ -94,8 +84,8 @@ fn name_counts(
     entries: &[Arc<Entry>],
 ) -> Result<[usize; 4], Fail> {
     let services = answered(alloc, keys, entries, Query::Services)?;
-    let names = answered(alloc, keys, entries, operation_names(alloc)?)?;
-    let operations = answered(alloc, keys, entries, operations(alloc)?)?;
+    let names = answered(alloc, keys, entries, operation_names(alloc, "a")?)?;
+    let operations = answered(alloc, keys, entries, operations(alloc, "a", "")?)?;
     let last = answered(alloc, keys, entries, last_trace())?;
     Ok([services, names, operations, last])
 }

@@ -1,6 +1,7 @@
 ghost use Rattle.std.specs.Prelude.{◌<◌};
 
-use crate::tests::entries::{entry, kept};
+use crate::tests::entries::entry;
+use crate::tests::queries;
 use crate::tests::replays::store_answer;
 use jaeger_model::{Placed, Span, Text};
 use plain_store::{operation_names, operations, plain_answer, services};
@@ -10,7 +11,7 @@ use std::mem::drop;
 use std::sync::Arc;
 use std::test::*;
 use trace_model::{Answer, Entry, Limits, Operation, Query};
-use trace_samples::{list_of, placed, span, text_tag};
+use trace_samples::{kept, list_of, placed, span, text_tag};
 
 /// Service, operation and kind, as they are added.
 const ADDED: [(&str, &str, &str); 5] = [
@@ -75,17 +76,6 @@ fn answer_to(
     store_answer(alloc, keys, one_trace()?, entries, query)
 }
 
-fn operation_names_of(alloc: Global, service: &str) -> Result<Query, AllocError> {
-    let service = Text::from_str(alloc, service)?;
-    Ok(Query::OperationNames { service })
-}
-
-fn operations_query(alloc: Global, service: &str, kind: &str) -> Result<Query, AllocError> {
-    let service = Text::from_str(alloc, service)?;
-    let kind = Text::from_str(alloc, kind)?;
-    Ok(Query::Operations { service, kind })
-}
-
 /// The services that the store of these entries names.
 fn services_of(
     alloc: Global,
@@ -102,7 +92,7 @@ fn names_of(
     entries: &[Arc<Entry>],
     service: &str,
 ) -> Result<Vec<Text>, Fail> {
-    let query = operation_names_of(alloc, service)?;
+    let query = queries::operation_names(alloc, service)?;
     names_in(answer_to(alloc, keys, entries, query)?)
 }
 
@@ -114,7 +104,7 @@ fn operations_of(
     service: &str,
     kind: &str,
 ) -> Result<Vec<Operation>, Fail> {
-    let query = operations_query(alloc, service, kind)?;
+    let query = queries::operations(alloc, service, kind)?;
     operations_in(answer_to(alloc, keys, entries, query)?)
 }
 
@@ -243,30 +233,34 @@ fn has_operations(
     Ok(is_listed(&operations_of(alloc, keys, entries, "c", kind)?, wanted))
 }
 
-/// How many of the rows the store of these entries lists as they say, each behind the ones before.
-fn listed(alloc: Global, keys: RandomState, entries: &[Arc<Entry>]) -> Result<usize, Fail> {
-    let mut listed = 0usize;
-    for (kind, wanted) in ASKED {
-        if !has_operations(alloc, keys, entries, kind, wanted)? {
-            break;
+/// The first row that the store of these entries doesn't list as it says; None where it lists all so.
+fn first_unlisted(
+    alloc: Global,
+    keys: RandomState,
+    entries: &[Arc<Entry>],
+) -> Result<Option<usize>, Fail> {
+    for (number, (kind, wanted)) in ASKED.iter().enumerate() {
+        if !has_operations(alloc, keys, entries, *kind, *wanted)? {
+            return Ok(Some(number));
         }
-        listed = listed.saturating_add(1);
     }
-    Ok(listed)
+    Ok(None)
 }
 
 /// The same of the history of `ADDED`.
-fn listed_by_kind(alloc: Global, keys: RandomState) -> Result<usize, Fail> {
+fn first_unlisted_of_added(alloc: Global, keys: RandomState) -> Result<Option<usize>, Fail> {
     let entries = history_of(alloc, &ADDED)?;
-    let listed = listed(alloc, keys, &entries);
+    let first = first_unlisted(alloc, keys, &entries);
     drop(entries);
-    listed
+    first
 }
 
 #[test]
 fn operations_by_kind(rt: HostRuntime) -> Result<(), Fail> {
-    let listed = listed_by_kind(rt.alloc(), RandomState::new(&rt)?)?;
-    assert_eq!(rt; listed, ASKED.len());
+    assert_eq!(rt;
+        first_unlisted_of_added(rt.alloc(), RandomState::new(&rt)?)?,
+        None
+    );
     Ok(())
 }
 
@@ -487,13 +481,13 @@ fn has_plainly(alloc: Global, query: Query, wanted: &[&str]) -> Result<bool, Fai
 fn names_plainly(rt: HostRuntime) -> Result<(), Fail> {
     let alloc = rt.alloc();
     assert!(rt; has_plainly(alloc, Query::Services, &["b", "c"])?);
-    assert!(rt; has_plainly(alloc, operation_names_of(alloc, "b")?, &["op"])?);
+    assert!(rt; has_plainly(alloc, queries::operation_names(alloc, "b")?, &["op"])?);
     Ok(())
 }
 
 /// Whether the plain store lists these operations of `b` of that history.
 fn lists_plainly(alloc: Global, wanted: &[(&str, &str)]) -> Result<bool, Fail> {
-    let query = operations_query(alloc, "b", "")?;
+    let query = queries::operations(alloc, "b", "")?;
     Ok(is_listed(&operations_in(answer_of(alloc, query)?)?, wanted))
 }
 

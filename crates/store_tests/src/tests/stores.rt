@@ -1,4 +1,5 @@
-use crate::tests::entries::{entry, id, kept, limit};
+use crate::tests::entries::{entry, id, limit};
+use crate::tests::queries::{operation_names, operations};
 use crate::tests::replays::replayed;
 use crate::tests::sameness::same_answer;
 use crate::tests::shown::shown;
@@ -11,7 +12,7 @@ use std::mem::drop;
 use std::sync::Arc;
 use std::test::*;
 use trace_model::{Entry, Find, Limits, Query, Refusal};
-use trace_samples::{list_of, span, text_tag};
+use trace_samples::{kept, list_of, span, text_tag};
 
 /// A number that looks random and is the same in every run.
 fn after(seed: u64) -> u64 {
@@ -111,17 +112,6 @@ fn find(alloc: Global, seed: u64) -> Result<Find, AllocError> {
     })
 }
 
-fn operation_names(alloc: Global, seed: u64) -> Result<Query, AllocError> {
-    let service = Text::from_str(alloc, service(seed >> 30))?;
-    Ok(Query::OperationNames { service })
-}
-
-fn operations(alloc: Global, seed: u64) -> Result<Query, AllocError> {
-    let service = Text::from_str(alloc, service(seed >> 32))?;
-    let kind = Text::from_str(alloc, if seed >> 34 & 1 == 0 { "" } else { "client" })?;
-    Ok(Query::Operations { service, kind })
-}
-
 fn links(seed: u64) -> Query {
     Query::Links {
         end_ms: 2,
@@ -130,10 +120,11 @@ fn links(seed: u64) -> Query {
 }
 
 fn same_names(alloc: Global, store: &SpanStore, seed: u64) -> Result<bool, AllocError> {
+    let kind = if seed >> 34 & 1 == 0 { "" } else { "client" };
     Ok(
         same_answer(alloc, store, Query::Services)?
-            && same_answer(alloc, store, operation_names(alloc, seed)?)?
-            && same_answer(alloc, store, operations(alloc, seed)?)?,
+            && same_answer(alloc, store, operation_names(alloc, service(seed >> 30))?)?
+            && same_answer(alloc, store, operations(alloc, service(seed >> 32), kind)?)?,
     )
 }
 
@@ -530,31 +521,31 @@ fn is_as_said(alloc: Global, store: &mut SpanStore, row: &Row) -> Result<bool, A
     Ok(got == want && same_answers(alloc, store, number)?)
 }
 
-/// How many of the rows are answered as they say, each behind the ones before.
-fn history_of(alloc: Global, store: &mut SpanStore) -> Result<usize, AllocError> {
-    let mut history_of = 0usize;
-    for row in &ROWS {
+/// The first row that isn't answered as it says, each behind the ones before; None where all are.
+fn first_otherwise(alloc: Global, store: &mut SpanStore) -> Result<Option<usize>, AllocError> {
+    for (number, row) in ROWS.iter().enumerate() {
         if !is_as_said(alloc, store, row)? {
-            break;
+            return Ok(Some(number));
         }
-        history_of = history_of.saturating_add(1);
     }
-    Ok(history_of)
+    Ok(None)
 }
 
 /// The same in a store that is opened for them.
-fn as_said_by_one(alloc: Global, keys: RandomState) -> Result<usize, Fail> {
+fn first_otherwise_of_one(alloc: Global, keys: RandomState) -> Result<Option<usize>, Fail> {
     let limits = Limits::new(3, 5, 2, 0).ok_or("limits")?;
     let mut store = SpanStore::open(alloc, keys, limits)?;
-    let history_of = history_of(alloc, &mut store);
+    let first = first_otherwise(alloc, &mut store);
     drop(store);
-    Ok(history_of?)
+    Ok(first?)
 }
 
 #[test]
 fn refused_entries_change_nothing(rt: HostRuntime) -> Result<(), Fail> {
-    let history_of = as_said_by_one(rt.alloc(), RandomState::new(&rt)?)?;
-    assert_eq!(rt; history_of, ROWS.len());
+    assert_eq!(rt;
+        first_otherwise_of_one(rt.alloc(), RandomState::new(&rt)?)?,
+        None
+    );
     Ok(())
 }
 

@@ -1,11 +1,11 @@
-use crate::tests::histories::{CYCLE, Row as Reported, SpanRow, answer_of, kept, trace_of};
+use crate::tests::histories::{CYCLE, Row as Reported, SpanRow, answer_of, trace_of};
 use jaeger_model::{Log, Placed, Process, Seq, SharedProcess, Span, SpanId, Text, TraceId};
 use std::alloc::{AllocError, Global};
 use std::mem::drop;
 use std::test::*;
 use trace_adjust::{adjust_skew, adjusted};
 use trace_model::{Answer, AnsweredTrace, Query, Shown, TraceForm};
-use trace_samples::{host_process, list_of, process, span};
+use trace_samples::{host_process, kept, list_of, process, span};
 
 const OWN: TraceId = TraceId { high: 0, low: 1 };
 

@@ -9,7 +9,7 @@ use std::mem::drop;
 use std::sync::Arc;
 use std::test::Fail;
 use trace_model::{Answer, Entry, Limits, Query, Work};
-use trace_samples::{host_process, list_of, span};
+use trace_samples::{handed_in, host_process, kept, list_of, span};
 
 /// A span: its service and its host; its trace, its id and its parent's; its start and its duration.
 pub(crate) type Row = ([&'static str; 2], [u64; 3], [i64; 2]);
@@ -39,24 +39,6 @@ fn batch_of(alloc: Global, row: Row) -> Result<Batch, AllocError> {
     })
 }
 
-fn entry_of(alloc: Global, number: u64, batch: Batch) -> Result<Arc<Entry>, AllocError> {
-    let seat = 0;
-    let entry = Entry {
-        seat,
-        number,
-        work: Work::Batch(batch),
-    };
-    Ok(Arc::new(alloc, entry)?)
-}
-
-/// The value, where what was done with it succeeded.
-pub(crate) fn kept<T: Drop>(value: T, done: Result<(), AllocError>) -> Result<T, AllocError> {
-    match done {
-        Ok(()) => Ok(value),
-        Err(why) => Err(why),
-    }
-}
-
 /// A row of which a span with its process is made.
 pub(crate) trait SpanRow: Copy {
     fn placed(self, alloc: Global) -> Result<Placed, AllocError>;
@@ -84,7 +66,8 @@ pub(crate) fn trace_of<R: SpanRow>(alloc: Global, rows: &[R]) -> Result<Vec<Plac
 /// Adds an entry for each of the spans.
 fn add_rows(alloc: Global, entries: &mut Vec<Arc<Entry>>, rows: &[Row]) -> Result<(), AllocError> {
     for (place, row) in rows.iter().enumerate() {
-        entries.push(entry_of(alloc, place as u64 + 1, batch_of(alloc, *row)?)?)?;
+        let batch = batch_of(alloc, *row)?;
+        entries.push(handed_in(alloc, 0, place as u64 + 1, Work::Batch(batch))?)?;
     }
     Ok(())
 }
@@ -121,7 +104,8 @@ fn add_placed(
     let mut number = 0u32;
     for placed in spans {
         number = number.saturating_add(1);
-        entries.push(entry_of(alloc, number as u64, batch_with(alloc, placed)?)?)?;
+        let batch = batch_with(alloc, placed)?;
+        entries.push(handed_in(alloc, 0, number as u64, Work::Batch(batch))?)?;
     }
     Ok(())
 }

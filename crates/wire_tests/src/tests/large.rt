@@ -1,10 +1,10 @@
-use crate::tests::trace_values::{kept, tag, with_tag};
+use crate::tests::trace_values::{tag, with_tag};
 use batch_codec::{decode, encode};
 use jaeger_model::{Batch, Log, Seq, Span, Tag, Text, Value};
 use std::alloc::{AllocError, Global};
 use std::mem::drop;
 use std::test::*;
-use trace_samples::{batch, list_of, span};
+use trace_samples::{batch, kept, list_of, span};
 
 const MEGABYTE: usize = 1_000_000;
 

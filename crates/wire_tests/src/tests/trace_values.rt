@@ -6,7 +6,7 @@ use jaeger_model::{
 use std::alloc::{AllocError, Global};
 use std::mem::drop;
 use std::test::*;
-use trace_samples::{batch, list_of, span};
+use trace_samples::{batch, kept, list_of, span};
 
 fn text(alloc: Global, text: &str) -> Result<Text, Fail> {
     Ok(Text::from_str(alloc, text)?)
@@ -22,14 +22,6 @@ pub(crate) fn tag(alloc: Global, key: &str, value: Value) -> Result<Tag, Fail> {
             drop(value);
             Err(why)
         }
-    }
-}
-
-/// The value, where what was done with it succeeded.
-pub(crate) fn kept<T: Drop>(value: T, done: Result<(), Fail>) -> Result<T, Fail> {
-    match done {
-        Ok(()) => Ok(value),
-        Err(why) => Err(why),
     }
 }
 
@@ -160,29 +152,27 @@ fn is_first(alloc: Global, tags: &[Tag], key: &str, want: &str) -> Result<bool, 
     Ok(same && first.as_str() == want)
 }
 
-/// How many of the keys have the text that stands beside them, each behind the ones before.
-fn first_texts(alloc: Global, tags: &[Tag]) -> Result<usize, Fail> {
-    let mut count = 0usize;
-    for (key, want) in &TAG_TEXTS {
+/// The first key that hasn't the text that stands beside it; None where each has.
+fn first_otherwise(alloc: Global, tags: &[Tag]) -> Result<Option<usize>, Fail> {
+    for (number, (key, want)) in TAG_TEXTS.iter().enumerate() {
         if !is_first(alloc, tags, key, want)? {
-            break;
+            return Ok(Some(number));
         }
-        count = count.saturating_add(1);
     }
-    Ok(count)
+    Ok(None)
 }
 
 /// The same of a tag of each type.
-fn first_texts_of_each(alloc: Global) -> Result<usize, Fail> {
+fn first_otherwise_of_each(alloc: Global) -> Result<Option<usize>, Fail> {
     let tags = a_tag_of_each_type(alloc)?;
-    let count = first_texts(alloc, &tags);
+    let first = first_otherwise(alloc, &tags);
     drop(tags);
-    count
+    first
 }
 
 #[test]
 fn texts_of_tags(rt: HostRuntime) -> Result<(), Fail> {
-    assert_eq!(rt; first_texts_of_each(rt.alloc())?, TAG_TEXTS.len());
+    assert_eq!(rt; first_otherwise_of_each(rt.alloc())?, None);
     Ok(())
 }
 
