@@ -31,20 +31,24 @@ bytes_end-part got beginning w k = by (ltb (length w) k) refl
     by true e = rw (test-part beginning w k, e) refl
     by false e = rw (test-part beginning w k, e, take-append-add, drop-append-add, append_assoc) refl
 
--- where some bytes are still to come
-pub body-waits : (got new beginning piece left : List ℕ) (n : ℕ) → new ≡ got ++ beginning → piece ≡ beginning ++ left → length beginning ≡ min n (length piece) → 0 < n - length beginning
-    → NeedsMore Truncated (bytes_end got n) (bytes_end new (n - length beginning)) piece left
-unfolding bytes_end
-body-waits got new beginning piece left n is parts size more =
+-- where some bytes are still to come: behind the beginning f goes on as g
+waits : {A : Type 0} (f g : ℕ → List ℕ → Read A) (beginning piece left : List ℕ) (n : ℕ) → ((w : List ℕ) (k : ℕ) → f (length beginning + k) (beginning ++ w) ≡ g k w) → ((k : ℕ) → ltb 0 k ≡ true → g k [] ≡ Err Truncated)
+    → piece ≡ beginning ++ left → length beginning ≡ min n (length piece) → 0 < n - length beginning
+    → NeedsMore Truncated (f n) (g (n - length beginning)) piece left
+waits f g beginning piece left n goes_on short parts size more =
     let sizes : length piece ≡ length beginning + length left = rw parts (length-append beginning left) in
     let none : length left ≡ 0 = omega arith in
     let k : n ≡ length beginning + (n - length beginning) = omega arith in
-    let few : ltb 0 (n - length beginning) ≡ true = lt-ltb _ _ more in
     record {
-      comes = record { same = λ rest. rw (parts, is, append_assoc) (ap (λ m. bytes_end got m (beginning ++ (left ++ rest))) k ∙ bytes_end-part got beginning (left ++ rest) (n - length beginning)) };
-      want = rw few refl;
+      comes = record { same = λ rest. rw (parts, append_assoc) (ap (λ m. f m (beginning ++ (left ++ rest))) k ∙ goes_on (left ++ rest) (n - length beginning)) };
+      want = short (n - length beginning) (lt-ltb _ _ more);
       spent = nothing left none;
     }
+
+pub body-waits : (got new beginning piece left : List ℕ) (n : ℕ) → new ≡ got ++ beginning → piece ≡ beginning ++ left → length beginning ≡ min n (length piece) → 0 < n - length beginning
+    → NeedsMore Truncated (bytes_end got n) (bytes_end new (n - length beginning)) piece left
+unfolding bytes_end
+body-waits got new beginning piece left n is parts size more = rw is (waits (bytes_end got) (bytes_end (got ++ beginning)) beginning piece left n (bytes_end-part got beginning) (λ k few. rw few refl) parts size more)
 
 -- where all bytes have come
 pub body-whole : (got new beginning piece left : List ℕ) (n : ℕ) → new ≡ got ++ beginning → piece ≡ beginning ++ left → length beginning ≡ min n (length piece) → n - length beginning ≤ 0
@@ -58,24 +62,11 @@ body-whole got new beginning piece left n is parts size done =
     last w = rw (lt-whole (length w), append-nil) refl
 
 past-part : (beginning w : List ℕ) (k : ℕ) → past (length beginning + k) (beginning ++ w) ≡ past k w
-past-part beginning w k = by (ltb (length w) k) refl
-  where
-    by : (b : Bool) → ltb (length w) k ≡ b → past (length beginning + k) (beginning ++ w) ≡ past k w
-    by true e = rw (test-part beginning w k, e) refl
-    by false e = rw (test-part beginning w k, e, drop-append-add) refl
+past-part beginning w k = rw (test-part beginning w k, drop-append-add) refl
 
 pub past-waits : (beginning piece left : List ℕ) (n : ℕ) → piece ≡ beginning ++ left → length beginning ≡ min n (length piece) → 0 < n - length beginning
     → NeedsMore Truncated (past n) (past (n - length beginning)) piece left
-past-waits beginning piece left n parts size more =
-    let sizes : length piece ≡ length beginning + length left = rw parts (length-append beginning left) in
-    let none : length left ≡ 0 = omega arith in
-    let k : n ≡ length beginning + (n - length beginning) = omega arith in
-    let few : ltb 0 (n - length beginning) ≡ true = lt-ltb _ _ more in
-    record {
-      comes = record { same = λ rest. rw (parts, append_assoc) (ap (λ m. past m (beginning ++ (left ++ rest))) k ∙ past-part beginning (left ++ rest) (n - length beginning)) };
-      want = rw few refl;
-      spent = nothing left none;
-    }
+past-waits beginning piece left n parts size more = waits past past beginning piece left n (past-part beginning) (λ k few. rw few refl) parts size more
 
 no_front : (r : Read (List ℕ)) → (r >>= λ t. Ok ([] ++ t.0, t.1)) ≡ r
 no_front (Ok t) = refl
