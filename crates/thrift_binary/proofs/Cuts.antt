@@ -44,6 +44,14 @@ module _ {A E : Type 0} (short : E) (read : List ℕ → Result (A × List ℕ) 
   settled_here : (w : List ℕ) (answer : List ℕ → Result (A × List ℕ) E) (s : Settled short read w answer) → read w ≡ answer s.rest
   settled_here w answer s = ap read s.parts ∙ s.same s.rest
 
+  -- too short where the bytes end in front of the place, and where what is behind it is too short
+  short_behind : (w : List ℕ) (answer : List ℕ → Result (A × List ℕ) E) (s : Settled short read w answer) (u : List ℕ) (m : ℕ) → (length s.text ≤ m → answer (take (m - length s.text) u) ≡ Err short) → read (take m (s.text ++ u)) ≡ Err short
+  short_behind w answer s u m behind = by (ltb m (length s.text)) refl
+    where
+      by : (b : Bool) → ltb m (length s.text) ≡ b → read (take m (s.text ++ u)) ≡ Err short
+      by true e = let in_front : m < length s.text = ltb-true _ _ e in ap read (take_beginning m s.text u in_front) ∙ s.before m in_front
+      by false e = let le : length s.text ≤ m = ltb-false _ _ e in ap read (take_past m s.text u le) ∙ s.same (take (m - length s.text) u) ∙ behind le
+
   pub cut_same : (other : List ℕ → Result (A × List ℕ) E) → ((v : List ℕ) → other v ≡ read v) → (w : List ℕ) → Cut short read w → Cut short other w
   cut_same other is w (whole x s) = whole x (record { text = s.text; rest = s.rest; parts = s.parts; same = λ v. is _ ∙ s.same v; before = λ m lt. is _ ∙ s.before m lt })
   cut_same other is w (faulty e s) = faulty e (record { text = s.text; rest = s.rest; parts = s.parts; same = λ v. is _ ∙ s.same v; before = λ m lt. is _ ∙ s.before m lt })
@@ -80,16 +88,26 @@ module _ {A E : Type 0} (short : E) (read : List ℕ → Result (A × List ℕ) 
     where
       by : Cut short read w → read (take m w) ≡ Err short
       by (whole x s) = absurd (ok_is_no_err x s.rest short (sym (settled_here w (λ v. Ok (x, v)) s) ∙ is))
-      by (faulty e s) = fault (err_is e short (sym (settled_here w (λ v. Err e) s) ∙ is)) s (ltb m (length s.text)) refl
-        where
-          fault : e ≡ short → Settled short read w (λ v. Err e) → (b : Bool) → ltb m (length s.text) ≡ b → read (take m w) ≡ Err short
-          fault same t true lt =
-              let in_front : m < length s.text = ltb-true _ _ lt in
-              ap (λ (v : List ℕ). read (take m v)) s.parts ∙ ap read (take_beginning m s.text s.rest in_front) ∙ s.before m in_front
-          fault same t false lt =
-              let le : length s.text ≤ m = ltb-false _ _ lt in
-              ap (λ (v : List ℕ). read (take m v)) s.parts ∙ ap read (take_past m s.text s.rest le) ∙ s.same (take (m - length s.text) s.rest) ∙ ap (λ (x : E). Err x) same
+      by (faulty e s) =
+          let same : e ≡ short = err_is e short (sym (settled_here w (λ v. Err e) s) ∙ is) in
+          ap (λ (v : List ℕ). read (take m v)) s.parts ∙ short_behind w (λ v. Err e) s s.rest m (λ le. ap (λ (x : E). Err x) same)
       by (unsettled b) = b m
+
+  -- ---- what follows the place
+
+  settled_behind : (w : List ℕ) (behind : List ℕ → Result (A × List ℕ) E) (s : Settled short read w behind) (answer : List ℕ → Result (A × List ℕ) E) → Settled short behind s.rest answer → Settled short read w answer
+  settled_behind w behind s answer t = record {
+    text = s.text ++ t.text;
+    rest = t.rest;
+    parts = s.parts ∙ ap (λ (v : List ℕ). s.text ++ v) t.parts ∙ sym (append_assoc s.text t.text t.rest);
+    same = λ v. ap read (append_assoc s.text t.text v) ∙ s.same (t.text ++ v) ∙ t.same v;
+    before = λ m lt. short_behind w behind s t.text m (λ le. t.before (m - length s.text) (omega (arith, length-append s.text t.text)));
+  }
+
+  cut_behind : (w : List ℕ) (behind : List ℕ → Result (A × List ℕ) E) (s : Settled short read w behind) → Cut short behind s.rest → Cut short read w
+  cut_behind w behind s (whole x t) = whole x (settled_behind w behind s (λ v. Ok (x, v)) t)
+  cut_behind w behind s (faulty e t) = faulty e (settled_behind w behind s (λ v. Err e) t)
+  cut_behind w behind s (unsettled h) = unsettled (λ m. ap (λ (v : List ℕ). read (take m v)) s.parts ∙ short_behind w behind s s.rest m (λ le. h (m - length s.text)))
 
   -- ---- the smallest readings
 
@@ -135,43 +153,22 @@ module _ {A B E : Type 0} (short : E) (read : List ℕ → Result (A × List ℕ
   first_err : (v : List ℕ) (e : E) → read v ≡ Err e → (read v >>= λ y. next y.0 y.1) ≡ Err e
   first_err v e h = rw h refl
 
-  then_settled : (w : List ℕ) (x : A) (s : Settled short read w (λ v. Ok (x, v))) (answer : List ℕ → Result (B × List ℕ) E) → Settled short (next x) s.rest answer → Settled short (λ v. read v >>= λ y. next y.0 y.1) w answer
-  then_settled w x s answer t = record {
-    text = s.text ++ t.text;
-    rest = t.rest;
-    parts = s.parts ∙ ap (λ (v : List ℕ). s.text ++ v) t.parts ∙ sym (append_assoc s.text t.text t.rest);
-    same = λ v. first_ok ((s.text ++ t.text) ++ v) (t.text ++ v) x (answer v) (ap read (append_assoc s.text t.text v) ∙ s.same (t.text ++ v)) (t.same v);
-    before = λ m lt. early m (ltb m (length s.text)) refl lt;
+  -- up to the end of the first value
+  first_settled : (w : List ℕ) (x : A) → Settled short read w (λ v. Ok (x, v)) → Settled short (λ v. read v >>= λ y. next y.0 y.1) w (next x)
+  first_settled w x s = record {
+    text = s.text;
+    rest = s.rest;
+    parts = s.parts;
+    same = λ v. first_ok (s.text ++ v) v x (next x v) (s.same v) refl;
+    before = λ m lt. first_err _ short (s.before m lt);
   }
-    where
-      early : (m : ℕ) (b : Bool) → ltb m (length s.text) ≡ b → m < length (s.text ++ t.text) → (read (take m (s.text ++ t.text)) >>= λ y. next y.0 y.1) ≡ Err short
-      early m true e lt =
-          let in_first : m < length s.text = ltb-true _ _ e in
-          first_err _ short (ap read (take_beginning m s.text t.text in_first) ∙ s.before m in_first)
-      early m false e lt =
-          let le : length s.text ≤ m = ltb-false _ _ e in
-          let k : ℕ = m - length s.text in
-          let small : m - length s.text < length t.text = omega (arith, length-append s.text t.text) in
-          first_ok _ (take (m - length s.text) t.text) x (Err short) (ap read (take_past m s.text t.text le) ∙ s.same (take (m - length s.text) t.text)) (t.before (m - length s.text) small)
 
   -- `next` is safe where it is called
   pub cut_then_at : (w : List ℕ) → Cut short read w → ((x : A) (text rest : List ℕ) → w ≡ text ++ rest → read w ≡ Ok (x, rest) → Cut short (next x) rest) → Cut short (λ v. read v >>= λ y. next y.0 y.1) w
+  unfolding first_settled
   cut_then_at w (faulty e s) more = faulty e (record { text = s.text; rest = s.rest; parts = s.parts; same = λ v. first_err _ e (s.same v); before = λ m lt. first_err _ short (s.before m lt) })
   cut_then_at w (unsettled b) more = unsettled (λ m. first_err _ short (b m))
-  cut_then_at w (whole x s) more = by (more x s.text s.rest s.parts (settled_here short read w (λ v. Ok (x, v)) s))
-    where
-      late : ((m : ℕ) → next x (take m s.rest) ≡ Err short) → (m : ℕ) (b : Bool) → ltb m (length s.text) ≡ b → (read (take m w) >>= λ y. next y.0 y.1) ≡ Err short
-      late h m true e =
-          let in_first : m < length s.text = ltb-true _ _ e in
-          first_err _ short (ap (λ (v : List ℕ). read (take m v)) s.parts ∙ ap read (take_beginning m s.text s.rest in_first) ∙ s.before m in_first)
-      late h m false e =
-          let le : length s.text ≤ m = ltb-false _ _ e in
-          first_ok _ (take (m - length s.text) s.rest) x (Err short) (ap (λ (v : List ℕ). read (take m v)) s.parts ∙ ap read (take_past m s.text s.rest le) ∙ s.same (take (m - length s.text) s.rest)) (h (m - length s.text))
-
-      by : Cut short (next x) s.rest → Cut short (λ v. read v >>= λ y. next y.0 y.1) w
-      by (whole z t) = whole z (then_settled w x s (λ v. Ok (z, v)) t)
-      by (faulty e t) = faulty e (then_settled w x s (λ v. Err e) t)
-      by (unsettled h) = unsettled (λ m. late h m (ltb m (length s.text)) refl)
+  cut_then_at w (whole x s) more = cut_behind short (λ v. read v >>= λ y. next y.0 y.1) w (next x) (first_settled w x s) (more x s.text s.rest s.parts (settled_here short read w (λ v. Ok (x, v)) s))
 
   pub cut_then : IsCutSafe short read → ((x : A) → IsCutSafe short (next x)) → IsCutSafe short (λ v. read v >>= λ y. next y.0 y.1)
   cut_then first more w = cut_then_at w (first w) (λ x text rest parts e. more x rest)
