@@ -54,7 +54,7 @@ ends w b r h =
     let p = readings.values_have_ends (Wire Truncated) batch_at batch_safe w b r h in
     let within : length p.0 ≤ length w = omega (arith, ap length p.1, length-append p.0 r) in
     let before : (m : ℕ) → m < length p.0 → IsTruncated (take m w) =
-        λ m lt. ap (λ (v : List ℕ). decoded (take m v)) p.1 ∙ ap decoded (take-append-le m p.0 r (omega arith)) ∙ of_err (take m p.0) (Wire Truncated) (p.2 m lt) in
+    λ m lt. ap (λ (v : List ℕ). decoded (take m v)) p.1 ∙ ap decoded (take-append-le m p.0 r (omega arith)) ∙ of_err (take m p.0) (Wire Truncated) (p.2 m lt) in
     (p.0, p.1, (within, before), λ v. of_ok (p.0 ++ v) b v (p.3 v))
 
 -- ---- the laws

@@ -1,12 +1,12 @@
 -- Structs: what is read is spelled so, and what is spelled so is read, of any struct whose fields do.
-use Rattle.std.proofs.Common.{◌≡◌, ℕ, ℤ, Bool, true, false, cond, List, [], ◌∷◌, ◌++◌, Option, Some, None, Result, Ok, refl, sym, ap, subst, ◌∙◌}
+use Rattle.std.proofs.Common.{◌≡◌, ℕ, ℤ, Bool, true, false, cond, List, [], ◌∷◌, Option, Some, None, Result, Ok, refl}
 use Rattle.std.specs.Prelude.{MatchBool}
 use Rattle.thrift_binary.specs.Reading.{◌>>=◌, lift}
 use Rattle.thrift_binary.specs.Skipping.{skip_at}
 use Rattle.thrift_binary.specs.Fields.{Take, fields_at}
 use Rattle.thrift_binary.specs.Lists.{list_of}
-use Rattle.thrift_binary.specs.Spelling.{Field, IsValue}
-use Rattle.thrift_binary.proofs.Found.{bind_ok, lift_ok, ok_is, Path, Took, fields_found}
+use Rattle.thrift_binary.specs.Spelling.{Field, IsFields, IsValue}
+use Rattle.thrift_binary.proofs.Found.{lift_ok, Path, Took, fields_found}
 use Rattle.thrift_binary.proofs.Again.{fields_again}
 use Rattle.thrift_binary.proofs.SkipFound.{skip_found}
 use Rattle.thrift_binary.proofs.SkipAgain.{skip_again}
@@ -15,7 +15,7 @@ use Rattle.batch_codec.specs.declared.fault.DecodeError.{DecodeError}
 use Rattle.batch_codec.specs.declared.fault.Part.{Part}
 use Rattle.batch_codec.specs.Decoding.{Reading, wire, skipped, required}
 use Rattle.batch_codec.specs.Batches.{Gathers, IsStruct, IsStructList}
-use Rattle.batch_codec.proofs.ValuesSpelled.{Found, Again, Agrees}
+use Rattle.batch_codec.proofs.ValuesSpelled.{Found, Again, Agrees, made_found, mapped}
 
 -- ---- one field
 
@@ -24,40 +24,19 @@ pub known_is : {A S : Type 0} {read : Reading A} {Spells : List ℕ → A → Ty
     → Agrees others Others
     → Agrees (λ w. cond b (read w >>= λ x. Ok (set x.0, x.1)) (others w)) (λ v t. MatchBool b ((x : A) × Spells v x × (t ≡ set x)) (Others v t))
 known_is value set false others Others more = more
-known_is {A = A} {S = S} {read = read} {Spells = Spells} value set true others Others more = record { found = found; again = again }
-  where
-    found : Found (λ w. read w >>= λ x. Ok (set x.0, x.1)) (λ v t. (x : A) × Spells v x × (t ≡ set x))
-    found w t r e =
-        let k = bind_ok (read w) (λ x. Ok (set x.0, x.1)) (t, r) e in
-        let f = value.found w k.0.0 k.0.1 k.1 in
-        let made : S × List ℕ = (set k.0.0, k.0.1) in
-        let same : made ≡ (t, r) = ok_is made (t, r) k.2 in
-        record {
-          text = f.text;
-          parts = f.parts ∙ ap (λ (p : S × List ℕ). f.text ++ p.1) same;
-          spells = (k.0.0, f.spells, sym (ap (λ (p : S × List ℕ). p.0) same));
-        }
+known_is value set true others Others more = mapped value set
 
-    again : Again (λ w. read w >>= λ x. Ok (set x.0, x.1)) (λ v t. (x : A) × Spells v x × (t ≡ set x))
-    again v r t (x, spells, t-is) = let h = value.again v r x spells in rw (h, t-is) refl
+skips : (c : ℕ) → Agrees (λ w. lift wire (skip_at c w)) (λ v u. IsValue 64 c v)
+skips c = record {
+  found = λ w u r e. skip_found c w r (lift_ok wire (skip_at c w) (u, r) e);
+  again = λ v r u is. (let h = skip_again c v r is in rw h refl);
+}
 
 pub skipped_is : {S : Type 0} (s : S) (c : ℕ) → Agrees (skipped s c) (λ v t. IsValue 64 c v × (t ≡ s))
-skipped_is {S = S} s c = record { found = found; again = again }
-  where
-    found : Found (skipped s c) (λ v t. IsValue 64 c v × (t ≡ s))
-    found w t r e =
-        let k = bind_ok (lift wire (skip_at c w)) (λ x. Ok (s, x.1)) (t, r) e in
-        let f = skip_found c w k.0.1 (lift_ok wire (skip_at c w) k.0 k.1) in
-        let made : S × List ℕ = (s, k.0.1) in
-        let same : made ≡ (t, r) = ok_is made (t, r) k.2 in
-        record {
-          text = f.text;
-          parts = f.parts ∙ ap (λ (p : S × List ℕ). f.text ++ p.1) same;
-          spells = (f.spells, sym (ap (λ (p : S × List ℕ). p.0) same));
-        }
-
-    again : Again (skipped s c) (λ v t. IsValue 64 c v × (t ≡ s))
-    again v r t (is, same) = let h = skip_again c v r is in rw (h, same) refl
+skipped_is s c = record {
+  found = λ w t r e. (let f = (mapped (skips c) (λ u. s)).found w t r e in record { text = f.text; parts = f.parts; spells = (f.spells.1, f.spells.2) });
+  again = λ v r t is. (mapped (skips c) (λ u. s)).again v r t (tt, is.0, is.1);
+}
 
 -- ---- lists of structs
 
@@ -81,6 +60,10 @@ module _ {S X : Type 0} (take : Take S DecodeError) (Does : S → Field → S �
   abbrev pub struct_at : Reading X
   struct_at w = fields_at wire take none w >>= λ y. from y.0 >>= λ z. Ok (z, y.1)
 
+  -- fields that lead from no slots to these
+  abbrev LeadsTo : List ℕ → S → Type 0
+  LeadsTo v s = (fs : List Field) × IsFields fs v × Path Does none fs s
+
   pub struct_is : ((s : S) (c : ℕ) (i : ℤ) → Agrees (take s c i) (λ v t. Does s (record { code = c; id = i; text = v }) t))
       → ((s : S) (x : X) → from s ≡ Ok x → Makes s x)
       → ((s : S) (x : X) → Makes s x → from s ≡ Ok x)
@@ -90,23 +73,21 @@ module _ {S X : Type 0} (take : Take S DecodeError) (Does : S → Field → S �
       took : (s : S) (c : ℕ) (i : ℤ) (w : List ℕ) (t : S) (r : List ℕ) → take s c i w ≡ Ok (t, r) → Took Does s c i w t r
       took s c i w t r e = let m = (field_is s c i).found w t r e in record { text = m.text; parts = m.parts; does = m.spells }
 
+      leads : Found (fields_at wire take none) LeadsTo
+      leads w s r e = let f = fields_found wire take Does took none w s r e in record { text = f.text; parts = f.parts; spells = (f.fields, f.spells, f.path) }
+
       found : Found struct_at (IsStruct Does none Makes)
       found w x r e =
-          let b = bind_ok (fields_at wire take none w) (λ y. from y.0 >>= λ z. Ok (z, y.1)) (x, r) e in
-          let f = fields_found wire take Does took none w b.0.0 b.0.1 b.1 in
-          let k = bind_ok (from b.0.0) (λ z. Ok (z, b.0.1)) (x, r) b.2 in
-          let pair : X × List ℕ = (k.0, b.0.1) in
-          let same : pair ≡ (x, r) = ok_is pair (x, r) k.2 in
-          let x-is : k.0 ≡ x = ap (λ (p : X × List ℕ). p.0) same in
+          let b = made_found (fields_at wire take none) LeadsTo leads from w x r e in
           record {
-            text = f.text;
-            parts = f.parts ∙ ap (λ (p : X × List ℕ). f.text ++ p.1) same;
+            text = b.text;
+            parts = b.parts;
             spells = record {
-              fields = f.fields;
-              spelled = f.spells;
-              gathered = b.0.0;
-              gathers = gathers_path Does f.fields none b.0.0 f.path;
-              makes = subst (λ (z : X). Makes b.0.0 z) x-is (made b.0.0 k.0 k.1);
+              fields = b.spells.1.0;
+              spelled = b.spells.1.1;
+              gathered = b.spells.0;
+              gathers = gathers_path Does b.spells.1.0 none b.spells.0 b.spells.1.2;
+              makes = made b.spells.0 x b.spells.2;
             };
           }
 

@@ -35,6 +35,33 @@ pub record Agrees {A : Type 0} (read : Reading A) (Spells : List ℕ → A → T
   pub found : Found read Spells
   pub again : Again read Spells
 
+abbrev decoded : {K : Type 0} → K → Result K DecodeError
+decoded k = Ok k
+
+-- what is made of a value
+pub made_found : {A B : Type 0} (read : Reading A) (Spells : List ℕ → A → Type 0) → Found read Spells → (make : A → Result B DecodeError)
+    → Found (λ w. read w >>= λ x. make x.0 >>= λ y. Ok (y, x.1)) (λ t y. (x : A) × Spells t x × (make x ≡ Ok y))
+made_found {B = B} read Spells found make w y r e =
+    let x = bind_ok (read w) (λ x. make x.0 >>= λ z. Ok (z, x.1)) (y, r) e in
+    let z = bind_ok (make x.0.0) (λ z. Ok (z, x.0.1)) (y, r) x.2 in
+    let f = found w x.0.0 x.0.1 x.1 in
+    let made : B × List ℕ = (z.0, x.0.1) in
+    let same : made ≡ (y, r) = ok_is made (y, r) z.2 in
+    record {
+      text = f.text;
+      parts = f.parts ∙ ap (λ (p : B × List ℕ). f.text ++ p.1) same;
+      spells = (x.0.0, f.spells, z.1 ∙ ap (λ (p : B × List ℕ). decoded p.0) same);
+    }
+
+-- a value turned into another
+pub mapped : {A B : Type 0} {read : Reading A} {Spells : List ℕ → A → Type 0} → Agrees read Spells → (f : A → B) → Agrees (λ w. read w >>= λ x. Ok (f x.0, x.1)) (λ t y. (x : A) × Spells t x × (y ≡ f x))
+mapped {read = read} {Spells = Spells} value f = record {
+  found = λ w y r e. (
+      let b = made_found read Spells value.found (λ x. decoded (f x)) w y r e in
+      record { text = b.text; parts = b.parts; spells = (b.spells.0, b.spells.1, sym (ok_is (f b.spells.0) y b.spells.2)) });
+  again = λ t r y is. (let h = value.again t r is.0 is.1 in rw (h, is.2) refl);
+}
+
 is_bool_found : Found bool_at IsBool
 unfolding bool_at
 is_bool_found w x r e = bool_found w x r (lift_ok wire (wires.bool_at w) (x, r) e)
@@ -67,23 +94,6 @@ is_i64_again : Again i64_at IsI64
 unfolding i64_at
 is_i64_again t r x is = let h = i64_again t r x is in rw h refl
 
-is_id_found : Found id_at IsId
-unfolding id_at
-is_id_found w n r e =
-    let b = bind_ok (i64_at w) (λ x. Ok (cast_unsigned w64 x.0, x.1)) (n, r) e in
-    let f = is_i64_found w b.0.0 b.0.1 b.1 in
-    let made : ℕ × List ℕ = (cast_unsigned w64 b.0.0, b.0.1) in
-    let same : made ≡ (n, r) = ok_is made (n, r) b.2 in
-    record {
-      text = f.text;
-      parts = f.parts ∙ ap (λ (p : ℕ × List ℕ). f.text ++ p.1) same;
-      spells = (b.0.0, f.spells, sym (ap (λ (p : ℕ × List ℕ). p.0) same));
-    }
-
-is_id_again : Again id_at IsId
-unfolding id_at
-is_id_again t r n (z, is, same) = let h = is_i64_again t r z is in rw (h, same) refl
-
 is_text_found : Found text_at IsText
 unfolding text_at
 is_text_found w t r e =
@@ -113,23 +123,12 @@ is_binary_again t r x is = rw (string_again t x r is) refl
 
 -- ---- enums
 
-abbrev decoded : {K : Type 0} → K → Result K DecodeError
-decoded k = Ok k
-
 -- what the number read stands for
 enum_found : {K : Type 0} (number : K → ℤ) (named : ℤ → Result K DecodeError) → ((n : ℤ) (k : K) → named n ≡ Ok k → n ≡ number k)
     → Found (λ w. i32_at w >>= λ n. named n.0 >>= λ k. Ok (k, n.1)) (λ t k. IsI32 t (number k))
-enum_found {K = K} number named numbered w x r e =
-    let n = bind_ok (i32_at w) (λ n. named n.0 >>= λ k. Ok (k, n.1)) (x, r) e in
-    let k = bind_ok (named n.0.0) (λ k. Ok (k, n.0.1)) (x, r) n.2 in
-    let f = is_i32_found w n.0.0 n.0.1 n.1 in
-    let made : K × List ℕ = (k.0, n.0.1) in
-    let same : made ≡ (x, r) = ok_is made (x, r) k.2 in
-    record {
-      text = f.text;
-      parts = f.parts ∙ ap (λ (p : K × List ℕ). f.text ++ p.1) same;
-      spells = subst (λ (y : ℤ). IsI32 f.text y) (numbered n.0.0 k.0 k.1 ∙ ap (λ (p : K × List ℕ). number p.0) same) f.spells;
-    }
+enum_found number named numbered w x r e =
+    let f = made_found i32_at IsI32 is_i32_found named w x r e in
+    record { text = f.text; parts = f.parts; spells = subst (λ (z : ℤ). IsI32 f.text z) (numbered f.spells.0 x f.spells.2) f.spells.1 }
 
 -- a number of the table, and what it stands for
 one_of_table : {K : Type 0} (number : K → ℤ) (z : ℤ) (k x : K) → z ≡ number k → decoded k ≡ decoded x → z ≡ number x
@@ -194,7 +193,8 @@ pub is_i64 : Agrees i64_at IsI64
 is_i64 = record { found = is_i64_found; again = is_i64_again }
 
 pub is_id : Agrees id_at IsId
-is_id = record { found = is_id_found; again = is_id_again }
+unfolding id_at
+is_id = mapped is_i64 (λ z. cast_unsigned w64 z)
 
 pub is_text : Agrees text_at IsText
 is_text = record { found = is_text_found; again = is_text_again }
