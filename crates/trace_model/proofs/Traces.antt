@@ -24,29 +24,26 @@ same_is a b = (same_trace-decides a b).0
 pub same_self : (a : TraceId) → same_trace a a ≡ true
 same_self a = (same_trace-decides a a).1 refl
 
--- the spans of a trace that are left in a ring: all, or none
-left_other : (t : TraceId) (r : List TraceId) (p : Placed) (ps : List Placed) → same_trace t (trace_of p) ≡ false → of_trace t (in_ring r ps) ≡ (if holds r t then of_trace t ps else [])
-    → of_trace t (cond (holds r (trace_of p)) (p ∷ in_ring r ps) (in_ring r ps)) ≡ (if holds r t then of_trace t ps else [])
-left_other t r p ps e rest = elim (holds r (trace_of p)) as (λ h. of_trace t (cond h (p ∷ in_ring r ps) (in_ring r ps)) ≡ (if holds r t then of_trace t ps else [])) [
-  | true ↦ ap (λ s. cond s (p ∷ of_trace t (in_ring r ps)) (of_trace t (in_ring r ps))) e ∙ rest
-  | false ↦ rest
-]
-
-left_own : (t : TraceId) (r : List TraceId) (p : Placed) (ps : List Placed) → same_trace t (trace_of p) ≡ true → of_trace t (in_ring r ps) ≡ (if holds r t then of_trace t ps else [])
-    → of_trace t (cond (holds r (trace_of p)) (p ∷ in_ring r ps) (in_ring r ps)) ≡ (if holds r t then p ∷ of_trace t ps else [])
-left_own t r p ps e rest =
-    ap (λ x. of_trace t (cond (holds r x) (p ∷ in_ring r ps) (in_ring r ps))) (sym (same_is t (trace_of p) e))
-    ∙ elim (holds r t) as (λ h. holds r t ≡ h → of_trace t (cond h (p ∷ in_ring r ps) (in_ring r ps)) ≡ (if h then p ∷ of_trace t ps else [])) [
-      | true ↦ λ h. ap (λ s. cond s (p ∷ of_trace t (in_ring r ps)) (of_trace t (in_ring r ps))) e ∙ ap (λ l. p ∷ l) (rest ∙ ap (λ b. if b then of_trace t ps else []) h)
-      | false ↦ λ h. rest ∙ ap (λ b. if b then of_trace t ps else []) h
+-- of two tests where the second says the same of all that pass the first
+pub filter_within : {X : Type 0} (f g : X → Bool) (b : Bool) → ((x : X) → f x ≡ true → g x ≡ b) → (xs : List X) → filter f (filter g xs) ≡ (if b then filter f xs else [])
+filter_within f g b h [] = elim b as (λ c. filter f (filter g []) ≡ (if c then filter f [] else [])) [ true ↦ refl | false ↦ refl ]
+filter_within {X} f g b h (x ∷ xs) =
+    let rest : filter f (filter g xs) ≡ (if b then filter f xs else []) = filter_within f g b h xs in
+    elim (f x) as (λ s. f x ≡ s → filter f (cond (g x) (x ∷ filter g xs) (filter g xs)) ≡ (if b then cond s (x ∷ filter f xs) (filter f xs) else [])) [
+      | true ↦ λ e. ap (λ c. filter f (cond c (x ∷ filter g xs) (filter g xs))) (h x e) ∙ own b rest e
+      | false ↦ λ e. elim (g x) as (λ c. filter f (cond c (x ∷ filter g xs) (filter g xs)) ≡ (if b then filter f xs else [])) [
+        | true ↦ ap (λ s. cond s (x ∷ filter f (filter g xs)) (filter f (filter g xs))) e ∙ rest
+        | false ↦ rest
+      ]
     ] refl
+  where
+    own : (c : Bool) → filter f (filter g xs) ≡ (if c then filter f xs else []) → f x ≡ true → filter f (cond c (x ∷ filter g xs) (filter g xs)) ≡ (if c then x ∷ filter f xs else [])
+    own true rest e = ap (λ s. cond s (x ∷ filter f (filter g xs)) (filter f (filter g xs))) e ∙ ap (λ l. x ∷ l) rest
+    own false rest e = rest
 
+-- the spans of a trace that are left in a ring: all, or none
 pub of_trace-in_ring : (t : TraceId) (r : List TraceId) (ps : List Placed) → of_trace t (in_ring r ps) ≡ (if holds r t then of_trace t ps else [])
-of_trace-in_ring t r [] = elim (holds r t) as (λ b. of_trace t [] ≡ cond b (of_trace t []) []) [ true ↦ refl | false ↦ refl ]
-of_trace-in_ring t r (p ∷ ps) = elim (same_trace t (trace_of p)) as (λ s. same_trace t (trace_of p) ≡ s → of_trace t (cond (holds r (trace_of p)) (p ∷ in_ring r ps) (in_ring r ps)) ≡ (if holds r t then cond s (p ∷ of_trace t ps) (of_trace t ps) else [])) [
-  | true ↦ λ e. left_own t r p ps e (of_trace-in_ring t r ps)
-  | false ↦ λ e. left_other t r p ps e (of_trace-in_ring t r ps)
-] refl
+of_trace-in_ring t r ps = filter_within (λ p. same_trace t (trace_of p)) (λ p. holds r (trace_of p)) (holds r t) (λ p e. ap (holds r) (sym (same_is t (trace_of p) e))) ps
 
 -- what a trace keeps after one more event: nothing if it isn't in the ring, else what it kept and the new span if one came that is its own
 pub spans_push : (n : ℕ) (es : List (Event Placed)) (e : Event Placed) (t : TraceId)
