@@ -5,11 +5,12 @@ use Rattle.std.specs.Option.{option_or}
 use Rattle.std.specs.List.{filter_map, cons_option}
 use Rattle.std.specs.Ordering.{nat_cmp, is_eq}
 use Rattle.std.specs.Cmp.{unsigned_ties}
-use Rattle.std.proofs.lemmas.Bool.{false≢true}
 use Rattle.std.proofs.lemmas.List.{map-append, take_more, append-nil}
 use Rattle.std.proofs.lemmas.List.Elements.{filter_map-append}
 use Rattle.std.proofs.lemmas.List.Folds.{find-append}
 use Rattle.trace_model.specs.Linking.{has_id}
+use Rattle.trace_model.proofs.Chains.{is_some-map}
+use Rattle.trace_model.proofs.Tables.{entered, kept, entry_map}
 use Rattle.call_links.specs.declared.calls.Service.{Service}
 use Rattle.call_links.specs.declared.numbered.NumberedSpan.{NumberedSpan}
 use Rattle.call_links.specs.Seen.{NumberedService, numbered_service, service_in, span_of, service_of, SeenCall, NumberedCall, numbered_call, numbered_calls, call_by, calls_in_trace}
@@ -20,57 +21,39 @@ has_number q s = has_id (record { 0 = q }) (span_of s)
 abbrev own : ℕ → NumberedSpan → Option NumberedService
 own q s = cond ((span_of s).span.id.0 == q) (Some (service_in s)) None
 
-map_or : (o : Option NumberedSpan) (b : Bool) (s : NumberedSpan) → option_map service_in (option_or o (cond b (Some s) None)) ≡ option_or (option_map service_in o) (cond b (Some (service_in s)) None)
-map_or (Some x) b s = refl
-map_or None true s = refl
-map_or None false s = refl
-
 service_push : (q : ℕ) (ss : List NumberedSpan) (s : NumberedSpan) → service_of q (ss ++ s ∷ []) ≡ option_or (service_of q ss) (own q s)
-service_push q ss s = ap (option_map service_in) (find-append (has_number q) ss (s ∷ [])) ∙ map_or (find (has_number q) ss) ((span_of s).span.id.0 == q) s
+service_push q ss s = ap (option_map service_in) (find-append (has_number q) ss (s ∷ [])) ∙ entry_map service_in (find (has_number q) ss) ((span_of s).span.id.0 == q) s
 
 one_more : (xs : List NumberedSpan) (i : ℕ) (x : NumberedSpan) → i < length xs → x ≡ get_or xs i x → take (i + 1) xs ≡ take i xs ++ x ∷ []
 one_more xs i x l e = take_more xs i x l ∙ ap (λ y. take i xs ++ y ∷ []) (sym e)
 
-or_none : {X : Type 0} (o : Option X) → option_or o None ≡ o
-or_none None = refl
-or_none (Some x) = refl
+service_more : (q : ℕ) (xs : List NumberedSpan) (i : ℕ) (x : NumberedSpan) (before : Option NumberedService) → i < length xs → x ≡ get_or xs i x → before ≡ service_of q (take i xs)
+    → option_or before (own q x) ≡ service_of q (take (i + 1) xs)
+service_more q xs i x before l e inv = ap (λ o. option_or o (own q x)) inv ∙ sym (ap (service_of q) (one_more xs i x l e) ∙ service_push q (take i xs) x)
 
-absent : (o : Option Service) → is_some o ≡ false → option_map numbered_service o ≡ None
-absent None e = refl
-absent (Some t) e = absurd (false≢true (sym e))
-
-present : (o : Option Service) (p : Option NumberedService) (r : Option NumberedService) → is_some o ≡ true → option_map numbered_service o ≡ p → p ≡ option_or p r
-present None p r e h = absurd (false≢true e)
-present (Some t) p r e h = sym h ∙ ap (λ x. option_or x r) h
+-- the services of a table, by the ids
+abbrev services_by : (ℕ → Option Service) → ℕ → Option NumberedService
+services_by g id = option_map numbered_service (g id)
 
 -- the table with one more span, whose id it did not have
-pub entered : (q : ℕ) (g : ℕ → Option Service) (o : Option Service) (v : Service) (xs : List NumberedSpan) (i : ℕ) (x : NumberedSpan) → i < length xs → x ≡ get_or xs i x
-    → ((id : ℕ) → option_map numbered_service (g id) ≡ service_of id (take i xs)) → is_some (g (span_of x).span.id.0) ≡ false
+pub services_entered : (q : ℕ) (g : ℕ → Option Service) (o : Option Service) (v : Service) (xs : List NumberedSpan) (i : ℕ) (x : NumberedSpan) → i < length xs → x ≡ get_or xs i x
+    → ((id : ℕ) → services_by g id ≡ service_of id (take i xs)) → is_some (g (span_of x).span.id.0) ≡ false
     → o ≡ cond (is_eq (nat_cmp (span_of x).span.id.0 q)) (Some v) (g q) → numbered_service v ≡ service_in x
     → option_map numbered_service o ≡ service_of q (take (i + 1) xs)
-entered q g o v xs i x l e inv none put same =
+services_entered q g o v xs i x l e inv none put same =
     let id = (span_of x).span.id.0 in
-    ap (option_map numbered_service) put
-    ∙ elim (id == q) as (λ b. (id == q) ≡ b → option_map numbered_service (cond (is_eq (nat_cmp id q)) (Some v) (g q)) ≡ option_or (service_of q (take i xs)) (cond b (Some (service_in x)) None)) [
-      | true ↦ λ t.
-          ap (λ b. option_map numbered_service (cond b (Some v) (g q))) (sym (unsigned_ties id q) ∙ t) ∙ ap (λ s. Some s) same
-          ∙ ap (λ s. option_or s (Some (service_in x))) (sym (sym (inv q) ∙ absent (g q) (ap (λ k. is_some (g k)) (sym (eqb-true id q t)) ∙ none)))
-      | false ↦ λ t.
-          ap (λ b. option_map numbered_service (cond b (Some v) (g q))) (sym (unsigned_ties id q) ∙ t) ∙ inv q ∙ sym (or_none (service_of q (take i xs)))
-    ] refl
-    ∙ sym (ap (service_of q) (one_more xs i x l e) ∙ service_push q (take i xs) x)
+    ap (option_map numbered_service) (put ∙ ap (λ b. cond b (Some v) (g q)) (sym (unsigned_ties id q)) ∙ entered g id q v (id == q) (eqb-true id q) none)
+    ∙ entry_map numbered_service (g q) (id == q) v
+    ∙ ap (λ s. option_or (services_by g q) (cond (id == q) (Some s) None)) same
+    ∙ service_more q xs i x (services_by g q) l e (inv q)
 
 -- and one whose id it has
-pub kept : (q : ℕ) (g : ℕ → Option Service) (xs : List NumberedSpan) (i : ℕ) (x : NumberedSpan) → i < length xs → x ≡ get_or xs i x
-    → ((id : ℕ) → option_map numbered_service (g id) ≡ service_of id (take i xs)) → is_some (g (span_of x).span.id.0) ≡ true
-    → option_map numbered_service (g q) ≡ service_of q (take (i + 1) xs)
-kept q g xs i x l e inv some =
+pub services_kept : (q : ℕ) (g : ℕ → Option Service) (xs : List NumberedSpan) (i : ℕ) (x : NumberedSpan) → i < length xs → x ≡ get_or xs i x
+    → ((id : ℕ) → services_by g id ≡ service_of id (take i xs)) → is_some (g (span_of x).span.id.0) ≡ true
+    → services_by g q ≡ service_of q (take (i + 1) xs)
+services_kept q g xs i x l e inv some =
     let id = (span_of x).span.id.0 in
-    inv q ∙ elim (id == q) as (λ b. (id == q) ≡ b → service_of q (take i xs) ≡ option_or (service_of q (take i xs)) (cond b (Some (service_in x)) None)) [
-      | true ↦ λ t. present (g q) (service_of q (take i xs)) _ (ap (λ k. is_some (g k)) (sym (eqb-true id q t)) ∙ some) (inv q)
-      | false ↦ λ t. sym (or_none (service_of q (take i xs)))
-    ] refl
-    ∙ sym (ap (service_of q) (one_more xs i x l e) ∙ service_push q (take i xs) x)
+    kept (services_by g) id q (service_in x) (id == q) (eqb-true id q) (is_some-map numbered_service (g id) ∙ some) ∙ service_more q xs i x (services_by g q) l e (inv q)
 
 -- ---- calls by a table
 abbrev pub gathered : (ℕ → Option NumberedService) → List NumberedSpan → List NumberedCall

@@ -3,7 +3,7 @@ use Rattle.std.specs.Prelude.{option_map}
 use Rattle.std.specs.Ordering.{nat_cmp}
 use Rattle.std.specs.BTreeMap.{get}
 use Rattle.call_links.specs.Seen.{numbered_service}
-use Rattle.call_links.proofs.Gathering.{entered, kept}
+use Rattle.call_links.proofs.Gathering.{services_entered, services_kept}
 use Rattle.call_links.proofs.calls.first_services.Goals as goal
 use Rattle.call_links.proofs.calls.first_services.Goals.{then-not-contains_key+in_ok-insert, else-not-contains_key}
 
@@ -11,10 +11,10 @@ pub loop-span-preserved : goal.loop-span-preserved
 loop-span-preserved c = λ q. elim c.if-not-contains_key.branch [
   | then-not-contains_key+in_ok-insert w ↦
       ap (λ m. option_map numbered_service (get nat_cmp m q)) w.services-is
-      ∙ entered q (get nat_cmp c.loop-span.services) (get nat_cmp w.insert.new.self q) _ c.args.trace.now c.loop-span.span-index c.span-item.result (search rules) c.span-item.is c.loop-span.invariant
+      ∙ services_entered q (get nat_cmp c.loop-span.services) (get nat_cmp w.insert.new.self q) _ c.args.trace.now c.loop-span.span-index c.span-item.result (search rules) c.span-item.is c.loop-span.invariant
       (sym c.contains_key.ensures ∙ w.if-not-contains_key.true) (w.in_ok-insert.ensures.updates.0 q) w.service_in.ensures
   | else-not-contains_key w ↦
       ap (λ m. option_map numbered_service (get nat_cmp m q)) w.services-is
-      ∙ kept q (get nat_cmp c.loop-span.services) c.args.trace.now c.loop-span.span-index c.span-item.result (search rules) c.span-item.is c.loop-span.invariant
+      ∙ services_kept q (get nat_cmp c.loop-span.services) c.args.trace.now c.loop-span.span-index c.span-item.result (search rules) c.span-item.is c.loop-span.invariant
       (sym c.contains_key.ensures ∙ w.if-not-contains_key.false)
 ]
