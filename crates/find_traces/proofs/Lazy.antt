@@ -9,11 +9,10 @@ use Rattle.std.proofs.lemmas.Simd.{map-map}
 use Rattle.jaeger_model.specs.declared.placed.Placed.{Placed}
 use Rattle.trace_model.specs.declared.query.Find.{Find}
 use Rattle.trace_model.specs.Searching.{matches, ranked_by_start, cut}
-use Rattle.trace_model.proofs.Ranking.{ranked-permutation}
+use Rattle.trace_model.proofs.Ranking.{ranked-permutation, ranked-filter}
 use Rattle.find_traces.specs.Places.{numbered, is_hit, start_of, hits, places_found, trace_at}
 use Rattle.find_traces.specs.declared.key.Key.{Key}
 use Rattle.find_traces.specs.Keys.{found_at, key_of, key_place, key_judged, best_cmp}
-use Rattle.find_traces.proofs.Choosing.{ranked-filter}
 use Rattle.find_traces.proofs.Order.{ranked_rises, strict_map}
 use Rattle.find_traces.proofs.Found.{Leads, all_lead, map_cut}
 use Rattle.find_traces.proofs.Walking.{answer}

@@ -1,6 +1,5 @@
 pub mod Counting
 pub mod Wanting
-pub mod Choosing
 pub mod Rising
 pub mod Order
 pub mod Sorting

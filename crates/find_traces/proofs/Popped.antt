@@ -10,7 +10,7 @@ use Rattle.std.specs.FinMap.{IsAntisymmetric}
 use Rattle.std.proofs.lemmas.Bool.{false≢true}
 use Rattle.std.proofs.lemmas.List.Sorted.{list_any-IsPermutation}
 use Rattle.std.proofs.lemmas.Map.Keys.{IsDistinct-IsPermutation}
-use Rattle.trace_model.proofs.Rising.{Below, has, not_below, absent, present}
+use Rattle.trace_model.proofs.Rising.{Below, has, not_below, absent, present, tails}
 use Rattle.find_traces.proofs.Rising.{flips, distinct_moved}
 
 module _ {K : Type 0} (cmp : K → K → Ordering) where
@@ -50,13 +50,6 @@ module _ {K : Type 0} {cmp : K → K → Ordering} (o : IsTotalOrder cmp) (exact
   apart q x [] e h = refl
   apart q x (z ∷ zs) e h = ap (λ r. is_eq r || has cmp q zs) (o.congr q x z e) ∙ ap (λ b. b || has cmp q zs) h.0 ∙ apart q x zs e h.1
 
-  without : (x : K) (left after : List K) → AllByRecursion (λ z. eq_by_cmp cmp x z ≡ false) left → Below cmp x after → ((q : K) → has cmp q (x ∷ left) ≡ has cmp q (x ∷ after)) → (q : K) → has cmp q left ≡ has cmp q after
-  without x left after d b same q = elim (cmp q x) as (λ r. cmp q x ≡ r → (is_eq r || has cmp q left) ≡ (is_eq r || has cmp q after) → has cmp q left ≡ has cmp q after) [
-    | Less ↦ λ e s. s
-    | Equal ↦ λ e s. apart q x left e d ∙ sym (not_below o exact q x after e b)
-    | Greater ↦ λ e s. s
-  ] refl (same q)
-
   next_of : (rest left : List K) (x : K) → IsStrictlySortedBy cmp rest → IsDistinct (eq_by_cmp cmp) (x ∷ left) → ((q : K) → has cmp q (x ∷ left) ≡ has cmp q rest)
       → AllByRecursion (λ z. is_lt (cmp z x) ≡ false) left → Next cmp rest left x
   unfolding IsStrictlySortedBy IsDistinct
@@ -72,7 +65,7 @@ module _ {K : Type 0} {cmp : K → K → Ordering} (o : IsTotalOrder cmp) (exact
           leaves = record {
             rises = r.1;
             distinct = d.1;
-            same = without x left ys d.0 moved (λ q. same q ∙ ap (λ z. has cmp q (z ∷ ys)) (sym first));
+            same = tails o exact x left ys (λ q e. apart q x left e d.0) (λ q e. not_below o exact q x ys e moved) (λ q. same q ∙ ap (λ z. has cmp q (z ∷ ys)) (sym first));
           };
         }
     | Greater ↦ λ g.

@@ -7,11 +7,10 @@ use Rattle.std.proofs.lemmas.List.Sorted.{IsPermutation-map, IsPermutation-sym, 
 use Rattle.jaeger_model.specs.declared.placed.Placed.{Placed}
 use Rattle.trace_model.specs.declared.query.Find.{Find}
 use Rattle.trace_model.specs.Searching.{ranked_by_start}
-use Rattle.trace_model.proofs.Ranking.{ranked-permutation}
+use Rattle.trace_model.proofs.Ranking.{ranked-permutation, ranked-filter}
 use Rattle.find_traces.specs.declared.key.Key.{Key}
 use Rattle.find_traces.specs.Places.{numbered, is_hit, start_of, hits}
 use Rattle.find_traces.specs.Keys.{reverse_key_of, reverse_key_cmp}
-use Rattle.find_traces.proofs.Choosing.{ranked-filter}
 use Rattle.find_traces.proofs.Order.{rank_cmp, ranked_rises, reverse_total, reverse_exact, strict_map}
 use Rattle.find_traces.proofs.Rising.{sorted_is}
 
