@@ -1,5 +1,5 @@
 -- How reads join.
-use Rattle.std.proofs.Common.{◌≡◌, ℕ, ◌+◌, ◌≤◌, Bool, List, [], ◌++◌, length, take, Option, sym, ap, ◌∙◌, subst, arith, append_assoc, append-nil, length-append}
+use Rattle.std.proofs.Common.{◌≡◌, ℕ, ◌+◌, ◌≤◌, Bool, List, [], ◌++◌, length, take, Option, refl, sym, ap, ◌∙◌, subst, arith, append_assoc, append-nil, length-append}
 use Rattle.std.proofs.Math.Seq.{take-append_seam}
 use Rattle.std.proofs.KnownBytes.{Consumes-trans, Consumes-nil}
 use Rattle.http_requests.specs.Waiting.{Source, counted, ReadsWhile}
@@ -18,33 +18,10 @@ nothing_read input r = record {
   end = λ knows. knows;
 }
 
-pub reads_join : (in0 in1 in2 : Option (List ℕ)) (a b c : ReadBuffer) → ReadsOn in0 in1 a b → ReadsOn in1 in2 b c → ReadsOn in0 in2 a c
-reads_join in0 in1 in2 a b c first second =
-    let long : length (first.more ++ second.more) ≡ length first.more + length second.more = length-append first.more second.more in
-    record {
-      more = first.more ++ second.more;
-      read = Consumes-trans in0 in1 in2 first.more second.more first.read second.read;
-      held = second.held ∙ ap (λ l. l ++ second.more) first.held ∙ append_assoc a.held first.more second.more;
-      least = omega (arith, first.least, second.least, long);
-      most = omega (arith, first.most, second.most, long);
-      end = λ knows. second.end (first.end knows);
-    }
-
 -- ---- with what was taken in front
 
--- a text that stands in front is taken
-pub takes_beginning : (in0 in1 : Option (List ℕ)) (a b : ReadBuffer) (text rest : List ℕ) → ReadsOn in0 in1 a b → b.held ≡ text ++ rest → ReadsOn in0 in1 a (put_back text (record b { held = rest }))
-takes_beginning in0 in1 a b text rest reads cut = record {
-  more = reads.more;
-  read = reads.read;
-  held = sym cut ∙ reads.held;
-  least = reads.least;
-  most = reads.most;
-  end = reads.end;
-}
-
 -- a text was taken, and then more was read
-pub takes_then_reads : (in0 in1 in2 : Option (List ℕ)) (a b c : ReadBuffer) (text : List ℕ) → ReadsOn in0 in1 a (put_back text b) → ReadsOn in1 in2 b c → ReadsOn in0 in2 a (put_back text c)
+takes_then_reads : (in0 in1 in2 : Option (List ℕ)) (a b c : ReadBuffer) (text : List ℕ) → ReadsOn in0 in1 a (put_back text b) → ReadsOn in1 in2 b c → ReadsOn in0 in2 a (put_back text c)
 takes_then_reads in0 in1 in2 a b c text first second =
     let long : length (first.more ++ second.more) ≡ length first.more + length second.more = length-append first.more second.more in
     record {
@@ -56,18 +33,8 @@ takes_then_reads in0 in1 in2 a b c text first second =
       end = λ knows. second.end (first.end knows);
     }
 
-regroup : (a b : ReadBuffer) (text more : List ℕ) (in0 in1 : Option (List ℕ)) → ReadsOn in0 in1 a (put_back text (put_back more b)) → ReadsOn in0 in1 a (put_back (text ++ more) b)
-regroup a b text more in0 in1 reads = record {
-  more = reads.more;
-  read = reads.read;
-  held = append_assoc text more b.held ∙ reads.held;
-  least = reads.least;
-  most = reads.most;
-  end = reads.end;
-}
-
 -- and one more from the beginning of what is there
-pub takes_more : (in0 in1 : Option (List ℕ)) (a b : ReadBuffer) (text more rest : List ℕ) → ReadsOn in0 in1 a (put_back text b) → b.held ≡ more ++ rest → ReadsOn in0 in1 a (put_back (text ++ more) (record b { held = rest }))
+takes_more : (in0 in1 : Option (List ℕ)) (a b : ReadBuffer) (text more rest : List ℕ) → ReadsOn in0 in1 a (put_back text b) → b.held ≡ more ++ rest → ReadsOn in0 in1 a (put_back (text ++ more) (record b { held = rest }))
 takes_more in0 in1 a b text more rest reads cut = record {
   more = reads.more;
   read = reads.read;
@@ -97,19 +64,7 @@ module _ {R : Type 0} (source : Source R) where
   }
 
   pub then_on : (Awaits : List ℕ → Type 0) (s m t : R) (a b c : ReadBuffer) → ReadsOnWhile source Awaits s m a b → ReadsOnWhile source Awaits m t b c → ReadsOnWhile source Awaits s t a c
-  then_on Awaits s m t a b c first second = record {
-    on = reads_join (source.remaining s) (source.remaining m) (source.remaining t) a b c first.on second.on;
-    waits = reads_in_turn (counted source.gives) Awaits (s, a.left) (m, b.left) (t, c.left) a.held b.held c.held first.waits second.waits;
-  }
-
-  pub beginnings_join : (Awaits More : List ℕ → Type 0) (s m t : R) (a b c : ReadBuffer) (text more : List ℕ) → ((h : List ℕ) → More h → Awaits (text ++ h))
-      → ReadsOnWhile source Awaits s m a (put_back text b) → ReadsOnWhile source More m t b (put_back more c) → ReadsOnWhile source Awaits s t a (put_back (text ++ more) c)
-  beginnings_join Awaits More s m t a b c text more behind first second =
-      let all = beginning_then Awaits More s m t a b (put_back more c) text behind first second in
-      record {
-        on = regroup a c text more (source.remaining s) (source.remaining t) all.on;
-        waits = subst (λ (l : List ℕ). ReadsWhile (counted source.gives) Awaits (s, a.left) (t, c.left) a.held l) (sym (append_assoc text more c.held)) all.waits;
-      }
+  then_on Awaits s m t a b c first second = beginning_then Awaits Awaits s m t a b c [] (λ h awaits. awaits) first second
 
   -- one more text from the beginning of what is there
   pub beginning_more : (Awaits : List ℕ → Type 0) (s t : R) (a b : ReadBuffer) (text more rest : List ℕ) → ReadsOnWhile source Awaits s t a (put_back text b) → b.held ≡ more ++ rest
@@ -119,12 +74,15 @@ module _ {R : Type 0} (source : Source R) where
     waits = subst (λ (l : List ℕ). ReadsWhile (counted source.gives) Awaits (s, a.left) (t, b.left) a.held l) (ap (λ l. text ++ l) cut ∙ sym (append_assoc text more rest)) reads.waits;
   }
 
+  pub beginnings_join : (Awaits More : List ℕ → Type 0) (s m t : R) (a b c : ReadBuffer) (text more : List ℕ) → ((h : List ℕ) → More h → Awaits (text ++ h))
+      → ReadsOnWhile source Awaits s m a (put_back text b) → ReadsOnWhile source More m t b (put_back more c) → ReadsOnWhile source Awaits s t a (put_back (text ++ more) c)
+  beginnings_join Awaits More s m t a b c text more behind first second =
+      let all = beginning_then Awaits More s m t a b (put_back more c) text behind first second in
+      beginning_more Awaits s t a (put_back more c) text more c.held all refl
+
   pub beginning_taken : (Awaits : List ℕ → Type 0) (s t : R) (a b : ReadBuffer) (text rest : List ℕ) → ReadsOnWhile source Awaits s t a b → b.held ≡ text ++ rest
       → ReadsOnWhile source Awaits s t a (put_back text (record b { held = rest }))
-  beginning_taken Awaits s t a b text rest reads cut = record {
-    on = takes_beginning (source.remaining s) (source.remaining t) a b text rest reads.on cut;
-    waits = subst (λ (l : List ℕ). ReadsWhile (counted source.gives) Awaits (s, a.left) (t, b.left) a.held l) cut reads.waits;
-  }
+  beginning_taken Awaits s t a b text rest reads cut = beginning_more Awaits s t a b [] text rest reads cut
 
   -- who awaits less awaits this
   pub widened : (Awaits More : List ℕ → Type 0) (s t : R) (a b : ReadBuffer) → ((h : List ℕ) → More h → Awaits h) → ReadsOnWhile source More s t a b → ReadsOnWhile source Awaits s t a b
@@ -155,13 +113,7 @@ module _ {R : Type 0} (source : Source R) where
   -- who awaits less awaits this
   pub widened_stop : (Awaits More : List ℕ → Type 0) (s t : R) (failed : Bool) (a : ReadBuffer) (why : ReadError) → ((h : List ℕ) → More h → Awaits h) → StopsWhile source More s t failed a why
       → StopsWhile source Awaits s t failed a why
-  widened_stop Awaits More s t failed a why more stops = record {
-    here = stops.here;
-    before = stops.before;
-    reads = widened Awaits More s stops.before a stops.here more stops.reads;
-    awaits = more stops.here.held stops.awaits;
-    last = stops.last;
-  }
+  widened_stop Awaits More s t failed a why more stops = stops_behind Awaits More s s t failed a a [] why more (nothing_yet Awaits s a) stops
 
 -- ---- what was seen, among more
 
