@@ -1,8 +1,7 @@
 -- How a body is taken, piece by piece.
 use Rattle.std.proofs.Common.{All, ◌≡◌, ℕ, ◌+◌, ◌-◌, ◌≤◌, ◌<◌, Bool, true, false, List, [], ◌∷◌, ◌++◌, length, take, drop, replicate, Ok, Err, refl, sym, ap, ◌∙◌, subst, arith, inl, inr, append_assoc, append-nil, length-append}
-use Rattle.std.proofs.lemmas.Grind.{flat_map-append}
 use Rattle.std.proofs.lemmas.Bool.Decides.{nat_tests}
-use Rattle.std.proofs.lemmas.List.{take-append-drop, length-take-le, length-replicate, drop_all}
+use Rattle.std.proofs.lemmas.List.{flat_map_more, take-append-drop, length-take-le, length-replicate, drop_all}
 use Rattle.std.proofs.lemmas.List.Elements.{All-append, All-cons, All-nil}
 use Rattle.std.specs.Io.KnownBytes.{IsAtEnd}
 use Rattle.httparse.specs.Ascii.{crlf_bytes}
@@ -209,12 +208,6 @@ module _ {S R : Type 0} (takes : Takings S) (source : Source R) (s m t : R) (old
 pub chunks_none : {S R : Type 0} (takes : Takings S) (source : Source R) → TakesNothing S takes → (s : R) (r : ReadBuffer) (before : S) → ChunksSoFar takes source s s r r before before MOST_BODY_BYTES
 chunks_none takes source nothing s r before = record { chunks = []; each = All-nil IsChunk; reads = nothing_yet source AwaitsChunks s r; put = nothing before; sum = omega arith }
 
-texts_more : (cs : List Chunk) (c : Chunk) → texts (cs ++ c ∷ []) ≡ texts cs ++ c.text
-texts_more cs c = flat_map-append (λ (x : Chunk). x.text) cs (c ∷ []) ∙ ap (λ l. texts cs ++ l) (append-nil c.text)
-
-contents_more : (cs : List Chunk) (c : Chunk) → contents (cs ++ c ∷ []) ≡ contents cs ++ c.content
-contents_more cs c = flat_map-append (λ (x : Chunk). x.content) cs (c ∷ []) ∙ ap (λ l. contents cs ++ l) (append-nil c.content)
-
 module _ {S R : Type 0} (takes : Takings S) (source : Source R) (s m t : R) (old here behind : ReadBuffer) (before now : S) (left : ℕ) (so : ChunksSoFar takes source s m old here before now left) where
   behind_texts : (h : List ℕ) → HasNone IsSomeSizeLine h → HasNone (IsDecided MOST_BODY_BYTES) (texts so.chunks ++ h)
   behind_texts h none = behind_chunks so.chunks left MOST_BODY_BYTES h so.each so.sum (no_line left h none)
@@ -290,10 +283,10 @@ module _ {S R : Type 0} (takes : Takings S) (source : Source R) (s m t : R) (old
           All-append IsChunk so.chunks (chunk_of content ∷ []) so.each (All-cons IsChunk (chunk_of content) [] (chunk_is content size_is) (All-nil IsChunk))
 
       sum_with : (content : List ℕ) → length content ≡ size → length (contents (so.chunks ++ chunk_of content ∷ [])) ≡ length (contents so.chunks) + size
-      sum_with content size_is = omega (arith, size_is, ap length (contents_more so.chunks (chunk_of content)), length-append (contents so.chunks) content)
+      sum_with content size_is = omega (arith, size_is, ap length (flat_map_more (λ (x : Chunk). x.content) [] so.chunks (chunk_of content)), length-append (contents so.chunks) content)
 
       texts_with : (content : List ℕ) → (texts so.chunks ++ line.text) ++ (content ++ crlf_bytes) ≡ texts (so.chunks ++ chunk_of content ∷ [])
-      texts_with content = append_assoc (texts so.chunks) line.text (content ++ crlf_bytes) ∙ sym (texts_more so.chunks (chunk_of content))
+      texts_with content = append_assoc (texts so.chunks) line.text (content ++ crlf_bytes) ∙ flat_map_more (λ (x : Chunk). x.text) [] so.chunks (chunk_of content)
 
       -- behind data that are whole the last line may stand
       content_awaited : (h : List ℕ) → AwaitsRest (IsContent size) h → AwaitsChunks ((texts so.chunks ++ line.text) ++ h)
@@ -339,7 +332,7 @@ module _ {S R : Type 0} (takes : Takings S) (source : Source R) (s m t : R) (old
           each = each_with e.content e.size_is;
           reads = subst (λ (l : List ℕ). ReadsOnWhile source AwaitsChunks s u old (put_back l new)) (texts_with e.content)
               (beginnings_join source AwaitsChunks (AwaitsRest (IsContent size)) s t u old behind new (texts so.chunks ++ line.text) (e.content ++ crlf_bytes) content_awaited with_line e.reads);
-          put = subst (λ (l : List ℕ). takes before l after) (sym (contents_more so.chunks (chunk_of e.content))) (joined before now after (contents so.chunks) e.content so.put e.put);
+          put = subst (λ (l : List ℕ). takes before l after) (flat_map_more (λ (x : Chunk). x.content) [] so.chunks (chunk_of e.content)) (joined before now after (contents so.chunks) e.content so.put e.put);
           sum = omega (arith, so.sum, fits, sum_with e.content e.size_is);
         }
 
