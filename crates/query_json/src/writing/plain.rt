@@ -6,27 +6,16 @@ ghost use Rattle.json.specs.Written.{PlainBetween};
 
 use std::simd::prelude::*;
 
-/// Whether none of the sixteen bytes from `at` on needs an escape.
-fn are_plain_16(text: &[u8], at: usize) -> bool
-    requires { at + 16 ≤ length text.now }
-    ensures { OnTrue result (PlainBetween text.now at (at + 16)) }
+/// Whether none of the `N` bytes from `at` on needs an escape.
+fn are_plain_at<const N: usize>(text: &[u8], at: usize) -> bool
+    requires lanes { N ≤ 64 }
+    requires inside { at + N ≤ length text.now }
+    ensures { OnTrue result (PlainBetween text.now at (at + N)) }
 {
-    let bytes = u8x16::from_slice(&text[at..]);
-    (bytes.simd_eq(u8x16::splat(b'"'))
-        | bytes.simd_eq(u8x16::splat(b'\\'))
-        | bytes.simd_lt(u8x16::splat(0x20))).to_bitmask()
-        == 0
-}
-
-/// Whether none of the eight bytes from `at` on needs an escape.
-fn are_plain_8(text: &[u8], at: usize) -> bool
-    requires { at + 8 ≤ length text.now }
-    ensures { OnTrue result (PlainBetween text.now at (at + 8)) }
-{
-    let bytes = u8x8::from_slice(&text[at..]);
-    (bytes.simd_eq(u8x8::splat(b'"'))
-        | bytes.simd_eq(u8x8::splat(b'\\'))
-        | bytes.simd_lt(u8x8::splat(0x20))).to_bitmask()
+    let bytes = Simd::<u8, N>::from_slice(&text[at..]);
+    (bytes.simd_eq(Simd::splat(b'"'))
+        | bytes.simd_eq(Simd::splat(b'\\'))
+        | bytes.simd_lt(Simd::splat(0x20))).to_bitmask()
         == 0
 }
 
@@ -49,12 +38,12 @@ fn are_plain_many(text: &[u8]) -> bool
 {
     let mut at = 0;
     while text.len() - at > 16 {
-        if !are_plain_16(text, at) {
+        if !are_plain_at::<16>(text, at) {
             return false;
         }
         at += 16;
     }
-    are_plain_16(text, text.len() - 16)
+    are_plain_at::<16>(text, text.len() - 16)
 }
 
 /// Whether no byte needs an escape, where there are fewer than sixteen.
@@ -63,7 +52,7 @@ fn are_plain(text: &[u8]) -> bool
     ensures { OnTrue result (PlainBetween text.now 0 (length text.now)) }
 {
     if text.len() >= 8 {
-        are_plain_8(text, 0) && are_plain_8(text, text.len() - 8)
+        are_plain_at::<8>(text, 0) && are_plain_at::<8>(text, text.len() - 8)
     } else {
         are_plain_few(text)
     }
