@@ -89,11 +89,15 @@ module _ {S : Type 0} (limits : S → Limits) (knows : S → History → Type 0)
   goes under knew s t seen (Say remark) (Said said) holds step = (seen, (step.0, refl), subst (λ (x : S). Holds under knew x seen) (sym step.1) holds)
   goes under knew s t seen _ _ holds step = absurd step
 
-  pub related : (under : Limits) (knew : History → Type 0) (s t : S) (seen : Seen) (xs : List Exchange) → Holds under knew s seen → Run submits reads s xs t → Related knew under seen xs
+  related : (under : Limits) (knew : History → Type 0) (s t : S) (seen : Seen) (xs : List Exchange) → Holds under knew s seen → Run submits reads s xs t → Related knew under seen xs
   related under knew s t seen [] holds run = tt
   related under knew s t seen (x ∷ xs) holds run =
       let on = goes under knew s run.0 seen x.verdict x.reply holds run.1 in
       (on.0, on.1, related under knew run.0 t on.0 xs on.2 run.2)
 
-  pub begin : (s : S) → Holds (limits s) (λ h. knows s h) s nothing_seen
+  begin : (s : S) → Holds (limits s) (λ h. knows s h) s nothing_seen
   begin s = record { same = refl; old = λ h k. k; last = tt; placed = All-nil (Placed s) }
+
+  -- from the beginning, when nothing was seen
+  pub related_all : (s t : S) (xs : List Exchange) → Run submits reads s xs t → Related (λ h. knows s h) (limits s) nothing_seen xs
+  related_all s t xs run = related (limits s) (λ h. knows s h) s t nothing_seen xs (begin s) run

@@ -2,6 +2,7 @@
 use Rattle.std.proofs.Common.{◌≡◌, ◌≢◌, ℕ, ◌+◌, ◌<◌, ◌⊎◌, Bool, true, false, if◌then◌else◌, List, [], ◌∷◌, ◌++◌, length, take, Option, Err, refl, sym, ap, ◌∙◌, subst, arith, inl, inr, append_assoc, append-nil, length-append, rules}
 use Rattle.std.specs.Io.KnownBytes.{Appends, Consumes, IsAtEnd}
 use Rattle.std.proofs.KnownBytes.{Consumes-trans, Consumes-kept, Appends-trans, Consumes-nil, Appends-nil}
+use Rattle.std.proofs.lemmas.List.{flat_map_more}
 use Rattle.std.proofs.lemmas.List.Elements.{All-append, All-cons, All-nil}
 use Rattle.http_requests.specs.declared.read_buffer.TheConstants.{MOST_READS}
 use Rattle.http_requests.specs.Requests.{IsBroken, AwaitsRequest}
@@ -14,7 +15,7 @@ use Rattle.http_requests.proofs.Awaiting.{uncounted}
 use Rattle.http_requests.specs.LineLaws.{no_bytes_await}
 use Rattle.http_session.specs.Hearing.{HearsNothing}
 use Rattle.http_session.specs.Replies.{response_of, takes_no_memory}
-use Rattle.http_session.specs.Sessions.{Exchange, IsExchange, IsOpen, texts, response_to, responses, Submits, Reads, Step, Run, clean, closing, broken, none_yet, due, due_parting, NothingWasDue, IsCause, Says, cause_by}
+use Rattle.http_session.specs.Sessions.{Exchange, IsExchange, IsOpen, texts, response_to, responses, Submits, Reads, Step, Run, Ending, clean, closing, broken, last_of, IsEnding, parting, partings, is_clean, Due, none_yet, due, due_parting, exchange_due, NothingWasDue, IsDue, bytes_due, is_spared, IsCause, Says, cause_by}
 use Rattle.http_session.specs.InOrder.{Line, IsTwoWay, pieces, EndsOver, FailsOver}
 use Rattle.http_session.specs.Underway.{SoFar}
 use Rattle.http_session.specs.declared.reply.Reply.TheVariants.{Broken}
@@ -23,13 +24,8 @@ use Rattle.http_session.specs.declared.exchanges.SessionErrorKind.TheVariants.{R
 use Rattle.http_session.specs.declared.exchanges.Silence.{Silence}
 use Rattle.http_session.proofs.Awaiting.{read_on, said_before, said_on, said_as, reads_left}
 
-texts_more : (xs : List Exchange) (x : Exchange) → texts (xs ++ x ∷ []) ≡ texts xs ++ x.text
-texts_more [] x = append-nil x.text
-texts_more (y ∷ xs) x = ap (λ l. y.text ++ l) (texts_more xs x) ∙ sym (append_assoc y.text (texts xs) x.text)
-
 responses_more : (xs : List Exchange) (x : Exchange) → responses (xs ++ x ∷ []) ≡ responses xs ++ response_to x
-responses_more [] x = append-nil (response_to x)
-responses_more (y ∷ xs) x = ap (λ l. response_to y ++ l) (responses_more xs x) ∙ sym (append_assoc (response_to y) (responses xs) (response_to x))
+responses_more xs x = sym (flat_map_more response_to [] xs x)
 
 run_more : {S : Type 0} (submits : Submits S) (reads : Reads S) (s m t : S) (xs : List Exchange) (x : Exchange)
     → Run submits reads s xs m → Step submits reads m x.verdict x.reply t → Run submits reads s (xs ++ x ∷ []) t
@@ -39,8 +35,13 @@ run_more submits reads s m t (y ∷ xs) x r q = (r.0, r.1, run_more submits read
 run_all : {S : Type 0} (submits : Submits S) (reads : Reads S) (s t : S) (xs : List Exchange) → Run submits reads s xs t → Run submits reads s (xs ++ []) t
 run_all submits reads s t xs r = subst (λ (l : List Exchange). Run submits reads s l t) (sym (append-nil xs)) r
 
-texts_all : (xs : List Exchange) → texts (xs ++ []) ≡ texts xs
-texts_all xs = ap texts (append-nil xs)
+-- what was taken is what these requests spell and what is held: the same where none follows
+split_all : (taken held : List ℕ) (xs : List Exchange) → taken ≡ texts xs ++ held → taken ≡ texts (xs ++ []) ++ held
+split_all taken held xs split = split ∙ ap (λ (l : List Exchange). texts l ++ held) (sym (append-nil xs))
+
+-- and where one does, which what is held begins with
+split_more : (taken held rest : List ℕ) (xs : List Exchange) (x : Exchange) → taken ≡ texts xs ++ held → held ≡ x.text ++ rest → taken ≡ texts (xs ++ x ∷ []) ++ rest
+split_more taken held rest xs x split cut = split ∙ ap (λ l. texts xs ++ l) cut ∙ sym (append_assoc (texts xs) x.text rest) ∙ ap (λ l. l ++ rest) (flat_map_more (λ (y : Exchange). y.text) [] xs x)
 
 -- before the first byte the first request is awaited
 pub nothing_was_due : NothingWasDue Memory []
@@ -123,7 +124,7 @@ module _ {S C : Type 0} (submits : Submits S) (reads : Reads S) (line : Line C) 
         read = subst (λ (r : Option (List ℕ)). Consumes (line.source.remaining c0) r so.taken) (sym same) so.read;
         answers = said.0;
         made = omega (arith, so.made, said.1, ap (λ a. length (pieces a)) before.1);
-        split = so.split ∙ ap (λ l. texts so.opens ++ l) cut ∙ sym (append_assoc (texts so.opens) x.text rest) ∙ ap (λ l. l ++ rest) (sym (texts_more so.opens x));
+        split = split_more so.taken old.held rest so.opens x so.split cut;
         each = All-append IsOpen so.opens (x ∷ []) so.each (All-cons IsOpen x [] (record { exchange = is; open_is = open_is }) (All-nil IsOpen));
         run = run_more submits reads s t u so.opens x so.run step;
         written = subst (Appends (line.contents c0) (line.contents c2)) (sym (responses_more so.opens x))
@@ -146,7 +147,7 @@ module _ {S C : Type 0} (submits : Submits S) (reads : Reads S) (line : Line C) 
           ending = clean;
           rest = old.held;
           read = so.read;
-          split = so.split ∙ ap (λ l. l ++ old.held) (sym (texts_all so.opens));
+          split = split_all so.taken old.held so.opens so.split;
           each = so.each;
           ends = found;
           run = run_all submits reads s t so.opens so.run;
@@ -157,55 +158,49 @@ module _ {S C : Type 0} (submits : Submits S) (reads : Reads S) (line : Line C) 
         said_as line.source.gives line.takes c0 c1 so.opens so.taken (responses so.opens) (responses (so.opens ++ []) ++ []) so.answers same,
       )
 
+  -- a response was written, and the session ends behind it
+  ends_saying : (c0 c1 c2 : C) (s t u : S) (old : ReadBuffer) (answered : ℕ) (ending : Ending) (rest said : List ℕ)
+      → (so : SoFar submits reads line c0 c1 s t old answered) → so.taken ≡ texts (so.opens ++ last_of ending) ++ rest
+      → IsEnding (IsAtEnd (line.source.remaining c1)) rest ending → Run submits reads s (so.opens ++ last_of ending) u
+      → responses (so.opens ++ last_of ending) ++ parting ending ≡ responses so.opens ++ said
+      → length (last_of ending) + partings ending ≡ 1 → false ≡ is_clean ending
+      → Appends (line.contents c1) (line.contents c2) said → line.takes c1 said c2
+      → EndsOver submits reads line c0 c2 s u (record { answered = answered + 1; clean = false })
+  ends_saying c0 c1 c2 s t u old answered ending rest said so split is run all one unclean wrote took =
+      let same = (two.writes_leave c1 c2 said took).0 in (
+        record {
+          taken = so.taken;
+          opens = so.opens;
+          ending = ending;
+          rest = rest;
+          read = subst (λ (r : Option (List ℕ)). Consumes (line.source.remaining c0) r so.taken) (sym same) so.read;
+          split = split;
+          each = so.each;
+          ends = subst (λ (r : Option (List ℕ)). IsEnding (IsAtEnd r) rest ending) (sym same) is;
+          run = run;
+          written = subst (Appends (line.contents c0) (line.contents c2)) (sym all)
+              (Appends-trans (line.contents c0) (line.contents c1) (line.contents c2) (responses so.opens) said so.written wrote);
+          count = omega (arith, so.count, one, length-append so.opens (last_of ending));
+          clean_is = unclean;
+        },
+        (said_on line.source.gives line.takes c0 c1 c2 so.opens so.taken (responses so.opens) said (responses (so.opens ++ last_of ending) ++ parting ending) so.answers took all).0,
+      )
+
   pub ends_broken : (c0 c1 c2 : C) (s t : S) (old : ReadBuffer) (answered : ℕ) (b : Breach)
       → SoFar submits reads line c0 c1 s t old answered → IsBroken (IsAtEnd (line.source.remaining c1)) old.held b
       → Appends (line.contents c1) (line.contents c2) (response_of (Broken b) true) → line.takes c1 (response_of (Broken b) true) c2
       → EndsOver submits reads line c0 c2 s t (record { answered = answered + 1; clean = false })
   ends_broken c0 c1 c2 s t old answered b so is wrote took =
-      let same = (two.writes_leave c1 c2 (response_of (Broken b) true) took).0 in
-      let all : responses (so.opens ++ []) ++ response_of (Broken b) true ≡ responses so.opens ++ response_of (Broken b) true = ap (λ (l : List Exchange). responses l ++ response_of (Broken b) true) (append-nil so.opens) in (
-        record {
-          taken = so.taken;
-          opens = so.opens;
-          ending = broken b;
-          rest = old.held;
-          read = subst (λ (r : Option (List ℕ)). Consumes (line.source.remaining c0) r so.taken) (sym same) so.read;
-          split = so.split ∙ ap (λ l. l ++ old.held) (sym (texts_all so.opens));
-          each = so.each;
-          ends = subst (λ (r : Option (List ℕ)). IsBroken (IsAtEnd r) old.held b) (sym same) is;
-          run = run_all submits reads s t so.opens so.run;
-          written = subst (Appends (line.contents c0) (line.contents c2)) (sym all)
-              (Appends-trans (line.contents c0) (line.contents c1) (line.contents c2) (responses so.opens) (response_of (Broken b) true) so.written wrote);
-          count = omega (arith, so.count, length-append {A = Exchange} so.opens []);
-          clean_is = refl;
-        },
-        (said_on line.source.gives line.takes c0 c1 c2 so.opens so.taken (responses so.opens) (response_of (Broken b) true) (responses (so.opens ++ []) ++ response_of (Broken b) true) so.answers took all).0,
-      )
+      ends_saying c0 c1 c2 s t t old answered (broken b) old.held (response_of (Broken b) true) so (split_all so.taken old.held so.opens so.split) is (run_all submits reads s t so.opens so.run)
+      (ap (λ (l : List Exchange). responses l ++ response_of (Broken b) true) (append-nil so.opens)) refl refl wrote took
 
   pub ends_closing : (c0 c1 c2 : C) (s t u : S) (old : ReadBuffer) (rest : List ℕ) (answered : ℕ) (x : Exchange)
       → SoFar submits reads line c0 c1 s t old answered → IsExchange x → x.close ≡ true → old.held ≡ x.text ++ rest
       → Step submits reads t x.verdict x.reply u → Appends (line.contents c1) (line.contents c2) (response_to x) → line.takes c1 (response_to x) c2
       → EndsOver submits reads line c0 c2 s u (record { answered = answered + 1; clean = false })
   ends_closing c0 c1 c2 s t u old rest answered x so is closes_is cut step wrote took =
-      let same = (two.writes_leave c1 c2 (response_to x) took).0 in
-      let all : responses (so.opens ++ x ∷ []) ++ [] ≡ responses so.opens ++ response_to x = append-nil (responses (so.opens ++ x ∷ [])) ∙ responses_more so.opens x in (
-        record {
-          taken = so.taken;
-          opens = so.opens;
-          ending = closing x;
-          rest = rest;
-          read = subst (λ (r : Option (List ℕ)). Consumes (line.source.remaining c0) r so.taken) (sym same) so.read;
-          split = so.split ∙ ap (λ l. texts so.opens ++ l) cut ∙ sym (append_assoc (texts so.opens) x.text rest) ∙ ap (λ l. l ++ rest) (sym (texts_more so.opens x));
-          each = so.each;
-          ends = (is, closes_is);
-          run = run_more submits reads s t u so.opens x so.run step;
-          written = subst (Appends (line.contents c0) (line.contents c2)) (sym all)
-              (Appends-trans (line.contents c0) (line.contents c1) (line.contents c2) (responses so.opens) (response_to x) so.written wrote);
-          count = omega (arith, so.count, length-append so.opens (x ∷ []));
-          clean_is = refl;
-        },
-        (said_on line.source.gives line.takes c0 c1 c2 so.opens so.taken (responses so.opens) (response_to x) (responses (so.opens ++ x ∷ []) ++ []) so.answers took all).0,
-      )
+      ends_saying c0 c1 c2 s t u old answered (closing x) rest (response_to x) so (split_more so.taken old.held rest so.opens x so.split cut) (is, closes_is) (run_more submits reads s t u so.opens x so.run step)
+      (append-nil (responses (so.opens ++ x ∷ [])) ∙ responses_more so.opens x) refl refl wrote took
 
   -- ---- a session that fails
 
@@ -222,7 +217,7 @@ module _ {S C : Type 0} (submits : Submits S) (reads : Reads S) (line : Line C) 
           next = none_yet;
           rest = here.held;
           read = still_consumed line.source c0 c1 c2 (line.in_failed c2) so.taken so.read last;
-          split = so.split ∙ ap (λ l. l ++ here.held) (sym (texts_all so.opens));
+          split = split_all so.taken here.held so.opens so.split;
           each = so.each;
           next_is = nothing;
           run = run_all submits reads s t so.opens so.run;
@@ -295,27 +290,29 @@ module _ {S C : Type 0} (submits : Submits S) (reads : Reads S) (line : Line C) 
   unwritten_of_silence Writing written out_failed r m n = absurd (n refl)
   unwritten_of_silence Memory written out_failed r m n = (m refl).1
 
-  pub fails_due : (c0 c1 c2 : C) (s t u : S) (old : ReadBuffer) (rest : List ℕ) (answered : ℕ) (x : Exchange) (silence : Silence)
-      → SoFar submits reads line c0 c1 s t old answered → IsExchange x → old.held ≡ x.text ++ rest
-      → Step submits reads t x.verdict x.reply u → Says (line.contents c1) (line.contents c2) false (line.out_failed c2) (response_to x) (Err silence)
-      → line.takes c1 (take silence.written (response_to x)) c2 → line.in_failed c1 ≡ false
-      → (takes_no_memory x.reply ≡ true → silence.cause ≢ Memory)
+  -- where a response was due, of which a part was written
+  fails_saying : (c0 c1 c2 : C) (s t u : S) (old : ReadBuffer) (answered : ℕ) (next : Due) (rest : List ℕ) (silence : Silence)
+      → (so : SoFar submits reads line c0 c1 s t old answered) → so.taken ≡ texts (so.opens ++ exchange_due next) ++ rest
+      → IsDue (IsAtEnd (line.source.remaining c1)) silence.cause rest next → Run submits reads s (so.opens ++ exchange_due next) u
+      → Says (line.contents c1) (line.contents c2) false (line.out_failed c2) (bytes_due next) (Err silence)
+      → line.takes c1 (take silence.written (bytes_due next)) c2 → line.in_failed c1 ≡ false
+      → (is_spared next ≡ true → silence.cause ≢ Memory)
       → FailsOver submits reads line c0 c2 s u (record { answered = answered; written = silence.written; cause = silence.cause })
-  fails_due c0 c1 c2 s t u old rest answered x silence so is cut step said took in_works spared =
-      let part = take silence.written (response_to x) in
+  fails_saying c0 c1 c2 s t u old answered next rest silence so split is run said took in_works spared =
+      let part = take silence.written (bytes_due next) in
       let same = two.writes_leave c1 c2 part took in
       let made = length (pieces so.answers.acts) in
       let answers = said_on line.source.gives line.takes c0 c1 c2 so.opens so.taken (responses so.opens) part (responses so.opens ++ part) so.answers took refl in (
         record {
           taken = so.taken;
           opens = so.opens;
-          next = due x;
+          next = next;
           rest = rest;
           read = subst (λ (r : Option (List ℕ)). Consumes (line.source.remaining c0) r so.taken) (sym same.0) so.read;
-          split = so.split ∙ ap (λ l. texts so.opens ++ l) cut ∙ sym (append_assoc (texts so.opens) x.text rest) ∙ ap (λ l. l ++ rest) (sym (texts_more so.opens x));
+          split = split;
           each = so.each;
-          next_is = (is, said.2);
-          run = run_more submits reads s t u so.opens x so.run step;
+          next_is = subst (λ (r : Option (List ℕ)). IsDue (IsAtEnd r) silence.cause rest next) (sym same.0) is;
+          run = run;
           within = said.0;
           written = Appends-trans (line.contents c0) (line.contents c1) (line.contents c2) (responses so.opens) part so.written said.1;
           count = so.count;
@@ -327,33 +324,20 @@ module _ {S C : Type 0} (submits : Submits S) (reads : Reads S) (line : Line C) 
         record { before = c2; answers = answers.0; count = answers.1; last = inl refl },
       )
 
+  pub fails_due : (c0 c1 c2 : C) (s t u : S) (old : ReadBuffer) (rest : List ℕ) (answered : ℕ) (x : Exchange) (silence : Silence)
+      → SoFar submits reads line c0 c1 s t old answered → IsExchange x → old.held ≡ x.text ++ rest
+      → Step submits reads t x.verdict x.reply u → Says (line.contents c1) (line.contents c2) false (line.out_failed c2) (response_to x) (Err silence)
+      → line.takes c1 (take silence.written (response_to x)) c2 → line.in_failed c1 ≡ false
+      → (takes_no_memory x.reply ≡ true → silence.cause ≢ Memory)
+      → FailsOver submits reads line c0 c2 s u (record { answered = answered; written = silence.written; cause = silence.cause })
+  fails_due c0 c1 c2 s t u old rest answered x silence so is cut step said took in_works spared =
+      fails_saying c0 c1 c2 s t u old answered (due x) rest silence so (split_more so.taken old.held rest so.opens x so.split cut) (is, said.2) (run_more submits reads s t u so.opens x so.run step) said took in_works spared
+
   pub fails_parting : (c0 c1 c2 : C) (s t : S) (old : ReadBuffer) (answered : ℕ) (b : Breach) (silence : Silence)
       → SoFar submits reads line c0 c1 s t old answered → IsBroken (IsAtEnd (line.source.remaining c1)) old.held b
       → Says (line.contents c1) (line.contents c2) false (line.out_failed c2) (response_of (Broken b) true) (Err silence)
       → line.takes c1 (take silence.written (response_of (Broken b) true)) c2 → line.in_failed c1 ≡ false
       → FailsOver submits reads line c0 c2 s t (record { answered = answered; written = silence.written; cause = silence.cause })
   fails_parting c0 c1 c2 s t old answered b silence so is said took in_works =
-      let part = take silence.written (response_of (Broken b) true) in
-      let same = two.writes_leave c1 c2 part took in
-      let made = length (pieces so.answers.acts) in
-      let answers = said_on line.source.gives line.takes c0 c1 c2 so.opens so.taken (responses so.opens) part (responses so.opens ++ part) so.answers took refl in (
-        record {
-          taken = so.taken;
-          opens = so.opens;
-          next = due_parting b;
-          rest = old.held;
-          read = subst (λ (r : Option (List ℕ)). Consumes (line.source.remaining c0) r so.taken) (sym same.0) so.read;
-          split = so.split ∙ ap (λ l. l ++ old.held) (sym (texts_all so.opens));
-          each = so.each;
-          next_is = (subst (λ (r : Option (List ℕ)). IsBroken (IsAtEnd r) old.held b) (sym same.0) is, said.2);
-          run = run_all submits reads s t so.opens so.run;
-          within = said.0;
-          written = Appends-trans (line.contents c0) (line.contents c1) (line.contents c2) (responses so.opens) part so.written said.1;
-          count = so.count;
-          made = made;
-          cause = cause_of_silence silence.cause silence.written (line.in_failed c2) (line.out_failed c2) so.taken made (same.1 ∙ in_works) said.2 said.3 said.4;
-          unwritten = unwritten_of_silence silence.cause silence.written (line.out_failed c2) said.2 said.4;
-          spared = λ e. absurd (cc e);
-        },
-        record { before = c2; answers = answers.0; count = answers.1; last = inl refl },
-      )
+      fails_saying c0 c1 c2 s t t old answered (due_parting b) old.held silence so (split_all so.taken old.held so.opens so.split) (is, said.2) (run_all submits reads s t so.opens so.run) said took in_works
+      (λ e. absurd (cc e))

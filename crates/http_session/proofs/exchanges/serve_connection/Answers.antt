@@ -1,6 +1,5 @@
 use Rattle.http_session.specs.InOrder.{line_of, IsTwoWay}
-use Rattle.http_session.specs.Related.{nothing_seen}
-use Rattle.http_session.proofs.Points.{related, begin}
+use Rattle.http_session.proofs.Points.{related_all}
 use Rattle.http_session.proofs.Turns.{fails_to_begin}
 use Rattle.http_session.proofs.exchanges.serve_connection.Goals as goal
 
@@ -9,25 +8,19 @@ returns-in_default-clause-error g c =
     let two : IsTwoWay (line_of g.C.Input.remaining g.C.Input.gives g.C.Input.has_failed g.C.Output.contents g.C.Output.takes g.C.Output.has_failed) = record { reads_leave = g.met.C.Connection.reads_leave; writes_leave = g.met.C.Connection.writes_leave } in
     let failed = fails_to_begin g.B.Backend.submits g.B.Backend.reads (line_of g.C.Input.remaining g.C.Input.gives g.C.Input.has_failed g.C.Output.contents g.C.Output.takes g.C.Output.has_failed) two c.args.connection.now c.args.backend.now c.requires.input_works c.requires.output_works in (
       failed,
-      related g.B.Backend.limits g.B.Backend.knows g.B.Backend.submits g.B.Backend.reads g.met.B.Backend.submit_knows g.met.B.Backend.read_knows
-          (g.B.Backend.limits c.args.backend.now) (g.B.Backend.knows c.args.backend.now) c.args.backend.now _ nothing_seen _
-          (begin g.B.Backend.limits g.B.Backend.knows g.B.Backend.submits g.B.Backend.reads g.met.B.Backend.submit_knows g.met.B.Backend.read_knows c.args.backend.now) failed.0.run,
+      related_all g.B.Backend.limits g.B.Backend.knows g.B.Backend.submits g.B.Backend.reads g.met.B.Backend.submit_knows g.met.B.Backend.read_knows c.args.backend.now _ _ failed.0.run,
     )
 
 pub returns-in-Ok-run_session-clause-ended : goal.returns-in-Ok-run_session-clause-ended
 returns-in-Ok-run_session-clause-ended g c =
     let ended = c.in-Ok-run_session.ensures.ended in (
       ended,
-      related g.B.Backend.limits g.B.Backend.knows g.B.Backend.submits g.B.Backend.reads g.met.B.Backend.submit_knows g.met.B.Backend.read_knows
-          (g.B.Backend.limits c.args.backend.now) (g.B.Backend.knows c.args.backend.now) c.args.backend.now _ nothing_seen _
-          (begin g.B.Backend.limits g.B.Backend.knows g.B.Backend.submits g.B.Backend.reads g.met.B.Backend.submit_knows g.met.B.Backend.read_knows c.args.backend.now) ended.0.run,
+      related_all g.B.Backend.limits g.B.Backend.knows g.B.Backend.submits g.B.Backend.reads g.met.B.Backend.submit_knows g.met.B.Backend.read_knows c.args.backend.now _ _ ended.0.run,
     )
 
 pub returns-clause-error : goal.returns-clause-error
 returns-clause-error g c =
     let failed = c.in-Err.ensures.error in (
       failed,
-      related g.B.Backend.limits g.B.Backend.knows g.B.Backend.submits g.B.Backend.reads g.met.B.Backend.submit_knows g.met.B.Backend.read_knows
-          (g.B.Backend.limits c.args.backend.now) (g.B.Backend.knows c.args.backend.now) c.args.backend.now _ nothing_seen _
-          (begin g.B.Backend.limits g.B.Backend.knows g.B.Backend.submits g.B.Backend.reads g.met.B.Backend.submit_knows g.met.B.Backend.read_knows c.args.backend.now) failed.0.run,
+      related_all g.B.Backend.limits g.B.Backend.knows g.B.Backend.submits g.B.Backend.reads g.met.B.Backend.submit_knows g.met.B.Backend.read_knows c.args.backend.now _ _ failed.0.run,
     )
