@@ -8,10 +8,9 @@ traces but ten, and the others have nothing to do. Times are processor time of t
     bench/limits.py [--bin PATH] [--sizes 1000,10000,100000] [--limits 100000] [--runs 5]
 """
 import random
-import tempfile
 
 from decode import asked_of, span
-from store import IN_BATCH, seconds
+from store import IN_BATCH, seconds_over
 import wire
 
 
@@ -23,20 +22,16 @@ def batch(rng):
 def script(size, limits):
     """Puts so many traces, then so many limits."""
     rng = random.Random(1)
-    lines = []
     for _ in range(size // IN_BATCH):
-        lines.append("put 0 " + batch(rng).hex() + "\ntake\n")
+        yield "put 0 " + batch(rng).hex() + "\ntake\n"
     for before in range(limits):
-        lines.append(f"limit 0 {10 if before % 2 == 0 else 0}\ntake\n")
-    return "".join(lines) + "publish\nenter 0\nread 0 /api/services\n"
+        yield f"limit 0 {10 if before % 2 == 0 else 0}\ntake\n"
+    yield "publish\nenter 0\nread 0 /api/services\n"
 
 
 def run(program, size, limits, runs):
     words = [program, "play", "--batches", "1000000", "--spans", "10000000"]
-    with tempfile.NamedTemporaryFile(mode="w") as file:
-        file.write(script(size, limits))
-        file.flush()
-        return seconds(words, file.name, runs, 0)
+    return seconds_over(words, script(size, limits), runs)
 
 
 def main():

@@ -12,11 +12,10 @@ program, the least of some runs, less those of a script in which nothing is hand
 
     bench/resent.py [--bin PATH] [--sizes 1000,10000,100000] [--runs 5]
 """
-import tempfile
 
 from decode import asked_of
 from heavy import span
-from store import seconds
+from store import seconds_over
 import wire
 from wire import field, integer, long, text, text_tag
 
@@ -51,10 +50,7 @@ def script(way, size, is_numbered):
 
 def run(program, way, size, is_numbered, runs):
     words = [program, "play", "--batches", "200000", "--spans", "200000"]
-    with tempfile.NamedTemporaryFile(mode="w") as file:
-        file.writelines(script(way, size, is_numbered))
-        file.flush()
-        return seconds(words, file.name, runs, 0)
+    return seconds_over(words, script(way, size, is_numbered), runs)
 
 
 def main():

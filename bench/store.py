@@ -22,11 +22,9 @@ def batch(rng, trace):
     return wire.batch("orders", [span(rng, trace, rng.getrandbits(63) | 1, 0) for _ in range(IN_BATCH)])
 
 
-def write_lines(rng, file, size):
+def lines_of(rng, size):
     """Batches of `size` spans in all, each a trace of its own."""
-    for _ in range(size // IN_BATCH):
-        file.write(batch(rng, rng.getrandbits(62) | 1 << 62).hex().encode() + b"\n")
-    file.flush()
+    return (batch(rng, rng.getrandbits(62) | 1 << 62).hex() + "\n" for _ in range(size // IN_BATCH))
 
 
 def seconds(words, name, runs, status):
@@ -43,6 +41,14 @@ def seconds(words, name, runs, status):
     return best
 
 
+def seconds_over(words, lines, runs, status=0):
+    """The same over these lines as standard input."""
+    with tempfile.NamedTemporaryFile(mode="w") as file:
+        file.writelines(lines)
+        file.flush()
+        return seconds(words, file.name, runs, status)
+
+
 def main():
     asked = asked_of(__doc__)
     asked.add_argument("--sizes", default="1000,10000,100000", help="spans held")
@@ -52,9 +58,7 @@ def main():
     limits = ["--batches", "1000000", "--spans", "10000000"]
     print(f"{'spans':>8} {'batches':>8} {'seconds':>8} {'us a span':>10}")
     for size in [int(s) for s in options.sizes.split(",")]:
-        with tempfile.NamedTemporaryFile() as file:
-            write_lines(rng, file, size)
-            kept = seconds([options.bin, "get", "ffffffffffffffff", *limits], file.name, options.runs, 1)
+        kept = seconds_over([options.bin, "get", "ffffffffffffffff", *limits], lines_of(rng, size), options.runs, 1)
         print(f"{size:8} {size // IN_BATCH:8} {kept:8.3f} {kept / size * 1e6:10.2f}")
 
 
