@@ -5,7 +5,7 @@ use Rattle.std.proofs.lemmas.List.{take-append-le, take-append-drop, length-take
 use Rattle.std.proofs.lemmas.Bool.{ltb-false, ltb-true, le-ltb, lt-ltb, ne_eqb}
 use Rattle.thrift_binary.specs.declared.fault.WireError.{WireError}
 use Rattle.thrift_binary.specs.Reading.{◌>>=◌, lift}
-use Rattle.thrift_binary.proofs.Found.{ok_is}
+use Rattle.thrift_binary.proofs.Found.{both_are}
 use Rattle.thrift_binary.specs.Cuts.{Settled, Cut, whole, faulty, unsettled, IsCutSafe, FaultsHavePlaces, ValuesHaveEnds, ShortStaysShort}
 
 -- ---- a beginning of two texts
@@ -31,13 +31,6 @@ ok_is_no_err x v e h = absurd cc
 
 err_is : {A E : Type 0} (d e : E) → bad {A = A} d ≡ bad e → d ≡ e
 err_is d e h = cc
-
-both_are : {A E : Type 0} (x y : A) (v u : List ℕ) → ok_with {E = E} x v ≡ ok_with y u → (x ≡ y) × (v ≡ u)
-both_are {A = A} {E = E} x y v u h =
-    let one : A × List ℕ = (x, v) in
-    let two : A × List ℕ = (y, u) in
-    let same : one ≡ two = ok_is {E = E} one two h in
-    (ap (λ (p : A × List ℕ). p.0) same, ap (λ (p : A × List ℕ). p.1) same)
 
 module _ {A E : Type 0} (short : E) (read : List ℕ → Result (A × List ℕ) E) where
   -- the answer at the bytes themselves

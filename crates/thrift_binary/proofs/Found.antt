@@ -36,6 +36,11 @@ done x = Ok x
 pub ok_is : {A E : Type 0} (x y : A) → done {E = E} x ≡ done y → x ≡ y
 ok_is x y e = cc
 
+pub both_are : {A B E : Type 0} (x y : A) (v u : B) → done {A = A × B} {E = E} (x, v) ≡ done {A = A × B} (y, u) → (x ≡ y) × (v ≡ u)
+both_are {A = A} {B = B} {E = E} x y v u e =
+    let same = ok_is {A = A × B} {E = E} (x, v) (y, u) e in
+    (ap (λ (p : A × B). p.0) same, ap (λ (p : A × B). p.1) same)
+
 abbrev got : ℕ → ℤ → List ℕ → Option (ℕ × ℤ) × List ℕ
 got c i r = (Some (c, i), r)
 
@@ -97,11 +102,8 @@ bool_behind_found b v x r e = by (eqb b 0) (eqb b 1) refl refl e
   where
     here : (k : ℕ) (y : Bool) → b ≡ k → IsBool (k ∷ []) y → said y v ≡ said x r → Beginning (λ t. IsBool t x) (b ∷ v) r
     here k y b-is is h =
-        let made : Bool × List ℕ = (y, v) in
-        let same : made ≡ (x, r) = ok_is made (x, r) h in
-        let y-is : y ≡ x = ap (λ (p : Bool × List ℕ). p.0) same in
-        let r-is : v ≡ r = ap (λ (p : Bool × List ℕ). p.1) same in
-        record { text = k ∷ []; parts = ap (λ (a : ℕ). a ∷ v) b-is ∙ ap (λ (t : List ℕ). k ∷ t) r-is; spells = subst (λ z. IsBool (k ∷ []) z) y-is is }
+        let same = both_are y x v r h in
+        record { text = k ∷ []; parts = ap (λ (a : ℕ). a ∷ v) b-is ∙ ap (λ (t : List ℕ). k ∷ t) same.1; spells = subst (λ z. IsBool (k ∷ []) z) same.0 is }
 
     by : (p q : Bool) → eqb b 0 ≡ p → eqb b 1 ≡ q → cond p (said false v) (cond q (said true v) (Err BadBool)) ≡ Ok (x, r) → Beginning (λ t. IsBool t x) (b ∷ v) r
     by true q zero_is one_is h = here 0 false (eqb-true b 0 zero_is) refl h
@@ -207,7 +209,7 @@ stop_behind_found : (c : ℕ) (w r : List ℕ) → field_behind c w ≡ Ok (None
 stop_behind_found c w r e = by (eqb c 0) refl e
   where
     by : (z : Bool) → eqb c 0 ≡ z → cond z (stopped w) (signed_at w16 2 w >>= typed c) ≡ Ok (None, r) → c ∷ w ≡ 0 ∷ r
-    by true z h = let first : c ≡ 0 = eqb-true c 0 z in let here : Option (ℕ × ℤ) × List ℕ = (None, w) in let there : Option (ℕ × ℤ) × List ℕ = (None, r) in let second : w ≡ r = ap rest_of (ok_is here there h) in ap (λ (x : ℕ). x ∷ w) first ∙ ap (λ (t : List ℕ). 0 ∷ t) second
+    by true z h = let first : c ≡ 0 = eqb-true c 0 z in let second : w ≡ r = (both_are {A = Option (ℕ × ℤ)} None None w r h).1 in ap (λ (x : ℕ). x ∷ w) first ∙ ap (λ (t : List ℕ). 0 ∷ t) second
     by false z h =
         let b = bind_ok (signed_at w16 2 w) (typed c) (None, r) h in
         let p = pass_ok (is_code c) BadType (Some (c, b.0.0), b.0.1) (None, r) b.2 in
@@ -249,11 +251,8 @@ module _ {S E : Type 0} (wire : WireError → E) (take : Take S E) (P : S → Fi
     where
       by : ((u : S) (v : List ℕ) → fields_in wire take n u v ≡ Ok (t, r) → Fielded P u v t r) → (o : Option (ℕ × ℤ)) (v : List ℕ) → field_at w ≡ Ok (o, v) → behind_field (fields_in wire take n) take s o v ≡ Ok (t, r) → Fielded P s w t r
       by others None v head h =
-          let made : S × List ℕ = (s, v) in
-          let same : made ≡ (t, r) = ok_is made (t, r) h in
-          let t-is : s ≡ t = ap (λ (x : S × List ℕ). x.0) same in
-          let r-is : v ≡ r = ap (λ (x : S × List ℕ). x.1) same in
-          record { fields = []; text = 0 ∷ []; parts = stop_found w v head ∙ ap (λ (x : List ℕ). 0 ∷ x) r-is; spells = refl; path = sym t-is }
+          let same = both_are s t v r h in
+          record { fields = []; text = 0 ∷ []; parts = stop_found w v head ∙ ap (λ (x : List ℕ). 0 ∷ x) same.1; spells = refl; path = sym same.0 }
       by others (Some f) v head h =
           let x = bind_ok (take s f.0 f.1 v) (λ y. fields_in wire take n y.0 y.1) (t, r) h in
           let hd = field_found w f.0 f.1 v head in

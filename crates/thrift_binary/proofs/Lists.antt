@@ -7,7 +7,7 @@ use Rattle.thrift_binary.specs.declared.fault.WireError.TheVariants.{BadType}
 use Rattle.thrift_binary.specs.Reading.{◌>>=◌, lift, size_at, list_at, is_code}
 use Rattle.thrift_binary.specs.Lists.{items_at, list_of}
 use Rattle.thrift_binary.specs.Spelling.{Beginning, IsSize, IsEach, IsListHead, IsTypedList}
-use Rattle.thrift_binary.proofs.Found.{bind_ok, lift_ok, ok_is}
+use Rattle.thrift_binary.proofs.Found.{bind_ok, lift_ok, both_are}
 use Rattle.thrift_binary.proofs.SkipFound.{list_head_found}
 use Rattle.thrift_binary.proofs.Again.{size_again}
 
@@ -20,29 +20,22 @@ pub items_found : {A E : Type 0} (one : List ℕ → Result (A × List ℕ) E) (
     → (n : ℕ) (w : List ℕ) (xs : List A) (r : List ℕ) → items_at one n w ≡ Ok (xs, r) → (length xs ≡ n) × Beginning (IsEach Spells xs) w r
 unfolding items_at
 items_found {A = A} one Spells f zero w xs r e =
-    let none : List A = [] in
-    let made : List A × List ℕ = (none, w) in
-    let same : made ≡ (xs, r) = ok_is made (xs, r) e in
-    let xs-is : none ≡ xs = ap (λ (p : List A × List ℕ). p.0) same in
-    let r-is : w ≡ r = ap (λ (p : List A × List ℕ). p.1) same in
-    subst (λ (ys : List A). (length ys ≡ zero) × Beginning (IsEach Spells ys) w r) xs-is (refl, record { text = []; parts = r-is; spells = refl })
+    let same = both_are {A = List A} [] xs w r e in
+    subst (λ (ys : List A). (length ys ≡ zero) × Beginning (IsEach Spells ys) w r) same.0 (refl, record { text = []; parts = same.1; spells = refl })
 items_found {A = A} one Spells f (suc n) w xs r e =
     let k = bind_ok (one w) (λ x. items_at one n x.1 >>= λ y. Ok (x.0 ∷ y.0, y.1)) (xs, r) e in
     let m = bind_ok (items_at one n k.0.1) (λ y. Ok (k.0.0 ∷ y.0, y.1)) (xs, r) k.2 in
     let first = f w k.0.0 k.0.1 k.1 in
     let others = items_found one Spells f n k.0.1 m.0.0 m.0.1 m.1 in
     let whole : List A = k.0.0 ∷ m.0.0 in
-    let made : List A × List ℕ = (whole, m.0.1) in
-    let same : made ≡ (xs, r) = ok_is made (xs, r) m.2 in
-    let xs-is : whole ≡ xs = ap (λ (p : List A × List ℕ). p.0) same in
-    let r-is : m.0.1 ≡ r = ap (λ (p : List A × List ℕ). p.1) same in
+    let same = both_are whole xs m.0.1 r m.2 in
     let front : Beginning (IsEach Spells whole) w r = record {
       text = first.text ++ others.1.text;
-      parts = one_then_other w first.text k.0.1 others.1.text r first.parts (others.1.parts ∙ ap (λ (t : List ℕ). others.1.text ++ t) r-is);
+      parts = one_then_other w first.text k.0.1 others.1.text r first.parts (others.1.parts ∙ ap (λ (t : List ℕ). others.1.text ++ t) same.1);
       spells = (first.text, others.1.text, first.spells, refl, others.1.spells);
     } in
     let long : length whole ≡ suc n = omega (arith, others.0) in
-    subst (λ (ys : List A). (length ys ≡ suc n) × Beginning (IsEach Spells ys) w r) xs-is (long, front)
+    subst (λ (ys : List A). (length ys ≡ suc n) × Beginning (IsEach Spells ys) w r) same.0 (long, front)
 
 pub items_again : {A E : Type 0} (one : List ℕ → Result (A × List ℕ) E) (Spells : List ℕ → A → Type 0)
     → ((t r : List ℕ) (x : A) → Spells t x → one (t ++ r) ≡ Ok (x, r))

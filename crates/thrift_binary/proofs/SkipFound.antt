@@ -5,10 +5,10 @@ use Rattle.std.specs.List.{AllByRecursion}
 use Rattle.std.proofs.lemmas.Bool.{ltb-false, ltb-true}
 use Rattle.std.proofs.lemmas.List.{take-append-drop, length-take}
 use Rattle.thrift_binary.specs.declared.fault.WireError.TheVariants.{Truncated, BadType, TooDeep}
-use Rattle.thrift_binary.specs.Reading.{Read, size_at, string_at, list_at, map_at, is_code}
+use Rattle.thrift_binary.specs.Reading.{◌>>=◌, Read, size_at, string_at, list_at, map_at, is_code}
 use Rattle.thrift_binary.specs.Skipping.{Skip, past, both, times, text, struct, items, pairs, container, width, leaf, is_container, skip_at, value_at}
 use Rattle.thrift_binary.specs.Spelling.{Beginning, IsSize, IsString, Field, IsRun, IsLeaf, IsStructOf, IsListOf, IsPair, IsMapOf, IsContainer, IsValue, IsListHead}
-use Rattle.thrift_binary.proofs.Found.{bind_ok, guard_ok, pass_ok, ok_is, Path, Took, fields_found, string_found, size_found}
+use Rattle.thrift_binary.proofs.Found.{bind_ok, guard_ok, pass_ok, both_are, Path, Took, fields_found, string_found, size_found}
 
 -- a reading that takes only such fronts
 abbrev pub Finds : Skip → (List ℕ → Type 0) → Type 0
@@ -18,7 +18,7 @@ abbrev pub gone : List ℕ → Read (Unit {0})
 gone w = Ok (tt, w)
 
 pub rest_is : (v r : List ℕ) → gone v ≡ gone r → v ≡ r
-rest_is v r e = let made : Unit {0} × List ℕ = (tt, v) in let other : Unit {0} × List ℕ = (tt, r) in ap (λ (x : Unit {0} × List ℕ). x.1) (ok_is made other e)
+rest_is v r e = (both_are tt tt v r e).1
 
 past_found : (n : ℕ) → Finds (past n) (λ t. length t ≡ n)
 past_found n w r e =
@@ -67,25 +67,32 @@ struct_found value Value f w r e =
     took : (s : Unit {0}) (c : ℕ) (i : ℤ) (w : List ℕ) (t : Unit {0}) (r : List ℕ) → value c w ≡ Ok (t, r) → Took (Kept Value) s c i w t r
     took s c i w t r e = let h = f c w r e in record { text = h.text; parts = h.parts; does = h.spells }
 
-pub record Listed (w : List ℕ) (c n : ℕ) (r : List ℕ) : Type 0 where
+-- codes of types, and how many values follow
+pub record Sized (codes : List ℕ) (n : ℕ) (w r : List ℕ) : Type 0 where
   pub size : List ℕ
-  pub parts : w ≡ c ∷ (size ++ r)
+  pub parts : w ≡ codes ++ (size ++ r)
   pub spells : IsSize size n
 
-pub list_head_found : (w : List ℕ) (c n : ℕ) (r : List ℕ) → list_at w ≡ Ok ((c, n), r) → Listed w c n r
+-- a head of codes and the size behind them, which is one where the codes are known
+abbrev head_of : {H : Type 0} → (ℕ → H) → Bool → ℕ × List ℕ → Read H
+head_of made known m = cond (eqb m.0 0 || known) (Ok (made m.0, m.1)) (Err BadType)
+
+sized_found : {H : Type 0} (made : ℕ → H) (known : Bool) (w : List ℕ) (h : H) (r : List ℕ) → (size_at w >>= head_of made known) ≡ Ok (h, r) → (n : ℕ) × (made n ≡ h) × Sized [] n w r
+sized_found {H = H} made known w h r e =
+    let k = bind_ok (size_at w) (head_of made known) (h, r) e in
+    let p = pass_ok (eqb k.0.0 0 || known) BadType (made k.0.0, k.0.1) (h, r) k.2 in
+    let s = size_found w k.0.0 k.0.1 k.1 in
+    (k.0.0, ap (λ (x : H × List ℕ). x.0) p.1, record { size = s.text; parts = s.parts ∙ ap (λ (x : H × List ℕ). s.text ++ x.1) p.1; spells = s.spells })
+
+pub list_head_found : (w : List ℕ) (c n : ℕ) (r : List ℕ) → list_at w ≡ Ok ((c, n), r) → Sized (c ∷ []) n w r
 unfolding list_at
 list_head_found [] c n r e = absurd cc
 list_head_found (b ∷ w) c n r e =
-    let k = bind_ok (size_at w) (λ m. cond (eqb m.0 0 || is_code b) (Ok ((b, m.0), m.1)) (Err BadType)) ((c, n), r) e in
-    let p = pass_ok (eqb k.0.0 0 || is_code b) BadType ((b, k.0.0), k.0.1) ((c, n), r) k.2 in
-    let s = size_found w k.0.0 k.0.1 k.1 in
-    let c-is : b ≡ c = ap (λ (x : (ℕ × ℕ) × List ℕ). x.0.0) p.1 in
-    let n-is : k.0.0 ≡ n = ap (λ (x : (ℕ × ℕ) × List ℕ). x.0.1) p.1 in
-    let r-is : k.0.1 ≡ r = ap (λ (x : (ℕ × ℕ) × List ℕ). x.1) p.1 in
+    let s = sized_found (λ m. (b, m)) (is_code b) w (c, n) r e in
     record {
-      size = s.text;
-      parts = ap (λ (t : List ℕ). b ∷ t) (s.parts ∙ ap (λ (t : List ℕ). s.text ++ t) r-is) ∙ ap (λ (x : ℕ). x ∷ (s.text ++ r)) c-is;
-      spells = subst (λ m. IsSize s.text m) n-is s.spells;
+      size = s.2.size;
+      parts = ap (λ (t : List ℕ). b ∷ t) s.2.parts ∙ ap (λ (x : ℕ × ℕ). x.0 ∷ (s.2.size ++ r)) s.1;
+      spells = subst (λ (x : ℕ × ℕ). IsSize s.2.size x.1) s.1 s.2.spells;
     }
 
 items_found : (value : ℕ → Skip) (Value : ℕ → List ℕ → Type 0) → ((c : ℕ) → Finds (value c) (Value c)) → Finds (items value) (IsListOf Value)
@@ -100,27 +107,16 @@ items_found value Value f w r e =
       spells = (k.0.0.0, k.0.0.1, h.size, run.text, h.spells, refl, run.spells);
     }
 
-record Mapped (w : List ℕ) (k c n : ℕ) (r : List ℕ) : Type 0 where
-  size : List ℕ
-  parts : w ≡ k ∷ (c ∷ (size ++ r))
-  spells : IsSize size n
-
-map_head_found : (w : List ℕ) (k c n : ℕ) (r : List ℕ) → map_at w ≡ Ok (((k, c), n), r) → Mapped w k c n r
+map_head_found : (w : List ℕ) (k c n : ℕ) (r : List ℕ) → map_at w ≡ Ok (((k, c), n), r) → Sized (k ∷ (c ∷ [])) n w r
 unfolding map_at
 map_head_found [] k c n r e = absurd cc
 map_head_found (a ∷ []) k c n r e = absurd cc
 map_head_found (a ∷ (b ∷ w)) k c n r e =
-    let m = bind_ok (size_at w) (λ m. cond (eqb m.0 0 || (is_code a && is_code b)) (Ok (((a, b), m.0), m.1)) (Err BadType)) (((k, c), n), r) e in
-    let p = pass_ok (eqb m.0.0 0 || (is_code a && is_code b)) BadType (((a, b), m.0.0), m.0.1) (((k, c), n), r) m.2 in
-    let s = size_found w m.0.0 m.0.1 m.1 in
-    let k-is : a ≡ k = ap (λ (x : ((ℕ × ℕ) × ℕ) × List ℕ). x.0.0.0) p.1 in
-    let c-is : b ≡ c = ap (λ (x : ((ℕ × ℕ) × ℕ) × List ℕ). x.0.0.1) p.1 in
-    let n-is : m.0.0 ≡ n = ap (λ (x : ((ℕ × ℕ) × ℕ) × List ℕ). x.0.1) p.1 in
-    let r-is : m.0.1 ≡ r = ap (λ (x : ((ℕ × ℕ) × ℕ) × List ℕ). x.1) p.1 in
+    let s = sized_found (λ m. ((a, b), m)) (is_code a && is_code b) w ((k, c), n) r e in
     record {
-      size = s.text;
-      parts = ap (λ (t : List ℕ). a ∷ (b ∷ t)) (s.parts ∙ ap (λ (t : List ℕ). s.text ++ t) r-is) ∙ ap (λ (x : ℕ). x ∷ (b ∷ (s.text ++ r))) k-is ∙ ap (λ (x : ℕ). k ∷ (x ∷ (s.text ++ r))) c-is;
-      spells = subst (λ i. IsSize s.text i) n-is s.spells;
+      size = s.2.size;
+      parts = ap (λ (t : List ℕ). a ∷ (b ∷ t)) s.2.parts ∙ ap (λ (x : (ℕ × ℕ) × ℕ). x.0.0 ∷ (x.0.1 ∷ (s.2.size ++ r))) s.1;
+      spells = subst (λ (x : (ℕ × ℕ) × ℕ). IsSize s.2.size x.1) s.1 s.2.spells;
     }
 
 pairs_found : (value : ℕ → Skip) (Value : ℕ → List ℕ → Type 0) → ((c : ℕ) → Finds (value c) (Value c)) → Finds (pairs value) (IsMapOf Value)
