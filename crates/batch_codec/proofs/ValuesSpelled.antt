@@ -11,7 +11,7 @@ use Rattle.thrift_binary.specs.declared.fault.WireError.TheVariants.{BadText}
 use Rattle.thrift_binary.specs.Reading.{◌>>=◌, lift, bytes_at, string_at, signed_at}
 use Rattle.thrift_binary.specs.Reading as wires
 use Rattle.thrift_binary.specs.Spelling.{Beginning, IsString, IsBool, IsDouble, IsI32, IsI64}
-use Rattle.thrift_binary.proofs.Found.{bind_ok, pass_ok, lift_ok, ok_is, bool_found, i32_found, i64_found, double_found, string_found}
+use Rattle.thrift_binary.proofs.Found.{bind_ok, pass_ok, lift_ok, ok_is, both_are, bool_found, i32_found, i64_found, double_found, string_found}
 use Rattle.thrift_binary.proofs.Again.{bool_again, i32_again, i64_again, double_again, string_again}
 use Rattle.batch_codec.specs.declared.fault.DecodeError.{DecodeError}
 use Rattle.batch_codec.specs.declared.fault.DecodeError.TheVariants.{Wire, BadEnum}
@@ -41,16 +41,15 @@ decoded k = Ok k
 -- what is made of a value
 pub made_found : {A B : Type 0} (read : Reading A) (Spells : List ℕ → A → Type 0) → Found read Spells → (make : A → Result B DecodeError)
     → Found (λ w. read w >>= λ x. make x.0 >>= λ y. Ok (y, x.1)) (λ t y. (x : A) × Spells t x × (make x ≡ Ok y))
-made_found {B = B} read Spells found make w y r e =
+made_found read Spells found make w y r e =
     let x = bind_ok (read w) (λ x. make x.0 >>= λ z. Ok (z, x.1)) (y, r) e in
     let z = bind_ok (make x.0.0) (λ z. Ok (z, x.0.1)) (y, r) x.2 in
     let f = found w x.0.0 x.0.1 x.1 in
-    let made : B × List ℕ = (z.0, x.0.1) in
-    let same : made ≡ (y, r) = ok_is made (y, r) z.2 in
+    let same = both_are z.0 y x.0.1 r z.2 in
     record {
       text = f.text;
-      parts = f.parts ∙ ap (λ (p : B × List ℕ). f.text ++ p.1) same;
-      spells = (x.0.0, f.spells, z.1 ∙ ap (λ (p : B × List ℕ). decoded p.0) same);
+      parts = f.parts ∙ ap (λ (v : List ℕ). f.text ++ v) same.1;
+      spells = (x.0.0, f.spells, z.1 ∙ ap decoded same.0);
     }
 
 -- a value turned into another
