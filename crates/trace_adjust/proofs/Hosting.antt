@@ -1,45 +1,30 @@
 -- Numbers tell hosts apart, and clocks by numbers are the spans' clocks.
-use Rattle.std.proofs.Common.{◌≡◌, ℕ, zero, suc, pos, ◌+◌, ◌-◌, ◌<◌, Bool, true, false, List, [], ◌∷◌, ◌++◌, map, take, drop, length, get_or, set, refl, sym, ap, ◌∙◌, arith, eqb-true, eq-eqb}
-use Rattle.std.specs.Prelude.{Option, Some, None, option_map, is_some, not, ◌||◌, ◌==◌, cond, unwrap_or, codes, if◌then◌else◌}
+use Rattle.std.proofs.Common.{◌≡◌, ℕ, zero, suc, pos, ◌+◌, ◌-◌, ◌<◌, Bool, true, false, List, [], ◌∷◌, ◌++◌, map, take, drop, length, get_or, set, refl, sym, ap, ◌∙◌, arith, subst, eqb-true, eq-eqb}
+use Rattle.std.specs.Prelude.{Option, Some, None, IfSome, option_map, is_some, not, ◌||◌, ◌==◌, cond, unwrap_or, codes, if◌then◌else◌}
 use Rattle.std.specs.Option.{option_or}
 use Rattle.std.specs.Ordering.{is_eq}
-use Rattle.std.specs.Cmp.Lexicographic.{texts_ties}
+use Rattle.std.specs.Cmp.Lexicographic.{texts_ties, bytes_decides}
 use Rattle.std.proofs.lemmas.Bool.{false≢true}
+use Rattle.std.proofs.lemmas.Map.Made.{IfSome-find_same}
 use Rattle.std.proofs.lemmas.List.{map-set, map-append, map_more, map_push, get_or-map, length-map, length-take-le, take-append-drop}
 use Rattle.jaeger_model.specs.declared.placed.Placed.{Placed}
 use Rattle.jaeger_model.specs.declared.span.Span.{Span}
 use Rattle.jaeger_model.specs.Texts.{same_text, text_cmp}
 use Rattle.jaeger_model.specs.Tags.{first_text}
-use Rattle.trace_model.specs.Adjusting.{host_of, spans_of, unadjusted, with_parent_first, new_delta, clock_at, clock_below}
+use Rattle.trace_model.specs.Adjusting.{host_of, new_delta, clock_at, clock_below}
 use Rattle.trace_adjust.specs.declared.clock.HostClock.{HostClock}
 use Rattle.trace_adjust.specs.Settling.{near, is_unset, written, clock_delta, delta_at, delta_or_none}
 use Rattle.trace_model.specs.Sharing.{ShareProcesses}
 use Rattle.trace_adjust.specs.Hosts.{hosts_of, number_in, hosted, all_hosted, AreNumbers, IsNumber, IsNumbered, AreNumbered, clock_by, below_by, near_by, host_delta, delta_by}
-use Rattle.trace_adjust.proofs.Places.{one_more, or_none}
-use Rattle.trace_model.proofs.NameLaws.{text_is, text_self}
+use Rattle.trace_adjust.proofs.Places.{place_push, place_found}
+use Rattle.trace_model.proofs.NameLaws.{text_is, text_self, text_turned}
 use Rattle.trace_model.proofs.Chains.{is_some-map}
-
--- ---- processes
-first_process : (ps : List Placed) (k : ℕ) (d : Placed) → (get_or (spans_of (map unadjusted (map with_parent_first ps))) k d).process ≡ (get_or ps k d).process
-first_process [] k d = refl
-first_process (p ∷ ps) zero d = refl
-first_process (p ∷ ps) (suc k) d = first_process ps k d
-
-pub shared_first : (ps : List Placed) (places : List ℕ) → ShareProcesses ps places → ShareProcesses (spans_of (map unadjusted (map with_parent_first ps))) places
-shared_first ps places share k d l e = first_process ps k d ∙ share k d l e ∙ sym (first_process ps (k + 1) d)
+use Rattle.trace_model.proofs.Tables.{entered, kept}
 
 -- ---- numbers
 -- the host with the number
 pub number_there : (hosts : List (List ℕ)) (t : List ℕ) (n : ℕ) → number_in hosts t ≡ Some n → get_or hosts n [] ≡ t
-number_there [] t n e = absurd (false≢true (ap is_some e))
-number_there (h ∷ hosts) t n e = elim (same_text t h) as (λ b. same_text t h ≡ b → (if b then Some 0 else option_map suc (number_in hosts t)) ≡ Some n → get_or (h ∷ hosts) n [] ≡ t) [
-  | true ↦ λ s q. let z : 0 ≡ n = cc q in ap (λ k. get_or (h ∷ hosts) k []) (sym z) ∙ sym (text_is t h s)
-  | false ↦ λ s q. later (λ k. number_there hosts t k) (number_in hosts t) refl q
-] refl e
-  where
-    later : ((k : ℕ) → number_in hosts t ≡ Some k → get_or hosts k [] ≡ t) → (o : Option ℕ) → number_in hosts t ≡ o → option_map suc o ≡ Some n → get_or (h ∷ hosts) n [] ≡ t
-    later there None r q = absurd (false≢true (ap is_some q))
-    later there (Some k) r q = let s : suc k ≡ n = cc q in ap (λ j. get_or (h ∷ hosts) j []) (sym s) ∙ there k r
+number_there hosts t n e = subst (λ o. IfSome o (λ h. h ≡ t)) (sym (place_found (same_text t) hosts []) ∙ ap (option_map (λ j. get_or hosts j [])) e) (IfSome-find_same bytes_decides t hosts)
 
 pub is_number : (hosts : List (List ℕ)) (t : List ℕ) (n : ℕ) → number_in hosts t ≡ Some n → IsNumber hosts n
 is_number hosts t n e = ap (number_in hosts) (number_there hosts t n e) ∙ e
@@ -139,18 +124,9 @@ pub same_delta : (hosts : List (List ℕ)) (first : ℕ → Option ℕ) (cs : Li
 same_delta hosts first cs i id = ap (λ d. if unwrap_or (first id) i == i then d else pos 0) (delta_hosted hosts (get_or cs i None) ∙ ap (delta_or_none clock_delta) (sym (hosted_at (hosted hosts) cs i)))
 
 -- ---- the table of numbers, with one more host
-pub number_push : (hosts : List (List ℕ)) (h t : List ℕ) → number_in (hosts ++ h ∷ []) t ≡ option_or (number_in hosts t) (cond (same_text t h) (Some (length hosts)) None)
-number_push [] h t = refl
-number_push (g ∷ hosts) h t = one_more (same_text t g) (same_text t h) (number_in hosts t) (number_in (hosts ++ h ∷ []) t) (length hosts) (number_push hosts h t)
-
 -- a host that is there already changes nothing
 pub number_again : (hosts : List (List ℕ)) (h : List ℕ) (n : ℕ) → number_in hosts h ≡ Some n → (t : List ℕ) → number_in (hosts ++ h ∷ []) t ≡ number_in hosts t
-number_again hosts h n e t = number_push hosts h t ∙ elim (same_text t h) as (λ b. same_text t h ≡ b → option_or (number_in hosts t) (cond b (Some (length hosts)) None) ≡ number_in hosts t) [
-  | true ↦ λ s.
-      let there : number_in hosts t ≡ Some n = ap (number_in hosts) (text_is t h s) ∙ e in
-      ap (λ o. option_or o (Some (length hosts))) there ∙ sym there
-  | false ↦ λ s. or_none (number_in hosts t)
-] refl
+number_again hosts h n e t = place_push (same_text t) hosts h ∙ sym (kept (number_in hosts) h t (length hosts) (same_text t h) (λ s. sym (text_is t h s)) (ap is_some e))
 
 pub number_stays : (hosts more : List (List ℕ)) (t : List ℕ) (n : ℕ) → number_in hosts t ≡ Some n → number_in (hosts ++ more) t ≡ Some n
 number_stays [] more t n e = absurd (false≢true (ap is_some e))
@@ -221,7 +197,7 @@ module _ (ps : List Placed) (i : ℕ) (p : Placed) (l : i < length ps) (e : p �
 -- the number that a host gets
 pub number_given : (hosts : List (List ℕ)) (h : List ℕ) (o : Option ℕ) (n fresh : ℕ) → o ≡ number_in hosts h → n ≡ unwrap_or o fresh → length hosts ≡ fresh → number_in (hosts ++ h ∷ []) h ≡ Some n
 number_given hosts h o n fresh is given long =
-    number_push hosts h h ∙ (λ i. option_or ((sym is) i) (cond (text_self h i) (Some (long i)) None)) ∙ by_cases o ∙ ap Some (sym given)
+    place_push (same_text h) hosts h ∙ (λ i. option_or ((sym is) i) (cond (text_self h i) (Some (long i)) None)) ∙ by_cases o ∙ ap Some (sym given)
   where
     by_cases : (o : Option ℕ) → option_or o (cond true (Some fresh) None) ≡ Some (unwrap_or o fresh)
     by_cases None = refl
@@ -230,16 +206,9 @@ number_given hosts h o n fresh is given long =
 -- the table as it is after that
 pub table_given : (hosts : List (List ℕ)) (h : List ℕ) (old new : List ℕ → Option ℕ) (fresh : ℕ) → ((t : List ℕ) → old t ≡ number_in hosts t) → length hosts ≡ fresh
     → ((t : List ℕ) → new t ≡ option_or (old t) (cond (same_text t h) (Some fresh) None)) → (t : List ℕ) → new t ≡ number_in (hosts ++ h ∷ []) t
-table_given hosts h old new fresh is long put t = put t ∙ (λ i. option_or (is t i) (cond (same_text t h) (Some ((sym long) i)) None)) ∙ sym (number_push hosts h t)
+table_given hosts h old new fresh is long put t = put t ∙ (λ i. option_or (is t i) (cond (same_text t h) (Some ((sym long) i)) None)) ∙ sym (place_push (same_text t) hosts h)
 
 -- ---- one entry of the table of numbers
 pub entry_made : (g : List ℕ → Option ℕ) (h : List ℕ) (o : Option ℕ) (fresh : ℕ) (t : List ℕ) → g h ≡ None → o ≡ cond (is_eq (text_cmp h t)) (Some fresh) (g t) → o ≡ option_or (g t) (cond (same_text t h) (Some fresh) None)
-entry_made g h o fresh t none put = put ∙ ap (λ b. cond b (Some fresh) (g t)) (sym (texts_ties h t)) ∙ elim (same_text h t) as (λ b. same_text h t ≡ b → cond b (Some fresh) (g t) ≡ option_or (g t) (cond (same_text t h) (Some fresh) None)) [
-  | true ↦ λ s.
-      let same : h ≡ t = text_is h t s in
-      (λ i. option_or ((sym none ∙ ap g same) i) (cond ((sym (text_self h) ∙ ap (λ x. same_text x h) same) i) (Some fresh) None))
-  | false ↦ λ s. elim (same_text t h) as (λ b. same_text t h ≡ b → g t ≡ option_or (g t) (cond b (Some fresh) None)) [
-    | true ↦ λ q. absurd (false≢true (sym s ∙ ap (same_text h) (text_is t h q) ∙ text_self h))
-    | false ↦ λ q. sym (or_none (g t))
-  ] refl
-] refl
+entry_made g h o fresh t none put =
+    put ∙ ap (λ b. cond b (Some fresh) (g t)) (sym (texts_ties h t) ∙ text_turned h t) ∙ entered g h t fresh (same_text t h) (λ s. sym (text_is t h s)) (ap is_some none)

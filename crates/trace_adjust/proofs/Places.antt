@@ -8,89 +8,56 @@ use Rattle.std.specs.Ordering.{nat_cmp, is_eq}
 use Rattle.std.specs.Cmp.{unsigned_ties}
 use Rattle.std.proofs.lemmas.Bool.{false≢true}
 use Rattle.std.proofs.lemmas.List.{take_more, map_push, length-map, length-take-le, get_or-map}
-use Rattle.jaeger_model.specs.declared.ids.SpanId.{SpanId}
 use Rattle.jaeger_model.specs.declared.placed.Placed.{Placed}
 use Rattle.jaeger_model.specs.Parents.{parent}
 use Rattle.trace_model.specs.Linking.{has_id, parent_in}
 use Rattle.trace_model.specs.declared.answer.Shown.{Shown}
 use Rattle.trace_model.specs.Adjusting.{spans_of}
-use Rattle.trace_adjust.specs.Settling.{first_at, place_in, parent_at}
+use Rattle.trace_model.proofs.Tables.{entered, kept, entry_map}
+use Rattle.trace_adjust.specs.Settling.{place_of, first_at, place_in, parent_at}
 
-pub or_none : {X : Type 0} (o : Option X) → option_or o None ≡ o
-or_none None = refl
-or_none (Some x) = refl
+-- in a list with one item more
+pub place_push : {X : Type 0} (test : X → Bool) (xs : List X) (x : X) → place_of test (xs ++ x ∷ []) ≡ option_or (place_of test xs) (cond (test x) (Some (length xs)) None)
+place_push test [] x = refl
+place_push test (y ∷ xs) x = elim (test y) as (λ b. cond b (Some 0) (option_map suc (place_of test (xs ++ x ∷ []))) ≡ option_or (cond b (Some 0) (option_map suc (place_of test xs))) (cond (test x) (Some (suc (length xs))) None)) [
+  | true ↦ refl
+  | false ↦ ap (option_map suc) (place_push test xs x) ∙ entry_map suc (place_of test xs) (test x) (length xs)
+]
 
-map_or : (o : Option ℕ) (b : Bool) (n : ℕ) → option_map suc (option_or o (cond b (Some n) None)) ≡ option_or (option_map suc o) (cond b (Some (suc n)) None)
-map_or (Some x) b n = refl
-map_or None true n = refl
-map_or None false n = refl
-
--- where the first item that is sought stands, in a list with one item more: here says that the list begins with it, last that the item more is it
-pub one_more : (here last : Bool) (o more : Option ℕ) (n : ℕ) → more ≡ option_or o (cond last (Some n) None)
-    → cond here (Some 0) (option_map suc more) ≡ option_or (cond here (Some 0) (option_map suc o)) (cond last (Some (suc n)) None)
-one_more true last o more n h = refl
-one_more false last o more n h = ap (option_map suc) h ∙ map_or o last n
-
--- one more span
-first_push : (id : ℕ) (ps : List Placed) (p : Placed) → first_at id (ps ++ p ∷ []) ≡ option_or (first_at id ps) (cond (p.span.id.0 == id) (Some (length ps)) None)
-first_push id [] p = refl
-first_push id (q ∷ ps) p = one_more (q.span.id.0 == id) (p.span.id.0 == id) (first_at id ps) (first_at id (ps ++ p ∷ [])) (length ps) (first_push id ps p)
-
-first_more : (id : ℕ) (xs : List Placed) (i : ℕ) (x : Placed) → i < length xs → x ≡ get_or xs i x → first_at id (take (i + 1) xs) ≡ option_or (first_at id (take i xs)) (cond (x.span.id.0 == id) (Some i) None)
-first_more id xs i x l e =
-    ap (first_at id) (take_more xs i x l) ∙ first_push id (take i xs) (get_or xs i x)
-    ∙ ap (λ y. option_or (first_at id (take i xs)) (cond (y.span.id.0 == id) (Some (length (take i xs))) None)) (sym e)
-    ∙ ap (λ n. option_or (first_at id (take i xs)) (cond (x.span.id.0 == id) (Some n) None)) (length-take-le i xs (omega arith))
+first_more : (id : ℕ) (xs : List Placed) (i : ℕ) (x : Placed) (before : Option ℕ) → i < length xs → x ≡ get_or xs i x → before ≡ first_at id (take i xs)
+    → option_or before (cond (x.span.id.0 == id) (Some i) None) ≡ first_at id (take (i + 1) xs)
+first_more id xs i x before l e inv =
+    (λ k. option_or (inv k) (cond ((e k).span.id.0 == id) (Some (sym (length-take-le i xs (omega arith)) k)) None))
+    ∙ sym (ap (first_at id) (take_more xs i x l) ∙ place_push (λ (p : Placed). p.span.id.0 == id) (take i xs) (get_or xs i x))
 
 -- the table with one more span, whose id it did not have
-pub entered : (q : ℕ) (g : ℕ → Option ℕ) (o : Option ℕ) (xs : List Placed) (i : ℕ) (x : Placed) → i < length xs → x ≡ get_or xs i x
+pub place_entered : (q : ℕ) (g : ℕ → Option ℕ) (o : Option ℕ) (xs : List Placed) (i : ℕ) (x : Placed) → i < length xs → x ≡ get_or xs i x
     → ((id : ℕ) → g id ≡ first_at id (take i xs)) → is_some (g x.span.id.0) ≡ false → o ≡ cond (is_eq (nat_cmp x.span.id.0 q)) (Some i) (g q) → o ≡ first_at q (take (i + 1) xs)
-entered q g o xs i x l e inv none put =
-    put ∙ ap (λ b. cond b (Some i) (g q)) (sym (unsigned_ties x.span.id.0 q))
-    ∙ elim (x.span.id.0 == q) as (λ b. (x.span.id.0 == q) ≡ b → cond b (Some i) (g q) ≡ option_or (first_at q (take i xs)) (cond b (Some i) None)) [
-      | true ↦ λ t. ap (λ r. option_or r (Some i)) (sym (sym (inv q) ∙ absent (g q) (ap (λ k. is_some (g k)) (sym (eqb-true x.span.id.0 q t)) ∙ none)))
-      | false ↦ λ t. inv q ∙ sym (or_none (first_at q (take i xs)))
-    ] refl
-    ∙ sym (first_more q xs i x l e)
-  where
-    absent : (r : Option ℕ) → is_some r ≡ false → r ≡ None
-    absent None n = refl
-    absent (Some k) n = absurd (false≢true (sym n))
+place_entered q g o xs i x l e inv none put =
+    let id = x.span.id.0 in
+    put ∙ ap (λ b. cond b (Some i) (g q)) (sym (unsigned_ties id q)) ∙ entered g id q i (id == q) (eqb-true id q) none ∙ first_more q xs i x (g q) l e (inv q)
 
 -- and one whose id it has
-pub kept : (q : ℕ) (g : ℕ → Option ℕ) (xs : List Placed) (i : ℕ) (x : Placed) → i < length xs → x ≡ get_or xs i x
+pub place_kept : (q : ℕ) (g : ℕ → Option ℕ) (xs : List Placed) (i : ℕ) (x : Placed) → i < length xs → x ≡ get_or xs i x
     → ((id : ℕ) → g id ≡ first_at id (take i xs)) → is_some (g x.span.id.0) ≡ true → g q ≡ first_at q (take (i + 1) xs)
-kept q g xs i x l e inv some =
-    elim (x.span.id.0 == q) as (λ b. (x.span.id.0 == q) ≡ b → g q ≡ option_or (first_at q (take i xs)) (cond b (Some i) None)) [
-      | true ↦ λ t. present (g q) (first_at q (take i xs)) (ap (λ k. is_some (g k)) (sym (eqb-true x.span.id.0 q t)) ∙ some) (inv q)
-      | false ↦ λ t. inv q ∙ sym (or_none (first_at q (take i xs)))
-    ] refl
-    ∙ sym (first_more q xs i x l e)
-  where
-    present : (r s : Option ℕ) → is_some r ≡ true → r ≡ s → r ≡ option_or s (Some i)
-    present None s n h = absurd (false≢true n)
-    present (Some k) s n h = h ∙ kept_some s (ap is_some (sym h))
-      where
-        kept_some : (s : Option ℕ) → is_some s ≡ true → s ≡ option_or s (Some i)
-        kept_some None m = absurd (false≢true m)
-        kept_some (Some j) m = refl
+place_kept q g xs i x l e inv some = let id = x.span.id.0 in kept g id q i (id == q) (eqb-true id q) some ∙ first_more q xs i x (g q) l e (inv q)
 
 -- ---- what stands at a first place
-pub found_there : (id : SpanId) (ps : List Placed) (d : Placed) → option_map (λ j. get_or ps j d) (first_at id.0 ps) ≡ find (has_id id) ps
-found_there id [] d = refl
-found_there id (p ∷ ps) d = elim (p.span.id.0 == id.0) as (λ b. option_map (λ j. get_or (p ∷ ps) j d) (cond b (Some 0) (option_map suc (first_at id.0 ps))) ≡ cond b (Some p) (find (has_id id) ps)) [
+pub place_found : {X : Type 0} (test : X → Bool) (xs : List X) (d : X) → option_map (λ j. get_or xs j d) (place_of test xs) ≡ find test xs
+place_found test [] d = refl
+place_found {X} test (x ∷ xs) d = elim (test x) as (λ b. option_map (λ j. get_or (x ∷ xs) j d) (cond b (Some 0) (option_map suc (place_of test xs))) ≡ cond b (Some x) (find test xs)) [
   | true ↦ refl
-  | false ↦ past (first_at id.0 ps) ∙ found_there id ps d
+  | false ↦ past (place_of test xs) ∙ place_found test xs d
 ]
   where
-    past : (o : Option ℕ) → option_map (λ j. get_or (p ∷ ps) j d) (option_map suc o) ≡ option_map (λ j. get_or ps j d) o
+    past : (o : Option ℕ) → option_map (λ j. get_or (x ∷ xs) j d) (option_map suc o) ≡ option_map (λ j. get_or xs j d) o
     past None = refl
     past (Some j) = refl
 
 pub parent_there : (trace : List Placed) (p d : Placed) → option_map (λ j. get_or trace j d) (place_in trace p) ≡ parent_in trace p
 parent_there trace p d = elim ((parent p.span).0 == 0) as (λ b. option_map (λ j. get_or trace j d) (if b then None else first_at (parent p.span).0 trace) ≡ (if b then None else find (has_id (parent p.span)) trace)) [
   | true ↦ refl
-  | false ↦ found_there (parent p.span) trace d
+  | false ↦ place_found (has_id (parent p.span)) trace d
 ]
 
 one_below : (n j : ℕ) (o : Option ℕ) → ((k : ℕ) → o ≡ Some k → k < n) → option_map suc o ≡ Some j → j < suc n

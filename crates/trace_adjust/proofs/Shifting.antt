@@ -9,6 +9,7 @@ use Rattle.trace_model.specs.declared.clock.Clock.{Clock}
 use Rattle.trace_model.specs.Linking.{has_id}
 use Rattle.trace_model.specs.Adjusting.{clock_of, unadjusted, shifted, shifted_by, shown_after, skew_adjusted_after, skew_adjusted, spans_of, said_after, shown_adjusted_after, shown_adjusted}
 use Rattle.trace_adjust.specs.Settling.{first_at, clock_delta, delta_at, delta_or_none, AreClocks}
+use Rattle.trace_model.proofs.SharingShown.{same_spans}
 use Rattle.trace_adjust.proofs.Places.{is_first, as_many, placed_at}
 
 by_delta : (m : ℕ) (p : Placed) (o : Option Clock) → shifted m (delta_or_none clock_delta o) p ≡ shifted_by m p o
@@ -86,10 +87,6 @@ shifted_more m ss items cs g i s v l here known first one inv =
 fresh_after : (m : ℕ) (all before rest : List Placed) → shown_adjusted_after m all before (map unadjusted rest) ≡ skew_adjusted_after m all before rest
 fresh_after m all before [] = refl
 fresh_after m all before (p ∷ rest) = ap (λ r. shown_after m all before p ∷ r) (fresh_after m all (before ++ p ∷ []) rest)
-
-same_spans : (ps : List Placed) → spans_of (map unadjusted ps) ≡ ps
-same_spans [] = refl
-same_spans (p ∷ ps) = ap (λ r. p ∷ r) (same_spans ps)
 
 pub fresh : (m : ℕ) (ps : List Placed) → shown_adjusted m (map unadjusted ps) ≡ skew_adjusted m ps
 fresh m ps = ap (λ all. shown_adjusted_after m all [] (map unadjusted ps)) (same_spans ps) ∙ fresh_after m ps [] ps

@@ -1,11 +1,11 @@
 -- The hosts of the spans of a trace by numbers, and clocks that name them so.
-use Rattle.std.specs.Prelude.{◌≡◌, ℕ, suc, pos, List, [], ◌∷◌, get_or, map, not, ◌||◌, ◌==◌, Option, Some, None, option_map, ℤ, if◌then◌else◌}
+use Rattle.std.specs.Prelude.{◌≡◌, ℕ, pos, List, [], ◌∷◌, get_or, map, not, ◌||◌, ◌==◌, Option, Some, None, option_map, ℤ, if◌then◌else◌}
 use Rattle.jaeger_model.specs.declared.placed.Placed.{Placed}
 use Rattle.jaeger_model.specs.declared.span.Span.{Span}
 use Rattle.jaeger_model.specs.Texts.{same_text}
 use Rattle.trace_model.specs.declared.clock.Clock.{Clock}
 use Rattle.trace_model.specs.Adjusting.{host_of, start_at, delta_between}
-use Rattle.trace_adjust.specs.Settling.{near_in, delta_in, AreRight}
+use Rattle.trace_adjust.specs.Settling.{place_of, near_in, delta_in, AreRight}
 use Rattle.trace_adjust.specs.declared.clock.HostClock.{HostClock}
 
 -- the hosts of the spans, behind the empty one
@@ -14,8 +14,7 @@ hosts_of trace = [] ∷ map host_of trace
 
 -- the number of a host: where it stands first
 abbrev pub number_in : List (List ℕ) → List ℕ → Option ℕ
-number_in [] host = None
-number_in (h ∷ hosts) host = if same_text host h then Some 0 else option_map suc (number_in hosts host)
+number_in hosts host = place_of (same_text host) hosts
 
 -- each span has the number of its host
 abbrev pub AreNumbers : List (List ℕ) → List Placed → List ℕ → Type 0
