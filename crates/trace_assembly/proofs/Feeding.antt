@@ -14,12 +14,12 @@ use Rattle.trace_model.specs.Histories.{events}
 use Rattle.trace_model.specs.Rings.{holds, newest, arrive, LimitedRing, limited_ring}
 use Rattle.trace_model.specs.Showing.{trace_of, ring, limit_after, shown, of_trace, spans_of_trace}
 use Rattle.trace_model.proofs.Shows.{by_pushes, in_ring, in_ring_by, ring_came, ring_limited, limited_ring-mapped, shown_push, shown_by_push}
-use Rattle.trace_model.proofs.Traces.{same_is, spans_gone, arrived}
+use Rattle.trace_model.proofs.Traces.{same_is, filter_within, spans_gone, arrived}
 use Rattle.trace_ring.specs.Windows.{opened_by}
 use Rattle.trace_assembly.specs.declared.spot.Spot.{Spot}
 use Rattle.trace_assembly.specs.Rows.{with_spot}
 use Rattle.trace_assembly.specs.Located.{spans_in, spots_in, located_trace, events_in, shown_in, own_of, shown_spots, with_event, without_left, located_events, span_at, after_leaving, after_arrival, AreShown, ComesIn, Lowers}
-use Rattle.trace_assembly.proofs.Lists.{filter_within, map_filter, map_nil}
+use Rattle.trace_assembly.proofs.Lists.{map_filter, map_nil}
 use Rattle.trace_assembly.proofs.Places.{at_spots, shown-lies, events-located}
 
 abbrev span_of : Spot × Placed → Placed
