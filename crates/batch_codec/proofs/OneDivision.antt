@@ -4,7 +4,7 @@ use Rattle.std.proofs.lemmas.List.{append_cancel_right}
 use Rattle.thrift_binary.specs.Reading.{field_at}
 use Rattle.thrift_binary.specs.Fields.{Take}
 use Rattle.thrift_binary.specs.Spelling.{Field, IsHead, IsFields}
-use Rattle.thrift_binary.proofs.Found.{ok_is}
+use Rattle.thrift_binary.proofs.Found.{ok_is, both_are}
 use Rattle.thrift_binary.proofs.Again.{field_again, stop_again}
 use Rattle.batch_codec.specs.declared.fault.DecodeError.{DecodeError}
 use Rattle.batch_codec.specs.Decoding.{Reading}
@@ -60,18 +60,11 @@ module _ {S : Type 0} (take : Take S DecodeError) (Does : S → Field → S → 
       let id : f.id ≡ g.id = ap (λ (x : ℕ × ℤ). x.1) names in
       let tail : f.text ++ r ≡ g.text ++ r2 = ap (λ (x : Head). x.1) heads in
       let other : take s f.code f.id (f.text ++ r) ≡ Ok (v2, r2) = rw (code, id, tail) (again s g v2 r2 d2) in
-      let left : S × List ℕ = (v, r) in
-      let right : S × List ℕ = (v2, r2) in
-      let both : left ≡ right = ok_is left right (sym (again s f v r d) ∙ other) in
-      let gathered : v ≡ v2 = ap (λ (x : S × List ℕ). x.0) both in
-      let rest : r ≡ r2 = ap (λ (x : S × List ℕ). x.1) both in
-      let text : f.text ≡ g.text = append_cancel_right f.text g.text r2 (subst (λ (x : List ℕ). f.text ++ x ≡ g.text ++ r2) rest tail) in
+      let both = both_are v v2 r r2 (sym (again s f v r d) ∙ other) in
+      let text : f.text ≡ g.text = append_cancel_right f.text g.text r2 (subst (λ (x : List ℕ). f.text ++ x ≡ g.text ++ r2) both.1 tail) in
       let first : f ≡ g = same_field f g code id text in
-      let more : fs ≡ gs = one_division fs gs r v t u a (subst (λ (x : List ℕ). IsFields gs x) (sym rest) b) p (subst (λ (x : S). Gathers Does x gs u) (sym gathered) q) in
+      let more : fs ≡ gs = one_division fs gs r v t u a (subst (λ (x : List ℕ). IsFields gs x) (sym both.1) b) p (subst (λ (x : S). Gathers Does x gs u) (sym both.0) q) in
       rw (first, more) refl
 
 pub one_value : {X : Type 0} {read : Reading X} {Spells : List ℕ → X → Type 0} → Agrees read Spells → (w : List ℕ) (x y : X) → Spells w x → Spells w y → x ≡ y
-one_value {X = X} agrees w x y a b =
-    let left : X × List ℕ = (x, []) in
-    let right : X × List ℕ = (y, []) in
-    ap (λ (p : X × List ℕ). p.0) (ok_is left right (sym (agrees.again w [] x a) ∙ agrees.again w [] y b))
+one_value agrees w x y a b = (both_are x y [] [] (sym (agrees.again w [] x a) ∙ agrees.again w [] y b)).0
