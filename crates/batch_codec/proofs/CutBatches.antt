@@ -21,7 +21,8 @@ use Rattle.batch_codec.specs.ProcessReading.{take_process, process_from, process
 use Rattle.batch_codec.specs.SpanReading.{take_span, span_from, span_at}
 use Rattle.batch_codec.specs.BatchReading.{take_batch, batch_from, batch_at}
 use Rattle.batch_codec.proofs.CutStructs.{Safe, SafeAt, bool_safe, double_safe, i32_safe, i64_safe, id_safe, text_safe, binary_safe, kind_safe, type_safe, known_safe, skipped_safe, list_safe, struct_safe}
-use Rattle.batch_codec.proofs.NeverTrailing.{Not, Never, bool_never, double_never, i32_never, i64_never, id_never, text_never, binary_never, kind_never, type_never, known_never, skipped_never, list_never, struct_never, tag_from_never, log_from_never, reference_from_never, process_from_never, span_from_never, batch_from_never}
+use Rattle.batch_codec.proofs.AtStop.{OnlyMissing, tag_missing, log_missing, reference_missing, process_missing, span_missing, batch_missing}
+use Rattle.batch_codec.proofs.NeverTrailing.{Not, Never, bool_never, double_never, i32_never, i64_never, id_never, text_never, binary_never, kind_never, type_never, known_never, skipped_never, list_never, struct_never}
 
 -- the faults of the reading have places, and none is Trailing
 abbrev Sound : {A : Type 0} → Reading A → Type 0
@@ -40,7 +41,7 @@ skipped_sound s c w = (skipped_safe s c w, skipped_never s c w)
 list_sound : {A : Type 0} (read : Reading A) → Sound read → Sound (list_of wire 12 read)
 list_sound read sound = (list_safe read sound.0, list_never read sound.1)
 
-struct_sound : {S X : Type 0} (take : Take S DecodeError) (none : S) (from : S → Result X DecodeError) → ((s : S) (c : ℕ) (i : ℤ) (w : List ℕ) → SoundAt (take s c i) w) → ((s : S) → Not (from s)) → Sound (λ w. fields_at wire take none w >>= λ y. from y.0 >>= λ z. Ok (z, y.1))
+struct_sound : {S X : Type 0} (take : Take S DecodeError) (none : S) (from : S → Result X DecodeError) → ((s : S) (c : ℕ) (i : ℤ) (w : List ℕ) → SoundAt (take s c i) w) → ((s : S) → OnlyMissing (from s)) → Sound (λ w. fields_at wire take none w >>= λ y. from y.0 >>= λ z. Ok (z, y.1))
 struct_sound take none from sound made = (struct_safe take none from (λ s c i w. (sound s c i w).0), struct_never take none from (λ s c i w. (sound s c i w).1) made)
 
 take_tag_sound : (s : TagSlots) (c : ℕ) (i : ℤ) (w : List ℕ) → SoundAt (take_tag s c i) w
@@ -60,7 +61,7 @@ take_tag_safe s c i w = (take_tag_sound s c i w).0
 
 tag_sound : Sound tag_at
 unfolding tag_at
-tag_sound = struct_sound take_tag no_tag tag_from take_tag_sound tag_from_never
+tag_sound = struct_sound take_tag no_tag tag_from take_tag_sound tag_missing
 
 take_log_sound : (s : LogSlots) (c : ℕ) (i : ℤ) (w : List ℕ) → SoundAt (take_log s c i) w
 unfolding take_log
@@ -74,7 +75,7 @@ take_log_safe s c i w = (take_log_sound s c i w).0
 
 log_sound : Sound log_at
 unfolding log_at
-log_sound = struct_sound take_log no_log log_from take_log_sound log_from_never
+log_sound = struct_sound take_log no_log log_from take_log_sound log_missing
 
 take_reference_sound : (s : ReferenceSlots) (c : ℕ) (i : ℤ) (w : List ℕ) → SoundAt (take_reference s c i) w
 unfolding take_reference
@@ -90,7 +91,7 @@ take_reference_safe s c i w = (take_reference_sound s c i w).0
 
 reference_sound : Sound reference_at
 unfolding reference_at
-reference_sound = struct_sound take_reference no_reference reference_from take_reference_sound reference_from_never
+reference_sound = struct_sound take_reference no_reference reference_from take_reference_sound reference_missing
 
 take_process_sound : (s : ProcessSlots) (c : ℕ) (i : ℤ) (w : List ℕ) → SoundAt (take_process s c i) w
 unfolding take_process
@@ -104,7 +105,7 @@ take_process_safe s c i w = (take_process_sound s c i w).0
 
 process_sound : Sound process_at
 unfolding process_at
-process_sound = struct_sound take_process no_process process_from take_process_sound process_from_never
+process_sound = struct_sound take_process no_process process_from take_process_sound process_missing
 
 take_span_sound : (s : SpanSlots) (c : ℕ) (i : ℤ) (w : List ℕ) → SoundAt (take_span s c i) w
 unfolding take_span
@@ -127,7 +128,7 @@ take_span_safe s c i w = (take_span_sound s c i w).0
 
 span_sound : Sound span_at
 unfolding span_at
-span_sound = struct_sound take_span no_span span_from take_span_sound span_from_never
+span_sound = struct_sound take_span no_span span_from take_span_sound span_missing
 
 take_batch_sound : (s : BatchSlots) (c : ℕ) (i : ℤ) (w : List ℕ) → SoundAt (take_batch s c i) w
 unfolding take_batch
@@ -142,7 +143,7 @@ take_batch_safe s c i w = (take_batch_sound s c i w).0
 
 batch_sound : Sound batch_at
 unfolding batch_at
-batch_sound = struct_sound take_batch no_batch batch_from take_batch_sound batch_from_never
+batch_sound = struct_sound take_batch no_batch batch_from take_batch_sound batch_missing
 
 pub batch_safe : Safe batch_at
 batch_safe = batch_sound.0

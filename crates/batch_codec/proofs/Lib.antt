@@ -9,6 +9,7 @@ pub mod ProcessSpelled
 pub mod SpanSpelled
 pub mod BatchSpelled
 pub mod CutStructs
+pub mod AtStop
 pub mod NeverTrailing
 pub mod CutBatches
 pub mod CutLaws

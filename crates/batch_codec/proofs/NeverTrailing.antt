@@ -1,5 +1,5 @@
 -- No reading of a value gives Trailing, nor does one of a struct whose fields' don't.
-use Rattle.std.proofs.Common.{◌≡◌, ℕ, ℤ, zero, suc, pos, Bool, true, false, cond, eqb, ◌||◌, List, length, Option, Some, None, Result, Ok, Err, ap, w32, w64}
+use Rattle.std.proofs.Common.{◌≡◌, ℕ, ℤ, zero, suc, pos, Bool, true, false, cond, eqb, ◌||◌, List, length, Option, Some, None, Result, Ok, Err, refl, ap, w32, w64}
 use Rattle.std.specs.Ordering.{int_eq}
 use Rattle.std.specs.Str.{is_utf8}
 use Rattle.thrift_binary.specs.declared.fault.WireError.{WireError}
@@ -10,22 +10,11 @@ use Rattle.thrift_binary.specs.Skipping.{skip_at}
 use Rattle.thrift_binary.specs.Fields.{Take, fields_in, fields_at, behind_field}
 use Rattle.thrift_binary.specs.Lists.{items_at, list_of}
 use Rattle.batch_codec.specs.declared.fault.DecodeError.{DecodeError}
-use Rattle.batch_codec.specs.declared.fault.DecodeError.TheVariants.{Wire, BadEnum, Missing, Trailing}
-use Rattle.batch_codec.specs.declared.fault.Part.{Part}
-use Rattle.batch_codec.specs.declared.fault.Part.TheVariants as parts
-use Rattle.batch_codec.specs.declared.tag.TagSlots.{TagSlots}
-use Rattle.batch_codec.specs.declared.log.LogSlots.{LogSlots}
-use Rattle.batch_codec.specs.declared.reference.ReferenceSlots.{ReferenceSlots}
-use Rattle.batch_codec.specs.declared.process.ProcessSlots.{ProcessSlots}
-use Rattle.batch_codec.specs.declared.span.SpanSlots.{SpanSlots}
-use Rattle.batch_codec.specs.declared.batch.BatchSlots.{BatchSlots}
-use Rattle.batch_codec.specs.Decoding.{Reading, wire, skipped, required, bool_at, double_at, i32_at, i64_at, id_at, text_at, binary_at}
-use Rattle.batch_codec.specs.TagReading.{tag_from, type_at, type_of_number}
-use Rattle.batch_codec.specs.LogReading.{log_from}
-use Rattle.batch_codec.specs.ReferenceReading.{reference_from, kind_at, kind_of_number}
-use Rattle.batch_codec.specs.ProcessReading.{process_from}
-use Rattle.batch_codec.specs.SpanReading.{span_from}
-use Rattle.batch_codec.specs.BatchReading.{batch_from}
+use Rattle.batch_codec.specs.declared.fault.DecodeError.TheVariants.{Wire, BadEnum, Trailing}
+use Rattle.batch_codec.specs.Decoding.{Reading, wire, skipped, bool_at, double_at, i32_at, i64_at, id_at, text_at, binary_at}
+use Rattle.batch_codec.specs.TagReading.{type_at, type_of_number}
+use Rattle.batch_codec.specs.ReferenceReading.{kind_at, kind_of_number}
+use Rattle.batch_codec.proofs.AtStop.{OnlyMissing}
 
 -- the result isn't Trailing
 pub record Not {A : Type 0} (r : Result A DecodeError) : Type 0 where
@@ -40,19 +29,12 @@ not_ok x = record { never = λ e. absurd cc }
 not_wire : {A : Type 0} (e : WireError) → Not {A = A} (Err (Wire e))
 not_wire e = record { never = λ h. absurd cc }
 
-not_missing : {A : Type 0} (part : Part) (i : ℕ) → Not {A = A} (Err (Missing part i))
-not_missing part i = record { never = λ h. absurd cc }
-
 not_enum : {A : Type 0} → Not {A = A} (Err BadEnum)
 not_enum = record { never = λ h. absurd cc }
 
 not_lift : {A : Type 0} (r : Result A WireError) → Not (lift wire r)
 not_lift (Ok x) = not_ok x
 not_lift (Err e) = not_wire e
-
-not_required : {A : Type 0} (o : Option A) (part : Part) (i : ℕ) → Not (required o part i)
-not_required None part i = not_missing part i
-not_required (Some x) part i = not_ok x
 
 abbrev failed : {A : Type 0} → DecodeError → Result A DecodeError
 failed e = Err e
@@ -136,9 +118,9 @@ fields_never {S = S} gets never (suc n) s w = not_then (lift wire (field_at w)) 
     by others None v = not_ok _
     by others (Some f) v = not_then (gets s f.0 f.1 v) _ (never s f.0 f.1 v) (λ y. others y.0 y.1)
 
-pub struct_never : {S X : Type 0} (gets : Take S DecodeError) (none : S) (from : S → Result X DecodeError) → ((s : S) (c : ℕ) (i : ℤ) (w : List ℕ) → Not (gets s c i w)) → ((s : S) → Not (from s)) → Never (λ w. fields_at wire gets none w >>= λ y. from y.0 >>= λ z. Ok (z, y.1))
+pub struct_never : {S X : Type 0} (gets : Take S DecodeError) (none : S) (from : S → Result X DecodeError) → ((s : S) (c : ℕ) (i : ℤ) (w : List ℕ) → Not (gets s c i w)) → ((s : S) → OnlyMissing (from s)) → Never (λ w. fields_at wire gets none w >>= λ y. from y.0 >>= λ z. Ok (z, y.1))
 unfolding fields_at
-struct_never gets none from never made w = not_then (fields_at wire gets none w) _ (fields_never gets never (length w) none w) (λ y. not_then (from y.0) _ (made y.0) (λ z. not_ok _))
+struct_never gets none from never made w = not_then (fields_at wire gets none w) _ (fields_never gets never (length w) none w) (λ y. not_then (from y.0) _ (record { never = (made y.0).no_other Trailing refl }) (λ z. not_ok _))
 
 items_never : {A : Type 0} (one : Reading A) → Never one → (n : ℕ) → Never (items_at one n)
 unfolding items_at
@@ -148,54 +130,3 @@ items_never one never (suc n) w = not_then (one w) _ (never w) (λ x. not_then (
 pub list_never : {A : Type 0} (one : Reading A) → Never one → Never (list_of wire 12 one)
 unfolding list_of
 list_never one never w = not_then (lift wire (list_at w)) _ (not_lift (list_at w)) (λ h. not_if (eqb h.0.1 0 || eqb h.0.0 12) _ _ (items_never one never h.0.1 h.1) (not_wire BadType))
-
--- ---- at the stop byte of each struct
-
-pub tag_from_never : (s : TagSlots) → Not (tag_from s)
-unfolding tag_from
-tag_from_never s =
-    not_then (required s.key parts.Tag 1) _ (not_required s.key parts.Tag 1) (λ key.
-    not_then (required s.kind parts.Tag 2) _ (not_required s.kind parts.Tag 2) (λ kind.
-    not_ok _))
-
-pub log_from_never : (s : LogSlots) → Not (log_from s)
-unfolding log_from
-log_from_never s =
-    not_then (required s.at parts.Log 1) _ (not_required s.at parts.Log 1) (λ at.
-    not_then (required s.fields parts.Log 2) _ (not_required s.fields parts.Log 2) (λ fields.
-    not_ok _))
-
-pub reference_from_never : (s : ReferenceSlots) → Not (reference_from s)
-unfolding reference_from
-reference_from_never s =
-    not_then (required s.kind parts.SpanRef 1) _ (not_required s.kind parts.SpanRef 1) (λ kind.
-    not_then (required s.trace_low parts.SpanRef 2) _ (not_required s.trace_low parts.SpanRef 2) (λ trace_low.
-    not_then (required s.trace_high parts.SpanRef 3) _ (not_required s.trace_high parts.SpanRef 3) (λ trace_high.
-    not_then (required s.id parts.SpanRef 4) _ (not_required s.id parts.SpanRef 4) (λ id.
-    not_ok _))))
-
-pub process_from_never : (s : ProcessSlots) → Not (process_from s)
-unfolding process_from
-process_from_never s =
-    not_then (required s.service parts.Process 1) _ (not_required s.service parts.Process 1) (λ service.
-    not_ok _)
-
-pub span_from_never : (s : SpanSlots) → Not (span_from s)
-unfolding span_from
-span_from_never s =
-    not_then (required s.trace_low parts.Span 1) _ (not_required s.trace_low parts.Span 1) (λ trace_low.
-    not_then (required s.trace_high parts.Span 2) _ (not_required s.trace_high parts.Span 2) (λ trace_high.
-    not_then (required s.id parts.Span 3) _ (not_required s.id parts.Span 3) (λ id.
-    not_then (required s.parent parts.Span 4) _ (not_required s.parent parts.Span 4) (λ parent.
-    not_then (required s.operation parts.Span 5) _ (not_required s.operation parts.Span 5) (λ operation.
-    not_then (required s.flags parts.Span 7) _ (not_required s.flags parts.Span 7) (λ flags.
-    not_then (required s.start parts.Span 8) _ (not_required s.start parts.Span 8) (λ start.
-    not_then (required s.duration parts.Span 9) _ (not_required s.duration parts.Span 9) (λ duration.
-    not_ok _))))))))
-
-pub batch_from_never : (s : BatchSlots) → Not (batch_from s)
-unfolding batch_from
-batch_from_never s =
-    not_then (required s.process parts.Batch 1) _ (not_required s.process parts.Batch 1) (λ process.
-    not_then (required s.spans parts.Batch 2) _ (not_required s.spans parts.Batch 2) (λ spans.
-    not_ok _))

@@ -6,7 +6,6 @@ pub mod LeastBytes
 pub mod Lists
 pub mod ShortValues
 pub mod ShortFields
-pub mod NotShort
 pub mod Tags
 pub mod Logs
 pub mod References

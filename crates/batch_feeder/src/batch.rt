@@ -49,9 +49,9 @@ impl Partial for SharedPart {
 impl Slots for BatchSlots {
     ghost use Rattle.batch_codec.specs.Gathered.{no_batch};
     ghost use Rattle.batch_codec.specs.BatchReading.{take_batch, batch_from};
+    ghost use Rattle.batch_codec.proofs.AtStop.{batch_missing, never_short};
     ghost use Rattle.batch_codec.proofs.CutBatches.{take_batch_safe};
     ghost use Rattle.batch_feeder.specs.Batches.{batch_continues};
-    ghost use Rattle.batch_feeder.specs.NotShort.{batch_not_short};
     ghost use Rattle.batch_feeder.specs.ShortFields.{take_batch_short};
 
     type Held = BatchHeld;
@@ -125,7 +125,7 @@ impl Slots for BatchSlots {
 
     ghost safe = { take_batch_safe };
 
-    ghost not_short = { batch_not_short };
+    ghost not_short = { λ s. never_short (batch_missing s) };
 
     ghost short = { take_batch_short };
 }

@@ -23,9 +23,9 @@ pub(crate) enum LogHeld {
 impl Slots for LogSlots {
     ghost use Rattle.batch_codec.specs.Gathered.{no_log};
     ghost use Rattle.batch_codec.specs.LogReading.{take_log, log_from};
+    ghost use Rattle.batch_codec.proofs.AtStop.{log_missing, never_short};
     ghost use Rattle.batch_codec.proofs.CutBatches.{take_log_safe};
     ghost use Rattle.batch_feeder.specs.Logs.{log_continues};
-    ghost use Rattle.batch_feeder.specs.NotShort.{log_not_short};
     ghost use Rattle.batch_feeder.specs.ShortFields.{take_log_short};
 
     type Held = LogHeld;
@@ -89,7 +89,7 @@ impl Slots for LogSlots {
 
     ghost safe = { take_log_safe };
 
-    ghost not_short = { log_not_short };
+    ghost not_short = { λ s. never_short (log_missing s) };
 
     ghost short = { take_log_short };
 }

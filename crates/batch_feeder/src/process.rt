@@ -42,9 +42,9 @@ pub(crate) enum ProcessHeld {
 impl Slots for ProcessParts {
     ghost use Rattle.batch_codec.specs.Gathered.{no_process};
     ghost use Rattle.batch_codec.specs.ProcessReading.{take_process, process_from};
+    ghost use Rattle.batch_codec.proofs.AtStop.{process_missing, never_short};
     ghost use Rattle.batch_codec.proofs.CutBatches.{take_process_safe};
     ghost use Rattle.batch_feeder.specs.Processes.{process_continues};
-    ghost use Rattle.batch_feeder.specs.NotShort.{process_not_short};
     ghost use Rattle.batch_feeder.specs.ShortFields.{take_process_short};
 
     type Held = ProcessHeld;
@@ -121,7 +121,7 @@ impl Slots for ProcessParts {
 
     ghost safe = { take_process_safe };
 
-    ghost not_short = { process_not_short };
+    ghost not_short = { λ s. never_short (process_missing s) };
 
     ghost short = { take_process_short };
 }

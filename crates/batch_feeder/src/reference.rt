@@ -23,9 +23,9 @@ pub(crate) enum ReferenceHeld {
 impl Slots for ReferenceSlots {
     ghost use Rattle.batch_codec.specs.Gathered.{no_reference};
     ghost use Rattle.batch_codec.specs.ReferenceReading.{take_reference, reference_from};
+    ghost use Rattle.batch_codec.proofs.AtStop.{reference_missing, never_short};
     ghost use Rattle.batch_codec.proofs.CutBatches.{take_reference_safe};
     ghost use Rattle.batch_feeder.specs.References.{reference_continues};
-    ghost use Rattle.batch_feeder.specs.NotShort.{reference_not_short};
     ghost use Rattle.batch_feeder.specs.ShortFields.{take_reference_short};
 
     type Held = ReferenceHeld;
@@ -98,7 +98,7 @@ impl Slots for ReferenceSlots {
 
     ghost safe = { take_reference_safe };
 
-    ghost not_short = { reference_not_short };
+    ghost not_short = { λ s. never_short (reference_missing s) };
 
     ghost short = { take_reference_short };
 }

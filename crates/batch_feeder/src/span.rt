@@ -33,9 +33,9 @@ pub(crate) enum SpanHeld {
 impl Slots for SpanSlots {
     ghost use Rattle.batch_codec.specs.Gathered.{no_span};
     ghost use Rattle.batch_codec.specs.SpanReading.{take_span, span_from};
+    ghost use Rattle.batch_codec.proofs.AtStop.{span_missing, never_short};
     ghost use Rattle.batch_codec.proofs.CutBatches.{take_span_safe};
     ghost use Rattle.batch_feeder.specs.Spans.{span_continues};
-    ghost use Rattle.batch_feeder.specs.NotShort.{span_not_short};
     ghost use Rattle.batch_feeder.specs.ShortFields.{take_span_short};
 
     type Held = SpanHeld;
@@ -118,7 +118,7 @@ impl Slots for SpanSlots {
 
     ghost safe = { take_span_safe };
 
-    ghost not_short = { span_not_short };
+    ghost not_short = { λ s. never_short (span_missing s) };
 
     ghost short = { take_span_short };
 }

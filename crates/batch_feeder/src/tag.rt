@@ -61,9 +61,9 @@ pub(crate) enum TagHeld {
 impl Slots for TagParts {
     ghost use Rattle.batch_codec.specs.Gathered.{no_tag};
     ghost use Rattle.batch_codec.specs.TagReading.{take_tag, tag_from};
+    ghost use Rattle.batch_codec.proofs.AtStop.{tag_missing, never_short};
     ghost use Rattle.batch_codec.proofs.CutBatches.{take_tag_safe};
     ghost use Rattle.batch_feeder.specs.Tags.{tag_continues};
-    ghost use Rattle.batch_feeder.specs.NotShort.{tag_not_short};
     ghost use Rattle.batch_feeder.specs.ShortFields.{take_tag_short};
 
     type Held = TagHeld;
@@ -170,7 +170,7 @@ impl Slots for TagParts {
 
     ghost safe = { take_tag_safe };
 
-    ghost not_short = { tag_not_short };
+    ghost not_short = { λ s. never_short (tag_missing s) };
 
     ghost short = { take_tag_short };
 }
