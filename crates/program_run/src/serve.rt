@@ -1,13 +1,12 @@
 //! `serve`: a server on a port of this machine.
-ghost use Rattle.std.specs.Prelude.{◌≡◌, ◌≤◌, false};
+ghost use Rattle.std.specs.Prelude.{◌≡◌, false};
 ghost use Rattle.program_run.specs.Serving.{ServesOrNot, TurnsDown};
 
 use serve_options::ServeOptions;
 use session_devices::Output;
-use std::alloc::{AllocError, Global};
+use std::alloc::Global;
 use std::hash::RandomState;
 use std::io;
-use std::io::Write;
 use std::net::{Ipv4Addr, Net, SocketAddr, SocketAddrV4, TcpListener, TcpStream};
 use std::sync::Wait;
 use std::thread::Threads;
@@ -15,25 +14,16 @@ use std::time::Clock;
 use text_lines::say;
 use trace_server::{NoGate, ServerConfig, serve_with};
 
-/// The line that says why nothing can be served on a port.
-fn why_not(alloc: Global, port: u16, error: &io::Error) -> Result<Vec<u8>, AllocError> {
-    let mut line = Vec::new(alloc);
-    match writeln!(line, "cannot listen on 127.0.0.1:{port}: {error}") {
-        Ok(()) => Ok(line),
-        Err(_) => Err(AllocError),
-    }
-}
-
 /// Says why nothing can be served on a port, and gives the exit status.
 fn turn_down<W: Output>(alloc: Global, output: &mut W, port: u16, error: &io::Error) -> u8
     requires { W.has_failed output.old ≡ false }
     ensures { TurnsDown (W.contents output.old) (W.contents output.new) (W.has_failed output.new)
         result }
 {
-    let Ok(line) = why_not(alloc, port, error) else {
+    let Ok(line) = format!(in alloc; "cannot listen on 127.0.0.1:{port}: {error}\n") else {
         return 5;
     };
-    match say(alloc, output, line.as_slice()) {
+    match say(alloc, output, line.as_bytes()) {
         Ok(()) => 4,
         Err(error) => error.status(),
     }
@@ -52,8 +42,6 @@ pub fn run_serve<H, W>(
 where
     H: Threads + Wait + Clock + Eprint + Net<Stream = TcpStream, Listener = TcpListener> + Sync,
     W: Output,
-    requires workers { (1 ≤ options.workers) × (options.workers ≤ 64) }
-    requires queue { (1 ≤ options.queue) × (options.queue ≤ 4096) }
     requires output_works { W.has_failed output.old ≡ false }
     ensures { ServesOrNot options.limits options.workers (W.contents output.old)
         (W.contents output.new) (W.has_failed output.new) result }

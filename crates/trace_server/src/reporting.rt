@@ -1,6 +1,6 @@
 //! What a server says of itself.
 
-ghost use Rattle.std.specs.Prelude.{◌≡◌, false, min, sum_by, IfOk};
+ghost use Rattle.std.specs.Prelude.{◌≡◌, false, min, string_bytes, sum_by, IfOk};
 ghost use Rattle.std.specs.List.{list_any};
 ghost use Rattle.text_lines.specs.RunErrors.{Says};
 ghost use Rattle.trace_server.specs.Serving.{listening_line, served_line, books_line, last_lines, Ends, StopsIn};
@@ -11,34 +11,25 @@ use live_store::Live;
 use read_side::StoreName;
 use session_devices::Output;
 use std::alloc::{AllocError, Global};
-use std::io::Write;
 use text_lines::{RunError, say};
 
 /// The line that says where the server listens.
-fn listening_line(alloc: Global, port: u16) -> Result<Vec<u8>, AllocError>
-    ensures { IfOk result (λ line. line.items ≡ listening_line port) }
+fn listening_line(alloc: Global, port: u16) -> Result<String, AllocError>
+    ensures { IfOk result (λ line. string_bytes line ≡ listening_line port) }
 {
-    let mut line = Vec::new(alloc);
-    match writeln!(line, "listening 127.0.0.1:{port}") {
-        Ok(()) => Ok(line),
-        Err(_) => Err(AllocError),
-    }
+    format!(in alloc; "listening 127.0.0.1:{port}\n")
 }
 
 /// The line that says how many connections were taken.
-fn served_line(alloc: Global, served: u64) -> Result<Vec<u8>, AllocError>
-    ensures { IfOk result (λ line. line.items ≡ served_line served) }
+fn served_line(alloc: Global, served: u64) -> Result<String, AllocError>
+    ensures { IfOk result (λ line. string_bytes line ≡ served_line served) }
 {
-    let mut line = Vec::new(alloc);
-    match writeln!(line, "served {served}") {
-        Ok(()) => Ok(line),
-        Err(_) => Err(AllocError),
-    }
+    format!(in alloc; "served {served}\n")
 }
 
 /// The line that says what became of the batches.
-fn books_line(alloc: Global, totals: Totals) -> Result<Vec<u8>, AllocError>
-    ensures { IfOk result (λ line. line.items ≡
+fn books_line(alloc: Global, totals: Totals) -> Result<String, AllocError>
+    ensures { IfOk result (λ line. string_bytes line ≡
         books_line totals.acknowledged totals.refused totals.left) }
 {
     let Totals {
@@ -46,11 +37,7 @@ fn books_line(alloc: Global, totals: Totals) -> Result<Vec<u8>, AllocError>
         refused,
         left,
     } = totals;
-    let mut line = Vec::new(alloc);
-    match writeln!(line, "books {acknowledged} {refused} {left}") {
-        Ok(()) => Ok(line),
-        Err(_) => Err(AllocError),
-    }
+    format!(in alloc; "books {acknowledged} {refused} {left}\n")
 }
 
 /// Says where the server listens.
@@ -64,7 +51,7 @@ pub(crate) fn say_listening<W: Output>(
         (listening_line port) result }
 {
     let line = listening_line(alloc, port)?;
-    say(alloc, output, line.as_slice())
+    say(alloc, output, line.as_bytes())
 }
 
 /// Says how many connections were taken.
@@ -74,7 +61,7 @@ fn say_served<W: Output>(alloc: Global, output: &mut W, served: u64) -> Result<(
         (served_line served) result }
 {
     let line = served_line(alloc, served)?;
-    say(alloc, output, line.as_slice())
+    say(alloc, output, line.as_bytes())
 }
 
 /// Says what became of the batches.
@@ -84,7 +71,7 @@ fn say_books<W: Output>(alloc: Global, output: &mut W, totals: Totals) -> Result
         (books_line totals.acknowledged totals.refused totals.left) result }
 {
     let line = books_line(alloc, totals)?;
-    say(alloc, output, line.as_slice())
+    say(alloc, output, line.as_bytes())
 }
 
 /// What all workers did together. A count that has come to its end stays there.

@@ -1,6 +1,6 @@
 //! Serving on a socket.
 
-ghost use Rattle.std.specs.Prelude.{◌≡◌, ◌≤◌, [], false, map, IfOk};
+ghost use Rattle.std.specs.Prelude.{◌≡◌, [], false, map, IfOk};
 ghost use Rattle.read_side.specs.Keepers.{no_entries};
 ghost use Rattle.intake.specs.Turns.{IsNewClerk};
 ghost use Rattle.trace_server.specs.Serving.{OneForEach, Reports, Serves};
@@ -157,10 +157,6 @@ fn serve_named<
 ) -> u8
     requires book { name.seen.book ≡ N.book }
     requires limits { limits ≡ N.limits }
-    requires workers { (1 ≤ setup.now.config.now.options.workers)
-        × (setup.now.config.now.options.workers ≤ 64) }
-    requires queue { (1 ≤ setup.now.config.now.options.queue)
-        × (setup.now.config.now.options.queue ≤ 4096) }
     requires output_works { W.has_failed output.old ≡ false }
     ensures { Serves limits setup.now.config.now.options.workers (W.contents output.old)
         (W.contents output.new) (W.has_failed output.new) result }
@@ -199,8 +195,6 @@ pub fn serve_with<G: Gate + Sync, W: Output, R: Threads + Wait + Clock + Eprint 
     gate: &G,
     output: &mut W,
 ) -> u8
-    requires workers { (1 ≤ config.now.options.workers) × (config.now.options.workers ≤ 64) }
-    requires queue { (1 ≤ config.now.options.queue) × (config.now.options.queue ≤ 4096) }
     requires output_works { W.has_failed output.old ≡ false }
     ensures { Serves config.now.options.limits config.now.options.workers (W.contents output.old)
         (W.contents output.new) (W.has_failed output.new) result }

@@ -1,6 +1,6 @@
 //! A store with its desk and its clerk.
 
-ghost use Rattle.std.specs.Prelude.{◌≡◌, ◌≤◌, length, map, IfOk};
+ghost use Rattle.std.specs.Prelude.{◌≡◌, length, map, IfOk};
 ghost use Rattle.read_side.specs.Keepers.{no_entries};
 ghost use Rattle.intake.specs.Turns.{IsNewClerk};
 ghost use Rattle.trace_server.specs.Serving.{OneForEach};
@@ -53,8 +53,6 @@ fn open_desk<N: StoreName>(
     passes: Vec<read_side::Pass<N>>,
     config: &ServerConfig,
 ) -> Result<DeskEnds<N>, Refusal>
-    requires workers { (1 ≤ config.now.options.workers) × (config.now.options.workers ≤ 64) }
-    requires queue { (1 ≤ config.now.options.queue) × (config.now.options.queue ≤ 4096) }
     requires passes { length passes.items ≡ config.now.options.workers }
     ensures keeper { keeper.new ≡ keeper.old }
     ensures clerk { IfOk result (λ f. IsNewClerk f.1) }
@@ -88,8 +86,6 @@ impl<N: StoreName> SharedStore<N> {
     ) -> Result<SharedStore<N>, Refusal>
         requires book { name.seen.book ≡ N.book }
         requires limits { limits ≡ N.limits }
-        requires workers { (1 ≤ config.now.options.workers) × (config.now.options.workers ≤ 64) }
-        requires queue { (1 ≤ config.now.options.queue) × (config.now.options.queue ≤ 4096) }
         ensures keeper { IfOk result (λ h. h.keeper ≡ no_entries) }
         ensures clerk { IfOk result (λ h. IsNewClerk h.clerk) }
         ensures new { IfOk result (λ h. AreNew h.clerk.desk (map (λ p. p.1.seat) h.lives.items)) }

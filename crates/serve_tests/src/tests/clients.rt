@@ -1,7 +1,5 @@
 //! A server in a thread of its own, and what clients do meanwhile.
 
-ghost use Rattle.std.specs.Prelude.{◌≡◌, ◌≤◌};
-
 use crate::tests::guests::Guests;
 use serve_options::ServeOptions;
 use session_devices::MemoryOutput;
@@ -28,11 +26,7 @@ pub fn config<R: Abort + RandomSource>(
     sessions: u32,
     idle: u32,
     batches: u32,
-) -> ServerConfig
-    requires { (1 ≤ workers) × (workers ≤ 64) }
-    ensures workers { result.options.workers ≡ workers }
-    ensures queue { result.options.queue ≡ 4 }
-{
+) -> ServerConfig {
     let limits = Limits::new(batches, 1000, 0, 0).expect(rt, "limits");
     let options = ServeOptions::new(limits, 0, workers, 4, sessions, idle).expect(rt, "options");
     ServerConfig {
@@ -65,10 +59,7 @@ fn serve<G: Gate + Sync, R: Threads + Wait + Clock + Eprint + Sync>(
     listener: &TcpListener,
     config: &ServerConfig,
     gate: &G,
-) -> (u8, MemoryOutput)
-    requires workers { (1 ≤ config.now.options.workers) × (config.now.options.workers ≤ 64) }
-    requires queue { (1 ≤ config.now.options.queue) × (config.now.options.queue ≤ 4096) }
-{
+) -> (u8, MemoryOutput) {
     let mut output = MemoryOutput::new(alloc, 1000, 1000);
     let status = serve_with(rt, alloc, listener, config, gate, &mut output);
     (status, output)
@@ -91,19 +82,13 @@ pub fn visited<
         + Net<Stream = TcpStream, Listener = TcpListener>
         + Abort
         + Sync,
->(rt: &R, alloc: Global, config: &ServerConfig, gate: &G, guests: Guests) -> Result<Outcome, Fail>
-    requires workers { (1 ≤ config.now.options.workers) × (config.now.options.workers ≤ 64) }
-    requires queue { (1 ≤ config.now.options.queue) × (config.now.options.queue ≤ 4096) }
-{
+>(rt: &R, alloc: Global, config: &ServerConfig, gate: &G, guests: Guests) -> Result<Outcome, Fail> {
     let any = SocketAddr::V4(SocketAddrV4::new(Ipv4Addr::LOCALHOST, 0));
     let listener = TcpListener::bind(rt, any).expect(rt, "bind");
     let address = listener.local_addr().expect(rt, "address");
     let ((status, output), pleased) = join(
         rt,
-        || -> (u8, MemoryOutput)
-            requires { (1 ≤ config.now.options.workers) × (config.now.options.workers ≤ 64)
-                × (1 ≤ config.now.options.queue) × (config.now.options.queue ≤ 4096) }
-        { serve(rt, alloc, &listener, config, gate) },
+        || serve(rt, alloc, &listener, config, gate),
         || guests.visit(rt, alloc, address),
     );
     let pleased = matches!(pleased, Ok(true)) && names_port(alloc, &output, address.port());
