@@ -41,9 +41,6 @@ path_step : (n : ℕ) (ps : List (Option ℕ)) (k : ℕ) → path (suc n) ps k �
 unfolding path
 path_step n ps k = refl
 
-unfolding chain
-chain_none trace p = refl
-
 path_none : (ps : List (Option ℕ)) (k : ℕ) → path 0 ps k ≡ None
 unfolding path
 path_none ps k = refl
