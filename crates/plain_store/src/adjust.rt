@@ -5,39 +5,14 @@ ghost use Rattle.std.specs.Prelude.{◌≡◌, ◌<◌, ℕ, None, IfOk, map, le
 ghost use Rattle.std.specs.List.{list_any, position, AllByRecursion};
 ghost use Rattle.jaeger_model.specs.declared.placed.Placed.{Placed as PlacedValue};
 ghost use Rattle.trace_model.specs.Linking.{has_id};
-ghost use Rattle.trace_model.specs.Adjusting.{parent_first, with_parent_first, clock_of, unadjusted, shifted_by, skew_adjusted, adjusted};
+ghost use Rattle.trace_model.specs.Adjusting.{with_parent_first, clock_of, unadjusted, shifted_by, skew_adjusted, adjusted};
 ghost use Rattle.plain_store.specs.Climbing.{parent_at, path, next_clock, clock_down};
 
 use crate::clock::{clock_below, root_clock, shifted};
-use jaeger_model::{Placed, Seq, Span, SpanId, parent_of, refer_to_parent};
-use span_steps::{parent_place, unadjusted};
+use jaeger_model::{Placed, Seq, SpanId, parent_of};
+use span_steps::{unadjusted, with_parent_first};
 use std::alloc::{AllocError, Global};
 use trace_model::{Clock, Shown};
-
-/// The span with the reference to its parent in front.
-fn with_reference_first(span: Span) -> Span
-    ensures { result ≡ parent_first span }
-{
-    let mut span = span;
-    if let Some(place) = parent_place(span.references.as_slice(), span.trace) {
-        let mut references = span.references.into_vec();
-        references.swap(0, place);
-        span.references = Seq::from_vec(references);
-    }
-    span
-}
-
-/// The same, where the reference may not be there yet.
-fn with_parent_first(alloc: Global, placed: Placed) -> Result<Placed, AllocError>
-    ensures { IfOk result (λ p. p ≡ with_parent_first placed) }
-{
-    let mut placed = placed;
-    refer_to_parent(alloc, &mut placed.span)?;
-    Ok(Placed {
-        process: placed.process,
-        span: with_reference_first(placed.span),
-    })
-}
 
 /// The trace with the references to parents in front.
 #[tactic(auto, using(std::proofs::lemmas::List::map_push))]

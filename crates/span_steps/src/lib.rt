@@ -1,6 +1,6 @@
 //! Single steps over one span, which the plain store and the store with indexes both take.
 //!
-//! * `references`: which reference of a span names its parent.
+//! * `references`: which reference of a span names its parent, and this reference put in front.
 //! * `window`: whether a span starts in a window of time.
 //! * `clock`: the host that a process names, and a span moved by the delta of its host's clock.
 //! * `conditions`: whether a span meets what a search asks of its service, operation, duration and start.
@@ -17,7 +17,7 @@ mod window;
 
 pub use clock::{all_unadjusted, host_named, shift, start_at, unadjusted};
 pub use conditions::{duration_bound, is_at_least, is_at_most, is_named, is_timed};
-pub use references::parent_place;
+pub use references::{parent_first, parent_place, with_parent_first};
 pub use skew::{delta_between, moved_by};
 pub use warning::Warning;
 pub use window::{is_in_window, may_be_in_window};

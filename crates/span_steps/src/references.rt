@@ -1,11 +1,12 @@
-//! Which reference of a span names its parent.
+//! Which reference of a span names its parent, and this reference put in front.
 
-ghost use Rattle.std.specs.Prelude.{◌≡◌, ◌<◌, IfSome, length};
+ghost use Rattle.std.specs.Prelude.{◌≡◌, ◌<◌, IfOk, IfSome, length};
 ghost use Rattle.std.specs.List.{position};
 ghost use Rattle.jaeger_model.specs.Parents.{own_child, own_other};
-ghost use Rattle.trace_model.specs.Adjusting.{parent_place};
+ghost use Rattle.trace_model.specs.Adjusting.{parent_place, parent_first, with_parent_first};
 
-use jaeger_model::{SpanRef, TraceId, is_own_child, is_own_other};
+use jaeger_model::{Placed, Span, SpanRef, TraceId, is_own_child, is_own_other, refer_to_parent};
+use std::alloc::{AllocError, Global};
 
 fn child_place(references: &[SpanRef], trace: TraceId) -> Option<usize>
     ensures { result ≡ position (own_child trace) references.now }
@@ -29,4 +30,28 @@ pub fn parent_place(references: &[SpanRef], trace: TraceId) -> Option<usize>
         Some(place) => Some(place),
         None => other_place(references, trace),
     }
+}
+
+/// Puts the reference to the span's parent in front: the first child-of reference to its own trace,
+/// else the first other one, changes places with the first of all. Takes no memory.
+pub fn parent_first(span: &mut Span)
+    ensures { span.new ≡ parent_first span.old }
+{
+    if let Some(place) = parent_place(span.references.as_slice(), span.trace) {
+        span.references.swap(0, place);
+    }
+}
+
+/// Puts the reference to its parent in front of the span's, among which it may not be yet.
+///
+/// # Errors
+///
+/// Out of memory, and nothing else.
+pub fn with_parent_first(alloc: Global, placed: Placed) -> Result<Placed, AllocError>
+    ensures { IfOk result (λ p. p ≡ with_parent_first placed) }
+{
+    let mut placed = placed;
+    refer_to_parent(alloc, &mut placed.span)?;
+    parent_first(&mut placed.span);
+    Ok(placed)
 }

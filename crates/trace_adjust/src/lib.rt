@@ -4,7 +4,7 @@
 //! recursion, however deep the trace is.
 //!
 //! * `lent_placed`: a span with its process, lent by what keeps both.
-//! * `parents`: references to parents, and the places of parents in a trace.
+//! * `parents`: the places of parents in a trace.
 //! * `hosts`: the hosts of a trace by numbers.
 //! * `clock`: the clock of one span.
 //! * `clocks`: the clock of each span.
@@ -31,6 +31,6 @@ pub use lending::lend;
 pub use lent_logs::{LentLog, LentLogs};
 pub use lent_span::LentSpan;
 pub use lent_spans::{LentIter, LentSpans};
-pub use parents::parent_first;
 pub use showing::{show, shown};
 pub use skew::{adjust_skew, adjusted};
+pub use span_steps::parent_first;

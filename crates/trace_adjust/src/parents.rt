@@ -1,40 +1,13 @@
-//! References to parents, and where the parents stand.
+//! Where the parents of spans stand.
 
 ghost use Rattle.std.specs.Prelude.{◌≡◌, ℕ, IfOk, map};
 ghost use Rattle.std.specs.Ordering.{nat_cmp};
 ghost use Rattle.std.specs.BTreeMap.{get};
-ghost use Rattle.trace_model.specs.Adjusting.{parent_first, with_parent_first};
 ghost use Rattle.trace_adjust.specs.Settling.{first_at, parent_at, place_in};
 
 use crate::lent_placed::LentPlaced;
-use jaeger_model::{Placed, Span, refer_to_parent};
-use span_steps::parent_place;
 use std::alloc::{AllocError, Global};
 use std::collections::BTreeMap;
-
-/// Puts the reference to the span's parent in front: the first child-of reference to its own trace,
-/// else the first other one, changes places with the first of all. Takes no memory.
-pub fn parent_first(span: &mut Span)
-    ensures { span.new ≡ parent_first span.old }
-{
-    if let Some(place) = parent_place(span.references.as_slice(), span.trace) {
-        span.references.swap(0, place);
-    }
-}
-
-/// Puts the reference to its parent in front of the span's, among which it may not be yet.
-///
-/// # Errors
-///
-/// Out of memory, and nothing else.
-pub(crate) fn with_parent_first(alloc: Global, placed: Placed) -> Result<Placed, AllocError>
-    ensures { IfOk result (λ p. p ≡ with_parent_first placed) }
-{
-    let mut placed = placed;
-    refer_to_parent(alloc, &mut placed.span)?;
-    parent_first(&mut placed.span);
-    Ok(placed)
-}
 
 /// The place of the first span with each id.
 pub(crate) fn first_places(
