@@ -1,6 +1,6 @@
 //! What the clerk leaves.
 
-ghost use Rattle.std.specs.Prelude.{◌≡◌, ◌⊎◌, true, false, map, IfErr, OnOk};
+ghost use Rattle.std.specs.Prelude.{◌≡◌, ◌⊎◌, true, false, length, map, IfErr, OnOk};
 ghost use Rattle.std.specs.Arc.{arc_value};
 ghost use Rattle.trace_model.specs.declared.refusal.Refusal.TheVariants.{NoMemory};
 ghost use Rattle.intake.specs.Books.{Balances, HasEnded, AllTaken, MovesFor, StillEnded, StaysTaken, is_job};
@@ -15,7 +15,7 @@ use trace_model::{Entry, Refusal};
 /// What the clerk leaves: the keeper, what became of each job that was judged, and the jobs that are
 /// left.
 ///
-/// It is not `Drop`, since the keeper isn't: take it apart, and close the keeper.
+/// It is not `Drop`, since the keeper isn't: [`Books::close`] it, or take it apart and close the keeper.
 pub struct Books<N: StoreName> {
     pub keeper: Keeper<N>,
     /// One for each job that was judged, in the order taken.
@@ -98,5 +98,20 @@ impl<N: StoreName> Books<N> {
             }
         }
         unreachable!()
+    }
+    /// Closes the store, and gives how many jobs are left.
+    pub fn close<R: Wait>(self, rt: &R) -> u64
+        ensures { result ≡ length (map arc_value self.left.items) }
+    {
+        let Books {
+            keeper,
+            accounts: _,
+            acknowledged: _,
+            refused: _,
+            left,
+            inbox: _,
+        } = self;
+        keeper.close(rt);
+        left.len() as u64
     }
 }

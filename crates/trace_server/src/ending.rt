@@ -1,6 +1,6 @@
 //! The end: every seat is taken in, and the store is closed.
 
-ghost use Rattle.std.specs.Prelude.{◌≡◌, [], map, length, IfOk, OnOk};
+ghost use Rattle.std.specs.Prelude.{◌≡◌, [], map, IfOk, OnOk};
 ghost use Rattle.std.specs.Arc.{arc_value};
 ghost use Rattle.intake.specs.Books.{Balances};
 ghost use Rattle.trace_server.specs.Serving.{ClosesBooks};
@@ -47,22 +47,6 @@ fn take_all_in<N: StoreName, R: Wait>(
     Ok(())
 }
 
-/// Closes the store, and gives how many jobs are left.
-pub(crate) fn close_store<N: StoreName, R: Wait>(rt: &R, books: Books<N>) -> u64
-    ensures { result ≡ length (map arc_value books.left.items) }
-{
-    let Books {
-        keeper,
-        accounts: _,
-        acknowledged: _,
-        refused: _,
-        left,
-        inbox: _,
-    } = books;
-    keeper.close(rt);
-    left.len() as u64
-}
-
 /// Takes the workers' seats in, closes the store, and counts what became of the batches.
 ///
 /// # Errors
@@ -83,7 +67,7 @@ pub(crate) fn close_books<N: StoreName, R: Wait>(
     let mut books = books;
     let taken_in = take_all_in(rt, &mut books, workers);
     let (acknowledged, refused) = (books.acknowledged, books.refused);
-    let left = close_store(rt, books);
+    let left = books.close(rt);
     taken_in?;
     Ok(Totals {
         acknowledged,

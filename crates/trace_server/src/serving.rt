@@ -7,7 +7,7 @@ ghost use Rattle.trace_server.specs.Serving.{OneForEach, Reports, Serves};
 ghost use Rattle.trace_server.specs.WorkerSeats.{AreNew, GoOn, HasJudged};
 
 use crate::config::ServerConfig;
-use crate::ending::{close_books, close_store};
+use crate::ending::close_books;
 use crate::gate::Gate;
 use crate::notices::{Notices, say_limits};
 use crate::reporting::{report, report_unclosed, say_listening, together};
@@ -120,7 +120,7 @@ fn serve_store<
 {
     let (books, workers) = serve_sessions::<N, Brand, G, R>(rt, alloc, shared, setup);
     let Ok(workers) = workers else {
-        close_store(rt, books);
+        books.close(rt);
         return 5;
     };
     let all = together(workers.as_slice());

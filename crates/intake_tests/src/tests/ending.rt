@@ -7,7 +7,7 @@ ghost use Rattle.intake.specs.Books.{Balances};
 ghost use Rattle.intake.specs.Seats.{IsNewSeat};
 ghost use Rattle.intake_tests.specs.Seats.{AllMayHandIn, Stays};
 
-use crate::tests::fixture::{Fixture, batch, close_books, opened};
+use crate::tests::fixture::{Fixture, batch, opened};
 use intake::{Books, Clerk, Desk, Seat, Ticket, Turn};
 use read_side::{Keeper, Opened, StoreName};
 use std::alloc::Global;
@@ -232,7 +232,7 @@ fn keep<N: StoreName, R: Wait>(rt: &R, office: &mut Office<N>)
         Balances l.inbox.taken l.accounts (map arc_value l.left.items)) }
 {
     if let Some(earlier) = office.books.take() {
-        close_books(rt, earlier);
+        earlier.close(rt);
     }
     let Some(clerk) = office.clerk.take() else {
         return;
@@ -241,7 +241,7 @@ fn keep<N: StoreName, R: Wait>(rt: &R, office: &mut Office<N>)
         return;
     };
     if let Some(earlier) = office.books.replace(clerk.run(rt, keeper)) {
-        close_books(rt, earlier);
+        earlier.close(rt);
     }
 }
 
@@ -382,7 +382,7 @@ fn left_over<N: StoreName, R: Wait>(
         && is_whole(rt, alloc, &books, c, &mut answers)
         && is_whole(rt, alloc, &books, d, &mut answers);
     let booked = (answers.acknowledged, answers.refused) == (books.acknowledged, books.refused);
-    close_books(rt, books);
+    books.close(rt);
     if counted && whole && booked {
         Some(left)
     } else {

@@ -4,7 +4,7 @@ ghost use Rattle.std.specs.Prelude.{◌≡◌, ◌≤◌, All, IfOk};
 ghost use Rattle.intake.specs.Seats.{IsNewSeat};
 
 use crate::tests::rows::Row;
-use intake::{Books, Clerk, Desk, Seat, desk};
+use intake::{Clerk, Desk, Seat, desk};
 use jaeger_model::Batch;
 use read_side::{Keeper, Opened, Pass, StoreName, open};
 use std::alloc::{AllocError, Global};
@@ -42,22 +42,6 @@ impl<N: StoreName> Fixture<N> {
         drop(seats);
         drop(clerk);
     }
-}
-
-/// Gives the books up, and closes the store.
-pub(crate) fn close_books<N: StoreName, R: Wait>(rt: &R, books: Books<N>) {
-    let Books {
-        keeper,
-        accounts,
-        acknowledged: _,
-        refused: _,
-        left,
-        inbox,
-    } = books;
-    drop(accounts);
-    drop(left);
-    drop(inbox);
-    keeper.close(rt);
 }
 
 /// A batch of one span, which has the id, and whose trace has it too.

@@ -1,6 +1,6 @@
 //! A batch that a seat hands in once more.
 
-use crate::tests::fixture::{Fixture, batch, close_books};
+use crate::tests::fixture::{Fixture, batch};
 use crate::tests::rows::place_and_front;
 use intake::{Books, Clerk, Seat, Turn};
 use read_side::{Keeper, StoreName};
@@ -115,7 +115,7 @@ pub(crate) fn a_resent_job_is_acknowledged<N: StoreName + Send + Sync, R: Wait>(
     let books = clerk.run(rt, keeper);
     let booked = are_booked(&books)
         && (books.acknowledged, books.refused, books.left.len()) == (5, 2, 0);
-    close_books(rt, books);
+    books.close(rt);
     as_wanted && booked
 }
 

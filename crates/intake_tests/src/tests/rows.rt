@@ -2,7 +2,7 @@
 
 ghost use Rattle.std.specs.Prelude.{◌≡◌, ◌≤◌};
 
-use crate::tests::fixture::{Fixture, batch, close_books, played};
+use crate::tests::fixture::{Fixture, batch, played};
 use crate::tests::limits::a_limit_is_in_force;
 use crate::tests::resent::a_resent_job_is_acknowledged;
 use intake::{Books, Clerk, Desk, Seat, Ticket, Turn};
@@ -302,7 +302,7 @@ fn seat_and_clerk<N: StoreName + Send + Sync, R: Threads + Wait + Sync>(
         books.refused,
         books.left.len(),
     );
-    close_books(rt, books);
+    books.close(rt);
     served && counts == (4, 3, 1, 0) && (kept, settled) == (3, Ok(2))
 }
 

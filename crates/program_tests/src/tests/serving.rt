@@ -1,6 +1,5 @@
 //! `serve` where it can't.
-use program_run::run;
-use session_devices::Watched;
+use crate::tests::runs::check;
 use std::fmt::Write;
 use std::net::{Ipv4Addr, SocketAddr, SocketAddrV4, TcpListener};
 use std::test::*;
@@ -14,15 +13,6 @@ fn a_port_in_use(rt: HostRuntime) -> Result<(), Fail> {
     let mut word = String::new(alloc);
     assert!(&rt; write!(word, "--port={port}").is_ok());
     let words = ["jaeger_one", "serve", word.as_str()];
-    let mut written = Vec::new(alloc);
-    let status = run(
-        &rt,
-        alloc,
-        words.as_slice(),
-        &mut Watched::new("".as_bytes()),
-        &mut Watched::new(&mut written),
-    );
-    assert_eq!(&rt; status, 4);
     let mut said = String::new(alloc);
     assert!(&rt;
         writeln!(
@@ -31,6 +21,5 @@ fn a_port_in_use(rt: HostRuntime) -> Result<(), Fail> {
         )
         .is_ok()
     );
-    assert_eq!(&rt; written.as_slice(), said.as_bytes());
-    Ok(())
+    check(&rt, alloc, &words, &[], 4, &[said.as_str()])
 }

@@ -9,5 +9,5 @@ returns g c =
     let new = c.take_all_in-taken_in.new.books in
     let e = c.in_ok-taken_in.ensures in
     books_closed g.N.StoreName.limits _ old.inbox.taken old.accounts (map arc_value old.left.items) new.inbox.taken (map arc_value new.left.items)
-    old.acknowledged old.refused new.acknowledged new.refused c.close_store-left.result
-    c.requires.judged e.counts.0 e.counts.1 (ap (map arc_value) c.requires.left) e.moved e.whole c.close_store-left.ensures
+    old.acknowledged old.refused new.acknowledged new.refused c.close-left.result
+    c.requires.judged e.counts.0 e.counts.1 (ap (map arc_value) c.requires.left) e.moved e.whole c.close-left.ensures
