@@ -17,10 +17,8 @@ Each decodes all batches once, and once more as often as asked; the difference o
 the best of three, is the time of the decoding alone. With --count the instructions of two rounds are counted by callgrind
 (Debian: valgrind), which reports the same on a busy machine.
 """
-import argparse
 import os
 import random
-import re
 import resource
 import struct
 import subprocess
@@ -28,10 +26,10 @@ import tempfile
 
 import copies
 import decode as batches
+from crates import ROOT, asked_of
 from servers import rust_program
 
 HERE = os.path.dirname(os.path.abspath(__file__))
-ROOT = os.path.dirname(HERE)
 COMPARE = os.path.join(HERE, "compare")
 FASTEST = "-Copt-level=3"
 DEPS = "batch_codec batch_feeder jaeger_model anyhow"
@@ -155,14 +153,12 @@ def seconds(program, rounds, path, way):
 
 def instructions(program, rounds, path, way):
     """The instructions of one run."""
-    with open(path, "rb") as stdin, tempfile.NamedTemporaryFile() as out:
-        words = ["valgrind", "--tool=callgrind", f"--callgrind-out-file={out.name}", program, str(rounds), *way]
-        run = subprocess.run(words, stdin=stdin, capture_output=True, check=True)
-    return int(re.search(rb"Collected : (\d+)", run.stderr).group(1))
+    with open(path, "rb") as stdin:
+        return batches.counted([program, str(rounds), *way], stdin)
 
 
 def main():
-    asked = argparse.ArgumentParser(description=__doc__, formatter_class=argparse.RawDescriptionHelpFormatter)
+    asked = asked_of(__doc__, None)
     asked.add_argument("--rounds", type=int, default=20)
     asked.add_argument("--count", action="store_true", help="count instructions")
     asked.add_argument("--only", default="", help="the programs whose name has this word")

@@ -23,7 +23,6 @@ to that of one thread in the same round. `reads/s` is of all reading
 threads together, and has the letting go of the answers. Each figure is the median of the rounds' own figures; with `--spread` the
 least and the most of the rounds follow.
 """
-import argparse
 import os
 import random
 import shutil
@@ -33,9 +32,9 @@ import subprocess
 import sys
 import tempfile
 
-from decode import ROOT, SERVICES, span
+from decode import SERVICES, span
 import wire
-from crates import below, lists
+from crates import ROOT, asked_of, below, lists
 
 IN_BATCH = 10
 KINDS = ["one", "copies", "beside", "still"]
@@ -534,7 +533,7 @@ def cell(values, spread):
 
 
 def main():
-    asked = argparse.ArgumentParser(description=__doc__, formatter_class=argparse.RawDescriptionHelpFormatter)
+    asked = asked_of(__doc__, None)
     asked.add_argument("--bin", help="a program that was built by this script")
     asked.add_argument("--folder", help="where the program is built, and stays")
     asked.add_argument("--sizes", default="1000,10000,100000", help="spans held")

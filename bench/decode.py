@@ -7,17 +7,17 @@ timed is reading, decoding and keeping.
 
     bench/decode.py [--bin PATH] [--sizes 1,10,100] [--keep]
 """
-import argparse
 import os
 import random
+import re
 import struct
 import subprocess
 import sys
 import tempfile
 import time
 
-ROOT = os.path.dirname(os.path.dirname(os.path.abspath(__file__)))
-sys.path.append(os.path.join(ROOT, "checks"))
+sys.path.append(os.path.join(os.path.dirname(os.path.dirname(os.path.abspath(__file__))), "checks"))
+from crates import asked_of
 import wire
 from wire import field, text
 
@@ -27,11 +27,12 @@ KEYS = ["http.method", "http.url", "http.status_code", "component", "peer.servic
 SERVICES = ["frontend", "orders", "billing", "catalogue"]
 
 
-def asked_of(doc):
-    """What a script of this kind is asked: which program it runs, and what it adds itself."""
-    asked = argparse.ArgumentParser(description=doc, formatter_class=argparse.RawDescriptionHelpFormatter)
-    asked.add_argument("--bin", default=os.path.join(ROOT, "crates/jaeger_one/out/jaeger_one"))
-    return asked
+def counted(words, stdin):
+    """The instructions of one run of a program, by callgrind (Debian: valgrind)."""
+    with tempfile.NamedTemporaryFile() as out:
+        words = ["valgrind", "--tool=callgrind", f"--callgrind-out-file={out.name}", *words]
+        run = subprocess.run(words, stdin=stdin, capture_output=True, check=True)
+    return int(re.search(rb"Collected : (\d+)", run.stderr).group(1))
 
 
 def tag(rng, key):

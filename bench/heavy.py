@@ -13,12 +13,11 @@ less that of the same.
 """
 import json
 import os
-import re
 import subprocess
 import tempfile
 import time
 
-from decode import asked_of
+from decode import asked_of, counted
 import wire
 from wire import get, integer, long, post, structs, text_tag
 
@@ -180,18 +179,16 @@ def run(runner, binary, requests):
 
 def least(runner, binary, requests, options):
     taken = [run(runner, binary, requests) for _ in range(options.runs)]
-    took = counted(binary, requests) / 1e6 if options.count else min(t[0] for t in taken)
+    took = instructions(binary, requests) / 1e6 if options.count else min(t[0] for t in taken)
     return took, min(t[1] for t in taken), taken[0][2]
 
 
-def counted(binary, requests):
-    """The instructions of a session, by callgrind."""
-    with tempfile.TemporaryFile() as stdin, tempfile.NamedTemporaryFile() as out:
+def instructions(binary, requests):
+    """The instructions of a session."""
+    with tempfile.TemporaryFile() as stdin:
         stdin.writelines(requests)
         stdin.seek(0)
-        words = ["valgrind", "--tool=callgrind", f"--callgrind-out-file={out.name}", binary] + WORDS
-        run = subprocess.run(words, stdin=stdin, capture_output=True, check=True)
-    return int(re.search(rb"Collected : (\d+)", run.stderr).group(1))
+        return counted([binary, *WORDS], stdin)
 
 
 def main():

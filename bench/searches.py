@@ -16,7 +16,6 @@ prints what applying costs by number of spans held instead: microseconds a batch
 how many instructions the JSON of 20 traces takes a byte, of a tenth of the spans, as callgrind counts them (Debian: valgrind): those of the
 question with its JSON, without those of the same question alone.
 """
-import argparse
 import os
 import random
 import statistics
@@ -26,7 +25,7 @@ import tempfile
 
 from compare import FASTEST, instructions
 from copies import NOW, SPLIT_BODY, built, load
-from decode import span
+from decode import asked_of, span
 import wire
 from servers import rust_program
 
@@ -280,7 +279,7 @@ def count(program, path, end_ms):
 
 
 def main():
-    asked = argparse.ArgumentParser(description=__doc__, formatter_class=argparse.RawDescriptionHelpFormatter)
+    asked = asked_of(__doc__, None)
     asked.add_argument("--bin", help="a program that was built by this script")
     asked.add_argument("--folder", help="where the program is built, and stays")
     asked.add_argument("--spans", type=int, default=100_000)

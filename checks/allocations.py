@@ -19,7 +19,6 @@ one does beyond the second takes none.
 It needs Python 3, a C compiler, the built program, and the tests built by `rt test` in the folders of their crates. The
 last line is `N passed, M failed`.
 """
-import argparse
 import collections
 import itertools
 import os
@@ -27,9 +26,9 @@ import subprocess
 import sys
 import tempfile
 
+from crates import ROOT, asked_of
 from wire import get, post, post_in_chunks
 
-ROOT = os.path.dirname(os.path.dirname(os.path.abspath(__file__)))
 WANT = b'{"data":null,"errors":[{"code":500,"msg":"out of memory"}],"limit":0,"offset":0,"total":0}'
 QUERIES = [
     "/api/services",
@@ -184,8 +183,7 @@ def cases(program):
 
 
 def main():
-    asked = argparse.ArgumentParser(description=__doc__, formatter_class=argparse.RawDescriptionHelpFormatter)
-    asked.add_argument("--bin", default=os.path.join(ROOT, "crates/jaeger_one/out/jaeger_one"))
+    asked = asked_of(__doc__)
     asked.add_argument("--every", type=int, default=1, help="only each N-th allocation")
     asked.add_argument("--tests", help="the folder of the built tests, if not those of their crates")
     asked.add_argument("--only", default="", help="only tests whose name has this word, and nothing of the program")

@@ -10,20 +10,18 @@ nothing was lost), or ends with an error before the books (a store or a desk cou
 
 It needs Python 3 and a C compiler. The last line is `N passed, M failed`.
 """
-import argparse
 import collections
-import os
 import sys
 import tempfile
 
-from allocations import ROOT, Program, test_ends
+from allocations import Program, test_ends
+from crates import asked_of
 
 TEST = "tests::ending::waiting_jobs_handed_back"
 
 
 def main():
-    asked = argparse.ArgumentParser(description=__doc__, formatter_class=argparse.RawDescriptionHelpFormatter)
-    asked.add_argument("--bin", default=os.path.join(ROOT, "crates/intake_tests/out/intake_tests_tests"))
+    asked = asked_of(__doc__, "crates/intake_tests/out/intake_tests_tests")
     options = asked.parse_args()
     with tempfile.TemporaryDirectory() as folder:
         tests = Program(options.bin, folder)

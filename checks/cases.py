@@ -8,13 +8,14 @@ case isn't there). A line is printed for each case that fails, then `N passed, M
 status is 0 only where none failed. cases/README.md says how a case is added.
 """
 
-import argparse
 import re
 import shutil
 import subprocess
 import sys
 import tempfile
 from pathlib import Path
+
+from crates import asked_of
 
 TOP = Path(__file__).resolve().parent.parent
 CASES = TOP / "cases"
@@ -72,7 +73,7 @@ def tried(room):
 
 
 def main():
-    asked = argparse.ArgumentParser(description=__doc__, formatter_class=argparse.RawDescriptionHelpFormatter)
+    asked = asked_of(__doc__, None)
     folders = sorted(it.name for it in CASES.iterdir() if it.is_dir())
     asked.add_argument("folders", nargs="*", metavar="FOLDER", help="folders of cases/; all where none is named")
     subjects = asked.parse_args().folders or folders

@@ -9,7 +9,6 @@ back through the query interface and compared field by field. One line for each 
 Needs Debian's packages python3-thrift, thrift-compiler (for samples/jaeger.thrift) and curl, and says so with status 2 where one
 is missing; nothing is installed. With ruby-jaeger-client there are more checks; without it they are left out, and a line says so.
 """
-import argparse
 import json
 import os
 import shutil
@@ -20,7 +19,8 @@ import tempfile
 import urllib.error
 import urllib.request
 
-from servers import ROOT, Failed, Server
+from crates import ROOT, asked_of
+from servers import Failed, Server
 
 TRACE = 0x0102030405060708_F1F2F3F4F5F6F7F8
 OTHER = 0x00000000000000AA_00000000000000BB
@@ -336,8 +336,7 @@ def by_ruby(checks, server):
 
 
 def main():
-    asked = argparse.ArgumentParser(description=__doc__, formatter_class=argparse.RawDescriptionHelpFormatter)
-    asked.add_argument("--bin", default=os.path.join(ROOT, "crates/jaeger_one/out/jaeger_one"))
+    asked = asked_of(__doc__)
     asked.add_argument("--port", type=int, help="drive the program that listens there")
     asked.add_argument("--no-searches", action="store_true", help="for bench/plain_server.rs, which has none")
     options = asked.parse_args()

@@ -1,7 +1,16 @@
-"""Which crates of the repository stand on which, by crates.txt."""
+"""The repository: which of its crates stand on which, by crates.txt, and what its scripts are asked."""
+import argparse
 import os
 
 ROOT = os.path.dirname(os.path.dirname(os.path.abspath(__file__)))
+
+
+def asked_of(doc, program="crates/jaeger_one/out/jaeger_one"):
+    """What a script is asked: which program it runs, unless it runs none, and what it adds itself."""
+    asked = argparse.ArgumentParser(description=doc, formatter_class=argparse.RawDescriptionHelpFormatter)
+    if program:
+        asked.add_argument("--bin", default=os.path.join(ROOT, program))
+    return asked
 
 
 def lists():

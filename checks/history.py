@@ -32,11 +32,9 @@ judges these too.
 It prints how many looks and acknowledgements it judged. Status 0: all holds. 1: it doesn't; the first violations are told. 2:
 it could not run, or a connection ended in a way that no client asked for. Standard library alone; `--self-test` needs rustc.
 """
-import argparse
 import collections
 import contextlib
 import multiprocessing
-import os
 import random
 import subprocess
 import sys
@@ -47,7 +45,8 @@ import traceback
 from history_clients import (RECORD, TOLD, Connection, Log, Look, OperationsLook, PageLook, Parted, Reader, ServicesLook,
                              Violation, Writer, run_client, service_of)
 from history_judge import Judge
-from servers import ROOT, Failed, Server, rust_program
+from crates import asked_of
+from servers import Failed, Server, rust_program
 
 BROKEN = "checks/broken_server.rs"
 
@@ -204,8 +203,7 @@ def self_test(options):
 
 
 def parsed():
-    asked = argparse.ArgumentParser(description=__doc__, formatter_class=argparse.RawDescriptionHelpFormatter)
-    asked.add_argument("--bin", default=os.path.join(ROOT, "crates/jaeger_one/out/jaeger_one"))
+    asked = asked_of(__doc__)
     asked.add_argument("--port", type=int, help="a server that listens already and holds nothing")
     asked.add_argument("--seconds", type=float, help="60, or 5 with --self-test")
     asked.add_argument("--writers", type=int, default=8)

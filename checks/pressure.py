@@ -14,12 +14,12 @@
 
 Standard library alone, Linux. One line for each part; the last line is `N passed, M failed`.
 """
-import argparse
 import os
 import resource
 import time
 
-from servers import ROOT, Client, Failed, Server, check, get, post, run_cases
+from crates import asked_of
+from servers import Client, Failed, Server, check, get, post, run_cases
 
 
 def posted_until_refused(server):
@@ -112,8 +112,7 @@ def told():
 
 
 def main():
-    asked = argparse.ArgumentParser(description=__doc__, formatter_class=argparse.RawDescriptionHelpFormatter)
-    asked.add_argument("--bin", default=os.path.join(ROOT, "crates/jaeger_one/out/jaeger_one"))
+    asked = asked_of(__doc__)
     asked.add_argument("--posts", type=int, default=1_000_000)
     asked.add_argument("--only", default="", help="the parts whose name has this word")
     options = asked.parse_args()

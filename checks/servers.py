@@ -15,9 +15,9 @@ import sys
 import tempfile
 import time
 
+from crates import ROOT
 import wire
 
-ROOT = os.path.dirname(os.path.dirname(os.path.abspath(__file__)))
 PATIENCE = 10
 TICK = os.sysconf("SC_CLK_TCK")
 THRIFT = "application/x-thrift"

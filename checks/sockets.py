@@ -7,17 +7,16 @@ responses, the ends of the program.
 Each case starts the program anew on a free port of 127.0.0.1 and looks only at what the sockets, its standard output and its
 status say. Standard library alone. One line for each failing case; the last line is `N passed, M failed`.
 """
-import argparse
 import contextlib
 import json
-import os
 import signal
 import socket
 import subprocess
 import threading
 import time
 
-from servers import PATIENCE, ROOT, THRIFT, Client, Failed, Server, batch, check, get, head, post, run_cases
+from crates import asked_of
+from servers import PATIENCE, THRIFT, Client, Failed, Server, batch, check, get, head, post, run_cases
 
 
 def found(client, trace):
@@ -432,8 +431,7 @@ CASES = {
 
 
 def main():
-    asked = argparse.ArgumentParser(description=__doc__, formatter_class=argparse.RawDescriptionHelpFormatter)
-    asked.add_argument("--bin", default=os.path.join(ROOT, "crates/jaeger_one/out/jaeger_one"))
+    asked = asked_of(__doc__)
     asked.add_argument("--only", default="", help="the cases whose name has this word")
     options = asked.parse_args()
     Server.binary = options.bin

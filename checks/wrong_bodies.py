@@ -1,7 +1,6 @@
 #!/usr/bin/env python3
 """Tries all wrong bodies of a crate, those of wrong-bodies/ too, in a copy: wrong_bodies.py CRATE [--only WORD]."""
 
-import argparse
 import pathlib
 import re
 import shutil
@@ -9,7 +8,7 @@ import subprocess
 import sys
 import tempfile
 
-from crates import below, lists
+from crates import asked_of, below, lists
 
 TOP = pathlib.Path(__file__).resolve().parent.parent
 LINE = re.compile(r"(?:rt: )?must-fail \S+/(\S+\.edit): (refused|NOT REFUSED|BAD EDIT|NOT TRIED)")
@@ -72,7 +71,7 @@ def report(names, found, status):
 
 def main():
     """Tries the edits of the crate that is named."""
-    words = argparse.ArgumentParser(description=__doc__)
+    words = asked_of(__doc__, None)
     words.add_argument("crate")
     words.add_argument("--only", metavar="WORD", default="", help="only edits whose name has this word")
     asked = words.parse_args()
