@@ -62,6 +62,19 @@ fn split_body(input: &[u8]) -> Option<(&[u8], &[u8])> {
 }
 """
 
+# The entry of seat 0 whose batch is a body.
+ENTRY_OF = """/// The entry of a body.
+fn entry_of(alloc: Global, body: &[u8], number: u64) -> Result<Arc<Entry>> {
+    let batch = decode(alloc, body)?;
+    let entry = Entry {
+        seat: 0,
+        number,
+        work: Work::Batch(batch),
+    };
+    Ok(Arc::new(alloc, entry)?)
+}
+"""
+
 # The program.
 MAIN = """//! Times the store of one thread, or two copies of a store, over the bodies of standard input: the last ones are timed as they are
 //! taken in, and traces are read after that or beside it.
@@ -118,7 +131,7 @@ struct Phases {
     phase: AtomicU64,
 }
 
-""" + NOW + "\n" + SPLIT_BODY + """
+""" + NOW + "\n" + SPLIT_BODY + "\n" + ENTRY_OF + """
 /// How many bodies there are.
 fn count_bodies(input: &[u8]) -> usize {
     let mut rest = input;
@@ -146,13 +159,7 @@ fn entries<'a>(
             break;
         };
         number = number.saturating_add(1);
-        let work = Work::Batch(decode(alloc, body)?);
-        let entry = Entry {
-            seat: 0,
-            number,
-            work,
-        };
-        entries.push(Arc::new(alloc, entry)?)?;
+        entries.push(entry_of(alloc, body, number)?)?;
         rest = after;
     }
     Ok((entries, rest))

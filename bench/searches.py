@@ -24,7 +24,7 @@ import subprocess
 import tempfile
 
 from compare import FASTEST, instructions
-from copies import NOW, SPLIT_BODY, built, load
+from copies import ENTRY_OF, NOW, SPLIT_BODY, built, load
 from decode import asked_of, span
 import wire
 from servers import rust_program
@@ -51,18 +51,7 @@ use std::sync::Arc;
 use std::time::Clock;
 use trace_model::{Answer, Entry, Find, Limits, Query, Work};
 
-""" + NOW + "\n" + SPLIT_BODY + """
-/// The entry of a body.
-fn entry_of(alloc: Global, body: &[u8], number: u64) -> Result<Arc<Entry>> {
-    let batch = decode(alloc, body)?;
-    let entry = Entry {
-        seat: 0,
-        number,
-        work: Work::Batch(batch),
-    };
-    Ok(Arc::new(alloc, entry)?)
-}
-
+""" + NOW + "\n" + SPLIT_BODY + "\n" + ENTRY_OF + """
 /// Applies an entry; its nanoseconds.
 fn applied<R: Clock>(rt: &R, store: &mut SpanStore, entry: Arc<Entry>) -> Result<u64> {
     let begin = now(rt);
