@@ -147,6 +147,21 @@ pub fn kept<T: Drop, E>(value: T, done: Result<(), E>) -> Result<T, E>
     }
 }
 
+/// The first row that isn't as the test wants it, each looked at behind the ones before; None where all are.
+pub fn first_otherwise<T, E, F: FnMut(&T) -> Result<bool, E>>(
+    rows: &[T],
+    mut is_so: F,
+) -> Result<Option<usize>, E>
+    requires { F.IsAlwaysCallable is_so }
+{
+    for (number, row) in rows.iter().enumerate() {
+        if !is_so(row)? {
+            return Ok(Some(number));
+        }
+    }
+    Ok(None)
+}
+
 /// A search by a service, without any other condition and without a limit.
 ///
 /// # Errors

@@ -8,6 +8,7 @@ use std::mem::drop;
 use std::test::*;
 use thrift_binary::{WireError, types};
 use trace_samples::exchanges::BATCH;
+use trace_samples::first_otherwise;
 use trace_samples::spellings::ALL;
 
 /// A batch without spans.
@@ -160,12 +161,7 @@ fn is_refused_below_0(alloc: Global, claim: &[u8]) -> Result<bool, AllocError> {
 
 /// The first of them that isn't; None where each is.
 fn first_not_refused(alloc: Global) -> Result<Option<usize>, AllocError> {
-    for (number, claim) in CLAIMS.iter().enumerate() {
-        if !is_refused_below_0(alloc, *claim)? {
-            return Ok(Some(number));
-        }
-    }
-    Ok(None)
+    first_otherwise(&CLAIMS, |claim| is_refused_below_0(alloc, *claim))
 }
 
 /// A size that is refused is so by the piece that has its last byte, and by decoding.

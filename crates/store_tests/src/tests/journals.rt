@@ -7,7 +7,7 @@ use std::mem::drop;
 use std::sync::Arc;
 use std::test::*;
 use trace_model::{Admission, Entry, Limits, Refusal};
-use trace_samples::{kept, span};
+use trace_samples::{first_otherwise, kept, span};
 
 /// Adds so many spans.
 fn add_spans(alloc: Global, spans: &mut Vec<Span>, count: u64) -> Result<(), AllocError> {
@@ -44,20 +44,6 @@ fn is_answered(alloc: Global, journal: &mut Journal, row: &Row) -> Result<bool, 
     let answer = journal.admit(sent(alloc, name, seq_no, spans)?);
     let is_left = before == (journal.len(), journal.span_count());
     Ok(answer == want && (answer.is_ok() || is_left))
-}
-
-/// The first row that isn't answered as it says, each behind the ones before; None where all are.
-fn first_otherwise(
-    alloc: Global,
-    journal: &mut Journal,
-    rows: &[Row],
-) -> Result<Option<usize>, AllocError> {
-    for (number, row) in rows.iter().enumerate() {
-        if !is_answered(alloc, journal, row)? {
-            return Ok(Some(number));
-        }
-    }
-    Ok(None)
 }
 
 /// In a journal for four batches and five spans.
@@ -118,7 +104,7 @@ fn in_order(
     alloc: Global,
     journal: &mut Journal,
 ) -> Result<(Option<usize>, [u64; 4], usize, u32), AllocError> {
-    let first = first_otherwise(alloc, journal, &IN_ORDER)?;
+    let first = first_otherwise(&IN_ORDER, |row| is_answered(alloc, journal, row))?;
     Ok((
         first,
         numbers_at(journal),
@@ -181,7 +167,7 @@ const REPEATS: [Row; 11] = [
 fn repeated(alloc: Global, keys: RandomState) -> Result<(Option<usize>, u64), Fail> {
     let limits = Limits::new(3, 9, 0, 0).ok_or("limits")?;
     let mut journal = Journal::new(alloc, keys, limits)?;
-    let first = first_otherwise(alloc, &mut journal, &REPEATS);
+    let first = first_otherwise(&REPEATS, |row| is_answered(alloc, &mut journal, row));
     let len = journal.len();
     drop(journal);
     Ok((first?, len))

@@ -11,7 +11,7 @@ use std::mem::drop;
 use std::sync::Arc;
 use std::test::*;
 use trace_model::{Answer, Entry, Limits, Operation, Query};
-use trace_samples::{kept, list_of, placed, span, text_tag};
+use trace_samples::{first_otherwise, kept, list_of, placed, span, text_tag};
 
 /// Service, operation and kind, as they are added.
 const ADDED: [(&str, &str, &str); 5] = [
@@ -233,34 +233,19 @@ fn has_operations(
     Ok(is_listed(&operations_of(alloc, keys, entries, "c", kind)?, wanted))
 }
 
-/// The first row that the store of these entries doesn't list as it says; None where it lists all so.
-fn first_unlisted(
-    alloc: Global,
-    keys: RandomState,
-    entries: &[Arc<Entry>],
-) -> Result<Option<usize>, Fail> {
-    for (number, (kind, wanted)) in ASKED.iter().enumerate() {
-        if !has_operations(alloc, keys, entries, *kind, *wanted)? {
-            return Ok(Some(number));
-        }
-    }
-    Ok(None)
-}
-
-/// The same of the history of `ADDED`.
-fn first_unlisted_of_added(alloc: Global, keys: RandomState) -> Result<Option<usize>, Fail> {
+/// The first row that the store of the history of `ADDED` doesn't list as it says; None where it lists all so.
+fn first_unlisted(alloc: Global, keys: RandomState) -> Result<Option<usize>, Fail> {
     let entries = history_of(alloc, &ADDED)?;
-    let first = first_unlisted(alloc, keys, &entries);
+    let first = first_otherwise(&ASKED, |(kind, wanted)| {
+        has_operations(alloc, keys, &entries, *kind, *wanted)
+    });
     drop(entries);
     first
 }
 
 #[test]
 fn operations_by_kind(rt: HostRuntime) -> Result<(), Fail> {
-    assert_eq!(rt;
-        first_unlisted_of_added(rt.alloc(), RandomState::new(&rt)?)?,
-        None
-    );
+    assert_eq!(rt; first_unlisted(rt.alloc(), RandomState::new(&rt)?)?, None);
     Ok(())
 }
 

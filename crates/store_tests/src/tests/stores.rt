@@ -12,7 +12,7 @@ use std::mem::drop;
 use std::sync::Arc;
 use std::test::*;
 use trace_model::{Entry, Find, Limits, Query, Refusal};
-use trace_samples::{kept, list_of, span, text_tag};
+use trace_samples::{first_otherwise, kept, list_of, span, text_tag};
 
 /// A number that looks random and is the same in every run.
 fn after(seed: u64) -> u64 {
@@ -521,31 +521,18 @@ fn is_as_said(alloc: Global, store: &mut SpanStore, row: &Row) -> Result<bool, A
     Ok(got == want && same_answers(alloc, store, number)?)
 }
 
-/// The first row that isn't answered as it says, each behind the ones before; None where all are.
-fn first_otherwise(alloc: Global, store: &mut SpanStore) -> Result<Option<usize>, AllocError> {
-    for (number, row) in ROWS.iter().enumerate() {
-        if !is_as_said(alloc, store, row)? {
-            return Ok(Some(number));
-        }
-    }
-    Ok(None)
-}
-
-/// The same in a store that is opened for them.
-fn first_otherwise_of_one(alloc: Global, keys: RandomState) -> Result<Option<usize>, Fail> {
+/// The first row that a store that is opened for them doesn't answer as it says; None where it answers all so.
+fn first_unanswered(alloc: Global, keys: RandomState) -> Result<Option<usize>, Fail> {
     let limits = Limits::new(3, 5, 2, 0).ok_or("limits")?;
     let mut store = SpanStore::open(alloc, keys, limits)?;
-    let first = first_otherwise(alloc, &mut store);
+    let first = first_otherwise(&ROWS, |row| is_as_said(alloc, &mut store, row));
     drop(store);
     Ok(first?)
 }
 
 #[test]
 fn refused_entries_change_nothing(rt: HostRuntime) -> Result<(), Fail> {
-    assert_eq!(rt;
-        first_otherwise_of_one(rt.alloc(), RandomState::new(&rt)?)?,
-        None
-    );
+    assert_eq!(rt; first_unanswered(rt.alloc(), RandomState::new(&rt)?)?, None);
     Ok(())
 }
 

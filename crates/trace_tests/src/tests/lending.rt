@@ -9,7 +9,7 @@ use std::sync::Arc;
 use std::test::*;
 use trace_adjust::{LentSpan, LentSpans, lend, show};
 use trace_model::{Entry, KeptSpan, KeptTrace, Limits, Shown};
-use trace_samples::kept;
+use trace_samples::{first_otherwise, kept};
 
 /// Adds the spans of each entry at these indexes.
 fn add_kept(
@@ -141,25 +141,22 @@ fn are_lent_moved(
 }
 
 /// The first pair of which the spans with these indexes aren't lent and moved as it says; None where all are.
-fn first_otherwise(alloc: Global, indexes: &[u32]) -> Result<Option<usize>, AllocError> {
-    for (number, (times, limit, _, _)) in PAIRS.iter().enumerate() {
-        if !are_lent_moved(alloc, *times, *limit, indexes)? {
-            return Ok(Some(number));
-        }
-    }
-    Ok(None)
+fn first_unmoved(alloc: Global, indexes: &[u32]) -> Result<Option<usize>, AllocError> {
+    first_otherwise(&PAIRS, |(times, limit, _, _)| {
+        are_lent_moved(alloc, *times, *limit, indexes)
+    })
 }
 
 #[test]
 fn child_on_another_host_is_lent(rt: HostRuntime) -> Result<(), Fail> {
-    assert_eq!(rt; first_otherwise(rt.alloc(), &[0])?, None);
+    assert_eq!(rt; first_unmoved(rt.alloc(), &[0])?, None);
     Ok(())
 }
 
 /// A span that its entry doesn't have is left out, and the others are moved as without it.
 #[test]
 fn span_that_is_not_there_is_left_out(rt: HostRuntime) -> Result<(), Fail> {
-    assert_eq!(rt; first_otherwise(rt.alloc(), &[1, 0, 2])?, None);
+    assert_eq!(rt; first_unmoved(rt.alloc(), &[1, 0, 2])?, None);
     Ok(())
 }
 

@@ -7,7 +7,7 @@ use std::mem::drop;
 use std::test::*;
 use trace_adjust::shown;
 use trace_model::{Answer, AnsweredTrace, Find, Query, Shown};
-use trace_samples::{kept, list_of, placed, process, service_find, span};
+use trace_samples::{first_otherwise, kept, list_of, placed, process, service_find, span};
 
 /// A span of service `a` of this trace.
 fn begun_once(alloc: Global, trace: u64, start: i64, duration: i64) -> Result<Placed, AllocError> {
@@ -335,20 +335,12 @@ const ASKED: [(&[&str], bool); 12] = [
     (&["p", "p", "s", "x"], false),
 ];
 
-/// The first row that isn't answered as it says; None where all are.
-fn first_otherwise(alloc: Global, flagged: &Placed) -> Result<Option<usize>, AllocError> {
-    for (number, (asked, wanted)) in ASKED.iter().enumerate() {
-        if is_found(alloc, flagged, by_flags(alloc, *asked))? != *wanted {
-            return Ok(Some(number));
-        }
-    }
-    Ok(None)
-}
-
-/// The same of a span that is given up behind that.
-fn first_otherwise_of_one(alloc: Global) -> Result<Option<usize>, AllocError> {
+/// The first row that isn't answered as it says of a span that is given up behind that; None where all are.
+fn first_unanswered(alloc: Global) -> Result<Option<usize>, AllocError> {
     let flagged = flagged(alloc)?;
-    let first = first_otherwise(alloc, &flagged);
+    let first = first_otherwise(&ASKED, |(asked, wanted)| {
+        Ok(is_found(alloc, &flagged, by_flags(alloc, *asked))? == *wanted)
+    });
     drop(flagged);
     first
 }
@@ -356,7 +348,7 @@ fn first_otherwise_of_one(alloc: Global) -> Result<Option<usize>, AllocError> {
 /// Each asked tag has to be one of the span, its log or its process, however often it is asked.
 #[test]
 fn tags_matched_together(rt: HostRuntime) -> Result<(), Fail> {
-    assert_eq!(rt; first_otherwise_of_one(rt.alloc())?, None);
+    assert_eq!(rt; first_unanswered(rt.alloc())?, None);
     Ok(())
 }
 

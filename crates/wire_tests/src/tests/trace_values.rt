@@ -6,7 +6,7 @@ use jaeger_model::{
 use std::alloc::{AllocError, Global};
 use std::mem::drop;
 use std::test::*;
-use trace_samples::{batch, kept, list_of, span};
+use trace_samples::{batch, first_otherwise, kept, list_of, span};
 
 fn text(alloc: Global, text: &str) -> Result<Text, Fail> {
     Ok(Text::from_str(alloc, text)?)
@@ -152,27 +152,17 @@ fn is_first(alloc: Global, tags: &[Tag], key: &str, want: &str) -> Result<bool, 
     Ok(same && first.as_str() == want)
 }
 
-/// The first key that hasn't the text that stands beside it; None where each has.
-fn first_otherwise(alloc: Global, tags: &[Tag]) -> Result<Option<usize>, Fail> {
-    for (number, (key, want)) in TAG_TEXTS.iter().enumerate() {
-        if !is_first(alloc, tags, key, want)? {
-            return Ok(Some(number));
-        }
-    }
-    Ok(None)
-}
-
-/// The same of a tag of each type.
-fn first_otherwise_of_each(alloc: Global) -> Result<Option<usize>, Fail> {
+/// The first key that, among a tag of each type, hasn't the text that stands beside it; None where each has.
+fn first_other_text(alloc: Global) -> Result<Option<usize>, Fail> {
     let tags = a_tag_of_each_type(alloc)?;
-    let first = first_otherwise(alloc, &tags);
+    let first = first_otherwise(&TAG_TEXTS, |(key, want)| is_first(alloc, &tags, key, want));
     drop(tags);
     first
 }
 
 #[test]
 fn texts_of_tags(rt: HostRuntime) -> Result<(), Fail> {
-    assert_eq!(rt; first_otherwise_of_each(rt.alloc())?, None);
+    assert_eq!(rt; first_other_text(rt.alloc())?, None);
     Ok(())
 }
 
