@@ -120,12 +120,7 @@ impl<'a> Cursor<'a> {
         ensures no_longer { OnOk result (length self.new ≤ length self.old) }
         ensures spelled { IfOk result (λ z. Beginning (λ t. IsI32 t z) self.old self.new) }
     {
-        if self.bytes.len() < 4 {
-            return self.refuse(WireError::Truncated);
-        }
-        let number = BigEndian::read_i32(self.bytes);
-        self.bytes = &self.bytes[4..];
-        Ok(number)
+        Ok(BigEndian::read_i32(self.take(4)?))
     }
 
     /// A signed number of 64 bits, the highest byte first: an i64.
@@ -141,12 +136,7 @@ impl<'a> Cursor<'a> {
         ensures no_longer { OnOk result (length self.new ≤ length self.old) }
         ensures spelled { IfOk result (λ z. Beginning (λ t. IsI64 t z) self.old self.new) }
     {
-        if self.bytes.len() < 8 {
-            return self.refuse(WireError::Truncated);
-        }
-        let number = BigEndian::read_i64(self.bytes);
-        self.bytes = &self.bytes[8..];
-        Ok(number)
+        Ok(BigEndian::read_i64(self.take(8)?))
     }
 
     #[inline]
@@ -154,12 +144,7 @@ impl<'a> Cursor<'a> {
         ensures exact { Reads (λ x. x) (signed_at w16 2) self.old result self.new }
         ensures shorter { OnOk result (length self.new < length self.old) }
     {
-        if self.bytes.len() < 2 {
-            return self.refuse(WireError::Truncated);
-        }
-        let number = BigEndian::read_i16(self.bytes);
-        self.bytes = &self.bytes[2..];
-        Ok(number)
+        Ok(BigEndian::read_i16(self.take(2)?))
     }
 
     #[inline]
@@ -167,12 +152,7 @@ impl<'a> Cursor<'a> {
         ensures exact { Reads (λ x. x) (number_at 4) self.old result self.new }
         ensures shorter { OnOk result (length self.new < length self.old) }
     {
-        if self.bytes.len() < 4 {
-            return self.refuse(WireError::Truncated);
-        }
-        let number = BigEndian::read_u32(self.bytes);
-        self.bytes = &self.bytes[4..];
-        Ok(number)
+        Ok(BigEndian::read_u32(self.take(4)?))
     }
 
     #[inline]
