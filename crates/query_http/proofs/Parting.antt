@@ -39,21 +39,43 @@ slash_cut (b ∷ t) = by (eqb b 47) refl (slash_cut t)
         let other : b ≢ 47 = λ q. grind (arith, nat_tests) in
         inr (record { part = b ∷ h.part; tail = h.tail; is = ap (λ (x : List ℕ). b ∷ x) h.is; front = rw (e, h.front) refl; some = rw e h.some; plain = (other, h.plain) })
 
-or_some : {K : Type 0} (x y : Option K) (k : K) → or_else x y ≡ Some k → (x ≡ Some k) ⊎ (y ≡ Some k)
-or_some None y k e = inr e
+or_some : {K : Type 0} (x y : Option K) (k : K) → or_else x (or_else y None) ≡ Some k → (x ≡ Some k) ⊎ (y ≡ Some k)
+or_some None None k e = absurd (none-some k e)
+or_some None (Some j) k e = inr e
 or_some (Some j) y k e = inl e
 
-or_left : {K : Type 0} (x y : Option K) → or_else x y ≡ None → x ≡ None
-or_left None y e = refl
-or_left (Some j) y e = absurd cc
-
-or_right : {K : Type 0} (x y : Option K) → or_else x y ≡ None → y ≡ None
-or_right None y e = e
-or_right (Some j) y e = absurd cc
+or_none : {K : Type 0} (x y : Option K) → or_else x (or_else y None) ≡ None → y ≡ None
+or_none None None e = refl
+or_none None (Some j) e = absurd cc
+or_none (Some j) y e = absurd cc
 
 no_longer : (n : ℕ) (path w rest : List ℕ) → length path ≤ n + 1 → drop n path ≡ (47 ∷ w) ++ rest → 0 < length w → ⊥
 no_longer n path w rest le e some =
     omega (arith, ap length e, length-drop n path, length-append (47 ∷ w) rest)
+
+-- what these rows find behind the part that begins this path
+abbrev after_part : {K : Type 0} → RowsOf K → ℕ → List ℕ → Option K
+after_part rows b path = seek ((param_step rows (b ∷ path)).0 - 1) (param_step rows (b ∷ path)).1 path
+
+module _ {K : Type 0} (k : K) (tail : List ℕ) (b : ℕ) (path : List ℕ) where
+  -- what the row of a part finds stands behind the marker as a byte, or behind a part
+  found_by : {P : Type 0} (found : K) → (IsPart (b ∷ []) → seek 0 ((tail, k) ∷ []) path ≡ Some found → P) → (after_part ((tail, k) ∷ []) b path ≡ Some found → P)
+      → seek 0 ((256 ∷ tail, k) ∷ []) (b ∷ path) ≡ Some found → P
+  unfolding seek
+  found_by {P = P} found as_byte behind_part e = by (eqb 256 b) refl (or_some _ _ found e)
+    where
+      by : (v : Bool) → eqb 256 b ≡ v → (seek 0 (cond v ((tail, k) ∷ []) []) path ≡ Some found) ⊎ (after_part ((tail, k) ∷ []) b path ≡ Some found) → P
+      by true s (inl h) =
+          let b-is : 256 ≡ b = search (rules, nat_tests) in
+          let other : b ≢ 47 = λ q. omega arith in
+          as_byte (record { some = omega arith; plain = (other, tt) }) h
+      by false s (inl h) = absurd (none-some found (sym (seek_none 0 path) ∙ h))
+      by v s (inr h) = behind_part h
+
+  -- where it finds nothing, nothing stands behind a part
+  none_after : seek 0 ((256 ∷ tail, k) ∷ []) (b ∷ path) ≡ None → after_part ((tail, k) ∷ []) b path ≡ None
+  unfolding seek
+  none_after e = or_none (seek 0 (step b ((256 ∷ tail, k) ∷ [])) path) (after_part ((tail, k) ∷ []) b path) e
 
 module _ {K : Type 0} (k : K) where
   -- ---- a part at the end of the path
@@ -61,7 +83,7 @@ module _ {K : Type 0} (k : K) where
   unfolding param_step
   taken_last-is t = refl
 
-  last_one : (b : ℕ) (path : List ℕ) (found : K) → seek ((param_step (([], k) ∷ []) (b ∷ path)).0 - 1) (param_step (([], k) ∷ []) (b ∷ path)).1 path ≡ Some found → IsPart (b ∷ path) × (found ≡ k)
+  last_one : (b : ℕ) (path : List ℕ) (found : K) → after_part (([], k) ∷ []) b path ≡ Some found → IsPart (b ∷ path) × (found ≡ k)
   last_one b path found e = by (slash_cut (b ∷ path))
     where
       goes : (v : Bool) → has_slash (b ∷ path) ≡ v → param_step (([], k) ∷ []) (b ∷ path) ≡ cond v (0, []) (length (b ∷ path), ([], k) ∷ [])
@@ -76,30 +98,14 @@ module _ {K : Type 0} (k : K) where
           let e' : seek (0 - 1) [] path ≡ Some found = subst (λ (s : ℕ × RowsOf K). seek (s.0 - 1) s.1 path ≡ Some found) (goes true h.some) e in
           absurd (none-some found (sym (seek_none (0 - 1) path) ∙ e'))
 
-  step_last : (b : ℕ) → step b ((256 ∷ [], k) ∷ []) ≡ cond (eqb 256 b) (([], k) ∷ []) []
-  step_last b = refl
-
   -- what is found by a part at the end is one part
   pub found_last : (path : List ℕ) (found : K) → seek 0 ((256 ∷ [], k) ∷ []) path ≡ Some found → IsPart path × (found ≡ k)
   unfolding seek
   found_last [] found e = absurd (none-some found e)
-  found_last (b ∷ path) found e = by (or_some _ _ found e)
-    where
-      literal : (v : Bool) → eqb 256 b ≡ v → seek 0 (step b ((256 ∷ [], k) ∷ [])) path ≡ Some found → IsPart (b ∷ path) × (found ≡ k)
-      literal true s h =
-          let b-is : 256 ≡ b = search (rules, nat_tests) in
-          let f = found_end k path found (sym (ap (λ r. seek 0 r path) (step_last b ∙ rw s refl)) ∙ h) in
-          let other : b ≢ 47 = λ q. omega arith in
-          (record { some = omega arith; plain = (other, subst (λ (p : List ℕ). AllByRecursion (λ b. b ≢ 47) p) (sym f.0) tt) }, f.1)
-      literal false s h = absurd (none-some found (sym (seek_none 0 path) ∙ sym (ap (λ r. seek 0 r path) (step_last b ∙ rw s refl)) ∙ h))
-
-      by : (seek 0 (step b ((256 ∷ [], k) ∷ [])) path ≡ Some found) ⊎ (or_else (seek ((param_step (([], k) ∷ []) (b ∷ path)).0 - 1) (param_step (([], k) ∷ []) (b ∷ path)).1 path) None ≡ Some found) → IsPart (b ∷ path) × (found ≡ k)
-      by (inl h) = literal (eqb 256 b) refl h
-      by (inr h) = last (or_some _ None found h)
-        where
-          last : (seek ((param_step (([], k) ∷ []) (b ∷ path)).0 - 1) (param_step (([], k) ∷ []) (b ∷ path)).1 path ≡ Some found) ⊎ (None ≡ Some found) → IsPart (b ∷ path) × (found ≡ k)
-          last (inl g) = last_one b path found g
-          last (inr g) = absurd (none-some found g)
+  found_last (b ∷ path) found e =
+      found_by k [] b path found
+      (λ is h. (let f = found_end k path found h in (subst (λ (p : List ℕ). IsPart (b ∷ p)) (sym f.0) is, f.1)))
+      (last_one b path found) e
 
   -- and one part at the end is found
   pub part_last : (part : List ℕ) → IsPart part → seek 0 ((256 ∷ [], k) ∷ []) part ≡ None → ⊥
@@ -107,11 +113,8 @@ module _ {K : Type 0} (k : K) where
   part_last [] p e = absurd (omega (arith, p.some))
   part_last (b ∷ path) p e = by (slash_cut (b ∷ path))
     where
-      after : Option K
-      after = seek ((param_step (([], k) ∷ []) (b ∷ path)).0 - 1) (param_step (([], k) ∷ []) (b ∷ path)).1 path
-
-      none : after ≡ None
-      none = or_left after None (or_right (seek 0 (step b ((256 ∷ [], k) ∷ [])) path) (or_else after None) e)
+      none : after_part (([], k) ∷ []) b path ≡ None
+      none = none_after k [] b path e
 
       by : NoSlash (b ∷ path) ⊎ AtSlash (b ∷ path) → ⊥
       by (inl h) =
@@ -207,7 +210,7 @@ module _ {K : Type 0} (k : K) (w : List ℕ) (l : AreLiteral (47 ∷ w)) (long :
       let e' : seek (0 - 1) [] path ≡ Some found = subst (λ (v : Bool). seek ((cond {A = ℕ × RowsOf K} v (0, []) (length (b ∷ path), ((47 ∷ w), k) ∷ [])).0 - 1) (cond {A = ℕ × RowsOf K} v (0, []) (length (b ∷ path), ((47 ∷ w), k) ∷ [])).1 path ≡ Some found) h.some e in
       absurd (none-some found (sym (seek_none (0 - 1) path) ∙ e'))
 
-  between_param : (b : ℕ) (path : List ℕ) (found : K) → seek ((param_step (((47 ∷ w), k) ∷ []) (b ∷ path)).0 - 1) (param_step (((47 ∷ w), k) ∷ []) (b ∷ path)).1 path ≡ Some found → Between (b ∷ path) found
+  between_param : (b : ℕ) (path : List ℕ) (found : K) → after_part (((47 ∷ w), k) ∷ []) b path ≡ Some found → Between (b ∷ path) found
   unfolding cut_step
   between_param b path found e = by (cuts (segment (b ∷ path)) (47 ∷ [])) refl
     where
@@ -218,30 +221,14 @@ module _ {K : Type 0} (k : K) (w : List ℕ) (l : AreLiteral (47 ∷ w)) (long :
       by true c = between_cut b path found c (at true c) (slash_cut (b ∷ path))
       by false c = between_whole b path found (at false c) (slash_cut (b ∷ path))
 
-  step_more : (b : ℕ) → step b ((256 ∷ (47 ∷ w), k) ∷ []) ≡ cond (eqb 256 b) (((47 ∷ w), k) ∷ []) []
-  step_more b = refl
-
   -- what is found by a part with bytes behind it is one part and those bytes
   pub found_between : (path : List ℕ) (found : K) → seek 0 ((256 ∷ (47 ∷ w), k) ∷ []) path ≡ Some found → Between path found
   unfolding seek
   found_between [] found e = absurd (none-some found e)
-  found_between (b ∷ path) found e = by (or_some _ _ found e)
-    where
-      literal : (v : Bool) → eqb 256 b ≡ v → seek 0 (step b ((256 ∷ (47 ∷ w), k) ∷ [])) path ≡ Some found → Between (b ∷ path) found
-      literal true s h =
-          let b-is : 256 ≡ b = search (rules, nat_tests) in
-          let f = found_more path found (sym (ap (λ r. seek 0 r path) (step_more b ∙ rw s refl)) ∙ h) in
-          let other : b ≢ 47 = λ q. omega arith in
-          record { part = b ∷ []; is_part = record { some = omega arith; plain = (other, tt) }; path_is = ap (λ (p : List ℕ). b ∷ p) f.0; found_is = f.1 }
-      literal false s h = absurd (none-some found (sym (seek_none 0 path) ∙ sym (ap (λ r. seek 0 r path) (step_more b ∙ rw s refl)) ∙ h))
-
-      last : (seek ((param_step (((47 ∷ w), k) ∷ []) (b ∷ path)).0 - 1) (param_step (((47 ∷ w), k) ∷ []) (b ∷ path)).1 path ≡ Some found) ⊎ (None ≡ Some found) → Between (b ∷ path) found
-      last (inl g) = between_param b path found g
-      last (inr g) = absurd (none-some found g)
-
-      by : (seek 0 (step b ((256 ∷ (47 ∷ w), k) ∷ [])) path ≡ Some found) ⊎ (or_else (seek ((param_step (((47 ∷ w), k) ∷ []) (b ∷ path)).0 - 1) (param_step (((47 ∷ w), k) ∷ []) (b ∷ path)).1 path) None ≡ Some found) → Between (b ∷ path) found
-      by (inl h) = literal (eqb 256 b) refl h
-      by (inr h) = last (or_some _ None found h)
+  found_between (b ∷ path) found e =
+      found_by k (47 ∷ w) b path found
+      (λ is h. (let f = found_more path found h in record { part = b ∷ []; is_part = is; path_is = ap (λ (p : List ℕ). b ∷ p) f.0; found_is = f.1 }))
+      (between_param b path found) e
 
   -- ---- and one part with those bytes behind it is found
   plain_segment : (part tail : List ℕ) → AllByRecursion (λ c. c ≢ 47) part → segment (part ++ (47 ∷ tail)) ≡ part ++ (47 ∷ [])
@@ -267,7 +254,7 @@ module _ {K : Type 0} (k : K) (w : List ℕ) (l : AreLiteral (47 ∷ w)) (long :
       at_end : seek 0 (([], k) ∷ []) [] ≡ Some k
       at_end = refl
 
-  between_found : (c : ℕ) (part : List ℕ) → AllByRecursion (λ b. b ≢ 47) (c ∷ part) → seek ((param_step (((47 ∷ w), k) ∷ []) ((c ∷ part) ++ (47 ∷ w))).0 - 1) (param_step (((47 ∷ w), k) ∷ []) ((c ∷ part) ++ (47 ∷ w))).1 (part ++ (47 ∷ w)) ≡ Some k
+  between_found : (c : ℕ) (part : List ℕ) → AllByRecursion (λ b. b ≢ 47) (c ∷ part) → after_part (((47 ∷ w), k) ∷ []) c (part ++ (47 ∷ w)) ≡ Some k
   unfolding cut_step
   between_found c part p =
       let seg : segment ((c ∷ part) ++ (47 ∷ w)) ≡ (c ∷ part) ++ (47 ∷ []) = plain_segment (c ∷ part) w p in
@@ -284,8 +271,5 @@ module _ {K : Type 0} (k : K) (w : List ℕ) (l : AreLiteral (47 ∷ w)) (long :
       two_less = omega (arith, length-append (c ∷ part) (47 ∷ []))
 
   pub part_between : (part : List ℕ) → IsPart part → seek 0 ((256 ∷ (47 ∷ w), k) ∷ []) (part ++ (47 ∷ w)) ≡ None → ⊥
-  unfolding seek
   part_between [] p e = absurd (omega (arith, p.some))
-  part_between (c ∷ part) p e =
-      let after = seek ((param_step (((47 ∷ w), k) ∷ []) ((c ∷ part) ++ (47 ∷ w))).0 - 1) (param_step (((47 ∷ w), k) ∷ []) ((c ∷ part) ++ (47 ∷ w))).1 (part ++ (47 ∷ w)) in
-      none-some k (sym (or_left after None (or_right (seek 0 (step c ((256 ∷ (47 ∷ w), k) ∷ [])) (part ++ (47 ∷ w))) (or_else after None) e)) ∙ between_found c part p.plain)
+  part_between (c ∷ part) p e = none-some k (sym (none_after k (47 ∷ w) c (part ++ (47 ∷ w)) e) ∙ between_found c part p.plain)
