@@ -9,7 +9,7 @@ use std::mem::drop;
 use std::test::*;
 use thrift_binary::WireError;
 use trace_samples::spellings::{ALL, APACHE};
-use trace_samples::{batch, span};
+use trace_samples::{batch, kept, span};
 
 /// What is answered of the pieces is what decoding the joined bytes answers.
 fn is_same(got: Result<Batch, DecodeError>, whole: &Result<Batch, DecodeError>) -> bool {
@@ -184,13 +184,8 @@ fn add_spans(alloc: Global, spans: &mut Vec<Span>, count: u64) -> Result<(), All
 /// A batch of so many spans.
 fn batch_of(alloc: Global, count: u64) -> Result<Batch, AllocError> {
     let mut spans = Vec::new(alloc);
-    match add_spans(alloc, &mut spans, count) {
-        Ok(()) => batch(alloc, "orders", spans),
-        Err(why) => {
-            drop(spans);
-            Err(why)
-        }
-    }
+    let added = add_spans(alloc, &mut spans, count);
+    batch(alloc, "orders", kept(spans, added)?)
 }
 
 /// A piece of these bytes.
@@ -223,13 +218,8 @@ fn add_odd_pieces(
 /// These pieces.
 fn odd_pieces(alloc: Global, bytes: &[u8]) -> Result<Vec<Vec<u8>>, AllocError> {
     let mut pieces = Vec::new(alloc);
-    match add_odd_pieces(alloc, &mut pieces, bytes) {
-        Ok(()) => Ok(pieces),
-        Err(why) => {
-            drop(pieces);
-            Err(why)
-        }
-    }
+    let added = add_odd_pieces(alloc, &mut pieces, bytes);
+    kept(pieces, added)
 }
 
 /// Whether these bytes are answered in those pieces as they are whole.
