@@ -162,6 +162,16 @@ pub fn first_otherwise<T, E, F: FnMut(&T) -> Result<bool, E>>(
     Ok(None)
 }
 
+/// What a call answers, made once more where it found no memory.
+pub fn again<T, E: PartialEq + Copy, F: Fn() -> Result<T, E>>(no_memory: E, call: F) -> Result<T, E>
+    requires { F.IsAlwaysCallable call }
+{
+    match call() {
+        Err(why) if why == no_memory => call(),
+        answer => answer,
+    }
+}
+
 /// A search by a service, without any other condition and without a limit.
 ///
 /// # Errors

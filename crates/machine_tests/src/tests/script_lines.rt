@@ -5,6 +5,7 @@ use std::process::Abort;
 use std::test::*;
 use step_lines::{StepFault, outcome_text, read_step};
 use trace_model::Refusal;
+use trace_samples::again;
 
 /// Lines that `play` hands on in another form: it passes over an empty one, and drops a carriage return at the end.
 #[test]
@@ -25,12 +26,8 @@ fn lines_as_they_stand(rt: HostRuntime) -> Result<(), Fail> {
     Ok(())
 }
 
-/// A call that found no memory is made once more.
 fn is_reported(rt: &impl Abort, alloc: Global, outcome: Outcome, want: &str) -> Result<(), Fail> {
-    let got = match outcome_text(alloc, &outcome) {
-        Err(AllocError) => outcome_text(alloc, &outcome)?,
-        Ok(text) => text,
-    };
+    let got = again(AllocError, || outcome_text(alloc, &outcome))?;
     assert!(rt; got.as_str() == want, "{want} and not {got}");
     Ok(())
 }

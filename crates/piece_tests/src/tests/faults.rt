@@ -7,6 +7,7 @@ use std::alloc::{AllocError, Global};
 use std::mem::drop;
 use std::test::*;
 use thrift_binary::{WireError, types};
+use trace_samples::again;
 use trace_samples::exchanges::BATCH;
 use trace_samples::first_otherwise;
 use trace_samples::spellings::ALL;
@@ -47,15 +48,7 @@ fn a_refusal_stays(rt: HostRuntime) {
 
 /// The fault that decoding answers, asked once more where memory ran out.
 fn fault_of(alloc: Global, bytes: &[u8]) -> Option<DecodeError> {
-    match fault_once(alloc, bytes) {
-        Some(DecodeError::Memory) => fault_once(alloc, bytes),
-        fault => fault,
-    }
-}
-
-/// The fault that decoding answers.
-fn fault_once(alloc: Global, bytes: &[u8]) -> Option<DecodeError> {
-    match decode(alloc, bytes) {
+    match again(DecodeError::Memory, || decode(alloc, bytes)) {
         Ok(batch) => {
             drop(batch);
             None

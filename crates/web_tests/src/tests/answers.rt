@@ -1,11 +1,10 @@
 use jaeger_model::{Seq, Span, Text, TraceId};
 use query_json::{answer_json, answer_text, error_json};
-use serde_json::Value;
 use std::alloc::{AllocError, Global};
 use std::process::Abort;
 use std::test::*;
 use trace_model::{Answer, AnsweredTrace, Shown, ShownTrace};
-use trace_samples::{list_of, placed};
+use trace_samples::{again, list_of, placed};
 
 /// The span of the sample batch: trace 1, span 2, operation `op`, from 1000 for 50 microseconds.
 fn span(alloc: Global) -> Result<Span, AllocError> {
@@ -25,12 +24,8 @@ fn found(alloc: Global, span: Shown) -> Result<Answer, AllocError> {
     Ok(Answer::Trace(Some(AnsweredTrace::made(shown))))
 }
 
-/// A call that found no memory is made once more.
 fn text_of(alloc: Global, answer: &Answer) -> Result<String, AllocError> {
-    match answer_text(alloc, answer) {
-        Err(AllocError) => answer_text(alloc, answer),
-        text => text,
-    }
+    again(AllocError, || answer_text(alloc, answer))
 }
 
 fn shows(rt: &impl Abort, alloc: Global, answer: &Answer, want: &str) -> Result<(), Fail> {
@@ -61,21 +56,14 @@ fn sample_trace(rt: HostRuntime) -> Result<(), Fail> {
     Ok(())
 }
 
-/// The answer's tree, made once more where memory ran out.
-fn tree_again(alloc: Global, answer: &Answer) -> Result<Value, AllocError> {
-    match answer_json(alloc, answer) {
-        Err(AllocError) => answer_json(alloc, answer),
-        tree => tree,
-    }
-}
-
 /// Where memory runs out once it is said, and the same call behind that gives the tree or its text: the check of
 /// allocations refuses each in turn.
 #[test]
 fn memory_for_a_tree(rt: HostRuntime) -> Result<(), Fail> {
     let alloc = rt.alloc();
     let answer = sample(alloc)?;
-    let (Ok(tree), Ok(text)) = (tree_again(alloc, &answer), text_of(alloc, &answer)) else {
+    let tree = again(AllocError, || answer_json(alloc, &answer));
+    let (Ok(tree), Ok(text)) = (tree, text_of(alloc, &answer)) else {
         panic!(rt; "an answer has no tree or no text");
     };
     assert!(rt; text.as_str() == SAMPLE_TEXT, "{text}");

@@ -2,6 +2,7 @@ use query_http::respond;
 use std::alloc::{AllocError, Global};
 use std::process::Abort;
 use std::test::*;
+use trace_samples::again;
 
 /// The response to a request that is refused has this head, and the refusal as its body.
 fn refusal(
@@ -68,19 +69,12 @@ fn refusals(rt: HostRuntime) -> Result<(), Fail> {
     Ok(())
 }
 
-/// The response, made once more where memory ran out.
-fn respond_again(alloc: Global, status: u16, body: &[u8]) -> Result<Vec<u8>, AllocError> {
-    match respond(alloc, status, body, "", true) {
-        Err(AllocError) => respond(alloc, status, body, "", true),
-        response => response,
-    }
-}
-
 /// Where memory runs out once it is said, and the same call behind that gives the response: the check of allocations
 /// refuses each in turn.
 #[test]
 fn memory_for_a_response(rt: HostRuntime) -> Result<(), Fail> {
-    let Ok(bytes) = respond_again(rt.alloc(), 200, b"{}") else {
+    let alloc = rt.alloc();
+    let Ok(bytes) = again(AllocError, || respond(alloc, 200, b"{}", "", true)) else {
         panic!(rt; "no response");
     };
     let want =

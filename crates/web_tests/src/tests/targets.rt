@@ -3,15 +3,12 @@ use std::alloc::{AllocError, Global};
 use std::process::Abort;
 use std::test::*;
 use trace_model::{Find, Query};
+use trace_samples::again;
 
-/// What a target asks, in one line, or what is wrong with it. A call that found no memory is made
-/// once more.
+/// What a target asks, in one line, or what is wrong with it.
 fn asked(alloc: Global, target: &str) -> Result<String, Fail> {
     let router = endpoints(alloc)?;
-    let query = match parse_query(alloc, &router, target) {
-        Err(QueryFault::NoMemory) => parse_query(alloc, &router, target),
-        query => query,
-    };
+    let query = again(QueryFault::NoMemory, || parse_query(alloc, &router, target));
     Ok(line(alloc, query)?)
 }
 

@@ -3,8 +3,8 @@ use jaeger_model::Batch;
 use std::alloc::{AllocError, Global};
 use std::mem::drop;
 use std::test::*;
-use trace_samples::batch;
 use trace_samples::spellings::ALL;
+use trace_samples::{again, batch};
 
 /// The value of a hexadecimal digit.
 fn digit_of(c: u8) -> Option<u8> {
@@ -34,28 +34,12 @@ pub(crate) fn bytes_of(alloc: Global, hex: &str) -> Result<Vec<u8>, AllocError> 
     Ok(bytes)
 }
 
-/// Decodes the bytes, once more where memory ran out.
-fn read_again(alloc: Global, bytes: &[u8]) -> Result<Batch, DecodeError> {
-    match decode(alloc, bytes) {
-        Err(DecodeError::Memory) => decode(alloc, bytes),
-        said => said,
-    }
-}
-
-/// Spells the batch, once more where memory ran out.
-fn written_again(alloc: Global, batch: &Batch) -> Result<Vec<u8>, DecodeError> {
-    match encode(alloc, batch) {
-        Err(DecodeError::Memory) => encode(alloc, batch),
-        said => said,
-    }
-}
-
 /// Whether the bytes are read as a batch, and written again.
 fn is_kept_at_last(alloc: Global, bytes: &[u8]) -> bool {
-    let Ok(batch) = read_again(alloc, bytes) else {
+    let Ok(batch) = again(DecodeError::Memory, || decode(alloc, bytes)) else {
         return false;
     };
-    let written = written_again(alloc, &batch);
+    let written = again(DecodeError::Memory, || encode(alloc, &batch));
     drop(batch);
     written.is_ok_and(|written| written.as_slice() == bytes)
 }
