@@ -1,29 +1,24 @@
-use Rattle.std.proofs.Common.{rules, ◌++◌, subst₂}
-use Rattle.http_requests.specs.Waiting.{source_of}
-use Rattle.http_session.specs.Sessions.{EndsAs, FailsAs, last_of, exchange_due}
-use Rattle.http_session.specs.InTurn.{ReadsInTurn, ReadsInTurnUpTo}
-use Rattle.http_session.specs.Related.{Related, nothing_seen}
+use Rattle.std.proofs.Common.{◌≡◌, rules, subst₂}
+use Rattle.http_session.specs.Between.{store_of, devices_of, EndsBetween, FailsBetween}
 use Rattle.http_session.proofs.exchanges.session.Goals as goal
 
 -- the connection began with the devices, and they are what it ended with
+carried : {R W : Type 0} {i0 j0 i1 j1 : R} {o0 p0 o1 p1 : W} (Held : R → R → W → W → Type 0) → i0 ≡ j0 → o0 ≡ p0 → i1 ≡ j1 → o1 ≡ p1 → Held i0 i1 o0 o1 → Held j0 j1 p0 p1
+carried {j0 = j0} {i1 = i1} {p0 = p0} {o1 = o1} Held input output input_left output_left held =
+    subst₂ (λ i o. Held j0 i p0 o) input_left output_left (subst₂ (λ i o. Held i i1 o o1) input output held)
+
 pub returns-in-Ok-clause-ended : goal.returns-in-Ok-clause-ended
 returns-in-Ok-clause-ended g c =
-    let Ended : g.row.R.Denot → g.row.W.Denot → g.row.R.Denot → g.row.W.Denot → Type 0 = λ i0 o0 i o.
-    (ends : EndsAs g.B.Backend.submits g.B.Backend.reads (g.R.Input.remaining i0) (g.R.Input.remaining i) (g.W.Output.contents o0) (g.W.Output.contents o)
-    c.args.backend.now c.serve_joined.new.backend c.in-Ok.ended.answered c.in-Ok.ended.clean)
-    × Related (g.B.Backend.knows c.args.backend.now) (g.B.Backend.limits c.args.backend.now) nothing_seen (ends.opens ++ last_of ends.ending)
-    × ReadsInTurn g.R.Input.gives i0 i ends.opens ends.taken in
-    let began : Ended c.args.input.now c.args.output.now c.serve_joined.new.connection.input.now c.serve_joined.new.connection.output.now =
-    subst₂ (λ i o. Ended i o c.serve_joined.new.connection.input.now c.serve_joined.new.connection.output.now) (search rules) (search rules) c.in-Ok.ensures.ended in
-    subst₂ (λ i o. Ended c.args.input.now c.args.output.now i o) (search rules) (search rules) began
+    let Ended : g.row.R.Denot → g.row.R.Denot → g.row.W.Denot → g.row.W.Denot → Type 0 = λ i0 i1 o0 o1.
+    EndsBetween (store_of g.B.Backend.submits g.B.Backend.reads g.B.Backend.knows g.B.Backend.limits)
+    (devices_of g.R.Input.remaining g.R.Input.gives g.R.Input.has_failed g.W.Output.contents g.W.Output.has_failed)
+    i0 i1 o0 o1 c.args.backend.now c.serve_joined.new.backend c.in-Ok.ended in
+    carried Ended (search rules) (search rules) (search rules) (search rules) c.in-Ok.ensures.ended
 
 pub returns-in-Err-clause-error : goal.returns-in-Err-clause-error
 returns-in-Err-clause-error g c =
-    let Failed : g.row.R.Denot → g.row.W.Denot → g.row.R.Denot → g.row.W.Denot → Type 0 = λ i0 o0 i o.
-    (fails : FailsAs g.B.Backend.submits g.B.Backend.reads (g.R.Input.remaining i0) (g.R.Input.remaining i) (g.W.Output.contents o0) (g.W.Output.contents o)
-    c.args.backend.now c.serve_joined.new.backend (g.R.Input.has_failed i) (g.W.Output.has_failed o) c.in-Err.error)
-    × Related (g.B.Backend.knows c.args.backend.now) (g.B.Backend.limits c.args.backend.now) nothing_seen (fails.opens ++ exchange_due fails.next)
-    × ReadsInTurnUpTo (source_of g.R.Input.remaining g.R.Input.gives) i0 i (g.R.Input.has_failed i) fails.opens fails.taken fails.made in
-    let began : Failed c.args.input.now c.args.output.now c.serve_joined.new.connection.input.now c.serve_joined.new.connection.output.now =
-    subst₂ (λ i o. Failed i o c.serve_joined.new.connection.input.now c.serve_joined.new.connection.output.now) (search rules) (search rules) c.in-Err.ensures.error in
-    subst₂ (λ i o. Failed c.args.input.now c.args.output.now i o) (search rules) (search rules) began
+    let Failed : g.row.R.Denot → g.row.R.Denot → g.row.W.Denot → g.row.W.Denot → Type 0 = λ i0 i1 o0 o1.
+    FailsBetween (store_of g.B.Backend.submits g.B.Backend.reads g.B.Backend.knows g.B.Backend.limits)
+    (devices_of g.R.Input.remaining g.R.Input.gives g.R.Input.has_failed g.W.Output.contents g.W.Output.has_failed)
+    i0 i1 o0 o1 c.args.backend.now c.serve_joined.new.backend c.in-Err.error in
+    carried Failed (search rules) (search rules) (search rules) (search rules) c.in-Err.ensures.error
