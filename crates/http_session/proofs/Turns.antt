@@ -4,9 +4,10 @@ use Rattle.std.specs.Io.KnownBytes.{Appends, Consumes, IsAtEnd}
 use Rattle.std.proofs.KnownBytes.{Consumes-trans, Consumes-kept, Appends-trans, Consumes-nil, Appends-nil}
 use Rattle.std.proofs.lemmas.List.{flat_map_more}
 use Rattle.std.proofs.lemmas.List.Elements.{All-append, All-cons, All-nil}
+use Rattle.session_devices.specs.Takings.{Takings, LeavesOther}
 use Rattle.http_requests.specs.declared.read_buffer.TheConstants.{MOST_READS}
 use Rattle.http_requests.specs.Requests.{IsBroken, AwaitsRequest}
-use Rattle.http_requests.specs.Waiting.{Source, FailsToRead}
+use Rattle.http_requests.specs.Waiting.{Gives, Source, FailsToRead}
 use Rattle.http_requests.specs.Receiving.{ReadBuffer, ReadsOnWhile, StopsWhile, SameUnlessReading}
 use Rattle.http_requests.specs.declared.asked.Breach.{Breach}
 use Rattle.http_requests.specs.declared.read_buffer.ReadError.{ReadError}
@@ -16,7 +17,7 @@ use Rattle.http_requests.specs.LineLaws.{no_bytes_await}
 use Rattle.http_session.specs.Hearing.{HearsNothing}
 use Rattle.http_session.specs.Replies.{response_of, takes_no_memory}
 use Rattle.http_session.specs.Sessions.{Exchange, IsExchange, IsOpen, texts, response_to, responses, Submits, Reads, Step, Run, Ending, clean, closing, broken, last_of, IsEnding, parting, partings, is_clean, Due, none_yet, due, due_parting, exchange_due, NothingWasDue, IsDue, bytes_due, is_spared, IsCause, Says, cause_by}
-use Rattle.http_session.specs.InOrder.{Line, IsTwoWay, pieces, EndsOver, FailsOver}
+use Rattle.http_session.specs.InOrder.{Line, line_of, IsTwoWay, pieces, EndsOver, FailsOver}
 use Rattle.http_session.specs.Underway.{SoFar}
 use Rattle.http_session.specs.declared.reply.Reply.TheVariants.{Broken}
 use Rattle.http_session.specs.declared.exchanges.SessionErrorKind.{SessionErrorKind}
@@ -52,6 +53,33 @@ still_consumed : {C : Type 0} (source : Source C) (s m t : C) (failed : Bool) (b
 still_consumed source s m t failed bytes read (inl same) = subst (λ (x : _). Consumes (source.remaining s) (source.remaining x) bytes) (sym same) read
 still_consumed source s m t failed bytes read (inr fails) = Consumes-kept (source.remaining s) (source.remaining m) (source.remaining t) bytes read fails.1
 
+-- a connection of which reads leave what was written, and writes what is still to be read
+pub two_way : {C : Type 0} {remaining contents : C → Option (List ℕ)} {gives : Gives C} {takes : Takings C} {in_failed out_failed : C → Bool}
+    → LeavesOther C gives contents out_failed → LeavesOther C takes remaining in_failed → IsTwoWay (line_of remaining gives in_failed contents takes out_failed)
+two_way reads_leave writes_leave = record { reads_leave = reads_leave; writes_leave = writes_leave }
+
+module _ {C : Type 0} (line : Line C) (two : IsTwoWay line) where
+  -- reads change nothing of the output
+  output_kept : (c1 c2 : C) (old new : ReadBuffer) → ReadsOnWhile line.source AwaitsRequest c1 c2 old new → (line.contents c2 ≡ line.contents c1) × (line.out_failed c2 ≡ line.out_failed c1)
+  output_kept c1 c2 old new more =
+      let alone = uncounted line.source.gives AwaitsRequest c1 c2 old.left new.left old.held new.held more.waits in
+      reads_left line.source.gives line.contents line.out_failed two.reads_leave AwaitsRequest alone.0.pieces c1 c2 old.held new.held alone.0.each
+
+  -- nor does one that failed
+  output_still : (c1 c2 : C) (failed : Bool) → (c2 ≡ c1) ⊎ FailsToRead line.source c1 c2 failed → (line.contents c2 ≡ line.contents c1) × (line.out_failed c2 ≡ line.out_failed c1)
+  output_still c1 c2 failed (inl same) = (ap line.contents same, ap line.out_failed same)
+  output_still c1 c2 failed (inr fails) = two.reads_leave c1 c2 [] fails.2
+
+  -- a connection that worked works still: where a request was awaited and this went on
+  pub works_heard : (c1 c2 : C) (old new : ReadBuffer) → ReadsOnWhile line.source AwaitsRequest c1 c2 old new → line.in_failed c2 ≡ line.in_failed c1
+      → (line.in_failed c1 ≡ false) × (line.out_failed c1 ≡ false) → (line.in_failed c2 ≡ false) × (line.out_failed c2 ≡ false)
+  works_heard c1 c2 old new more same works = (same ∙ works.0, (output_kept c1 c2 old new more).1 ∙ works.1)
+
+  -- and where bytes were written and the output works as before
+  pub works_said : (c1 c2 : C) (bytes : List ℕ) → line.takes c1 bytes c2 → line.out_failed c2 ≡ line.out_failed c1
+      → (line.in_failed c1 ≡ false) × (line.out_failed c1 ≡ false) → (line.in_failed c2 ≡ false) × (line.out_failed c2 ≡ false)
+  works_said c1 c2 bytes took same works = ((two.writes_leave c1 c2 bytes took).1 ∙ works.0, same ∙ works.1)
+
 module _ {S C : Type 0} (submits : Submits S) (reads : Reads S) (line : Line C) (two : IsTwoWay line) where
   pub begins : (c : C) (s : S) → SoFar submits reads line c c s s (record { held = []; left = MOST_READS; ended = false }) 0
   begins c s = record {
@@ -69,17 +97,6 @@ module _ {S C : Type 0} (submits : Submits S) (reads : Reads S) (line : Line C) 
     most = omega arith;
     end = λ e. absurd (search rules);
   }
-
-  -- reads change nothing of the output
-  pub output_kept : (c1 c2 : C) (old new : ReadBuffer) → ReadsOnWhile line.source AwaitsRequest c1 c2 old new → (line.contents c2 ≡ line.contents c1) × (line.out_failed c2 ≡ line.out_failed c1)
-  output_kept c1 c2 old new more =
-      let alone = uncounted line.source.gives AwaitsRequest c1 c2 old.left new.left old.held new.held more.waits in
-      reads_left line.source.gives line.contents line.out_failed two.reads_leave AwaitsRequest alone.0.pieces c1 c2 old.held new.held alone.0.each
-
-  -- nor does one that failed
-  output_still : (c1 c2 : C) (failed : Bool) → (c2 ≡ c1) ⊎ FailsToRead line.source c1 c2 failed → (line.contents c2 ≡ line.contents c1) × (line.out_failed c2 ≡ line.out_failed c1)
-  output_still c1 c2 failed (inl same) = (ap line.contents same, ap line.out_failed same)
-  output_still c1 c2 failed (inr fails) = two.reads_leave c1 c2 [] fails.2
 
   -- more was read
   pub reads_on : (c0 c1 c2 : C) (s t : S) (old new : ReadBuffer) (answered : ℕ)
@@ -101,7 +118,7 @@ module _ {S C : Type 0} (submits : Submits S) (reads : Reads S) (line : Line C) 
         split = split;
         each = so.each;
         run = so.run;
-        written = subst (λ (o : Option (List ℕ)). Appends (line.contents c0) o (responses so.opens)) (sym (output_kept c1 c2 old new more).0) so.written;
+        written = subst (λ (o : Option (List ℕ)). Appends (line.contents c0) o (responses so.opens)) (sym (output_kept line two c1 c2 old new more).0) so.written;
         count = so.count;
         least = omega (arith, so.least, on.least, long);
         most = omega (arith, so.most, on.most, held);
@@ -210,7 +227,7 @@ module _ {S C : Type 0} (submits : Submits S) (reads : Reads S) (line : Line C) 
       → ((made : ℕ) → here.left + made ≡ MOST_READS → IsCause cause (line.in_failed c2) (line.out_failed c2) so.taken made)
       → FailsOver submits reads line c0 c2 s t (record { answered = answered; written = 0; cause = cause })
   fails_none c0 c1 c2 s t here answered cause so nothing last is_cause =
-      let same = (output_still c1 c2 (line.in_failed c2) last).0 in (
+      let same = (output_still line two c1 c2 (line.in_failed c2) last).0 in (
         record {
           taken = so.taken;
           opens = so.opens;
@@ -246,7 +263,7 @@ module _ {S C : Type 0} (submits : Submits S) (reads : Reads S) (line : Line C) 
   fails_stopped A c0 c1 c2 s t old answered before why.Reading so stops same was out =
       let all = reads_on c0 c1 stops.before s t old stops.here answered so stops.reads in
       let last : (c2 ≡ stops.before) ⊎ FailsToRead line.source stops.before c2 (line.in_failed c2) = elim stops.last [ inl over ↦ inl over.0 | inr failed ↦ inr failed ] in
-      let works : line.out_failed c2 ≡ false = (output_still stops.before c2 (line.in_failed c2) last).1 ∙ (output_kept c1 stops.before old stops.here stops.reads).1 ∙ out in
+      let works : line.out_failed c2 ≡ false = (output_still line two stops.before c2 (line.in_failed c2) last).1 ∙ (output_kept line two c1 stops.before old stops.here stops.reads).1 ∙ out in
       fails_none c0 stops.before c2 s t stops.here answered Reading all stops.awaits last
       (λ made sum. (
         elim stops.last [
@@ -257,7 +274,7 @@ module _ {S C : Type 0} (submits : Submits S) (reads : Reads S) (line : Line C) 
       ))
   fails_stopped A c0 c1 c2 s t old answered before why.Memory so stops same was out =
       let all = reads_on c0 c1 stops.before s t old stops.here answered so stops.reads in
-      let works : line.out_failed c2 ≡ false = ap line.out_failed stops.last ∙ (output_kept c1 stops.before old stops.here stops.reads).1 ∙ out in
+      let works : line.out_failed c2 ≡ false = ap line.out_failed stops.last ∙ (output_kept line two c1 stops.before old stops.here stops.reads).1 ∙ out in
       fails_none c0 stops.before c2 s t stops.here answered Memory all (inl stops.awaits) (inl stops.last) (λ made sum. (same ∙ was, works))
 
   pub fails_reading : (A : Type 0) (c0 c1 c2 : C) (s t : S) (old : ReadBuffer) (answered : ℕ) (before : Bool) (stop : ReadError)
@@ -270,7 +287,7 @@ module _ {S C : Type 0} (submits : Submits S) (reads : Reads S) (line : Line C) 
       fails_stopped A c0 c1 c2 s t old answered before why.Memory so stops same was out
   fails_reading A c0 c1 c2 s t old answered before why.Memory so (inr none) same was out =
       let all = reads_on c0 c1 c2 s t old none.here answered so none.reads in
-      fails_none c0 c2 c2 s t none.here answered Memory all (inr none.query) (inl refl) (λ made sum. (same ∙ was, (output_kept c1 c2 old none.here none.reads).1 ∙ out))
+      fails_none c0 c2 c2 s t none.here answered Memory all (inr none.query) (inl refl) (λ made sum. (same ∙ was, (output_kept line two c1 c2 old none.here none.reads).1 ∙ out))
 
   -- there was no memory before the first request
   pub fails_to_begin : (c : C) (s : S) → line.in_failed c ≡ false → line.out_failed c ≡ false
