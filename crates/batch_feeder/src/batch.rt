@@ -12,7 +12,6 @@ use jaeger_model::{Batch, SharedProcess};
 use std::alloc::Global;
 use thrift_binary::Cursor;
 use thrift_binary::types::{I64, LIST, STRUCT};
-use wire_pieces::Piece;
 
 /// The least number of bytes of a batch: 11 of the process, 8 of the spans and the stop byte.
 const LEAST_BATCH: usize = 20;
@@ -37,7 +36,7 @@ impl Partial for SharedPart {
 
     ghost resumes = { shared_part };
 
-    fn more(&mut self, alloc: Global, piece: &mut Piece<'_>) -> Decoded<Option<SharedProcess>> {
+    fn more(&mut self, alloc: Global, piece: &mut Cursor<'_>) -> Decoded<Option<SharedProcess>> {
         match self.process.more(alloc, piece) {
             Err(error) => Err(error),
             Ok(None) => Ok(None),
@@ -100,7 +99,7 @@ impl Slots for BatchSlots {
         &mut self,
         held: &mut BatchHeld,
         alloc: Global,
-        piece: &mut Piece<'_>,
+        piece: &mut Cursor<'_>,
     ) -> Decoded<bool> {
         match held {
             BatchHeld::Process(part) => place(part, &mut self.process, alloc, piece),

@@ -12,8 +12,8 @@ use crate::structs::Struct;
 use batch_codec::{BatchSlots, DecodeError, Decoded};
 use jaeger_model::Batch;
 use std::alloc::Global;
-use thrift_binary::{WireError, types};
-use wire_pieces::{Piece, size_of};
+use thrift_binary::{Cursor, WireError, types};
+use wire_pieces::size_of;
 
 /// A piece of so many bytes at most is taken byte by byte.
 const SHORT: usize = 8;
@@ -51,7 +51,7 @@ fn refuse(state: &mut State, error: DecodeError)
 }
 
 /// Nothing follows the batch.
-fn end_of(left: &Piece<'_>) -> Decoded<()>
+fn end_of(left: &Cursor<'_>) -> Decoded<()>
     ensures { Ends left.now result }
 {
     if left.is_empty() {
@@ -65,7 +65,7 @@ fn advance(state: &mut State, alloc: Global, piece: &[u8]) -> Decoded<()>
     requires { IsSettled state.old }
     ensures { Advances state.old state.new piece.now result }
 {
-    let mut left = Piece::new(piece);
+    let mut left = Cursor::new(piece);
     match state {
         State::Reading(reading) => {
             match reading.arrive(alloc, &mut left) {

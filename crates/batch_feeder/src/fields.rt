@@ -15,7 +15,7 @@ use crate::partial::fault_of;
 use batch_codec::{DecodeError, Decoded};
 use std::alloc::Global;
 use thrift_binary::{Cursor, WireError};
-use wire_pieces::{FieldHead, Piece};
+use wire_pieces::FieldHead;
 
 /// What was gathered of a struct so far.
 pub(crate) trait Slots: Drop + Sized {
@@ -55,7 +55,12 @@ pub(crate) trait Slots: Drop + Sized {
         ensures fresh { (w : List ℕ) → resumes self.now result w ≡ takes self.now code id w };
 
     /// Continues over a piece inside the value of a field: whether it is whole.
-    fn more(&mut self, held: &mut Self::Held, alloc: Global, piece: &mut Piece<'_>) -> Decoded<bool>
+    fn more(
+        &mut self,
+        held: &mut Self::Held,
+        alloc: Global,
+        piece: &mut Cursor<'_>,
+    ) -> Decoded<bool>
         ensures continues { ContinuesTo self.new (resumes self.old held.old)
             (resumes self.new held.new) piece.old piece.new result }
         ensures no_longer { OnOk result (length piece.new ≤ length piece.old) };
@@ -87,7 +92,7 @@ pub(crate) trait Fields: Slots {
         code: u8,
         id: i16,
         alloc: Global,
-        piece: &mut Piece<'_>,
+        piece: &mut Cursor<'_>,
     ) -> Decoded<bool>
         requires { is_code code ≡ true }
         ensures continues { Opens (Self.takes self.old code id) (Self.resumes self.new)
@@ -146,7 +151,7 @@ pub(crate) fn is_truncated(error: DecodeError) -> bool
 
 /// Reads whole fields where they stand, from the first byte of a head on.
 #[inline(always)]
-fn read_fields<S: Slots>(slots: &mut S, alloc: Global, piece: &mut Piece<'_>) -> Decoded<FieldsEnd>
+fn read_fields<S: Slots>(slots: &mut S, alloc: Global, piece: &mut Cursor<'_>) -> Decoded<FieldsEnd>
     ensures reads { Reads S.takes slots.old slots.new piece.old piece.new result }
     ensures no_longer { OnOk result (length piece.new ≤ length piece.old) }
 {
@@ -158,27 +163,27 @@ fn read_fields<S: Slots>(slots: &mut S, alloc: Global, piece: &mut Piece<'_>) ->
                 if !is_truncated(DecodeError::Wire(error)) {
                     return Err(DecodeError::Wire(error));
                 }
-                *piece = Piece::new(head);
+                *piece = Cursor::new(head);
                 return Ok(FieldsEnd::Head);
             }
             Ok(field) => field,
         };
         let value = cursor.rest();
         let Some((code, id)) = field else {
-            *piece = Piece::new(value);
+            *piece = Cursor::new(value);
             return Ok(FieldsEnd::Stop);
         };
         match slots.put(code, id, alloc, &mut cursor) {
             Ok(true) => {}
             Ok(false) => {
-                *piece = Piece::new(value);
+                *piece = Cursor::new(value);
                 return Ok(FieldsEnd::Value(code, id));
             }
             Err(error) => {
                 if !is_truncated(error) {
                     return Err(error);
                 }
-                *piece = Piece::new(value);
+                *piece = Cursor::new(value);
                 return Ok(FieldsEnd::Value(code, id));
             }
         }
@@ -193,7 +198,7 @@ pub(crate) fn enter_slowly<S: Slots>(
     code: u8,
     id: i16,
     alloc: Global,
-    piece: &mut Piece<'_>,
+    piece: &mut Cursor<'_>,
 ) -> Decoded<bool>
     requires { is_code code ≡ true }
     ensures continues { Opens (S.takes slots.old code id) (S.resumes slots.new) slots.new next.new
@@ -216,7 +221,7 @@ pub(crate) fn enter_slowly<S: Slots>(
 fn enter_head<S: Slots>(
     _slots: &S,
     next: &mut Option<Step<S::Held>>,
-    piece: &mut Piece<'_>,
+    piece: &mut Cursor<'_>,
 ) -> Decoded<bool>
     requires { field_at piece.old ≡ Err Truncated }
     ensures continues { Enters (fields_at wire S.takes _slots.now)
@@ -239,7 +244,7 @@ pub(crate) fn enter_fields<S: Fields>(
     slots: &mut S,
     next: &mut Option<Step<S::Held>>,
     alloc: Global,
-    piece: &mut Piece<'_>,
+    piece: &mut Cursor<'_>,
 ) -> Decoded<bool>
     ensures continues { Enters (fields_at wire S.takes slots.old)
         (fields_from S.takes S.resumes slots.new) slots.new next.new piece.old piece.new result }
@@ -283,7 +288,7 @@ fn hold_fields<S: Fields>(
     slots: &mut S,
     step: &mut Step<S::Held>,
     alloc: Global,
-    piece: &mut Piece<'_>,
+    piece: &mut Cursor<'_>,
 ) -> Decoded<bool>
     ensures continues { ContinuesTo slots.new (fields_at wire S.takes slots.old)
         (fields_from S.takes S.resumes slots.new step.new)
@@ -304,7 +309,7 @@ fn hold_field<S: Fields>(
     code: u8,
     id: i16,
     alloc: Global,
-    piece: &mut Piece<'_>,
+    piece: &mut Cursor<'_>,
 ) -> Decoded<bool>
     requires { is_code code ≡ true }
     ensures continues { ContinuesTo slots.new
@@ -330,7 +335,7 @@ fn read_on<S: Fields>(
     slots: &mut S,
     step: &mut Step<S::Held>,
     alloc: Global,
-    piece: &mut Piece<'_>,
+    piece: &mut Cursor<'_>,
 ) -> Decoded<bool>
     requires { IsFresh S.takes S.resumes step.old }
     ensures continues { ContinuesTo slots.new (fields_at wire S.takes slots.old)
@@ -357,7 +362,7 @@ pub(crate) fn more_fields<S: Fields>(
     slots: &mut S,
     step: &mut Step<S::Held>,
     alloc: Global,
-    piece: &mut Piece<'_>,
+    piece: &mut Cursor<'_>,
 ) -> Decoded<bool>
     ensures continues { ContinuesTo slots.new (fields_from S.takes S.resumes slots.old step.old)
         (fields_from S.takes S.resumes slots.new step.new) piece.old piece.new result }

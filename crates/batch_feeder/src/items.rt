@@ -15,8 +15,8 @@ use batch_codec::{DecodeError, Decoded, room};
 use jaeger_model::Seq;
 use std::alloc::Global;
 use std::mem;
-use thrift_binary::{WireError, types};
-use wire_pieces::{ListHead, Piece};
+use thrift_binary::{Cursor, WireError, types};
+use wire_pieces::ListHead;
 
 /// Continues over so many values of a list, from the first byte of one, and holds the part of the last one that has come.
 fn begin_items<P: Item>(
@@ -24,7 +24,7 @@ fn begin_items<P: Item>(
     left: &mut u32,
     one: &mut Option<P>,
     alloc: Global,
-    piece: &mut Piece<'_>,
+    piece: &mut Cursor<'_>,
 ) -> Decoded<bool>
     ensures continues { Enters (items_behind P.reads items.old.items left.old)
         (λ p. items_from P.reads items.new.items left.new (P.Partial.resumes p))
@@ -49,7 +49,7 @@ fn next_items<P: Item>(
     left: &mut u32,
     one: &mut P,
     alloc: Global,
-    piece: &mut Piece<'_>,
+    piece: &mut Cursor<'_>,
 ) -> Decoded<bool>
     ensures continues { ContinuesTo items.new.items
         (items_ended P.reads items.old.items left.old (P.ends one.old))
@@ -112,7 +112,7 @@ impl<P: Item> ListPart<P> {
 
     /// Continues behind the head of a list.
     #[inline]
-    fn enter(&mut self, code: u8, size: u32, alloc: Global, piece: &mut Piece<'_>) -> Decoded<bool>
+    fn enter(&mut self, code: u8, size: u32, alloc: Global, piece: &mut Cursor<'_>) -> Decoded<bool>
         ensures continues { ContinuesTo self.new.items.items
             (behind_head wire 12 P.reads (code, size))
             (list_from P.reads P.Partial.resumes self.new.items.items self.new.left self.new.head
@@ -133,7 +133,7 @@ impl<P: Item> ListPart<P> {
 
     /// Continues over a piece.
     #[inline(always)]
-    fn go_on(&mut self, alloc: Global, piece: &mut Piece<'_>) -> Decoded<bool>
+    fn go_on(&mut self, alloc: Global, piece: &mut Cursor<'_>) -> Decoded<bool>
         ensures continues { ContinuesTo self.new.items.items
             (list_from P.reads P.Partial.resumes self.old.items.items self.old.left self.old.head
             self.old.one)
@@ -160,7 +160,7 @@ impl<P: Item> ListPart<P> {
     pub(crate) fn begin<S: Slot<Seq<P::Value>>>(
         slot: &mut S,
         alloc: Global,
-        piece: &mut Piece<'_>,
+        piece: &mut Cursor<'_>,
     ) -> Decoded<Option<Self>>
         ensures continues { Lays S.holding (list_of wire 12 P.reads)
             (λ p. list_from P.reads P.Partial.resumes p.items.items p.left p.head p.one)
@@ -181,7 +181,7 @@ impl<P: Item> ListPart<P> {
         &mut self,
         slot: &mut S,
         alloc: Global,
-        piece: &mut Piece<'_>,
+        piece: &mut Cursor<'_>,
     ) -> Decoded<bool>
         ensures continues { Places S.holding (list_from P.reads P.Partial.resumes
             self.old.items.items self.old.left self.old.head self.old.one)
@@ -214,7 +214,7 @@ pub(crate) fn enter_list<P: Item, S: Slot<Seq<P::Value>>, V: Drop, F: FnOnce(Lis
     next: &mut Option<Step<V>>,
     held: F,
     alloc: Global,
-    piece: &mut Piece<'_>,
+    piece: &mut Cursor<'_>,
 ) -> Decoded<bool>
     requires callable { F.IsAlwaysCallable held }
     ensures continues { Enlists S.holding (list_of wire 12 P.reads)

@@ -10,7 +10,6 @@ use jaeger_model::Log;
 use std::alloc::Global;
 use thrift_binary::Cursor;
 use thrift_binary::types::{I64, LIST};
-use wire_pieces::Piece;
 
 /// The value of a field of a log, of which some bytes have come.
 #[derive(Drop)]
@@ -67,7 +66,7 @@ impl Slots for LogSlots {
         }
     }
 
-    fn more(&mut self, held: &mut LogHeld, alloc: Global, piece: &mut Piece<'_>) -> Decoded<bool> {
+    fn more(&mut self, held: &mut LogHeld, alloc: Global, piece: &mut Cursor<'_>) -> Decoded<bool> {
         match held {
             LogHeld::At(part) => place(part, &mut self.at, alloc, piece),
             LogHeld::Fields(part) => part.place(&mut self.fields, alloc, piece),
@@ -101,7 +100,7 @@ impl Fields for LogSlots {
         code: u8,
         id: i16,
         alloc: Global,
-        piece: &mut Piece<'_>,
+        piece: &mut Cursor<'_>,
     ) -> Decoded<bool> {
         match (code, id) {
             (LIST, 2) => enter_list(&mut self.fields, next, LogHeld::Fields, alloc, piece),

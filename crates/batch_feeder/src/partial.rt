@@ -7,7 +7,8 @@ ghost use Rattle.batch_feeder.specs.Continuing.{Arrives, BeginsValue, Continues,
 
 use batch_codec::{DecodeError, Decoded};
 use std::alloc::Global;
-use wire_pieces::{Piece, PieceError};
+use thrift_binary::Cursor;
+use wire_pieces::PieceError;
 
 /// A value of which some bytes have come.
 pub(crate) trait Partial: Drop + Sized {
@@ -17,7 +18,7 @@ pub(crate) trait Partial: Drop + Sized {
     ghost resumes: { Self → List ℕ → Result (Self.Value × List ℕ) DecodeError };
 
     /// Continues over a piece: the value where it is whole, and nothing where the piece ends before.
-    fn more(&mut self, alloc: Global, piece: &mut Piece<'_>) -> Decoded<Option<Self::Value>>
+    fn more(&mut self, alloc: Global, piece: &mut Cursor<'_>) -> Decoded<Option<Self::Value>>
         ensures continues { Continues (resumes self.old) (resumes self.new)
             piece.old piece.new result }
         ensures no_longer { OnOk result (length piece.new ≤ length piece.old) };
@@ -42,13 +43,13 @@ pub(crate) trait Item: Partial {
     fn begin(
         part: &mut Option<Self>,
         alloc: Global,
-        piece: &mut Piece<'_>,
+        piece: &mut Cursor<'_>,
     ) -> Decoded<Option<Self::Value>>
         ensures continues { BeginsValue reads Self.resumes part.new piece.old piece.new result }
         ensures no_longer { OnOk result (length piece.new ≤ length piece.old) };
 
     /// Continues over a piece: whether all bytes of the value have come, which is then to be taken.
-    fn arrive(&mut self, alloc: Global, piece: &mut Piece<'_>) -> Decoded<bool>
+    fn arrive(&mut self, alloc: Global, piece: &mut Cursor<'_>) -> Decoded<bool>
         ensures continues { Arrives (Self.resumes self.old) (Self.resumes self.new) (ends self.new)
             piece.old piece.new result }
         ensures no_longer { OnOk result (length piece.new ≤ length piece.old) };
@@ -105,7 +106,7 @@ pub(crate) fn place<P: Partial, S: Slot<P::Value>>(
     part: &mut P,
     slot: &mut S,
     alloc: Global,
-    piece: &mut Piece<'_>,
+    piece: &mut Cursor<'_>,
 ) -> Decoded<bool>
     ensures continues { Places S.holding (P.resumes part.old) (P.resumes part.new) slot.old slot.new
         piece.old piece.new result }

@@ -11,7 +11,6 @@ use std::alloc::Global;
 use std::marker::Model;
 use thrift_binary::Cursor;
 use thrift_binary::types::{LIST, STRING};
-use wire_pieces::Piece;
 
 /// The least number of bytes of a process: 7 of the service and the stop byte.
 const LEAST_PROCESS: usize = 8;
@@ -93,7 +92,7 @@ impl Slots for ProcessParts {
         &mut self,
         held: &mut ProcessHeld,
         alloc: Global,
-        piece: &mut Piece<'_>,
+        piece: &mut Cursor<'_>,
     ) -> Decoded<bool> {
         match held {
             ProcessHeld::Service(part) => place(part, &mut self.service, alloc, piece),
@@ -133,7 +132,7 @@ impl Fields for ProcessParts {
         code: u8,
         id: i16,
         alloc: Global,
-        piece: &mut Piece<'_>,
+        piece: &mut Cursor<'_>,
     ) -> Decoded<bool> {
         match (code, id) {
             (LIST, 2) => enter_list(&mut self.tags, next, ProcessHeld::Tags, alloc, piece),

@@ -8,7 +8,6 @@ use jaeger_model::SpanRef;
 use std::alloc::Global;
 use thrift_binary::Cursor;
 use thrift_binary::types::{I32, I64};
-use wire_pieces::Piece;
 
 /// The value of a field of a reference, of which some bytes have come.
 #[derive(Drop)]
@@ -76,7 +75,7 @@ impl Slots for ReferenceSlots {
         &mut self,
         held: &mut ReferenceHeld,
         alloc: Global,
-        piece: &mut Piece<'_>,
+        piece: &mut Cursor<'_>,
     ) -> Decoded<bool> {
         match held {
             ReferenceHeld::Kind(part) => place(part, &mut self.kind, alloc, piece),

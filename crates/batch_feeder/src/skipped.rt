@@ -7,7 +7,8 @@ ghost use Rattle.batch_feeder.specs.Values.{skip_from};
 use crate::partial::{Partial, fault_of};
 use batch_codec::Decoded;
 use std::alloc::Global;
-use wire_pieces::{Piece, Skipping};
+use thrift_binary::Cursor;
+use wire_pieces::Skipping;
 
 /// A value that is read past.
 #[derive(Drop)]
@@ -32,7 +33,7 @@ impl Partial for SkipPart {
 
     ghost resumes = { skip_from };
 
-    fn more(&mut self, _alloc: Global, piece: &mut Piece<'_>) -> Decoded<Option<()>> {
+    fn more(&mut self, _alloc: Global, piece: &mut Cursor<'_>) -> Decoded<Option<()>> {
         match self.part.more(piece) {
             Ok(value) => Ok(value),
             Err(error) => Err(fault_of(error)),

@@ -11,7 +11,6 @@ use jaeger_model::Span;
 use std::alloc::Global;
 use thrift_binary::Cursor;
 use thrift_binary::types::{I32, I64, LIST, STRING};
-use wire_pieces::Piece;
 
 /// The value of a field of a span, of which some bytes have come.
 #[derive(Drop)]
@@ -85,7 +84,12 @@ impl Slots for SpanSlots {
         }
     }
 
-    fn more(&mut self, held: &mut SpanHeld, alloc: Global, piece: &mut Piece<'_>) -> Decoded<bool> {
+    fn more(
+        &mut self,
+        held: &mut SpanHeld,
+        alloc: Global,
+        piece: &mut Cursor<'_>,
+    ) -> Decoded<bool> {
         match held {
             SpanHeld::TraceLow(part) => place(part, &mut self.trace_low, alloc, piece),
             SpanHeld::TraceHigh(part) => place(part, &mut self.trace_high, alloc, piece),
@@ -130,7 +134,7 @@ impl Fields for SpanSlots {
         code: u8,
         id: i16,
         alloc: Global,
-        piece: &mut Piece<'_>,
+        piece: &mut Cursor<'_>,
     ) -> Decoded<bool> {
         match (code, id) {
             (LIST, 6) => enter_list(

@@ -12,7 +12,7 @@ use batch_codec::Decoded;
 use std::alloc::Global;
 use std::mem;
 use thrift_binary::Cursor;
-use wire_pieces::{FieldHead, Piece};
+use wire_pieces::FieldHead;
 
 /// A struct of which some bytes have come.
 #[derive(Drop)]
@@ -26,7 +26,7 @@ impl<S: Fields> Partial for Struct<S> {
 
     ghost resumes = { λ p. struct_from S.takes S.resumes S.makes p.slots p.step };
 
-    fn more(&mut self, alloc: Global, piece: &mut Piece<'_>) -> Decoded<Option<S::Output>> {
+    fn more(&mut self, alloc: Global, piece: &mut Cursor<'_>) -> Decoded<Option<S::Output>> {
         match more_fields(&mut self.slots, &mut self.step, alloc, piece) {
             Err(error) => Err(error),
             Ok(false) => Ok(None),
@@ -54,12 +54,12 @@ impl<S: Fields> Item for Struct<S> {
     fn begin(
         part: &mut Option<Self>,
         alloc: Global,
-        piece: &mut Piece<'_>,
+        piece: &mut Cursor<'_>,
     ) -> Decoded<Option<S::Output>> {
         let mut cursor = Cursor::new(piece.rest());
         match S::read_whole(alloc, &mut cursor) {
             Ok(Some(value)) => {
-                *piece = Piece::new(cursor.rest());
+                *piece = Cursor::new(cursor.rest());
                 Ok(Some(value))
             }
             Ok(None) => begin_fields(part, alloc, piece),
@@ -74,7 +74,7 @@ impl<S: Fields> Item for Struct<S> {
     }
 
     #[inline(always)]
-    fn arrive(&mut self, alloc: Global, piece: &mut Piece<'_>) -> Decoded<bool> {
+    fn arrive(&mut self, alloc: Global, piece: &mut Cursor<'_>) -> Decoded<bool> {
         more_fields(&mut self.slots, &mut self.step, alloc, piece)
     }
 
@@ -87,7 +87,7 @@ impl<S: Fields> Item for Struct<S> {
 fn begin_fields<S: Fields>(
     part: &mut Option<Struct<S>>,
     alloc: Global,
-    piece: &mut Piece<'_>,
+    piece: &mut Cursor<'_>,
 ) -> Decoded<Option<S::Output>>
     ensures continues { BeginsValue (struct_at S.takes S.none S.makes)
         (λ p. struct_from S.takes S.resumes S.makes p.slots p.step)

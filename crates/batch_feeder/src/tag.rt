@@ -15,7 +15,6 @@ use std::alloc::Global;
 use std::marker::Model;
 use thrift_binary::Cursor;
 use thrift_binary::types::{BOOL, DOUBLE, I32, I64, STRING};
-use wire_pieces::Piece;
 
 /// What was gathered of a tag so far.
 #[derive(Drop)]
@@ -124,7 +123,7 @@ impl Slots for TagParts {
         }
     }
 
-    fn more(&mut self, held: &mut TagHeld, alloc: Global, piece: &mut Piece<'_>) -> Decoded<bool> {
+    fn more(&mut self, held: &mut TagHeld, alloc: Global, piece: &mut Cursor<'_>) -> Decoded<bool> {
         match held {
             TagHeld::Key(part) => place(part, &mut self.key, alloc, piece),
             TagHeld::Kind(part) => place(part, &mut self.kind, alloc, piece),

@@ -6,8 +6,8 @@ use crate::partial::{Partial, fault_of};
 use batch_codec::{DecodeError, Decoded};
 use jaeger_model::{Seq, Text};
 use std::alloc::Global;
-use thrift_binary::WireError;
-use wire_pieces::{Piece, StringPart};
+use thrift_binary::{Cursor, WireError};
+use wire_pieces::StringPart;
 
 /// A string, which has to be UTF-8. It is judged once, when its last byte has come.
 #[derive(Drop)]
@@ -20,7 +20,7 @@ impl Partial for TextPart {
 
     ghost resumes = { text_part };
 
-    fn more(&mut self, alloc: Global, piece: &mut Piece<'_>) -> Decoded<Option<Text>> {
+    fn more(&mut self, alloc: Global, piece: &mut Cursor<'_>) -> Decoded<Option<Text>> {
         match self.part.more(alloc, piece) {
             Err(error) => Err(fault_of(error)),
             Ok(None) => Ok(None),
@@ -55,7 +55,7 @@ impl Partial for BinaryPart {
 
     ghost resumes = { binary_part };
 
-    fn more(&mut self, alloc: Global, piece: &mut Piece<'_>) -> Decoded<Option<Seq<u8>>> {
+    fn more(&mut self, alloc: Global, piece: &mut Cursor<'_>) -> Decoded<Option<Seq<u8>>> {
         match self.part.more(alloc, piece) {
             Err(error) => Err(fault_of(error)),
             Ok(None) => Ok(None),

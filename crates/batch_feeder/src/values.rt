@@ -11,7 +11,8 @@ use batch_codec::Decoded;
 use byteorder::{BigEndian, ByteOrder};
 use std::alloc::Global;
 use std::marker::PhantomData;
-use wire_pieces::{Bool, Gathered, Piece};
+use thrift_binary::Cursor;
+use wire_pieces::{Bool, Gathered};
 
 /// A bool.
 #[derive(Drop)]
@@ -24,7 +25,7 @@ impl Partial for BoolPart {
 
     ghost resumes = { bool_from };
 
-    fn more(&mut self, _alloc: Global, piece: &mut Piece<'_>) -> Decoded<Option<bool>> {
+    fn more(&mut self, _alloc: Global, piece: &mut Cursor<'_>) -> Decoded<Option<bool>> {
         match self.part.more(piece) {
             Ok(value) => Ok(value),
             Err(error) => Err(fault_of(error)),
@@ -68,7 +69,7 @@ impl<V: Fixed<N>, const N: usize> Partial for FixedPart<V, N> {
 
     ghost resumes = { λ p w. V.at (p.bytes ++ w) };
 
-    fn more(&mut self, _alloc: Global, piece: &mut Piece<'_>) -> Decoded<Option<V>> {
+    fn more(&mut self, _alloc: Global, piece: &mut Cursor<'_>) -> Decoded<Option<V>> {
         match self.bytes.more(piece) {
             None => Ok(None),
             Some(bytes) => match V::of(&bytes) {

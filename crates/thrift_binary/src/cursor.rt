@@ -1,4 +1,4 @@
-ghost use Rattle.std.specs.Prelude.{◌≡◌, ◌<◌, ◌≤◌, List, ℕ, length, take, drop, [], ◌∷◌, OnOk, IfOk, MatchOption};
+ghost use Rattle.std.specs.Prelude.{◌≡◌, ◌==◌, ◌<◌, ◌≤◌, List, ℕ, length, min, take, drop, [], ◌∷◌, ◌++◌, OnOk, IfOk, MatchOption};
 ghost use Rattle.std.specs.Int.{w16, w32, w64};
 ghost use Rattle.thrift_binary.specs.Spelling.{Beginning, IsBool, IsI32, IsI64, IsDouble, IsString, IsFieldHead, IsListHead};
 ghost use Rattle.thrift_binary.specs.Reading.{Reads, bytes_at, byte_at, bool_at, number_at, signed_at, size_at, string_at, field_at, list_at, map_at};
@@ -12,6 +12,9 @@ use std::marker::Model;
 ///
 /// Contracts see a cursor as the list of the bytes that are left. A call that succeeds takes the bytes of its value
 /// from the beginning. A refusal leaves no bytes, so every later call answers [`WireError::Truncated`].
+///
+/// [`Cursor::next`], [`Cursor::beginning`] and [`Cursor::up_to`] are for values whose bytes come in pieces: they wait for
+/// no byte that isn't there, and refuse nothing.
 ///
 /// Each clause `exact` names the reading from left to right (`specs/Reading.antt`) that the call is, faults included;
 /// each clause `spelled` says that the bytes taken spell the value, by the protocol's rules for whole texts
@@ -44,6 +47,60 @@ impl<'a> Cursor<'a> {
         self.bytes
     }
 
+    /// Nothing is left.
+    #[inline]
+    pub fn is_empty(&self) -> bool
+        ensures empty { result ≡ (length self.now == 0) }
+    {
+        self.bytes.is_empty()
+    }
+
+    /// The next byte, where there is one.
+    #[inline]
+    pub fn next(&mut self) -> Option<u8>
+        ensures { MatchOption result ((self.old ≡ []) × (self.new ≡ []))
+            (λ b. self.old ≡ b ∷ self.new) }
+    {
+        match self.bytes {
+            [] => None,
+            [first, rest @ ..] => {
+                self.bytes = rest;
+                Some(*first)
+            }
+        }
+    }
+
+    /// The first n bytes, where there are as many; else none is taken.
+    #[inline]
+    pub fn beginning(&mut self, n: usize) -> Option<&'a [u8]>
+        ensures parts { MatchOption result (self.new ≡ self.old)
+            (λ t. self.old ≡ t.now ++ self.new) }
+        ensures size { MatchOption result (length self.old < n) (λ t. length t.now ≡ n) }
+    {
+        if self.bytes.len() < n {
+            return None;
+        }
+        let (beginning, rest) = self.bytes.split_at(n);
+        self.bytes = rest;
+        Some(beginning)
+    }
+
+    /// The first n bytes, or all where there are fewer.
+    #[inline]
+    pub fn up_to(&mut self, n: usize) -> &'a [u8]
+        ensures parts { self.old ≡ result.now ++ self.new }
+        ensures size { length result.now ≡ min n (length self.old) }
+    {
+        let size = if self.bytes.len() < n {
+            self.bytes.len()
+        } else {
+            n
+        };
+        let (beginning, rest) = self.bytes.split_at(size);
+        self.bytes = rest;
+        beginning
+    }
+
     #[cold]
     pub(crate) fn refuse<T>(&mut self, error: WireError) -> Result<T, WireError>
         ensures spent { self.new ≡ [] }
@@ -59,11 +116,9 @@ impl<'a> Cursor<'a> {
         ensures exact { Reads (λ x. x.now) (bytes_at n) self.old result self.new }
         ensures no_longer { OnOk result (length self.new ≤ length self.old) }
     {
-        if self.bytes.len() < n {
+        let Some(front) = self.beginning(n) else {
             return self.refuse(WireError::Truncated);
-        }
-        let (front, rest) = self.bytes.split_at(n);
-        self.bytes = rest;
+        };
         Ok(front)
     }
 
@@ -160,13 +215,10 @@ impl<'a> Cursor<'a> {
         ensures exact { Reads (λ x. x) byte_at self.old result self.new }
         ensures shorter { OnOk result (length self.new < length self.old) }
     {
-        match self.bytes {
-            [] => self.refuse(WireError::Truncated),
-            [first, rest @ ..] => {
-                self.bytes = rest;
-                Ok(*first)
-            }
-        }
+        let Some(byte) = self.next() else {
+            return self.refuse(WireError::Truncated);
+        };
+        Ok(byte)
     }
 
     /// A length or a size: a number of 32 bits that is not negative.

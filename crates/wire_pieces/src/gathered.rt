@@ -1,8 +1,8 @@
 ghost use Rattle.std.specs.Prelude.{◌≡◌, ◌<◌, ◌≤◌, List, ℕ, [], ◌∷◌, ◌++◌, length, take, MatchOption};
 ghost use Rattle.wire_pieces.specs.Pieces.{Takes};
 
-use crate::piece::Piece;
 use std::marker::Model;
+use thrift_binary::Cursor;
 
 /// N bytes of which some have come, and not all. Contracts see it as those that have.
 #[derive(Drop)]
@@ -58,7 +58,7 @@ impl<const N: usize> Gathered<N> {
 
     /// Continues over a piece: the bytes once all have come, and none is left here then.
     #[inline]
-    pub fn more(&mut self, piece: &mut Piece<'_>) -> Option<[u8; N]>
+    pub fn more(&mut self, piece: &mut Cursor<'_>) -> Option<[u8; N]>
         ensures parts { MatchOption result ((self.new ≡ self.old ++ piece.old) × (piece.new ≡ []))
             (λ g. (g ++ piece.new ≡ self.old ++ piece.old) × (self.new ≡ [])) }
         ensures size { MatchOption result (length self.new < N) (λ g. length g ≡ N) }
@@ -75,7 +75,7 @@ impl<const N: usize> Gathered<N> {
     }
 
     /// The same, a byte at a time.
-    fn more_by_bytes(&mut self, piece: &mut Piece<'_>) -> Option<[u8; N]>
+    fn more_by_bytes(&mut self, piece: &mut Cursor<'_>) -> Option<[u8; N]>
         requires short { length self.old < N }
         ensures parts { MatchOption result ((self.new ≡ self.old ++ piece.old) × (piece.new ≡ []))
             (λ g. (g ++ piece.new ≡ self.old ++ piece.old) × (self.new ≡ [])) }

@@ -8,14 +8,13 @@ ghost use Rattle.wire_pieces.specs.Heads.{IsTyped, id_from, head_from, typed_siz
 use crate::fault::PieceError;
 use crate::gathered::Gathered;
 use crate::numbers::Size;
-use crate::piece::Piece;
 use byteorder::{BigEndian, ByteOrder};
-use thrift_binary::WireError;
 use thrift_binary::types::is_code;
+use thrift_binary::{Cursor, WireError};
 
 /// Continues over a signed number of 16 bits.
 #[inline]
-fn more_i16(bytes: &mut Gathered<2>, piece: &mut Piece<'_>) -> Option<i16>
+fn more_i16(bytes: &mut Gathered<2>, piece: &mut Cursor<'_>) -> Option<i16>
     ensures reads { Reaches Truncated (λ x. x) (i16_from bytes.old) (i16_from bytes.new)
         piece.old piece.new result }
     ensures taken { Takes piece.old piece.new result }
@@ -33,7 +32,7 @@ pub(crate) struct TypedId {
 
 impl TypedId {
     #[inline]
-    fn more(&mut self, piece: &mut Piece<'_>) -> Result<Option<Option<(u8, i16)>>, PieceError>
+    fn more(&mut self, piece: &mut Cursor<'_>) -> Result<Option<Option<(u8, i16)>>, PieceError>
         ensures reads { Continues (λ x. x) (id_from self.old) (id_from self.new)
             piece.old piece.new result }
         ensures taken { OkTakes piece.old piece.new result }
@@ -85,7 +84,7 @@ impl FieldHead {
     /// Continues over a piece.
     #[tactic(auto, unfolding(thrift_binary::specs::Reading::field_at))]
     #[inline]
-    pub fn more(&mut self, piece: &mut Piece<'_>) -> Result<Option<Option<(u8, i16)>>, PieceError>
+    pub fn more(&mut self, piece: &mut Cursor<'_>) -> Result<Option<Option<(u8, i16)>>, PieceError>
         ensures reads { Continues (λ x. x) (head_from self.old) (head_from self.new)
             piece.old piece.new result }
         ensures taken { OkTakes piece.old piece.new result }
@@ -121,7 +120,7 @@ pub(crate) struct TypedSize {
 
 impl TypedSize {
     #[inline]
-    fn more(&mut self, piece: &mut Piece<'_>) -> Result<Option<(u8, u32)>, PieceError>
+    fn more(&mut self, piece: &mut Cursor<'_>) -> Result<Option<(u8, u32)>, PieceError>
         ensures reads { Continues (λ x. x) (typed_size_from self.old) (typed_size_from self.new)
             piece.old piece.new result }
         ensures taken { OkTakes piece.old piece.new result }
@@ -162,7 +161,7 @@ impl ListHead {
     /// Continues over a piece.
     #[tactic(auto, unfolding(thrift_binary::specs::Reading::list_at))]
     #[inline]
-    pub fn more(&mut self, piece: &mut Piece<'_>) -> Result<Option<(u8, u32)>, PieceError>
+    pub fn more(&mut self, piece: &mut Cursor<'_>) -> Result<Option<(u8, u32)>, PieceError>
         ensures reads { Continues (λ x. x) (list_head self.old) (list_head self.new)
             piece.old piece.new result }
         ensures taken { OkTakes piece.old piece.new result }

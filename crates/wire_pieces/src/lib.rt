@@ -1,12 +1,12 @@
 //! Values of the Thrift binary protocol that come in pieces.
 //!
-//! Each part here is a value of which some bytes have come. It is fed [`Piece`]s by its method `more`,
-//! which gives the value once its last byte has come, and nothing before that. Contracts speak of what
-//! a part reads of the bytes that are still to come, in the words of `thrift_binary`: so a part that is
-//! fed a piece and then read with what follows gives what the joined bytes give, faults included, and
-//! a fault is reported at the piece that holds its last byte.
+//! Each part here is a value of which some bytes have come. It is fed pieces, each as a
+//! [`thrift_binary::Cursor`], by its method `more`, which gives the value once its last byte has come,
+//! and nothing before that. Contracts speak of what a part reads of the bytes that are still to come,
+//! in the words of `thrift_binary`: so a part that is fed a piece and then read with what follows gives
+//! what the joined bytes give, faults included, and a fault is reported at the piece that holds its
+//! last byte.
 //!
-//! - `piece`: the bytes of a piece that are left.
 //! - `gathered`: so many bytes, as those of a number, of which some have come ([`Gathered`]).
 //! - `numbers`: [`Bool`], [`Size`].
 //! - `strings`: a string or binary ([`StringPart`]), which grows only by bytes that have come.
@@ -24,7 +24,6 @@ mod heads;
 mod maps;
 mod numbers;
 mod past;
-mod piece;
 mod skip;
 mod strings;
 
@@ -33,6 +32,5 @@ pub use gathered::Gathered;
 pub use heads::{FieldHead, ListHead};
 pub use maps::MapHead;
 pub use numbers::{Bool, Size, size_of};
-pub use piece::Piece;
 pub use skip::Skipping;
 pub use strings::StringPart;

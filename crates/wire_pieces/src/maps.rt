@@ -5,9 +5,8 @@ ghost use Rattle.wire_pieces.specs.Heads.{pair_size_from, pair_head, map_head};
 
 use crate::fault::PieceError;
 use crate::numbers::Size;
-use crate::piece::Piece;
-use thrift_binary::WireError;
 use thrift_binary::types::is_code;
+use thrift_binary::{Cursor, WireError};
 
 /// The size behind the types of a map's keys and values.
 #[derive(Drop)]
@@ -18,7 +17,7 @@ pub(crate) struct PairSize {
 }
 
 impl PairSize {
-    fn more(&mut self, piece: &mut Piece<'_>) -> Result<Option<(u8, u8, u32)>, PieceError>
+    fn more(&mut self, piece: &mut Cursor<'_>) -> Result<Option<(u8, u8, u32)>, PieceError>
         ensures reads { Continues (λ x. ((x.0, x.1), x.2)) (pair_size_from self.old)
             (pair_size_from self.new)
             piece.old piece.new result }
@@ -48,7 +47,7 @@ pub(crate) struct PairHead {
 }
 
 impl PairHead {
-    fn more(&mut self, piece: &mut Piece<'_>) -> Result<Option<(u8, u8, u32)>, PieceError>
+    fn more(&mut self, piece: &mut Cursor<'_>) -> Result<Option<(u8, u8, u32)>, PieceError>
         ensures reads { Continues (λ x. ((x.0, x.1), x.2)) (pair_head self.old) (pair_head self.new)
             piece.old piece.new result }
         ensures taken { OkTakes piece.old piece.new result }
@@ -96,7 +95,7 @@ impl MapHead {
 
     /// Continues over a piece.
     #[tactic(auto, unfolding(thrift_binary::specs::Reading::map_at))]
-    pub fn more(&mut self, piece: &mut Piece<'_>) -> Result<Option<(u8, u8, u32)>, PieceError>
+    pub fn more(&mut self, piece: &mut Cursor<'_>) -> Result<Option<(u8, u8, u32)>, PieceError>
         ensures reads { Continues (λ x. ((x.0, x.1), x.2)) (map_head self.old) (map_head self.new)
             piece.old piece.new result }
         ensures taken { OkTakes piece.old piece.new result }

@@ -4,9 +4,8 @@ ghost use Rattle.wire_pieces.specs.Pieces.{Continues, OkTakes};
 
 use crate::fault::PieceError;
 use crate::gathered::Gathered;
-use crate::piece::Piece;
 use byteorder::{BigEndian, ByteOrder};
-use thrift_binary::WireError;
+use thrift_binary::{Cursor, WireError};
 
 /// A bool: one byte, 1 for true and 0 for false.
 #[derive(Drop)]
@@ -22,7 +21,7 @@ impl Bool {
     /// Continues over a piece.
     #[tactic(auto, unfolding(thrift_binary::specs::Reading::bool_at))]
     #[inline]
-    pub fn more(&mut self, piece: &mut Piece<'_>) -> Result<Option<bool>, PieceError>
+    pub fn more(&mut self, piece: &mut Cursor<'_>) -> Result<Option<bool>, PieceError>
         ensures reads { Continues (λ x. x) bool_at bool_at piece.old piece.new result }
         ensures taken { OkTakes piece.old piece.new result }
     {
@@ -56,7 +55,7 @@ impl Size {
 
     /// Continues over a piece.
     #[inline]
-    pub fn more(&mut self, piece: &mut Piece<'_>) -> Result<Option<u32>, PieceError>
+    pub fn more(&mut self, piece: &mut Cursor<'_>) -> Result<Option<u32>, PieceError>
         ensures reads { Continues (λ x. x) (size_from self.old) (size_from self.new)
             piece.old piece.new result }
         ensures taken { OkTakes piece.old piece.new result }

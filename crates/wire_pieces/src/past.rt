@@ -3,7 +3,7 @@ ghost use Rattle.thrift_binary.specs.Skipping.{past};
 ghost use Rattle.thrift_binary.specs.declared.fault.WireError.TheVariants.{Truncated};
 ghost use Rattle.wire_pieces.specs.Pieces.{Reaches, Takes};
 
-use crate::piece::Piece;
+use thrift_binary::Cursor;
 
 /// Bytes that are read past, one at least.
 #[derive(Drop)]
@@ -21,7 +21,7 @@ impl Past {
     }
 
     /// Continues over a piece.
-    pub(crate) fn more(&mut self, piece: &mut Piece<'_>) -> Option<()>
+    pub(crate) fn more(&mut self, piece: &mut Cursor<'_>) -> Option<()>
         ensures reads { Reaches Truncated (λ x. x) (past self.old.left) (past self.new.left)
             piece.old piece.new result }
         ensures taken { Takes piece.old piece.new result }

@@ -13,10 +13,9 @@ use crate::heads::{FieldHead, ListHead};
 use crate::maps::MapHead;
 use crate::numbers::Size;
 use crate::past::Past;
-use crate::piece::Piece;
 use std::alloc::Global;
 use std::mem;
-use thrift_binary::{WireError, types};
+use thrift_binary::{Cursor, WireError, types};
 
 /// The levels of containers that a skipped value may have.
 const LEVELS: usize = 64;
@@ -227,7 +226,7 @@ impl Skipping {
     }
 
     /// Continues between two values of the innermost container.
-    fn outside(&mut self, piece: &mut Piece<'_>) -> Result<Progress, PieceError>
+    fn outside(&mut self, piece: &mut Cursor<'_>) -> Result<Progress, PieceError>
         requires now { self.old.now ≡ Nothing }
         ensures progress { Progresses (skipping self.old) (skipping self.new)
             piece.old piece.new result }
@@ -258,7 +257,7 @@ impl Skipping {
     }
 
     /// Continues inside of a value.
-    fn step(&mut self, piece: &mut Piece<'_>) -> Result<Progress, PieceError>
+    fn step(&mut self, piece: &mut Cursor<'_>) -> Result<Progress, PieceError>
         ensures progress { Progresses (skipping self.old) (skipping self.new)
             piece.old piece.new result }
         ensures lighter { Lightens (weight self.old piece.old) (weight self.new piece.new) result }
@@ -297,7 +296,7 @@ impl Skipping {
     }
 
     /// Continues over a piece.
-    pub fn more(&mut self, piece: &mut Piece<'_>) -> Result<Option<()>, PieceError>
+    pub fn more(&mut self, piece: &mut Cursor<'_>) -> Result<Option<()>, PieceError>
         ensures reads { Continues (λ x. x) (skipping self.old) (skipping self.new)
             piece.old piece.new result }
         ensures no_longer { OnOk result (length piece.new ≤ length piece.old) }

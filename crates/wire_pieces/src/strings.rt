@@ -5,9 +5,9 @@ ghost use Rattle.wire_pieces.specs.Strings.{bytes_end, string_from};
 
 use crate::fault::PieceError;
 use crate::numbers::Size;
-use crate::piece::Piece;
 use std::alloc::Global;
 use std::mem;
+use thrift_binary::Cursor;
 
 /// The bytes behind a length, of which some have come.
 #[derive(Drop)]
@@ -29,7 +29,7 @@ impl Body {
     }
 
     #[inline]
-    fn more(&mut self, alloc: Global, piece: &mut Piece<'_>) -> Result<Option<Vec<u8>>, PieceError>
+    fn more(&mut self, alloc: Global, piece: &mut Cursor<'_>) -> Result<Option<Vec<u8>>, PieceError>
         ensures reads { Continues (λ x. x.items) (bytes_end self.old.got.items self.old.left)
             (bytes_end self.new.got.items self.new.left) piece.old piece.new result }
         ensures no_longer { OnOk result (length piece.new ≤ length piece.old) }
@@ -72,7 +72,7 @@ impl StringPart {
     pub fn more(
         &mut self,
         alloc: Global,
-        piece: &mut Piece<'_>,
+        piece: &mut Cursor<'_>,
     ) -> Result<Option<Vec<u8>>, PieceError>
         ensures reads { Continues (λ x. x.items) (string_from self.old) (string_from self.new)
             piece.old piece.new result }
