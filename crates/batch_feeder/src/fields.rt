@@ -170,7 +170,7 @@ fn read_fields<S: Slots>(slots: &mut S, alloc: Global, piece: &mut Cursor<'_>) -
         };
         let value = cursor.rest();
         let Some((code, id)) = field else {
-            *piece = Cursor::new(value);
+            *piece = cursor;
             return Ok(FieldsEnd::Stop);
         };
         match slots.put(code, id, alloc, &mut cursor) {

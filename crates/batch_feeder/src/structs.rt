@@ -59,7 +59,7 @@ impl<S: Fields> Item for Struct<S> {
         let mut cursor = Cursor::new(piece.rest());
         match S::read_whole(alloc, &mut cursor) {
             Ok(Some(value)) => {
-                *piece = Cursor::new(cursor.rest());
+                *piece = cursor;
                 Ok(Some(value))
             }
             Ok(None) => begin_fields(part, alloc, piece),

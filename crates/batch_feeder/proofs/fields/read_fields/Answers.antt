@@ -8,7 +8,7 @@ use Rattle.batch_feeder.proofs.fields.read_fields.Goals as goal
 
 pub returns-in_default-clause-reads : goal.returns-in_default-clause-reads
 returns-in_default-clause-reads g c =
-    rw (c.new-in_default.ensures.bytes, c.rest-value.ensures.bytes) (comes-trans c.loop-error.invariant.0 (reads-stop g.S.Slots.takes g.met.S.Slots.safe c.loop-error.slots _ _ (rw c.in_default.is at c.in-Ok.ensures.exact)))
+    comes-trans c.loop-error.invariant.0 (reads-stop g.S.Slots.takes g.met.S.Slots.safe c.loop-error.slots _ _ (rw c.in_default.is at c.in-Ok.ensures.exact))
 
 pub loop-error-preserved : goal.loop-error-preserved
 loop-error-preserved g c =

@@ -1,4 +1,4 @@
-use Rattle.std.proofs.Common.{◌∙◌, sym, ap, Ok}
+use Rattle.std.proofs.Common.{◌∙◌, sym, ap}
 use Rattle.thrift_binary.specs.declared.fault.WireError.TheVariants.{Truncated}
 use Rattle.batch_codec.specs.declared.fault.DecodeError.TheVariants.{Wire}
 use Rattle.batch_codec.proofs.CutStructs.{struct_safe}
@@ -12,8 +12,7 @@ returns-in-Ok-Some-clause-continues g c =
     let safe = struct_safe g.S.Slots.takes g.S.Slots.none g.S.Slots.makes g.met.S.Slots.safe in
     let got = rw c.in-Ok-Some.field-0-is at c.in-Ok-Some.ensures.attempts in
     let begun = c.new-cursor.ensures.bytes ∙ c.rest.ensures.bytes in
-    whole-comes (Wire Truncated) reads safe c.args.piece.now c.new.result c.in-Ok-Some.value
-    (ap reads (sym begun) ∙ got ∙ ap (λ w. Ok (c.in-Ok-Some.value, w)) (sym (c.new.ensures.bytes ∙ c.rest-in-Ok-Some.ensures.bytes)))
+    whole-comes (Wire Truncated) reads safe c.args.piece.now _ c.in-Ok-Some.value (ap reads (sym begun) ∙ got)
 
 pub returns-else-is_truncated-clause-continues : goal.returns-else-is_truncated-clause-continues
 returns-else-is_truncated-clause-continues g c =
