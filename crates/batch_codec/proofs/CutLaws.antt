@@ -24,9 +24,6 @@ no_good b e h = absurd cc
 bad_is : (d e : DecodeError) → bad d ≡ bad e → d ≡ e
 bad_is d e h = cc
 
-good_is : (b c : Batch) → good b ≡ good c → b ≡ c
-good_is b c h = cc
-
 -- ---- from a batch at the beginning to all of the bytes
 
 of_err : (v : List ℕ) (e : DecodeError) → batch_at v ≡ Err e → decoded v ≡ bad e

@@ -7,10 +7,9 @@ use std::alloc::{AllocError, Global};
 use std::mem::drop;
 use std::test::*;
 use thrift_binary::{WireError, types};
-use trace_samples::again;
 use trace_samples::exchanges::BATCH;
-use trace_samples::first_otherwise;
 use trace_samples::spellings::ALL;
+use trace_samples::{again, first_otherwise};
 
 /// A batch without spans.
 const WHOLE: &[u8] =
