@@ -19,11 +19,11 @@ mod skew;
 mod traces;
 
 use batch::{Process, RefKind, Span, SpanRef, Tag, TraceId, Value};
-use http::{envelope, linger, option, Head, BODY};
+use http::{envelope, linger, option, Head, Reply, BODY};
 use skew::{adjusted, Shown};
 use std::collections::BTreeSet;
 use std::fmt::Write as _;
-use std::io::{self, BufReader, Read, Write};
+use std::io::{self, BufReader, Read};
 use std::net::{TcpListener, TcpStream};
 use std::sync::atomic::{AtomicUsize, Ordering};
 use std::sync::{Arc, Mutex};
@@ -239,47 +239,6 @@ fn write_trace(out: &mut String, spans: &[Shown]) {
 
 // HTTP.
 
-struct Reply {
-    status: u16,
-    body: String,
-    allow: &'static str,
-    close: bool,
-}
-
-impl Reply {
-    fn ok(body: String) -> Self {
-        Reply { status: 200, body, allow: "", close: false }
-    }
-
-    fn fault(status: u16, text: &str, close: bool) -> Self {
-        Reply { status, body: http::fault(status, text), allow: "", close }
-    }
-
-    fn write(&self, output: &mut impl Write) -> io::Result<()> {
-        let reason = match self.status {
-            200 => "OK",
-            202 => "Accepted",
-            400 => "Bad Request",
-            404 => "Not Found",
-            405 => "Method Not Allowed",
-            413 => "Content Too Large",
-            _ => "Unsupported Media Type",
-        };
-        let mut text = String::with_capacity(self.body.len() + 200);
-        write!(text, "HTTP/1.1 {} {reason}\r\n", self.status).unwrap();
-        if !self.body.is_empty() {
-            text.push_str("Content-Type: application/json\r\n");
-        }
-        write!(text, "Content-Length: {}\r\n", self.body.len()).unwrap();
-        if !self.allow.is_empty() {
-            write!(text, "Allow: {}\r\n", self.allow).unwrap();
-        }
-        text.push_str(if self.close { "Connection: close\r\n\r\n" } else { "\r\n" });
-        text.push_str(&self.body);
-        output.write_all(text.as_bytes())
-    }
-}
-
 fn trace_id(text: &str) -> Option<TraceId> {
     if text.len() > 32 || text.starts_with('+') {
         return None;
@@ -290,22 +249,22 @@ fn trace_id(text: &str) -> Option<TraceId> {
 
 impl Server {
     fn answer(&self, head: &Head, body: &[u8]) -> Reply {
-        let not_allowed = |allow| Reply { allow, ..Reply::fault(405, "method not allowed", true) };
+        let not_allowed = |allow| Reply { allow, ..Reply::last(405, "method not allowed") };
         if head.path == "/api/traces" {
             return match (head.method.as_str(), head.thrift) {
                 ("POST", true) => match batch::decode(body) {
                     Ok(batch) => {
                         self.keep(batch);
-                        Reply { status: 202, body: String::new(), allow: "", close: false }
+                        Reply::new(202, String::new())
                     }
-                    Err(_) => Reply::fault(400, "batch refused", false),
+                    Err(_) => Reply::fault(400, "batch refused"),
                 },
-                ("POST", false) => Reply::fault(415, "unsupported content type", false),
+                ("POST", false) => Reply::fault(415, "unsupported content type"),
                 ("GET", _) => {
                     let limit = head.parameter("limit").map_or(Ok(20), str::parse);
                     match (head.parameter("service"), limit) {
-                        (Some(service), Ok(limit)) => Reply::ok(self.search(service, limit)),
-                        _ => Reply::fault(400, "bad parameter: service", false),
+                        (Some(service), Ok(limit)) => Reply::new(200, self.search(service, limit)),
+                        _ => Reply::fault(400, "bad parameter: service"),
                     }
                 }
                 _ => not_allowed("GET, POST"),
@@ -314,12 +273,12 @@ impl Server {
         let id = head.path.strip_prefix("/api/traces/").filter(|id| !id.is_empty() && !id.contains('/'));
         match (id, head.path.as_str(), head.method.as_str()) {
             (Some(id), _, "GET") => match trace_id(id) {
-                Some(id) => self.trace(id).map_or_else(|| Reply::fault(404, "trace not found", false), Reply::ok),
-                None => Reply::fault(400, "bad parameter: traceID", false),
+                Some(id) => self.trace(id).map_or_else(|| Reply::fault(404, "trace not found"), |body| Reply::new(200, body)),
+                None => Reply::fault(400, "bad parameter: traceID"),
             },
-            (None, "/api/services", "GET") => Reply::ok(self.services()),
+            (None, "/api/services", "GET") => Reply::new(200, self.services()),
             (Some(_), _, _) | (_, "/api/services", _) => not_allowed("GET"),
-            _ => Reply::fault(404, "no such path", false),
+            _ => Reply::fault(404, "no such path"),
         }
     }
 
@@ -336,16 +295,16 @@ impl Server {
             };
             let length = head.as_ref().ok().and_then(|head| head.length).unwrap_or(0);
             let mut reply = match &head {
-                Err(text) => Reply::fault(400, text, true),
-                Ok(head) if head.chunked => Reply::fault(400, "bad request body", true),
-                Ok(_) if length > BODY => Reply::fault(413, "body too large", true),
+                Err(text) => Reply::last(400, text),
+                Ok(head) if head.chunked => Reply::last(400, "bad request body"),
+                Ok(_) if length > BODY => Reply::last(413, "body too large"),
                 Ok(head) => {
                     body.clear();
                     (&mut input).take(length).read_to_end(&mut body)?;
                     if body.len() as u64 == length {
                         self.answer(head, &body)
                     } else {
-                        Reply::fault(400, "bad request body", true)
+                        Reply::last(400, "bad request body")
                     }
                 }
             };

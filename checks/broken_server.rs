@@ -25,7 +25,7 @@ mod batch;
 mod http;
 
 use batch::TraceId;
-use http::{envelope, linger, option, Head, BODY};
+use http::{envelope, linger, option, Head, Reply, BODY};
 use std::collections::{BTreeMap, HashMap};
 use std::io::{self, BufRead, BufReader, Read, Write};
 use std::net::{TcpListener, TcpStream};
@@ -128,30 +128,8 @@ fn swap_last(ids: &mut [u64]) {
 
 // Answers.
 
-struct Reply {
-    status: u16,
-    body: String,
-    close: bool,
-}
-
-impl Reply {
-    fn ok(items: &[String]) -> Self {
-        Reply { status: 200, body: envelope(&items.join(","), items.len()), close: false }
-    }
-
-    fn fault(status: u16, text: &str) -> Self {
-        Reply { status, body: http::fault(status, text), close: false }
-    }
-
-    fn last(status: u16, text: &str) -> Self {
-        Reply { close: true, ..Reply::fault(status, text) }
-    }
-
-    fn write(&self, mut output: impl Write) -> io::Result<()> {
-        let close = if self.close { "Connection: close\r\n" } else { "" };
-        let length = self.body.len();
-        write!(output, "HTTP/1.1 {} Said\r\nContent-Length: {length}\r\n{close}\r\n{}", self.status, self.body)
-    }
+fn found(items: &[String]) -> Reply {
+    Reply::new(200, envelope(&items.join(","), items.len()))
 }
 
 fn trace_json(trace: (u64, u64), ids: &[u64]) -> String {
@@ -278,7 +256,7 @@ impl Session<'_> {
             store.keep(&earlier);
         }
         self.acknowledged = store.count;
-        Reply { status: 202, body: String::new(), close: false }
+        Reply::new(202, String::new())
     }
 
     fn trace(&mut self, text: &str) -> Reply {
@@ -294,7 +272,7 @@ impl Session<'_> {
         if ids.is_empty() {
             return Reply::fault(404, "trace not found");
         }
-        Reply::ok(&[trace_json(trace, &ids)])
+        found(&[trace_json(trace, &ids)])
     }
 
     fn search(&mut self, head: &Head) -> Reply {
@@ -304,14 +282,14 @@ impl Session<'_> {
         let is_there = store.operations(service, point).contains(&operation);
         let trace = store.found.get(&(service.to_owned(), operation.to_owned())).filter(|_| is_there);
         let items: Vec<String> = trace.map(|trace| trace_json(*trace, &store.trace(*trace, point))).into_iter().collect();
-        Reply::ok(&items)
+        found(&items)
     }
 
     fn names(&mut self, ask: impl Fn(&Store, usize) -> Vec<&str>, write: fn(&str) -> String) -> Reply {
         let store = self.server.store.lock().unwrap();
         let point = self.point(store.count);
         let items: Vec<String> = ask(&store, point).into_iter().map(write).collect();
-        Reply::ok(&items)
+        found(&items)
     }
 }
 

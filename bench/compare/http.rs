@@ -1,7 +1,8 @@
-//! What the plain servers share, `bench/plain_server.rs` and `checks/broken_server.rs`: heads of requests, the bodies of their
-//! answers, options, and threads on a port.
+//! What the plain servers share, `bench/plain_server.rs` and `checks/broken_server.rs`: heads of requests, responses, options, and
+//! threads on a port.
 
-use std::io::{self, BufRead, Read};
+use std::fmt::Write as _;
+use std::io::{self, BufRead, Read, Write};
 use std::net::{Shutdown, TcpListener, TcpStream};
 use std::str::FromStr;
 use std::sync::Arc;
@@ -99,8 +100,55 @@ pub fn envelope(items: &str, total: usize) -> String {
 }
 
 /// The body of an answer that says what is wrong.
-pub fn fault(status: u16, text: &str) -> String {
+fn fault(status: u16, text: &str) -> String {
     format!(r#"{{"data":null,"errors":[{{"code":{status},"msg":"{text}"}}],"limit":0,"offset":0,"total":0}}"#)
+}
+
+/// A response: its status, its body and what its head says beside.
+pub struct Reply {
+    pub status: u16,
+    pub body: String,
+    pub allow: &'static str,
+    pub close: bool,
+}
+
+impl Reply {
+    pub fn new(status: u16, body: String) -> Self {
+        Reply { status, body, allow: "", close: false }
+    }
+
+    pub fn fault(status: u16, text: &str) -> Self {
+        Reply::new(status, fault(status, text))
+    }
+
+    /// The same, behind which the connection is closed.
+    pub fn last(status: u16, text: &str) -> Self {
+        Reply { close: true, ..Reply::fault(status, text) }
+    }
+
+    pub fn write(&self, output: &mut impl Write) -> io::Result<()> {
+        let reason = match self.status {
+            200 => "OK",
+            202 => "Accepted",
+            400 => "Bad Request",
+            404 => "Not Found",
+            405 => "Method Not Allowed",
+            413 => "Content Too Large",
+            _ => "Unsupported Media Type",
+        };
+        let mut text = String::with_capacity(self.body.len() + 200);
+        write!(text, "HTTP/1.1 {} {reason}\r\n", self.status).unwrap();
+        if !self.body.is_empty() {
+            text.push_str("Content-Type: application/json\r\n");
+        }
+        write!(text, "Content-Length: {}\r\n", self.body.len()).unwrap();
+        if !self.allow.is_empty() {
+            write!(text, "Allow: {}\r\n", self.allow).unwrap();
+        }
+        text.push_str(if self.close { "Connection: close\r\n\r\n" } else { "\r\n" });
+        text.push_str(&self.body);
+        output.write_all(text.as_bytes())
+    }
 }
 
 /// What the client still sends is read and dropped for a while, so that it sees the last response and no reset.
