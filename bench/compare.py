@@ -48,21 +48,7 @@ use std::env;
 use std::io::Read;
 use std::slice;
 
-""" + copies.SPLIT_BODY + """
-/// The bodies.
-fn bodies(alloc: Global, input: &[u8]) -> Result<Vec<&[u8]>> {
-    let mut bodies = Vec::new(alloc);
-    let mut rest = input;
-    for _ in 0..input.len() {
-        let Some((body, after)) = split_body(rest) else {
-            break;
-        };
-        bodies.push(body)?;
-        rest = after;
-    }
-    Ok(bodies)
-}
-
+""" + copies.SPLIT_BODY + "\n" + copies.BODIES + """
 /// The batch of a body that is fed in pieces of this size.
 fn fed(alloc: Global, body: &[u8], size: usize) -> Result<Batch, DecodeError> {
     let mut feeder = Feeder::new(alloc);

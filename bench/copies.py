@@ -62,6 +62,22 @@ fn split_body(input: &[u8]) -> Option<(&[u8], &[u8])> {
 }
 """
 
+# All of the bodies.
+BODIES = """/// The bodies.
+fn bodies(alloc: Global, input: &[u8]) -> Result<Vec<&[u8]>> {
+    let mut bodies = Vec::new(alloc);
+    let mut rest = input;
+    for _ in 0..input.len() {
+        let Some((body, after)) = split_body(rest) else {
+            break;
+        };
+        bodies.push(body)?;
+        rest = after;
+    }
+    Ok(bodies)
+}
+"""
+
 # The entry of seat 0 whose batch is a body.
 ENTRY_OF = """/// The entry of a body.
 fn entry_of(alloc: Global, body: &[u8], number: u64) -> Result<Arc<Entry>> {

@@ -24,7 +24,7 @@ import subprocess
 import tempfile
 
 from compare import FASTEST, instructions
-from copies import ENTRY_OF, NOW, SPLIT_BODY, built, load
+from copies import BODIES, ENTRY_OF, NOW, SPLIT_BODY, built, load
 from decode import asked_of, span
 import wire
 from servers import rust_program
@@ -51,7 +51,7 @@ use std::sync::Arc;
 use std::time::Clock;
 use trace_model::{Answer, Entry, Find, Limits, Query, Work};
 
-""" + NOW + "\n" + SPLIT_BODY + "\n" + ENTRY_OF + """
+""" + NOW + "\n" + SPLIT_BODY + "\n" + BODIES + "\n" + ENTRY_OF + """
 /// Applies an entry; its nanoseconds.
 fn applied<R: Clock>(rt: &R, store: &mut SpanStore, entry: Arc<Entry>) -> Result<u64> {
     let begin = now(rt);
@@ -62,18 +62,14 @@ fn applied<R: Clock>(rt: &R, store: &mut SpanStore, entry: Arc<Entry>) -> Result
 }
 
 /// Applies the entry of each body, and says what it took where that is asked for.
-fn filled<R: Clock + Print>(rt: &R, alloc: Global, store: &mut SpanStore, bodies: &[u8], reporting: bool) -> Result<()> {
-    let mut rest = bodies;
-    for before in 0..1_000_000u64 {
-        let Some((body, after)) = split_body(rest) else {
-            break;
-        };
-        let entry = entry_of(alloc, body, before + 1)?;
+fn filled<R: Clock + Print>(rt: &R, alloc: Global, store: &mut SpanStore, input: &[u8], reporting: bool) -> Result<()> {
+    let bodies = bodies(alloc, input)?;
+    for (before, body) in bodies.iter().enumerate() {
+        let entry = entry_of(alloc, *body, (before as u64).saturating_add(1))?;
         let took = applied(rt, store, entry)?;
         if reporting {
             println!(rt; "apply {took} 0 0")?;
         }
-        rest = after;
     }
     Ok(())
 }
