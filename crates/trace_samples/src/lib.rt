@@ -5,7 +5,7 @@
 //! it wants another value, as `span.start = 900`. Nothing but tests stands on this crate.
 //!
 //! * `parts`: tags, processes, spans, batches and entries of them, and searches.
-//! * `seeing`: spans that are only looked at.
+//! * `seeing`: spans that are only looked at, and those of a trace that is made.
 //! * `exchanges`: requests that hand a batch in and look for it, and what is answered to them, as bytes.
 //! * `spellings`: batches as hexadecimal digits, as Apache Thrift spells them among them.
 #![tactic(auto)]
@@ -19,4 +19,4 @@ pub use parts::{
     again, batch, first_otherwise, handed_in, host_process, kept, list_of, placed, process,
     service_find, span, text_tag,
 };
-pub use seeing::{seen_trace, seen_traces};
+pub use seeing::{made_spans, seen_trace, seen_traces};

@@ -3,6 +3,7 @@ ghost use Rattle.trace_model.specs.Seeing.{seen, seen_traces};
 
 use jaeger_model::{Placed, Seen};
 use std::alloc::{AllocError, Global};
+use trace_model::{AnsweredTrace, Shown, TraceForm};
 
 /// The spans of a trace, looked at in their order.
 ///
@@ -35,4 +36,12 @@ pub fn seen_traces(alloc: Global, traces: &[Vec<Placed>]) -> Result<Vec<Vec<Seen
         all.push(seen_trace(alloc, trace)?)?;
     }
     Ok(all)
+}
+
+/// The spans of a trace that is made already, as the plain store's are.
+pub fn made_spans(trace: &AnsweredTrace) -> &[Shown] {
+    match trace.form() {
+        TraceForm::Ready(made) => made.as_slice(),
+        TraceForm::Kept(_) => &[],
+    }
 }

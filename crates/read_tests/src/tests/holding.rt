@@ -13,7 +13,7 @@ use trace_model::{Entry, Query, Refusal};
 type Fronts = (u64, u64, u64);
 
 /// The front of a reading.
-fn front_of(reading: Result<Reading, Refusal>) -> Result<u64, Refusal> {
+pub(crate) fn front_read(reading: Result<Reading, Refusal>) -> Result<u64, Refusal> {
     let reading = reading?;
     let front = reading.front;
     drop(reading);
@@ -24,8 +24,8 @@ fn front_of(reading: Result<Reading, Refusal>) -> Result<u64, Refusal> {
 fn held_fronts<N: StoreName>(pass: &mut Pass<N>) -> Result<Fronts, Refusal> {
     let held = pass.hold()?;
     let front = held.front();
-    let first = front_of(held.read(&Query::Services));
-    let second = front_of(held.read(&Query::Services));
+    let first = front_read(held.read(&Query::Services));
+    let second = front_read(held.read(&Query::Services));
     held.leave();
     Ok((front, first?, second?))
 }
@@ -109,7 +109,7 @@ pub fn held_before<N: StoreName, R: Wait>(
         return Ok(false);
     };
     let held = read_around(rt, keeper, pass, second);
-    let later = front_of(pass.read(&Query::Services));
+    let later = front_read(pass.read(&Query::Services));
     Ok(first.is_ok() && held == Ok((1, 2, 1)) && later == Ok(2))
 }
 
@@ -122,9 +122,9 @@ fn read_around<N: StoreName, R: Wait>(
     second: Arc<Entry>,
 ) -> Result<(u64, u64, u64), Refusal> {
     let held = pass.hold()?;
-    let before = front_of(held.read(&Query::Services));
+    let before = front_read(held.read(&Query::Services));
     let answer = answer_to(rt, keeper, second);
-    let after = front_of(held.read(&Query::Services));
+    let after = front_read(held.read(&Query::Services));
     drop(held);
     Ok((before?, answer?.0, after?))
 }
@@ -168,9 +168,9 @@ fn learn_late<N: StoreName>(
     pass: &mut Pass<N>,
     old: &Receipt<N>,
 ) -> Result<(u64, u64, u64, u64), Refusal> {
-    let before = front_of(pass.read(&Query::Services))?;
+    let before = front_read(pass.read(&Query::Services))?;
     pass.learn(old);
     let learnt = pass.front();
-    let after = front_of(pass.read(&Query::Services))?;
+    let after = front_read(pass.read(&Query::Services))?;
     Ok((before, old.front(), learnt, after))
 }

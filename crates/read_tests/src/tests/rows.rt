@@ -1,5 +1,6 @@
 use crate::tests::entries::{entries_to, entry_of};
 use crate::tests::fixture::{Row, plays};
+use crate::tests::holding::front_read;
 use crate::tests::sent_again::{AdmitAnswer, answer_of};
 use jaeger_model::TraceId;
 use read_side::{Keeper, Pass, Receipt, StoreName};
@@ -115,18 +116,10 @@ pub fn moved_on<N: StoreName, R: Wait>(
     let was_admitted = fourth.is_ok();
     drop(fourth);
     let later = match passes.first_mut() {
-        Some(first) => front_read(first),
+        Some(first) => front_read(first.read(&Query::Services)),
         None => Err(Refusal::Gone),
     };
     Ok(early == Ok((3, Ok(()), 3, true)) && was_admitted && later == Ok(4))
-}
-
-/// The front of a reading of the services.
-fn front_read<N: StoreName>(pass: &mut Pass<N>) -> Seen<u64> {
-    let reading = pass.read(&Query::Services)?;
-    let front = reading.front;
-    drop(reading);
-    Ok(front)
 }
 
 /// The front of a reading of trace 1, and whether the trace was in its answer.
@@ -147,7 +140,7 @@ fn read_along<N: StoreName>(
     second: &mut Pass<N>,
     third: &Receipt<N>,
 ) -> Seen<(u64, Seen<()>, u64, bool)> {
-    let front = front_read(first)?;
+    let front = front_read(first.read(&Query::Services))?;
     let settled = first.settle(third);
     second.learn(third);
     let (other, found) = trace_read(second)?;

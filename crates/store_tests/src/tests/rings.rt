@@ -7,9 +7,9 @@ use std::process::Abort;
 use std::sync::Arc;
 use std::test::*;
 use trace_assembly::{Assembly, Spot};
-use trace_model::{Answer, AnsweredTrace, Entry, Limits, Query, Shown, TraceForm};
+use trace_model::{Answer, Entry, Limits, Query};
 use trace_ring::{Arrived, Gone, Ring};
-use trace_samples::span;
+use trace_samples::{made_spans, span};
 
 /// What the arrival did, for which there must be room in a ring that keeps its limit.
 fn arrive(rt: &impl Abort, ring: &mut Ring, trace: TraceId) -> Arrived {
@@ -150,20 +150,12 @@ fn found(alloc: Global, limit: u32, rows: &[&[(u64, u64)]], trace: u64) -> Resul
     Ok(plain_answer(alloc, &entries, limits, &query)?)
 }
 
-/// The spans of a trace that is made already, as the plain store's are.
-fn spans_of(trace: &AnsweredTrace) -> &[Shown] {
-    match trace.form() {
-        TraceForm::Ready(made) => made.as_slice(),
-        TraceForm::Kept(_) => &[],
-    }
-}
-
 /// The trace is found with the spans of these ids; or not at all.
 fn is_wanted(answer: &Answer, wanted: Option<&[u64]>) -> bool {
     match (answer, wanted) {
         (Answer::Trace(None), None) => true,
         (Answer::Trace(Some(trace)), Some(ids)) => {
-            let spans = spans_of(trace);
+            let spans = made_spans(trace);
             spans.len() == ids.len()
                 && spans
                     .iter()

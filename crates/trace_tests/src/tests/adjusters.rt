@@ -4,8 +4,8 @@ use std::alloc::{AllocError, Global};
 use std::mem::drop;
 use std::test::*;
 use trace_adjust::{adjust_skew, adjusted};
-use trace_model::{Answer, AnsweredTrace, Query, Shown, TraceForm};
-use trace_samples::{host_process, kept, list_of, process, span};
+use trace_model::{Answer, Query, Shown};
+use trace_samples::{host_process, kept, list_of, made_spans, process, span};
 
 const OWN: TraceId = TraceId { high: 0, low: 1 };
 
@@ -410,18 +410,10 @@ const SHOWN: [(&[Reported], u64, bool, &[(i64, &str)]); 4] = [
     (&CYCLE, 200, false, &[(1000, ""), (1010, "")]),
 ];
 
-/// The spans of a trace that is made already, as the plain store's are.
-fn spans_of(trace: &AnsweredTrace) -> &[Shown] {
-    match trace.form() {
-        TraceForm::Ready(made) => made.as_slice(),
-        TraceForm::Kept(_) => &[],
-    }
-}
-
 /// The spans of a trace that is found.
 fn shown_in(answer: &Answer) -> &[Shown] {
     match answer {
-        Answer::Trace(Some(trace)) => spans_of(trace),
+        Answer::Trace(Some(trace)) => made_spans(trace),
         _ => &[],
     }
 }
