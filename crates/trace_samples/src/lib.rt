@@ -16,7 +16,7 @@ mod seeing;
 pub mod spellings;
 
 pub use parts::{
-    again, batch, first_otherwise, handed_in, host_process, kept, list_of, placed, process,
+    again, batch, beside, first_otherwise, handed_in, host_process, kept, list_of, placed, process,
     service_find, span, text_tag,
 };
 pub use seeing::{made_spans, seen_trace, seen_traces};

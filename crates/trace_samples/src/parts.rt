@@ -147,6 +147,16 @@ pub fn kept<T: Drop, E>(value: T, done: Result<(), E>) -> Result<T, E>
     }
 }
 
+/// The value and what was made beside it, where that succeeded.
+pub fn beside<T: Drop, U, E>(value: T, made: Result<U, E>) -> Result<(T, U), E>
+    ensures { result ≡ result_map_both (λ it. (value, it)) (λ why. why) made }
+{
+    match made {
+        Ok(it) => Ok((value, it)),
+        Err(why) => Err(why),
+    }
+}
+
 /// The first row that isn't as the test wants it, each looked at behind the ones before; None where all are.
 pub fn first_otherwise<T, E, F: FnMut(&T) -> Result<bool, E>>(
     rows: &[T],

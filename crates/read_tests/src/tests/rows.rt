@@ -9,6 +9,7 @@ use std::mem::drop;
 use std::sync::{Arc, Wait};
 use std::test::*;
 use trace_model::{Answer, Entry, Query, Refusal};
+use trace_samples::{beside, kept};
 
 /// What was seen of a row, or why a call of it was refused.
 type Seen<T> = Result<T, Refusal>;
@@ -34,13 +35,8 @@ pub fn admit_all<N: StoreName, R: Wait>(
     entries: Vec<Arc<Entry>>,
 ) -> Seen<Vec<Receipt<N>>> {
     let mut receipts = Vec::new(alloc);
-    match add_receipts(rt, keeper, entries, &mut receipts) {
-        Ok(()) => Ok(receipts),
-        Err(why) => {
-            drop(receipts);
-            Err(why)
-        }
-    }
+    let added = add_receipts(rt, keeper, entries, &mut receipts);
+    kept(receipts, added)
 }
 
 #[test]
@@ -177,13 +173,7 @@ pub fn all_or_nothing<N: StoreName, R: Wait>(
 /// An entry, and the same once more.
 fn twice(alloc: Global, number: u64) -> Result<(Arc<Entry>, Arc<Entry>), Fail> {
     let entry = entry_of(alloc, number)?;
-    match entry_of(alloc, number) {
-        Ok(again) => Ok((entry, again)),
-        Err(why) => {
-            drop(entry);
-            Err(why)
-        }
-    }
+    beside(entry, entry_of(alloc, number))
 }
 
 /// The answer to an entry that is admitted.

@@ -10,6 +10,7 @@ use std::mem::drop;
 use std::sync::Arc;
 use std::test::*;
 use trace_model::{Entry, Limits};
+use trace_samples::beside;
 use trace_samples::exchanges::{
     ACCEPTED, BATCH, CONFLICT, NO_SERVICES, NUMBERED, ONE_SERVICE, ONE_SPAN, POST, POST_NUMBERED,
     RENUMBERED, SERVICES, TRACE,
@@ -154,18 +155,13 @@ pub(crate) fn played(
     let entries = store.entries().len();
     let has_the_batch = has_the_batch(alloc, store.entries());
     drop(store);
-    match has_the_batch {
-        Ok(has_the_batch) => Ok(Seen {
-            ended,
-            output,
-            entries,
-            has_the_batch,
-        }),
-        Err(why) => {
-            drop(output);
-            Err(why)
-        }
-    }
+    let (output, has_the_batch) = beside(output, has_the_batch)?;
+    Ok(Seen {
+        ended,
+        output,
+        entries,
+        has_the_batch,
+    })
 }
 
 /// Whether the entries are the batch that was sent, and nothing else.

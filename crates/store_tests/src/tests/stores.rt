@@ -12,7 +12,7 @@ use std::mem::drop;
 use std::sync::Arc;
 use std::test::*;
 use trace_model::{Entry, Find, Limits, Query, Refusal};
-use trace_samples::{first_otherwise, kept, list_of, span, text_tag};
+use trace_samples::{beside, first_otherwise, kept, list_of, span, text_tag};
 
 /// A number that looks random and is the same in every run.
 fn after(seed: u64) -> u64 {
@@ -80,13 +80,9 @@ fn add_spans(
 /// An entry of seat 0 with a span of each of these traces.
 fn entry_of(alloc: Global, number: u64, traces: &[u64]) -> Result<Arc<Entry>, AllocError> {
     let mut spans = Vec::new(alloc);
-    match add_spans(alloc, &mut spans, traces, after(number)) {
-        Ok(seed) => entry(alloc, 0, number, service(seed >> 40), spans),
-        Err(why) => {
-            drop(spans);
-            Err(why)
-        }
-    }
+    let added = add_spans(alloc, &mut spans, traces, after(number));
+    let (spans, seed) = beside(spans, added)?;
+    entry(alloc, 0, number, service(seed >> 40), spans)
 }
 
 /// The pairs of a tag that a search asks for.

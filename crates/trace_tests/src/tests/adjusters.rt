@@ -5,7 +5,7 @@ use std::mem::drop;
 use std::test::*;
 use trace_adjust::{adjust_skew, adjusted};
 use trace_model::{Answer, Query, Shown};
-use trace_samples::{host_process, kept, list_of, made_spans, process, span};
+use trace_samples::{beside, host_process, kept, list_of, made_spans, process, span};
 
 const OWN: TraceId = TraceId { high: 0, low: 1 };
 
@@ -55,13 +55,8 @@ fn shared_process_on(alloc: Global, host: &str) -> Result<SharedProcess, AllocEr
 
 /// The span as a process on the host reported it.
 fn placed_on(alloc: Global, host: &str, span: Span) -> Result<Placed, AllocError> {
-    match shared_process_on(alloc, host) {
-        Ok(process) => Ok(Placed { process, span }),
-        Err(why) => {
-            drop(span);
-            Err(why)
-        }
-    }
+    let (span, process) = beside(span, shared_process_on(alloc, host))?;
+    Ok(Placed { process, span })
 }
 
 /// A span with one log, at its start, and its process.
@@ -248,13 +243,8 @@ fn warnings_of(alloc: Global, warning: &str) -> Result<Seq<Text>, AllocError> {
 
 /// The span, of which something was said before.
 fn warned(alloc: Global, placed: Placed, warning: &str) -> Result<Shown, AllocError> {
-    match warnings_of(alloc, warning) {
-        Ok(warnings) => Ok(Shown { placed, warnings }),
-        Err(why) => {
-            drop(placed);
-            Err(why)
-        }
-    }
+    let (placed, warnings) = beside(placed, warnings_of(alloc, warning))?;
+    Ok(Shown { placed, warnings })
 }
 
 /// Adds the spans, of each of which something was said before.

@@ -9,7 +9,7 @@ use std::mem::drop;
 use std::sync::Arc;
 use std::test::Fail;
 use trace_model::{Answer, Entry, Limits, Query, Work};
-use trace_samples::{handed_in, host_process, kept, list_of, span};
+use trace_samples::{beside, handed_in, host_process, kept, list_of, span};
 
 /// A span: its service and its host; its trace, its id and its parent's; its start and its duration.
 pub(crate) type Row = ([&'static str; 2], [u64; 3], [i64; 2]);
@@ -82,17 +82,12 @@ fn history(alloc: Global, rows: &[Row]) -> Result<Vec<Arc<Entry>>, AllocError> {
 /// A batch of the span, with its process.
 fn batch_with(alloc: Global, placed: Placed) -> Result<Batch, AllocError> {
     let Placed { process, span } = placed;
-    match list_of(alloc, span) {
-        Ok(spans) => Ok(Batch {
-            process,
-            spans,
-            seq_no: None,
-        }),
-        Err(why) => {
-            drop(process);
-            Err(why)
-        }
-    }
+    let (process, spans) = beside(process, list_of(alloc, span))?;
+    Ok(Batch {
+        process,
+        spans,
+        seq_no: None,
+    })
 }
 
 /// Adds an entry for each of the spans, with its process.

@@ -7,7 +7,7 @@ use std::mem::drop;
 use std::test::*;
 use trace_adjust::shown;
 use trace_model::{Answer, AnsweredTrace, Find, Query, Shown};
-use trace_samples::{first_otherwise, kept, list_of, placed, process, service_find, span};
+use trace_samples::{beside, first_otherwise, kept, list_of, placed, process, service_find, span};
 
 /// A span of service `a` of this trace.
 fn begun_once(alloc: Global, trace: u64, start: i64, duration: i64) -> Result<Placed, AllocError> {
@@ -380,13 +380,8 @@ fn three_with(alloc: Global, flagged: u64) -> Result<Vec<Placed>, AllocError> {
 
 /// What the store answers of a history of these spans to a search for the ids of those with the tag `p`.
 fn answer_by_flag(alloc: Global, keys: RandomState, spans: Vec<Placed>) -> Result<Answer, Fail> {
-    match by_flags(alloc, &["p"]) {
-        Ok(find) => store_answer_to(alloc, keys, spans, Query::FindIds(find)),
-        Err(why) => {
-            drop(spans);
-            Err(why.into())
-        }
-    }
+    let (spans, find) = beside(spans, by_flags(alloc, &["p"]))?;
+    store_answer_to(alloc, keys, spans, Query::FindIds(find))
 }
 
 /// That search finds this trace alone, where it has the tag alone.
@@ -407,26 +402,17 @@ fn a_process_matches_in_its_own_entry(rt: HostRuntime) -> Result<(), Fail> {
     Ok(())
 }
 
+/// A span of each of three traces.
+const THREE: [Row; 3] = [
+    (["a", ""], [1, 1, 0], [3000, 50]),
+    (["a", ""], [2, 1, 0], [1000, 50]),
+    (["a", ""], [3, 1, 0], [2000, 50]),
+];
+
 /// Spans, the limit of the search, and the ids of the traces that are found.
 const PLAIN_ORDERS: [(&[Row], u64, &[u64]); 5] = [
-    (
-        &[
-            (["a", ""], [1, 1, 0], [3000, 50]),
-            (["a", ""], [2, 1, 0], [1000, 50]),
-            (["a", ""], [3, 1, 0], [2000, 50]),
-        ],
-        0,
-        &[1, 3, 2],
-    ),
-    (
-        &[
-            (["a", ""], [1, 1, 0], [3000, 50]),
-            (["a", ""], [2, 1, 0], [1000, 50]),
-            (["a", ""], [3, 1, 0], [2000, 50]),
-        ],
-        2,
-        &[1, 3],
-    ),
+    (&THREE, 0, &[1, 3, 2]),
+    (&THREE, 2, &[1, 3]),
     (
         &[
             (["a", ""], [1, 1, 0], [1000, 50]),

@@ -4,7 +4,7 @@ use jaeger_model::{Batch, Log, Seq, Span, Tag, Text, Value};
 use std::alloc::{AllocError, Global};
 use std::mem::drop;
 use std::test::*;
-use trace_samples::{batch, kept, list_of, span};
+use trace_samples::{batch, beside, kept, list_of, span};
 
 const MEGABYTE: usize = 1_000_000;
 
@@ -19,13 +19,8 @@ fn long_values(alloc: Global) -> Result<Vec<Tag>, Fail> {
 
 /// A binary of a megabyte behind these tags.
 fn with_long_bytes(alloc: Global, tags: Vec<Tag>) -> Result<Vec<Tag>, Fail> {
-    match vec![in alloc; 0x61; MEGABYTE] {
-        Ok(bytes) => with_tag(alloc, tags, "bytes", Value::Bytes(Seq::from_vec(bytes))),
-        Err(why) => {
-            drop(tags);
-            Err(why.into())
-        }
-    }
+    let (tags, bytes) = beside(tags, vec![in alloc; 0x61; MEGABYTE])?;
+    with_tag(alloc, tags, "bytes", Value::Bytes(Seq::from_vec(bytes)))
 }
 
 /// The text, so many times in a row.

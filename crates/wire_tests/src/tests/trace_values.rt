@@ -6,23 +6,18 @@ use jaeger_model::{
 use std::alloc::{AllocError, Global};
 use std::mem::drop;
 use std::test::*;
-use trace_samples::{batch, first_otherwise, kept, list_of, span};
+use trace_samples::{batch, beside, first_otherwise, kept, list_of, span};
 
 fn text(alloc: Global, text: &str) -> Result<Text, Fail> {
     Ok(Text::from_str(alloc, text)?)
 }
 
 pub(crate) fn tag(alloc: Global, key: &str, value: Value) -> Result<Tag, Fail> {
-    match text(alloc, key) {
-        Ok(key) => Ok(Tag {
-            key,
-            value: TagValue::new(value),
-        }),
-        Err(why) => {
-            drop(value);
-            Err(why)
-        }
-    }
+    let (value, key) = beside(value, text(alloc, key))?;
+    Ok(Tag {
+        key,
+        value: TagValue::new(value),
+    })
 }
 
 fn add_tag(alloc: Global, tags: &mut Vec<Tag>, key: &str, value: Value) -> Result<(), Fail> {
@@ -101,13 +96,8 @@ fn ids(rt: HostRuntime) -> Result<(), Fail> {
 
 /// The tags with one more at their end, whose value is this text.
 fn with_text(alloc: Global, tags: Vec<Tag>, key: &str, word: &str) -> Result<Vec<Tag>, Fail> {
-    match text(alloc, word) {
-        Ok(word) => with_tag(alloc, tags, key, Value::Text(word)),
-        Err(why) => {
-            drop(tags);
-            Err(why)
-        }
-    }
+    let (tags, word) = beside(tags, text(alloc, word))?;
+    with_tag(alloc, tags, key, Value::Text(word))
 }
 
 /// The tags with one more at their end, whose value is these bytes.
