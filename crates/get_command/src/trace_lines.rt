@@ -2,7 +2,7 @@
 ghost use Rattle.std.specs.Prelude.{◌≡◌, ◌++◌, None, IfOk, OnOk, false, flat_map, is_some, map, option_map};
 ghost use Rattle.text_lines.specs.RunErrors.{Says};
 ghost use Rattle.trace_model.specs.Adjusting.{unadjusted};
-ghost use Rattle.get_command.specs.Runs.{found_in, ids_text, names_text, shown_line, span_line, times_text, trace_lines};
+ghost use Rattle.get_command.specs.Runs.{found_in, shown_line, span_line, trace_lines};
 
 use jaeger_model::{Placed, TraceId};
 use session_devices::Output;
@@ -13,46 +13,19 @@ use text_lines::{Page, RunError, say};
 use trace_adjust::shown;
 use trace_model::{Answer, Query, Shown, ShownTrace};
 
-fn say_ids(said: &mut Vec<u8>, placed: &Placed) -> Result<(), AllocError>
-    ensures { OnOk result (said.new.items ≡ said.old.items ++ ids_text placed.now) }
-{
-    let trace = placed.span.trace;
-    let id = placed.span.id;
-    let Ok(()) = write!(said, "{trace} {id} ") else {
-        return Err(AllocError);
-    };
-    Ok(())
-}
-
-fn say_times(said: &mut Vec<u8>, placed: &Placed) -> Result<(), AllocError>
-    ensures { OnOk result (said.new.items ≡ said.old.items ++ times_text placed.now) }
-{
-    let start = placed.span.start;
-    let duration = placed.span.duration;
-    let Ok(()) = write!(said, "{start} {duration} ") else {
-        return Err(AllocError);
-    };
-    Ok(())
-}
-
-fn say_names(said: &mut Vec<u8>, placed: &Placed) -> Result<(), AllocError>
-    ensures { OnOk result (said.new.items ≡ said.old.items ++ names_text placed.now) }
-{
-    let service = placed.process.get().service.as_str();
-    let operation = placed.span.operation.as_str();
-    let Ok(()) = writeln!(said, "{service} {operation}") else {
-        return Err(AllocError);
-    };
-    Ok(())
-}
-
 /// Says the line of a span.
 fn say_span(said: &mut Vec<u8>, placed: &Placed) -> Result<(), AllocError>
     ensures { OnOk result (said.new.items ≡ said.old.items ++ span_line placed.now) }
 {
-    say_ids(said, placed)?;
-    say_times(said, placed)?;
-    say_names(said, placed)
+    let Placed { process, span } = placed;
+    let service = process.get().service.as_str();
+    let operation = span.operation.as_str();
+    let (trace, id, start, duration) = (span.trace, span.id, span.start, span.duration);
+    writeln!(
+        said,
+        "{trace} {id} {start} {duration} {service} {operation}"
+    )
+    .map_err(|_| AllocError)
 }
 
 /// Writes the lines of the spans.
