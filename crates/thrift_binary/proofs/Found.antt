@@ -1,9 +1,9 @@
 -- What is read is spelled so.
-use Rattle.std.proofs.Common.{◌≡◌, ℕ, ℤ, pos, zero, suc, ◌≤◌, ◌^◌, Bool, true, false, cond, eqb, ltb, List, [], ◌∷◌, ◌++◌, length, take, drop, Option, Some, None, Result, Ok, Err, refl, sym, ap, subst, ◌∙◌, append_assoc, arith, w16, w32, w64}
+use Rattle.std.proofs.Common.{◌≡◌, ℕ, ℤ, pos, zero, suc, ◌<◌, ◌≤◌, ◌^◌, Bool, true, false, cond, eqb, ltb, List, [], ◌∷◌, ◌++◌, length, take, drop, Option, Some, None, Result, Ok, Err, refl, sym, ap, subst, ◌∙◌, append_assoc, arith, w16, w32, w64}
 use Rattle.std.specs.Prelude.{MatchBool, IfOk}
 use Rattle.std.specs.Int.{Width, cast_signed}
 use Rattle.std.proofs.lemmas.Bool.{ltb-false, eqb-true, ltb-true}
-use Rattle.std.proofs.lemmas.List.{take-append-drop, length-take}
+use Rattle.std.proofs.lemmas.List.{take-append-drop, length-take, take_all}
 use Rattle.byteorder.specs.Endian.{big_number}
 use Rattle.byteorder.specs.Numbers.{big_from-append}
 use Rattle.thrift_binary.specs.declared.fault.WireError.{WireError}
@@ -73,24 +73,18 @@ big_number-take n w le =
 pub record Takes (w text rest : List ℕ) : Type 0 where
   pub parts : w ≡ text ++ rest
 
-pub record Signed (width : Width) (n : ℕ) (w : List ℕ) (z : ℤ) (r : List ℕ) : Type 0 where
-  pub text : List ℕ
-  pub parts : w ≡ text ++ r
-  pub long : length text ≡ n
-  pub value : cast_signed width (big_number n text) ≡ z
-
-pub signed_found : (width : Width) (n : ℕ) (w : List ℕ) (z : ℤ) (r : List ℕ) → signed_at width n w ≡ Ok (z, r) → Signed width n w z r
-signed_found width n w z r e =
-    let g = guard_ok (ltb (length w) n) Truncated (cast_signed width (big_number n w), drop n w) (z, r) e in
+-- n bytes from the beginning, of which f makes what it makes of all that follow
+pub beginning_found : {A : Type 0} (n : ℕ) (f : List ℕ → A) → ((w : List ℕ) → n ≤ length w → f w ≡ f (take n w)) → (w : List ℕ) (x : A) (r : List ℕ) → cond {A = Result (A × List ℕ) WireError} (ltb (length w) n) (Err Truncated) (Ok (f w, drop n w)) ≡ Ok (x, r)
+    → Beginning (λ t. (length t ≡ n) × (f t ≡ x)) w r
+beginning_found {A = A} n f front w x r e =
+    let g = guard_ok (ltb (length w) n) Truncated (f w, drop n w) (x, r) e in
     let long : n ≤ length w = ltb-false _ _ g.0 in
-    let z-is : cast_signed width (big_number n w) ≡ z = ap (λ (p : ℤ × List ℕ). p.0) g.1 in
-    let r-is : drop n w ≡ r = ap (λ (p : ℤ × List ℕ). p.1) g.1 in
-    record {
-      text = take n w;
-      parts = rw (← r-is) (sym (take-append-drop n w));
-      long = omega (arith, length-take n w);
-      value = ap (cast_signed width) (sym (big_number-take n w long)) ∙ z-is;
-    }
+    let x-is : f w ≡ x = ap (λ (p : A × List ℕ). p.0) g.1 in
+    let r-is : drop n w ≡ r = ap (λ (p : A × List ℕ). p.1) g.1 in
+    record { text = take n w; parts = rw (← r-is) (sym (take-append-drop n w)); spells = (omega (arith, length-take n w), sym (front w long) ∙ x-is) }
+
+signed_found : (width : Width) (n : ℕ) (w : List ℕ) (z : ℤ) (r : List ℕ) → signed_at width n w ≡ Ok (z, r) → Beginning (λ t. (length t ≡ n) × (cast_signed width (big_number n t) ≡ z)) w r
+signed_found width n = beginning_found n (λ w. cast_signed width (big_number n w)) (λ w le. ap (cast_signed width) (big_number-take n w le))
 
 -- ---- one value of each kind
 
@@ -116,18 +110,15 @@ bool_found [] x r e = absurd cc
 bool_found (b ∷ v) x r e = bool_behind_found b v x r e
 
 pub i32_found : (w : List ℕ) (z : ℤ) (r : List ℕ) → signed_at w32 4 w ≡ Ok (z, r) → Beginning (λ t. IsI32 t z) w r
-i32_found w z r e = let s = signed_found w32 4 w z r e in record { text = s.text; parts = s.parts; spells = (s.long, s.value) }
+i32_found = signed_found w32 4
 
 pub i64_found : (w : List ℕ) (z : ℤ) (r : List ℕ) → signed_at w64 8 w ≡ Ok (z, r) → Beginning (λ t. IsI64 t z) w r
-i64_found w z r e = let s = signed_found w64 8 w z r e in record { text = s.text; parts = s.parts; spells = (s.long, s.value) }
+i64_found = signed_found w64 8
 
 pub bytes_found : (n : ℕ) (w bytes r : List ℕ) → bytes_at n w ≡ Ok (bytes, r) → Beginning (λ t. (length t ≡ n) × (t ≡ bytes)) w r
 bytes_found n w bytes r e =
-    let g = guard_ok (ltb (length w) n) Truncated (take n w, drop n w) (bytes, r) e in
-    let long : n ≤ length w = ltb-false _ _ g.0 in
-    let bytes-is : take n w ≡ bytes = ap (λ (p : List ℕ × List ℕ). p.0) g.1 in
-    let r-is : drop n w ≡ r = ap (λ (p : List ℕ × List ℕ). p.1) g.1 in
-    record { text = take n w; parts = rw (← r-is) (sym (take-append-drop n w)); spells = (omega (arith, length-take n w), bytes-is) }
+    let b = beginning_found n (take n) (λ v le. sym (take_all n (take n v) (omega (arith, length-take n v)))) w bytes r e in
+    record { text = b.text; parts = b.parts; spells = (b.spells.0, sym (take_all n b.text (omega (arith, b.spells.0))) ∙ b.spells.1) }
 
 pub double_found : (w bytes r : List ℕ) → bytes_at 8 w ≡ Ok (bytes, r) → Beginning (λ t. IsDouble t bytes) w r
 double_found w bytes r e = bytes_found 8 w bytes r e
@@ -141,17 +132,11 @@ pub size_found : (w : List ℕ) (m : ℕ) (r : List ℕ) → size_at w ≡ Ok (m
 unfolding size_at
 size_found w m r e =
     let b = bind_ok (number_at 4 w) (λ n. cond (ltb n.0 (2 ^ 31)) (Ok (n.0, n.1)) (Err BadLength)) (m, r) e in
-    let g = guard_ok (ltb (length w) 4) Truncated (big_number 4 w, drop 4 w) b.0 b.1 in
+    let n = beginning_found 4 (big_number 4) (big_number-take 4) w b.0.0 b.0.1 b.1 in
     let p = pass_ok (ltb b.0.0 (2 ^ 31)) BadLength (b.0.0, b.0.1) (m, r) b.2 in
-    let long : 4 ≤ length w = ltb-false _ _ g.0 in
-    let m-is : big_number 4 w ≡ m = ap (λ (p : ℕ × List ℕ). p.0) (g.1 ∙ p.1) in
-    let r-is : drop 4 w ≡ r = ap (λ (p : ℕ × List ℕ). p.1) (g.1 ∙ p.1) in
-    let same : b.0.0 ≡ m = ap (λ (p : ℕ × List ℕ). p.0) p.1 in
-    record {
-      text = take 4 w;
-      parts = rw (← r-is) (sym (take-append-drop 4 w));
-      spells = (omega (arith, length-take 4 w), sym (big_number-take 4 w long) ∙ m-is, rw (← same) (ltb-true b.0.0 (2 ^ 31) p.0));
-    }
+    let m-is : b.0.0 ≡ m = ap (λ (p : ℕ × List ℕ). p.0) p.1 in
+    let r-is : b.0.1 ≡ r = ap (λ (p : ℕ × List ℕ). p.1) p.1 in
+    record { text = n.text; parts = n.parts ∙ ap (λ (v : List ℕ). n.text ++ v) r-is; spells = (n.spells.0, n.spells.1 ∙ m-is, subst (λ k. k < 2 ^ 31) m-is (ltb-true b.0.0 (2 ^ 31) p.0)) }
 
 pub record Stringed (w bytes r : List ℕ) : Type 0 where
   pub text : List ℕ
@@ -163,17 +148,11 @@ unfolding string_at
 string_found w bytes r e =
     let b = bind_ok (size_at w) (λ n. bytes_at n.0 n.1) (bytes, r) e in
     let s = size_found w b.0.0 b.0.1 b.1 in
-    let g = guard_ok (ltb (length b.0.1) b.0.0) Truncated (take b.0.0 b.0.1, drop b.0.0 b.0.1) (bytes, r) b.2 in
-    let long : b.0.0 ≤ length b.0.1 = ltb-false _ _ g.0 in
-    let bytes-is : take b.0.0 b.0.1 ≡ bytes = ap (λ (p : List ℕ × List ℕ). p.0) g.1 in
-    let r-is : drop b.0.0 b.0.1 ≡ r = ap (λ (p : List ℕ × List ℕ). p.1) g.1 in
-    let cut : length (take b.0.0 b.0.1) ≡ b.0.0 = omega (arith, length-take b.0.0 b.0.1) in
-    let len : b.0.0 ≡ length bytes = sym cut ∙ ap length bytes-is in
-    let tail : b.0.1 ≡ bytes ++ r = sym (take-append-drop b.0.0 b.0.1) ∙ ap (λ (t : List ℕ). t ++ drop b.0.0 b.0.1) bytes-is ∙ ap (λ (t : List ℕ). bytes ++ t) r-is in
+    let t = bytes_found b.0.0 b.0.1 bytes r b.2 in
     record {
-      text = s.text ++ bytes;
-      parts = s.parts ∙ ap (λ (t : List ℕ). s.text ++ t) tail ∙ sym (append_assoc s.text bytes r);
-      spells = (s.text, subst (λ k. IsSize s.text k) len s.spells, refl);
+      text = s.text ++ t.text;
+      parts = s.parts ∙ ap (λ (v : List ℕ). s.text ++ v) t.parts ∙ sym (append_assoc s.text t.text r);
+      spells = (s.text, subst (λ k. IsSize s.text k) (sym t.spells.0 ∙ ap length t.spells.1) s.spells, ap (λ (v : List ℕ). s.text ++ v) t.spells.1);
     }
 
 pub record Headed (w : List ℕ) (c : ℕ) (i : ℤ) (r : List ℕ) : Type 0 where
@@ -194,7 +173,7 @@ field_behind_found c d i w r e = by (eqb c 0) e
         let first : c ≡ d = ap first_of p.1 in
         let second : b.0.0 ≡ i = ap second_of p.1 in
         let third : b.0.1 ≡ r = ap rest_of p.1 in
-        record { text = s.text; parts = ap (λ (t : List ℕ). c ∷ t) (s.parts ∙ ap (λ (t : List ℕ). s.text ++ t) third) ∙ ap (λ (x : ℕ). (x ∷ s.text) ++ r) first; long = s.long; value = s.value ∙ second; coded = subst (λ x. is_code x ≡ true) first p.0 }
+        record { text = s.text; parts = ap (λ (t : List ℕ). c ∷ t) (s.parts ∙ ap (λ (t : List ℕ). s.text ++ t) third) ∙ ap (λ (x : ℕ). (x ∷ s.text) ++ r) first; long = s.spells.0; value = s.spells.1 ∙ second; coded = subst (λ x. is_code x ≡ true) first p.0 }
 
     by : (z : Bool) → cond z (stopped w) (signed_at w16 2 w >>= typed c) ≡ Ok (Some (d, i), r) → Headed (c ∷ w) d i r
     by true h = let none : Option (ℕ × ℤ) × List ℕ = (None, w) in absurd (got_none d i r w (sym (ok_is none (got d i r) h)))

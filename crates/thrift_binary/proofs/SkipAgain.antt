@@ -126,18 +126,22 @@ leaf_coded c t is = by (eqb c 11) refl is
     by true e h = let c-is : c ≡ 11 = eqb-true c 11 e in rw c-is refl
     by false e h = wide_coded (eqb c 2) (eqb c 3) (eqb c 4) (eqb c 6) (eqb c 8) (eqb c 10) (ltb 10 c && ltb c 16) h.1
 
-value_coded : (levels c : ℕ) (t : List ℕ) → IsValue levels c t → is_code c ≡ true
+-- what holds where it is a container's and where it is a leaf's
+value_kinds : {P : Type 0} (levels c : ℕ) (t : List ℕ) → IsValue levels c t → ((Value : ℕ → List ℕ → Type 0) → is_container c ≡ true → IsContainer Value c t → P) → (IsLeaf c t → P) → P
 unfolding IsValue
-value_coded zero c t is = by (is_container c) is
+value_kinds {P} zero c t is inside leaf = by (is_container c) is
   where
-    by : (a : Bool) → MatchBool a ⊥ (IsLeaf c t) → is_code c ≡ true
+    by : (a : Bool) → MatchBool a ⊥ (IsLeaf c t) → P
     by true h = absurd h
-    by false h = leaf_coded c t h
-value_coded (suc levels) c t is = by (is_container c) refl is
+    by false h = leaf h
+value_kinds {P} (suc levels) c t is inside leaf = by (is_container c) refl is
   where
-    by : (a : Bool) → is_container c ≡ a → MatchBool a (IsContainer (IsValue levels) c t) (IsLeaf c t) → is_code c ≡ true
-    by true e h = container_coded c e
-    by false e h = leaf_coded c t h
+    by : (a : Bool) → is_container c ≡ a → MatchBool a (IsContainer (IsValue levels) c t) (IsLeaf c t) → P
+    by true e h = inside (IsValue levels) e h
+    by false e h = leaf h
+
+value_coded : (levels c : ℕ) (t : List ℕ) → IsValue levels c t → is_code c ≡ true
+value_coded levels c t is = value_kinds levels c t is (λ V e h. container_coded c e) (leaf_coded c t)
 
 value_again : (levels c : ℕ) → Passes (value_at levels c) (IsValue levels c)
 unfolding value_at IsValue
@@ -173,17 +177,7 @@ leaf_some c t is = by (eqb c 11) is
     by false h = omega (arith, h.0, h.1)
 
 pub value_some : (levels c : ℕ) (t : List ℕ) → IsValue levels c t → 0 < length t
-unfolding IsValue
-value_some zero c t is = by (is_container c) is
-  where
-    by : (a : Bool) → MatchBool a ⊥ (IsLeaf c t) → 0 < length t
-    by true h = absurd h
-    by false h = leaf_some c t h
-value_some (suc levels) c t is = by (is_container c) is
-  where
-    by : (a : Bool) → MatchBool a (IsContainer (IsValue levels) c t) (IsLeaf c t) → 0 < length t
-    by true h = container_some (IsValue levels) c t h
-    by false h = leaf_some c t h
+value_some levels c t is = value_kinds levels c t is (λ V e h. container_some V c t h) (leaf_some c t)
 
 -- a value of the type is skipped, and all that follows it is left
 pub skip_again : (c : ℕ) (t r : List ℕ) → IsValue 64 c t → skip_at c (t ++ r) ≡ Ok (tt, r)

@@ -1,14 +1,13 @@
 -- What is skipped is a value.
-use Rattle.std.proofs.Common.{◌≡◌, ℕ, ℤ, zero, suc, ◌<◌, ◌≤◌, Bool, true, false, cond, eqb, ltb, ◌&&◌, ◌||◌, List, [], ◌∷◌, ◌++◌, length, take, drop, Ok, Err, refl, sym, ap, subst, ◌∙◌, append_assoc, arith}
+use Rattle.std.proofs.Common.{◌≡◌, ℕ, ℤ, zero, suc, ◌<◌, Bool, true, false, cond, eqb, ltb, ◌&&◌, ◌||◌, List, [], ◌∷◌, ◌++◌, length, take, Ok, Err, refl, sym, ap, subst, ◌∙◌, append_assoc}
 use Rattle.std.specs.Prelude.{MatchBool}
 use Rattle.std.specs.List.{AllByRecursion}
-use Rattle.std.proofs.lemmas.Bool.{ltb-false, ltb-true}
-use Rattle.std.proofs.lemmas.List.{take-append-drop, length-take}
+use Rattle.std.proofs.lemmas.Bool.{ltb-true}
 use Rattle.thrift_binary.specs.declared.fault.WireError.TheVariants.{Truncated, BadType, TooDeep}
 use Rattle.thrift_binary.specs.Reading.{◌>>=◌, Read, size_at, string_at, list_at, map_at, is_code}
 use Rattle.thrift_binary.specs.Skipping.{Skip, past, both, times, text, struct, items, pairs, container, width, leaf, is_container, skip_at, value_at}
 use Rattle.thrift_binary.specs.Spelling.{Beginning, IsSize, IsString, Field, IsRun, IsLeaf, IsStructOf, IsListOf, IsPair, IsMapOf, IsContainer, IsValue, IsListHead}
-use Rattle.thrift_binary.proofs.Found.{bind_ok, guard_ok, pass_ok, both_are, Path, Took, fields_found, string_found, size_found}
+use Rattle.thrift_binary.proofs.Found.{bind_ok, pass_ok, both_are, beginning_found, Path, Took, fields_found, string_found, size_found}
 
 -- a reading that takes only such fronts
 abbrev pub Finds : Skip → (List ℕ → Type 0) → Type 0
@@ -21,11 +20,7 @@ pub rest_is : (v r : List ℕ) → gone v ≡ gone r → v ≡ r
 rest_is v r e = (both_are tt tt v r e).1
 
 past_found : (n : ℕ) → Finds (past n) (λ t. length t ≡ n)
-past_found n w r e =
-    let g = guard_ok (ltb (length w) n) Truncated (tt, drop n w) (tt, r) e in
-    let long : n ≤ length w = ltb-false _ _ g.0 in
-    let r-is : drop n w ≡ r = ap (λ (x : Unit {0} × List ℕ). x.1) g.1 in
-    record { text = take n w; parts = sym (take-append-drop n w) ∙ ap (λ (t : List ℕ). take n w ++ t) r-is; spells = omega (arith, length-take n w) }
+past_found n w r e = let b = beginning_found n (λ _. tt) (λ _ le. refl) w tt r e in record { text = b.text; parts = b.parts; spells = b.spells.0 }
 
 both_found : (a b : Skip) (A B : List ℕ → Type 0) → Finds a A → Finds b B → Finds (both a b) (λ t. (x : List ℕ) × (y : List ℕ) × A x × B y × (t ≡ x ++ y))
 both_found a b A B fa fb w r e =
