@@ -1,5 +1,5 @@
 -- A chunked body at the beginning of bytes stands there in one way.
-use Rattle.std.proofs.Common.{◌≡◌, ◌≢◌, ℕ, ◌+◌, ◌≤◌, ◌<◌, List, [], ◌∷◌, ◌++◌, length, take, drop, All, refl, sym, ap, ◌∙◌, subst, arith, inl, inr, append_assoc, length-append}
+use Rattle.std.proofs.Common.{◌≡◌, ◌≢◌, ℕ, ◌+◌, ◌≤◌, ◌<◌, List, [], ◌∷◌, ◌++◌, length, take, drop, All, refl, sym, ap, ◌∙◌, subst, arith, inl, inr, ◌⊎◌, ⊎_elim, append_assoc, length-append}
 use Rattle.std.proofs.lemmas.List.{take_at, drop_at, append_cancel_left}
 use Rattle.std.proofs.lemmas.List.Elements.{All-head, All-tail}
 use Rattle.httparse.specs.Ascii.{crlf_bytes}
@@ -45,23 +45,49 @@ chunk_is_not_last c last r q is zero e =
 pub first_chunk : (c : Chunk) (cs : List Chunk) (r : List ℕ) → texts (c ∷ cs) ++ r ≡ c.text ++ (texts cs ++ r)
 first_chunk c cs r = append_assoc c.text (texts cs) r
 
+-- ---- chunks and a size line behind them
+
+-- the chunks and their lines are the same, or one line is that of a chunk of the other
+abbrev Meet : (cs ds : List Chunk) (line end r q : List ℕ) (size more : ℕ) → Type 0
+Meet cs ds line end r q size more = ((cs ≡ ds) × (line ≡ end) × (size ≡ more) × (r ≡ q))
+    ⊎ ((0 < size) × (length (contents cs) + size ≤ length (contents ds)))
+    ⊎ ((0 < more) × (length (contents ds) + more ≤ length (contents cs)))
+
+lines_meet : (cs ds : List Chunk) (line end r q : List ℕ) (size more : ℕ) → All IsChunk cs → All IsChunk ds → IsSizeLine line size → IsSizeLine end more
+    → texts cs ++ (line ++ r) ≡ texts ds ++ (end ++ q) → Meet cs ds line end r q size more
+lines_meet [] [] line end r q size more one other l m e = let lines = size_line_once line end r q size more l m e in inl (refl, lines.0, lines.1, lines.2)
+lines_meet [] (d ∷ ds) line end r q size more one other l m e =
+    let is = All-head IsChunk d ds other in
+    let lines = size_line_once line is.line r (d.content ++ (crlf_bytes ++ (texts ds ++ (end ++ q)))) size (length d.content) l is.line_is
+    (e ∙ first_chunk d ds (end ++ q) ∙ chunk_cut d (texts ds ++ (end ++ q)) is) in
+    inr (inl (omega (arith, lines.1, is.some), omega (arith, lines.1, length-append d.content (contents ds))))
+lines_meet (c ∷ cs) [] line end r q size more one other l m e =
+    let is = All-head IsChunk c cs one in
+    let lines = size_line_once end is.line q (c.content ++ (crlf_bytes ++ (texts cs ++ (line ++ r)))) more (length c.content) m is.line_is
+    (sym e ∙ first_chunk c cs (line ++ r) ∙ chunk_cut c (texts cs ++ (line ++ r)) is) in
+    inr (inr (omega (arith, lines.1, is.some), omega (arith, lines.1, length-append c.content (contents cs))))
+lines_meet (c ∷ cs) (d ∷ ds) line end r q size more one other l m e =
+    let now = chunk_once c d (texts cs ++ (line ++ r)) (texts ds ++ (end ++ q)) (All-head IsChunk c cs one) (All-head IsChunk d ds other)
+    (sym (first_chunk c cs (line ++ r)) ∙ e ∙ first_chunk d ds (end ++ q)) in
+    let same : length c.content ≡ length d.content = ap (λ (x : Chunk). length x.content) now.0 in
+    let long : length (contents (c ∷ cs)) ≡ length c.content + length (contents cs) = length-append c.content (contents cs) in
+    let wide : length (contents (d ∷ ds)) ≡ length d.content + length (contents ds) = length-append d.content (contents ds) in
+    elim (lines_meet cs ds line end r q size more (All-tail IsChunk c cs one) (All-tail IsChunk d ds other) l m now.1)
+        as (λ _. Meet (c ∷ cs) (d ∷ ds) line end r q size more) [
+      | inl later ↦ inl ((λ i. now.0 i ∷ later.0 i), later.1, later.2, later.3)
+      | inr room ↦ inr (⊎_elim (λ over. inl (over.0, omega (arith, over.1, same, long, wide))) (λ over. inr (over.0, omega (arith, over.1, same, long, wide))) room)
+    ]
+
 -- ---- bodies
 
 bodies_once : (cs ds : List Chunk) (last end trailer fields r q : List ℕ) → All IsChunk cs → All IsChunk ds → IsSizeLine last 0 → IsSizeLine end 0 → IsTrailer trailer → IsTrailer fields
     → texts cs ++ (last ++ (trailer ++ r)) ≡ texts ds ++ (end ++ (fields ++ q)) → (cs ≡ ds) × (last ≡ end) × (trailer ≡ fields) × (r ≡ q)
-bodies_once [] [] last end trailer fields r q one other l m t u e =
-    let lines = size_line_once last end (trailer ++ r) (fields ++ q) 0 0 l m e in
-    let ends = trailer_once trailer fields r q t u lines.2 in
-    (refl, lines.0, ends.0, ends.1)
-bodies_once [] (d ∷ ds) last end trailer fields r q one other l m t u e =
-    absurd (chunk_is_not_last d last (texts ds ++ (end ++ (fields ++ q))) (trailer ++ r) (All-head IsChunk d ds other) l (sym (e ∙ first_chunk d ds (end ++ (fields ++ q)))))
-bodies_once (c ∷ cs) [] last end trailer fields r q one other l m t u e =
-    absurd (chunk_is_not_last c end (texts cs ++ (last ++ (trailer ++ r))) (fields ++ q) (All-head IsChunk c cs one) m (sym (first_chunk c cs (last ++ (trailer ++ r))) ∙ e))
-bodies_once (c ∷ cs) (d ∷ ds) last end trailer fields r q one other l m t u e =
-    let now = chunk_once c d (texts cs ++ (last ++ (trailer ++ r))) (texts ds ++ (end ++ (fields ++ q))) (All-head IsChunk c cs one) (All-head IsChunk d ds other)
-    (sym (first_chunk c cs (last ++ (trailer ++ r))) ∙ e ∙ first_chunk d ds (end ++ (fields ++ q))) in
-    let later = bodies_once cs ds last end trailer fields r q (All-tail IsChunk c cs one) (All-tail IsChunk d ds other) l m t u now.1 in
-    ((λ i. now.0 i ∷ later.0 i), later.1, later.2, later.3)
+bodies_once cs ds last end trailer fields r q one other l m t u e =
+    elim (lines_meet cs ds last end (trailer ++ r) (fields ++ q) 0 0 one other l m e)
+        as (λ _. (cs ≡ ds) × (last ≡ end) × (trailer ≡ fields) × (r ≡ q)) [
+      | inl same ↦ let ends = trailer_once trailer fields r q t u same.3 in (same.0, same.1, ends.0, ends.1)
+      | inr room ↦ ⊎_elim (λ over. absurd (omega (arith, over.0))) (λ over. absurd (omega (arith, over.0))) room
+    ]
 
 -- a body's text and what follows, cut into its parts
 pub body_cut : (most : ℕ) (text body r : List ℕ) (b : IsBody most text body) → text ++ r ≡ texts b.chunks ++ (b.last ++ (b.trailer ++ r))
@@ -85,20 +111,11 @@ large_cut most text r t = ap (λ l. l ++ r) t.text_is ∙ append_assoc (texts t.
 -- a body has what its lines say
 sizes_within : (cs ds : List Chunk) (line last r q : List ℕ) (size : ℕ) → All IsChunk cs → All IsChunk ds → IsSizeLine line size → IsSizeLine last 0
     → texts cs ++ (line ++ r) ≡ texts ds ++ (last ++ q) → length (contents cs) + size ≤ length (contents ds)
-sizes_within [] [] line last r q size one other l m e = let lines = size_line_once line last r q size 0 l m e in omega (arith, lines.1)
-sizes_within [] (d ∷ ds) line last r q size one other l m e =
-    let is = All-head IsChunk d ds other in
-    let lines = size_line_once line is.line r (d.content ++ (crlf_bytes ++ (texts ds ++ (last ++ q)))) size (length d.content) l is.line_is
-    (e ∙ first_chunk d ds (last ++ q) ∙ chunk_cut d (texts ds ++ (last ++ q)) is) in
-    omega (arith, lines.1, length-append d.content (contents ds))
-sizes_within (c ∷ cs) [] line last r q size one other l m e =
-    absurd (chunk_is_not_last c last (texts cs ++ (line ++ r)) q (All-head IsChunk c cs one) m (sym (first_chunk c cs (line ++ r)) ∙ e))
-sizes_within (c ∷ cs) (d ∷ ds) line last r q size one other l m e =
-    let now = chunk_once c d (texts cs ++ (line ++ r)) (texts ds ++ (last ++ q)) (All-head IsChunk c cs one) (All-head IsChunk d ds other)
-    (sym (first_chunk c cs (line ++ r)) ∙ e ∙ first_chunk d ds (last ++ q)) in
-    let later = sizes_within cs ds line last r q size (All-tail IsChunk c cs one) (All-tail IsChunk d ds other) l m now.1 in
-    let same : length c.content ≡ length d.content = ap (λ (x : Chunk). length x.content) now.0 in
-    omega (arith, later, same, length-append c.content (contents cs), length-append d.content (contents ds))
+sizes_within cs ds line last r q size one other l m e =
+    elim (lines_meet cs ds line last r q size 0 one other l m e) as (λ _. length (contents cs) + size ≤ length (contents ds)) [
+      | inl same ↦ omega (arith, same.2, ap (λ (xs : List Chunk). length (contents xs)) same.0)
+      | inr room ↦ ⊎_elim (λ over. over.1) (λ over. absurd (omega (arith, over.0))) room
+    ]
 
 pub body_is_not_large : (most : ℕ) (text other body r q : List ℕ) → IsBody most text body → IsTooLarge most other → text ++ r ≡ other ++ q → ⊥
 body_is_not_large most text other body r q b t e =
@@ -106,34 +123,19 @@ body_is_not_large most text other body r q b t e =
     (sym (large_cut most other q t) ∙ sym e ∙ body_cut most text body r b) in
     absurd (omega (arith, within, t.large, b.small, ap length b.body_is))
 
-larges_once : (most n : ℕ) (cs ds : List Chunk) (line end r q : List ℕ) (size more : ℕ) → All IsChunk cs → All IsChunk ds → IsSizeLine line size → IsSizeLine end more
-    → n + length (contents cs) ≤ most → n + length (contents ds) ≤ most → most < n + length (contents cs) + size → most < n + length (contents ds) + more
+larges_once : (most : ℕ) (cs ds : List Chunk) (line end r q : List ℕ) (size more : ℕ) → All IsChunk cs → All IsChunk ds → IsSizeLine line size → IsSizeLine end more
+    → length (contents cs) ≤ most → length (contents ds) ≤ most → most < length (contents cs) + size → most < length (contents ds) + more
     → texts cs ++ (line ++ r) ≡ texts ds ++ (end ++ q) → (cs ≡ ds) × (line ≡ end) × (r ≡ q)
-larges_once most n [] [] line end r q size more one other l m s t u v e = let lines = size_line_once line end r q size more l m e in (refl, lines.0, lines.2)
-larges_once most n [] (d ∷ ds) line end r q size more one other l m s t u v e =
-    let is = All-head IsChunk d ds other in
-    let lines = size_line_once line is.line r (d.content ++ (crlf_bytes ++ (texts ds ++ (end ++ q)))) size (length d.content) l is.line_is
-    (e ∙ first_chunk d ds (end ++ q) ∙ chunk_cut d (texts ds ++ (end ++ q)) is) in
-    absurd (omega (arith, lines.1, t, u, length-append d.content (contents ds)))
-larges_once most n (c ∷ cs) [] line end r q size more one other l m s t u v e =
-    let is = All-head IsChunk c cs one in
-    let lines = size_line_once end is.line q (c.content ++ (crlf_bytes ++ (texts cs ++ (line ++ r)))) more (length c.content) m is.line_is
-    (sym e ∙ first_chunk c cs (line ++ r) ∙ chunk_cut c (texts cs ++ (line ++ r)) is) in
-    absurd (omega (arith, lines.1, s, v, length-append c.content (contents cs)))
-larges_once most n (c ∷ cs) (d ∷ ds) line end r q size more one other l m s t u v e =
-    let now = chunk_once c d (texts cs ++ (line ++ r)) (texts ds ++ (end ++ q)) (All-head IsChunk c cs one) (All-head IsChunk d ds other)
-    (sym (first_chunk c cs (line ++ r)) ∙ e ∙ first_chunk d ds (end ++ q)) in
-    let same : length c.content ≡ length d.content = ap (λ (x : Chunk). length x.content) now.0 in
-    let long : length (contents (c ∷ cs)) ≡ length c.content + length (contents cs) = length-append c.content (contents cs) in
-    let wide : length (contents (d ∷ ds)) ≡ length d.content + length (contents ds) = length-append d.content (contents ds) in
-    let later = larges_once most (n + length c.content) cs ds line end r q size more (All-tail IsChunk c cs one) (All-tail IsChunk d ds other) l m
-    (omega (arith, s, long)) (omega (arith, t, wide, same)) (omega (arith, u, long)) (omega (arith, v, wide, same)) now.1 in
-    ((λ i. now.0 i ∷ later.0 i), later.1, later.2)
+larges_once most cs ds line end r q size more one other l m s t u v e =
+    elim (lines_meet cs ds line end r q size more one other l m e) as (λ _. (cs ≡ ds) × (line ≡ end) × (r ≡ q)) [
+      | inl same ↦ (same.0, same.1, same.3)
+      | inr room ↦ ⊎_elim (λ over. absurd (omega (arith, over.1, t, u))) (λ over. absurd (omega (arith, over.1, s, v))) room
+    ]
 
 pub large_once : (most : ℕ) (text other r q : List ℕ) → IsTooLarge most text → IsTooLarge most other → text ++ r ≡ other ++ q → (text ≡ other) × (r ≡ q)
 large_once most text other r q s t e =
-    let same = larges_once most 0 s.chunks t.chunks s.line t.line r q s.size t.size s.each t.each s.line_is t.line_is
-    (omega (arith, s.small)) (omega (arith, t.small)) (omega (arith, s.large)) (omega (arith, t.large)) (sym (large_cut most text r s) ∙ e ∙ large_cut most other q t) in
+    let same = larges_once most s.chunks t.chunks s.line t.line r q s.size t.size s.each t.each s.line_is t.line_is
+    s.small t.small s.large t.large (sym (large_cut most text r s) ∙ e ∙ large_cut most other q t) in
     (s.text_is ∙ (λ i. texts (same.0 i) ++ same.1 i) ∙ sym t.text_is, same.2)
 
 -- ---- one answer
