@@ -122,6 +122,21 @@ impl<'a> Cursor<'a> {
         Ok(front)
     }
 
+    /// The first N bytes, copied: a number of them costs less than one of a reference to them, which is tested for null.
+    #[inline]
+    fn array<const N: usize>(&mut self) -> Result<[u8; N], WireError>
+        ensures exact { Reads (λ x. x) (bytes_at N) self.old result self.new }
+        ensures no_longer { OnOk result (length self.new ≤ length self.old) }
+    {
+        if self.bytes.len() < N {
+            return self.refuse(WireError::Truncated);
+        }
+        let mut bytes = [0; N];
+        bytes.copy_from_slice(&self.bytes[..N]);
+        self.bytes = &self.bytes[N..];
+        Ok(bytes)
+    }
+
     /// A bool: one byte, 1 for true and 0 for false.
     ///
     /// (Thrift binary protocol, base types; Apache's readers take other bytes too.)
@@ -156,10 +171,7 @@ impl<'a> Cursor<'a> {
         ensures no_longer { OnOk result (length self.new ≤ length self.old) }
         ensures spelled { IfOk result (λ d. Beginning (λ t. IsDouble t d) self.old self.new) }
     {
-        let front = self.take(8)?;
-        let mut bytes = [0; 8];
-        bytes.copy_from_slice(front);
-        Ok(bytes)
+        self.array()
     }
 
     /// A signed number of 32 bits, the highest byte first: an i32 or an enum.
@@ -175,7 +187,7 @@ impl<'a> Cursor<'a> {
         ensures no_longer { OnOk result (length self.new ≤ length self.old) }
         ensures spelled { IfOk result (λ z. Beginning (λ t. IsI32 t z) self.old self.new) }
     {
-        Ok(BigEndian::read_i32(self.take(4)?))
+        Ok(BigEndian::read_i32(&self.array::<4>()?))
     }
 
     /// A signed number of 64 bits, the highest byte first: an i64.
@@ -191,7 +203,7 @@ impl<'a> Cursor<'a> {
         ensures no_longer { OnOk result (length self.new ≤ length self.old) }
         ensures spelled { IfOk result (λ z. Beginning (λ t. IsI64 t z) self.old self.new) }
     {
-        Ok(BigEndian::read_i64(self.take(8)?))
+        Ok(BigEndian::read_i64(&self.array::<8>()?))
     }
 
     #[inline]
@@ -199,7 +211,7 @@ impl<'a> Cursor<'a> {
         ensures exact { Reads (λ x. x) (signed_at w16 2) self.old result self.new }
         ensures shorter { OnOk result (length self.new < length self.old) }
     {
-        Ok(BigEndian::read_i16(self.take(2)?))
+        Ok(BigEndian::read_i16(&self.array::<2>()?))
     }
 
     #[inline]
@@ -207,7 +219,7 @@ impl<'a> Cursor<'a> {
         ensures exact { Reads (λ x. x) (number_at 4) self.old result self.new }
         ensures shorter { OnOk result (length self.new < length self.old) }
     {
-        Ok(BigEndian::read_u32(self.take(4)?))
+        Ok(BigEndian::read_u32(&self.array::<4>()?))
     }
 
     #[inline]
