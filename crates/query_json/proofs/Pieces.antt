@@ -1,5 +1,5 @@
 -- A list of traces, piece by piece.
-use Rattle.std.proofs.Common.{◌≡◌, ◌<◌, ◌≤◌, ◌+◌, ◌∙◌, ℕ, suc, List, [], ◌∷◌, ◌++◌, true, false, Bool, length, length-drop, drop, get_or, map, refl, sym, ap, append_assoc, append-nil, arith, inl, inr}
+use Rattle.std.proofs.Common.{◌≡◌, ◌<◌, ◌≤◌, ◌+◌, ◌∙◌, ℕ, suc, List, [], ◌∷◌, ◌++◌, true, false, Bool, length, drop, get_or, map, refl, sym, ap, append_assoc, append-nil, arith, inl, inr}
 use Rattle.std.specs.Prelude.{nat_lt, if◌then◌else◌, vec_capacity}
 use Rattle.std.proofs.lemmas.List.{drop_all, drop_more, length-map}
 use Rattle.std.proofs.lemmas.Bool.{cases_lt, lt-ltb, le-ltb, cond-true, cond-false}
@@ -13,19 +13,13 @@ use Rattle.query_json.specs.Pieces.{first_piece, first_text, lent_text, lent_tre
 use Rattle.query_json.specs.Trees.{items_tree, list, trace_tree}
 use Rattle.query_json.proofs.Answers.{items_around}
 use Rattle.query_json.proofs.Pages.{rest_text, items_rest}
+use Rattle.query_json.proofs.Walking.{left_then, next_within, none_left}
 
 pub rest_within : (ts : List LentTrace) (k : ℕ) → k ≤ length ts → rest_pieces ts k ≡ pieces (length ts) (drop k ts)
 rest_within ts k h = cond-false (nat_lt (length ts) k) [] (pieces (length ts) (drop k ts)) (le-ltb (length ts) k h)
 
 pub rest_beyond : (ts : List LentTrace) (k : ℕ) → length ts < k → rest_pieces ts k ≡ []
 rest_beyond ts k h = cond-true (nat_lt (length ts) k) [] (pieces (length ts) (drop k ts)) (lt-ltb (length ts) k h)
-
-abbrev tail_of : List LentTrace → List LentTrace
-tail_of [] = []
-tail_of (t ∷ ts) = ts
-
-after : (ts : List LentTrace) (k : ℕ) (t : LentTrace) (left : List LentTrace) → k < length ts → drop k ts ≡ t ∷ left → drop (k + 1) ts ≡ left
-after ts k t left h e = let here = drop_more ts k t h in ap tail_of (sym here ∙ e)
 
 -- one piece and the others
 pub rest_step : (ts : List LentTrace) (k : ℕ) → k ≤ length ts → rest_pieces ts k ≡ piece_text ts k ++ rest_pieces ts (k + 1)
@@ -34,15 +28,12 @@ rest_step ts k h = rest_within ts k h ∙ by (drop k ts) refl
     total : ℕ
     total = length ts
 
-    long : (left : List LentTrace) → drop k ts ≡ left → length left + k ≡ length ts
-    long left e = omega (arith, ap length e, length-drop k ts)
-
     by : (left : List LentTrace) → drop k ts ≡ left → pieces total left ≡ next_piece total left ++ rest_pieces ts (k + 1)
-    by [] e = sym (append-nil (93 ∷ tail_text total)) ∙ ap (λ (l : List ℕ). (93 ∷ tail_text total) ++ l) (sym (rest_beyond ts (k + 1) (omega (arith, long [] e))))
+    by [] e = sym (append-nil (93 ∷ tail_text total)) ∙ ap (λ (l : List ℕ). (93 ∷ tail_text total) ++ l) (sym (rest_beyond ts (k + 1) (omega (arith, none_left ts k e))))
     by (t ∷ left) e =
-        let more : drop (k + 1) ts ≡ left = after ts k t left (omega (arith, long (t ∷ left) e)) e in
+        let more : drop (k + 1) ts ≡ left = left_then ts k t left e in
         ap (λ (l : List LentTrace). (44 ∷ lent_text t) ++ pieces total l) (sym more)
-        ∙ ap (λ (l : List ℕ). (44 ∷ lent_text t) ++ l) (sym (rest_within ts (k + 1) (omega (arith, long (t ∷ left) e))))
+        ∙ ap (λ (l : List ℕ). (44 ∷ lent_text t) ++ l) (sym (rest_within ts (k + 1) (omega (arith, next_within ts k t left e))))
 
 -- the whole
 pieces_are : (total : ℕ) (ts : List LentTrace) → pieces total ts ≡ rest_text lent_text 93 ts ++ tail_text total

@@ -1,6 +1,6 @@
 -- Text that waits on a page.
-use Rattle.std.proofs.Common.{◌≡◌, ℕ, zero, suc, ◌+◌, ◌-◌, List, [], ◌∷◌, ◌++◌, length, take, drop, Bool, true, false, Option, Result, Ok, Err, IfErr, OnOk, refl, sym, ap, subst, ◌∙◌, arith, append-nil, append_assoc, length-drop}
-use Rattle.std.proofs.lemmas.List.{take-append-drop, take_all}
+use Rattle.std.proofs.Common.{◌≡◌, ℕ, ◌+◌, ◌-◌, List, [], ◌∷◌, ◌++◌, length, take, drop, Bool, true, false, Option, Result, Ok, Err, IfErr, OnOk, refl, sym, ap, subst, ◌∙◌, arith, append-nil, append_assoc, length-drop}
+use Rattle.std.proofs.lemmas.List.{take-append-drop, take_all, drop-drop}
 use Rattle.std.specs.Io.KnownBytes.{Appends}
 use Rattle.std.proofs.KnownBytes.{Appends-nil, Appends-trans}
 use Rattle.std.specs.Result.{IsErrAnd}
@@ -8,21 +8,12 @@ use Rattle.text_lines.specs.declared.run_error.RunError.{RunError}
 use Rattle.text_lines.specs.declared.run_error.RunError.TheVariants.{Device, Memory}
 use Rattle.text_lines.specs.RunErrors.{Moves, Says, WritesSome}
 
-drop_none : (b : ℕ) → [] ≡ drop {A = ℕ} b []
-drop_none zero = refl
-drop_none (suc b) = refl
-
-drop_more : (a b : ℕ) (xs : List ℕ) → drop (a + b) xs ≡ drop b (drop a xs)
-drop_more zero b xs = let e : zero + b ≡ b = omega arith in ap (λ i. drop i xs) e
-drop_more (suc a) b [] = let e : suc a + b ≡ suc (a + b) = omega arith in ap (λ i. drop {A = ℕ} i []) e ∙ drop_none b
-drop_more (suc a) b (x ∷ xs) = let e : suc a + b ≡ suc (a + b) = omega arith in ap (λ i. drop i (x ∷ xs)) e ∙ drop_more a b xs
-
 front : (at count : ℕ) (xs : List ℕ) → drop at xs ≡ take count (take (length xs - at) (drop at xs)) ++ drop (at + count) xs
 front at count xs =
     let all : take (length xs - at) (drop at xs) ≡ drop at xs = take_all (length xs - at) (drop at xs) (omega (arith, length-drop at xs)) in
     sym (take-append-drop count (drop at xs))
     ∙ ap (λ l. take count l ++ drop count (drop at xs)) (sym all)
-    ∙ ap (λ l. take count (take (length xs - at) (drop at xs)) ++ l) (sym (drop_more at count xs))
+    ∙ ap (λ l. take count (take (length xs - at) (drop at xs)) ++ l) (drop-drop count at xs)
 
 pub moves_on : (a b c : Option (List ℕ)) (waited xs : List ℕ) (at count : ℕ) → Moves a b waited (drop at xs)
     → Appends b c (take count (take (length xs - at) (drop at xs))) → Moves a c waited (drop (at + count) xs)

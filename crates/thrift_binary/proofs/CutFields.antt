@@ -18,6 +18,21 @@ module _ {S E : Type 0} (wire : WireError → E) (gets : Take S E) (safe : (s : 
   value_no_longer : (s : S) (c : ℕ) (i : ℤ) (w : List ℕ) (t : S) (r : List ℕ) → gets s c i w ≡ Ok (t, r) → length r ≤ length w
   value_no_longer s c i w t r e = let h = values_have_ends (wire Truncated) (gets s c i) (safe s c i) w t r e in omega (arith, ap length h.1, length-append h.0 r)
 
+  -- behind a first field two readings are one where they are one of fewer bytes
+  same_behind : (one other : S → List ℕ → Result (S × List ℕ) E) (s : S) (w : List ℕ) → ((t : S) (v : List ℕ) → length v < length w → one t v ≡ other t v)
+      → (lift wire (field_at w) >>= λ h. behind_field one gets s h.0 h.1) ≡ (lift wire (field_at w) >>= λ h. behind_field other gets s h.0 h.1)
+  same_behind one other s w same = by (field_at w) refl
+    where
+      after : (r : List ℕ) → length r < length w → (x : Result (S × List ℕ) E) → ((t : S) (v : List ℕ) → x ≡ Ok (t, v) → length v ≤ length r)
+          → (x >>= λ y. one y.0 y.1) ≡ (x >>= λ y. other y.0 y.1)
+      after r lt (Ok y) shorter = let le : length y.1 ≤ length r = shorter y.0 y.1 refl in same y.0 y.1 (omega arith)
+      after r lt (Err e) shorter = refl
+
+      by : (x : Read (Option (ℕ × ℤ))) → field_at w ≡ x → (lift wire x >>= λ h. behind_field one gets s h.0 h.1) ≡ (lift wire x >>= λ h. behind_field other gets s h.0 h.1)
+      by (Err e) head = refl
+      by (Ok (None, r)) head = refl
+      by (Ok (Some f, r)) head = after r (head_shorter w (Some f) r head) (gets s f.0 f.1 r) (λ t v e. value_no_longer s f.0 f.1 r t v e)
+
   -- any room of at least the number of bytes gives one answer
   room : (n m : ℕ) (s : S) (w : List ℕ) → length w ≤ n → length w ≤ m → fields_in wire gets n s w ≡ fields_in wire gets m s w
   unfolding fields_in field_at
@@ -26,36 +41,14 @@ module _ {S E : Type 0} (wire : WireError → E) (gets : Take S E) (safe : (s : 
   room (suc n) zero s [] p q = refl
   room zero (suc m) s (b ∷ w) p q = absurd (omega arith)
   room (suc n) zero s (b ∷ w) p q = absurd (omega arith)
-  room (suc n) (suc m) s w p q = by (λ t v le lt. room n m t v le lt) (field_at w) refl
-    where
-      after : ((t : S) (v : List ℕ) → length v ≤ n → length v ≤ m → fields_in wire gets n t v ≡ fields_in wire gets m t v) → (r : List ℕ) → length r < length w → (x : Result (S × List ℕ) E) → ((t : S) (v : List ℕ) → x ≡ Ok (t, v) → length v ≤ length r)
-          → (x >>= λ y. fields_in wire gets n y.0 y.1) ≡ (x >>= λ y. fields_in wire gets m y.0 y.1)
-      after others r lt (Ok y) shorter = let le : length y.1 ≤ length r = shorter y.0 y.1 refl in others y.0 y.1 (omega arith) (omega arith)
-      after others r lt (Err e) shorter = refl
-
-      by : ((t : S) (v : List ℕ) → length v ≤ n → length v ≤ m → fields_in wire gets n t v ≡ fields_in wire gets m t v) → (x : Read (Option (ℕ × ℤ))) → field_at w ≡ x
-          → (lift wire x >>= λ h. behind_field (fields_in wire gets n) gets s h.0 h.1) ≡ (lift wire x >>= λ h. behind_field (fields_in wire gets m) gets s h.0 h.1)
-      by others (Err e) head = refl
-      by others (Ok (None, r)) head = refl
-      by others (Ok (Some f, r)) head = after others r (head_shorter w (Some f) r head) (gets s f.0 f.1 r) (λ t v e. value_no_longer s f.0 f.1 r t v e)
+  room (suc n) (suc m) s w p q = same_behind (fields_in wire gets n) (fields_in wire gets m) s w (λ t v lt. room n m t v (omega arith) (omega arith))
 
   -- the first field, and then the others
   step_in : (n : ℕ) (s : S) (w : List ℕ) → length w ≤ n → fields_in wire gets n s w ≡ (lift wire (field_at w) >>= λ h. behind_field (λ t v. fields_in wire gets (length v) t v) gets s h.0 h.1)
   unfolding fields_in field_at
   step_in zero s [] le = refl
   step_in zero s (b ∷ w) le = absurd (omega arith)
-  step_in (suc n) s w le = by (field_at w) refl
-    where
-      after : (r : List ℕ) → length r < length w → (x : Result (S × List ℕ) E) → ((t : S) (v : List ℕ) → x ≡ Ok (t, v) → length v ≤ length r)
-          → (x >>= λ y. fields_in wire gets n y.0 y.1) ≡ (x >>= λ y. fields_in wire gets (length y.1) y.0 y.1)
-      after r lt (Ok y) shorter = let no_more : length y.1 ≤ length r = shorter y.0 y.1 refl in room n (length y.1) y.0 y.1 (omega arith) (omega arith)
-      after r lt (Err e) shorter = refl
-
-      by : (x : Read (Option (ℕ × ℤ))) → field_at w ≡ x
-          → (lift wire x >>= λ h. behind_field (fields_in wire gets n) gets s h.0 h.1) ≡ (lift wire x >>= λ h. behind_field (λ t v. fields_in wire gets (length v) t v) gets s h.0 h.1)
-      by (Err e) head = refl
-      by (Ok (None, r)) head = refl
-      by (Ok (Some f, r)) head = after r (head_shorter w (Some f) r head) (gets s f.0 f.1 r) (λ t v e. value_no_longer s f.0 f.1 r t v e)
+  step_in (suc n) s w le = same_behind (fields_in wire gets n) (λ t v. fields_in wire gets (length v) t v) s w (λ t v lt. room n (length v) t v (omega arith) (omega arith))
 
   abbrev stepped : S → List ℕ → Result (S × List ℕ) E
   stepped s w = lift wire (field_at w) >>= λ h. behind_field (fields_at wire gets) gets s h.0 h.1

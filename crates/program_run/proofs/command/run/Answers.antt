@@ -3,7 +3,6 @@ use Rattle.get_command.specs.Runs.{output_of as get_output, status_of as get_sta
 use Rattle.play_script.specs.Playing.{output_of as play_output, status_of as play_status}
 use Rattle.text_lines.specs.RunErrors.{RunsAs}
 use Rattle.command_words.specs.Asked.{Asks}
-use Rattle.command_words.specs.declared.words.Command.{Command}
 use Rattle.command_words.specs.declared.words.Command.TheVariants.{Get, Pipe, Play, Serve}
 use Rattle.program_run.specs.Piping.{Pipes}
 use Rattle.program_run.specs.Serving.{ServesOrNot}
@@ -22,37 +21,26 @@ pub returns-in-Ok-Get : goal.returns-in-Ok-Get
 returns-in-Ok-Get g c =
     let limits = c.in-Ok-Get.limits in
     let id = c.in-Ok-Get.trace in
-    let asks : Command → Type 0 = λ k. Asks (map g.S.AsStr.text c.args.words.now) k in
-    let does : Option (List ℕ) → Type 0 = λ w.
-    RunsAs (g.R.Input.remaining c.args.input.now) (g.R.Input.remaining c.run_get.new.input) w (g.W.Output.contents c.run_get.new.output)
-    (g.R.Input.has_failed c.run_get.new.input) (g.W.Output.has_failed c.run_get.new.output) (get_output limits id) (get_status limits id) c.run_get.result in
-    inl (Get limits id, subst asks c.in-Ok-Get.field-0-is c.in-Ok-Get.ensures.asked, subst does c.in-Ok-Get.ensures.silent c.run_get.ensures)
+    let does : Option (List ℕ) → Type 0 = λ w. RunsAs (g.R.Input.remaining c.args.input.now) (g.R.Input.remaining c.run_get.new.input) w (g.W.Output.contents c.run_get.new.output) (g.R.Input.has_failed c.run_get.new.input) (g.W.Output.has_failed c.run_get.new.output) (get_output limits id) (get_status limits id) c.run_get.result in
+    inl (Get limits id, subst (Asks (map g.S.AsStr.text c.args.words.now)) c.in-Ok-Get.field-0-is c.in-Ok-Get.ensures.asked, subst does c.in-Ok-Get.ensures.silent c.run_get.ensures)
 
 pub returns-in-Ok-Pipe : goal.returns-in-Ok-Pipe
 returns-in-Ok-Pipe g c =
     let limits = c.in-Ok-Pipe.limits in
-    let asks : Command → Type 0 = λ k. Asks (map g.S.AsStr.text c.args.words.now) k in
-    let does : Option (List ℕ) → Type 0 = λ w.
-    Pipes (g.R.Input.remaining c.args.input.now) (g.R.Input.remaining c.run_pipe.new.input) w (g.W.Output.contents c.run_pipe.new.output)
-    (g.R.Input.has_failed c.run_pipe.new.input) (g.W.Output.has_failed c.run_pipe.new.output) limits c.run_pipe.result in
-    inl (Pipe limits, subst asks c.in-Ok-Pipe.field-0-is c.in-Ok-Pipe.ensures.asked, subst does c.in-Ok-Pipe.ensures.silent c.run_pipe.ensures)
+    let does : Option (List ℕ) → Type 0 = λ w. Pipes (g.R.Input.remaining c.args.input.now) (g.R.Input.remaining c.run_pipe.new.input) w (g.W.Output.contents c.run_pipe.new.output) (g.R.Input.has_failed c.run_pipe.new.input) (g.W.Output.has_failed c.run_pipe.new.output) limits c.run_pipe.result in
+    inl (Pipe limits, subst (Asks (map g.S.AsStr.text c.args.words.now)) c.in-Ok-Pipe.field-0-is c.in-Ok-Pipe.ensures.asked, subst does c.in-Ok-Pipe.ensures.silent c.run_pipe.ensures)
 
 pub returns-in-Ok-Play : goal.returns-in-Ok-Play
 returns-in-Ok-Play g c =
     let limits = c.in-Ok-Play.limits in
-    let asks : Command → Type 0 = λ k. Asks (map g.S.AsStr.text c.args.words.now) k in
-    let does : Option (List ℕ) → Type 0 = λ w.
-    RunsAs (g.R.Input.remaining c.args.input.now) (g.R.Input.remaining c.run_play.new.input) w (g.W.Output.contents c.run_play.new.output)
-    (g.R.Input.has_failed c.run_play.new.input) (g.W.Output.has_failed c.run_play.new.output) (play_output limits) (play_status limits) c.run_play.result in
-    inl (Play limits, subst asks c.in-Ok-Play.field-0-is c.in-Ok-Play.ensures.asked, subst does c.in-Ok-Play.ensures.silent c.run_play.ensures)
+    let does : Option (List ℕ) → Type 0 = λ w. RunsAs (g.R.Input.remaining c.args.input.now) (g.R.Input.remaining c.run_play.new.input) w (g.W.Output.contents c.run_play.new.output) (g.R.Input.has_failed c.run_play.new.input) (g.W.Output.has_failed c.run_play.new.output) (play_output limits) (play_status limits) c.run_play.result in
+    inl (Play limits, subst (Asks (map g.S.AsStr.text c.args.words.now)) c.in-Ok-Play.field-0-is c.in-Ok-Play.ensures.asked, subst does c.in-Ok-Play.ensures.silent c.run_play.ensures)
 
 pub returns-in-Ok-Serve : goal.returns-in-Ok-Serve
 returns-in-Ok-Serve g c =
     let options = c.in-Ok-Serve.options in
-    let asks : Command → Type 0 = λ k. Asks (map g.S.AsStr.text c.args.words.now) k in
-    let does : Option (List ℕ) → Type 0 = λ w.
-    ServesOrNot options.limits options.workers w (g.W.Output.contents c.run_serve.new.output) (g.W.Output.has_failed c.run_serve.new.output) c.run_serve.result in
-    inl (Serve options, subst asks c.in-Ok-Serve.field-0-is c.in-Ok-Serve.ensures.asked, (refl, c.requires.input_works, subst does c.in-Ok-Serve.ensures.silent c.run_serve.ensures))
+    let does : Option (List ℕ) → Type 0 = λ w. ServesOrNot options.limits options.workers w (g.W.Output.contents c.run_serve.new.output) (g.W.Output.has_failed c.run_serve.new.output) c.run_serve.result in
+    inl (Serve options, subst (Asks (map g.S.AsStr.text c.args.words.now)) c.in-Ok-Serve.field-0-is c.in-Ok-Serve.ensures.asked, (refl, c.requires.input_works, subst does c.in-Ok-Serve.ensures.silent c.run_serve.ensures))
 
 pub returns-in-Err : goal.returns-in-Err
 returns-in-Err g c = inr (record {

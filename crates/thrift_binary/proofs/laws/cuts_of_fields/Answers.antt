@@ -1,11 +1,14 @@
-use Rattle.thrift_binary.proofs.CutLaws.{field_places, field_ends, field_short}
+use Rattle.thrift_binary.specs.declared.fault.WireError.TheVariants.{Truncated}
+use Rattle.thrift_binary.specs.Reading.{field_at}
+use Rattle.thrift_binary.proofs.Cuts.{faults_have_places, values_have_ends, short_stays_short}
+use Rattle.thrift_binary.proofs.CutReadings.{field_cut}
 use Rattle.thrift_binary.proofs.laws.cuts_of_fields.Goals as goal
 
 pub returns-clause-faults : goal.returns-clause-faults
-returns-clause-faults c = field_places
+returns-clause-faults c = faults_have_places Truncated field_at field_cut
 
 pub returns-clause-values : goal.returns-clause-values
-returns-clause-values c = field_ends
+returns-clause-values c = values_have_ends Truncated field_at field_cut
 
 pub returns-clause-truncated : goal.returns-clause-truncated
-returns-clause-truncated c = field_short
+returns-clause-truncated c = short_stays_short Truncated field_at field_cut
