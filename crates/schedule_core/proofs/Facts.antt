@@ -6,7 +6,7 @@ use Rattle.schedule_core.specs.declared.step.Step.{Step}
 use Rattle.schedule_core.specs.declared.step.Step.TheVariants.{Read}
 use Rattle.schedule_core.specs.declared.outcome.Outcome.{Outcome}
 use Rattle.schedule_core.specs.Machine.{Machine, new_machine, step}
-use Rattle.schedule_core.specs.Worlds.{PlaysAs, PlaysFrom}
+use Rattle.schedule_core.specs.Worlds.{PlaysFrom}
 use Rattle.schedule_core.specs.Facts.{IsRun, IsPlayed, led}
 use Rattle.schedule_core.proofs.Fitting.{accepted_legal}
 use Rattle.schedule_core.proofs.Growth.{each_answer_is_of, history_grows}
@@ -30,15 +30,7 @@ every_run limits steps = record {
   legal = accepted_legal limits steps;
 }
 
-pub played_is : (limits : Limits) (steps : List Step) (os : List Outcome) → PlaysAs (new_machine limits) steps os → IsPlayed limits steps os
-played_is limits steps os p = record {
-  played = p.played;
-  rest = p.rest;
-  whole = p.whole;
-  outcomes_are = p.returned;
-  run = every_run limits p.played;
-}
-
 pub played_from : (limits : Limits) (steps : List Step) (os : List Outcome) (now : Option Machine)
     → (now ≡ Some (new_machine limits)) ⊎ (now ≡ None) → PlaysFrom now steps os → IsPlayed limits steps os
-played_from limits steps os now starts plays = played_is limits steps os (plays (new_machine limits) starts)
+played_from limits steps os now starts plays =
+    let from_new = plays (new_machine limits) starts in record { plays = from_new; run = every_run limits from_new.played }

@@ -1,18 +1,17 @@
 -- What holds of every run of the machine.
-use Rattle.std.specs.Prelude.{◌≡◌, ℕ, Bool, List, ◌++◌, length, drop, map, replicate, Some, false, slice_get}
+use Rattle.std.specs.Prelude.{◌≡◌, ℕ, Bool, List, ◌++◌, length, drop, map, Some, false, slice_get}
 use Rattle.std.specs.List.{All, range_with_len}
 use mathlib.Core.List.{IsPrefix}
 use Rattle.trace_model.specs.declared.entry.Entry.{Entry}
 use Rattle.trace_model.specs.declared.limits.Limits.{Limits}
 use Rattle.trace_model.specs.declared.query.Query.{Query}
-use Rattle.trace_model.specs.declared.refusal.Refusal.TheVariants.{NoMemory}
 use Rattle.trace_model.specs.Histories.{IsLegal}
 use Rattle.schedule_core.specs.declared.step.Step.{Step}
 use Rattle.schedule_core.specs.declared.step.Step.TheVariants.{Read}
 use Rattle.schedule_core.specs.declared.outcome.Outcome.{Outcome}
-use Rattle.schedule_core.specs.declared.outcome.Outcome.TheVariants.{Refused}
 use Rattle.schedule_core.specs.Machine.{Machine, Reader, Visit, new_machine, accepted, step, outcomes, at_last}
 use Rattle.schedule_core.specs.Runs.{along, AllAlong, IsOf, NeverFalls, front_for, is_of, job_of, kept, name_of, numbers_of, reported_by, verdict_of}
+use Rattle.schedule_core.specs.Worlds.{PlaysAs}
 
 -- where the steps lead a machine in which nothing has happened
 abbrev pub led : Limits → List Step → Machine
@@ -57,11 +56,8 @@ pub record IsRun (limits : Limits) (steps : List Step) : Type 0 where
   pub counted : (seat : ℕ) → CountsFromOne seat (jobs limits steps)
   pub legal : IsLegal limits (accepted (led limits steps))
 
--- The outcomes are the machine's, which has begun anew; where memory ran out, those of the steps before, and all others
--- are refused for that.
+-- The outcomes are those of a machine that has begun anew, as far as memory was found; what holds of every run holds of the
+-- steps up to there.
 pub record IsPlayed (limits : Limits) (steps : List Step) (os : List Outcome) : Type 0 where
-  pub played : List Step
-  pub rest : List Step
-  pub whole : steps ≡ played ++ rest
-  pub outcomes_are : os ≡ determined limits played ++ replicate (length rest) (Refused NoMemory)
-  pub run : IsRun limits played
+  pub plays : PlaysAs (new_machine limits) steps os
+  pub run : IsRun limits plays.played
