@@ -41,29 +41,20 @@ fn kept_by_entries(
 fn are_same_logs(lent: &LentSpan, shown: &Shown) -> bool {
     let logs = lent.logs();
     let wanted = shown.placed.span.logs.as_slice();
-    if logs.len() != wanted.len() {
-        return false;
-    }
-    for index in 0..logs.len() {
-        let log = logs.log(index);
-        if log.at != wanted[index].at || log.fields.len() != wanted[index].fields.len() {
-            return false;
-        }
-    }
-    true
+    logs.len() == wanted.len()
+        && wanted.iter().enumerate().all(|(index, wanted)| {
+            index < logs.len()
+                && logs.log(index).at == wanted.at
+                && logs.log(index).fields.len() == wanted.fields.len()
+        })
 }
 
 fn are_same_references(lent: &LentSpan, shown: &Shown) -> bool {
     let wanted = shown.placed.span.references.as_slice();
-    if lent.reference_count() != wanted.len() {
-        return false;
-    }
-    for index in 0..lent.reference_count() {
-        if lent.reference(index) != wanted[index] {
-            return false;
-        }
-    }
-    true
+    lent.reference_count() == wanted.len()
+        && wanted.iter().enumerate().all(|(index, wanted)| {
+            index < lent.reference_count() && lent.reference(index) == *wanted
+        })
 }
 
 /// The same is said of both.
