@@ -10,15 +10,16 @@ use Rattle.std.specs.declared.cmp.Ordering.TheVariants.{Less, Equal, Greater}
 use Rattle.std.specs.Ordering.{nat_cmp, is_eq, eq_by_cmp, match_ordering}
 use Rattle.std.specs.Cmp.{IsTotalOrder, tied_itself, on_total, unsigned_ties}
 use Rattle.std.proofs.lemmas.Cmp.{then_total, nat_cmp_total}
-use Rattle.std.specs.Cmp.Lexicographic.{nat_list_cmp_total}
+use Rattle.std.proofs.lemmas.List.{map_push}
 use Rattle.std.proofs.lemmas.List.Sums.{fold_push, sum_by-append, sum_by-cons, count_by-le-length}
 use Rattle.std.proofs.lemmas.List.Elements.{All-get_or, All-from_recursion}
 use Rattle.std.proofs.lemmas.Bool.{false≢true}
-use Rattle.std.proofs.lemmas.Map.Lookups.{exact_bytes, exact_pairs, exact_unsigned}
+use Rattle.std.proofs.lemmas.Simd.{map-map}
+use Rattle.std.proofs.lemmas.Map.Lookups.{exact_pairs, exact_unsigned}
 use Rattle.jaeger_model.specs.declared.text.Text.{Text}
-use Rattle.jaeger_model.specs.Texts.{insert_once, sorted_set, placed_by, text_cmp}
+use Rattle.jaeger_model.specs.Texts.{insert_once, sorted_set, placed_by}
 use Rattle.trace_model.specs.Linking.{call_cmp, same_call, counted}
-use Rattle.trace_model.proofs.NameLaws.{any_map, then_eq, is_eq-reverse}
+use Rattle.trace_model.proofs.NameLaws.{any_map, call_exact, call_total, then_eq, is_eq-reverse}
 use Rattle.trace_model.proofs.Rising.{Below, has, sorted_set-rises, sorted_set-has, rises_insert, rises_same, any_set}
 use Rattle.std.specs.List.Sorted.{IsStrictlySortedBy}
 use Rattle.call_links.specs.declared.counts.Tally.{Tally}
@@ -26,22 +27,13 @@ use Rattle.call_links.specs.Seen.{SeenCall, NumberedCall, numbered_call, numbere
 use Rattle.call_links.specs.Tallies.{Numbers, Texts, number_cmp, same_numbers, times, tally_of, tally_by_numbers, numbers_met, texts_for, services_by_numbers, texts_seen, calls_counted, services_met, tallies_seen, with_entry, inserted, entry_seen, link_of}
 use Rattle.call_links.proofs.Numbering.{same_by_number}
 
--- ---- entries whose values are mapped
-pub insert_mapped : {K V W : Type 0} (cmp : K → K → Ordering) (p : V → W) (es : List (K × V)) (k : K) (v : V) → map {B = K × W} (λ e. (e.0, p e.1)) (insert_entry cmp es k v) ≡ insert_entry cmp (map {B = K × W} (λ e. (e.0, p e.1)) es) k (p v)
-insert_mapped cmp p [] k v = refl
-insert_mapped {K} {V} {W} cmp p (e ∷ es) k v = elim (cmp k e.0) as (λ r. map {B = K × W} (λ e. (e.0, p e.1)) (match_ordering r ((k, v) ∷ e ∷ es) ((e.0, v) ∷ es) (e ∷ insert_entry cmp es k v)) ≡ match_ordering r ((k, p v) ∷ (e.0, p e.1) ∷ map {B = K × W} (λ e. (e.0, p e.1)) es) ((e.0, p v) ∷ map {B = K × W} (λ e. (e.0, p e.1)) es) ((e.0, p e.1) ∷ insert_entry cmp (map {B = K × W} (λ e. (e.0, p e.1)) es) k (p v))) [
+-- ---- entries whose keys and values are mapped
+pub insert_through : {K L V W : Type 0} (cmp : L → L → Ordering) (f : K → L) (p : V → W) (es : List (K × V)) (k : K) (v : V) → map {B = L × W} (λ e. (f e.0, p e.1)) (insert_entry (λ a b. cmp (f a) (f b)) es k v) ≡ insert_entry cmp (map {B = L × W} (λ e. (f e.0, p e.1)) es) (f k) (p v)
+insert_through cmp f p [] k v = refl
+insert_through {K} {L} {V} {W} cmp f p (e ∷ es) k v = elim (cmp (f k) (f e.0)) as (λ r. map {B = L × W} (λ e. (f e.0, p e.1)) (match_ordering r ((k, v) ∷ e ∷ es) ((e.0, v) ∷ es) (e ∷ insert_entry (λ a b. cmp (f a) (f b)) es k v)) ≡ match_ordering r ((f k, p v) ∷ (f e.0, p e.1) ∷ map {B = L × W} (λ e. (f e.0, p e.1)) es) ((f e.0, p v) ∷ map {B = L × W} (λ e. (f e.0, p e.1)) es) ((f e.0, p e.1) ∷ insert_entry cmp (map {B = L × W} (λ e. (f e.0, p e.1)) es) (f k) (p v))) [
   | Less ↦ refl
   | Equal ↦ refl
-  | Greater ↦ ap (λ l. (e.0, p e.1) ∷ l) (insert_mapped cmp p es k v)
-]
-
--- ---- entries with references as keys, and as values
-pub insert_seen : (es : List ((Bor Text × Bor Text) × ℕ)) (k : Bor Text × Bor Text) (v : ℕ) → map entry_seen (insert_entry (λ a b. call_cmp (texts_seen a) (texts_seen b)) es k v) ≡ insert_entry call_cmp (map entry_seen es) (texts_seen k) v
-insert_seen [] k v = refl
-insert_seen (e ∷ es) k v = elim (call_cmp (texts_seen k) (texts_seen e.0)) as (λ r. map entry_seen (match_ordering r ((k, v) ∷ e ∷ es) ((e.0, v) ∷ es) (e ∷ insert_entry (λ a b. call_cmp (texts_seen a) (texts_seen b)) es k v)) ≡ match_ordering r ((texts_seen k, v) ∷ entry_seen e ∷ map entry_seen es) ((texts_seen e.0, v) ∷ map entry_seen es) (entry_seen e ∷ insert_entry call_cmp (map entry_seen es) (texts_seen k) v)) [
-  | Less ↦ refl
-  | Equal ↦ refl
-  | Greater ↦ ap (λ l. entry_seen e ∷ l) (insert_seen es k v)
+  | Greater ↦ ap (λ l. (f e.0, p e.1) ∷ l) (insert_through cmp f p es k v)
 ]
 
 -- ---- a list of pairs in order, under any total order that tells keys apart
@@ -157,14 +149,10 @@ times_few cs c = count_by-le-length (same_numbers c) cs
 pub services_push : (text : ℕ → List ℕ) (cs : List NumberedCall) (c : NumberedCall) → texts_for text (numbers_called c) ≡ texts_called c
     → services_by_numbers text (cs ++ c ∷ []) ≡ insert_entry number_cmp (services_by_numbers text cs) (numbers_called c) (texts_called c)
 services_push text cs c e =
-    ap (λ ns. map {B = Numbers × Texts} (λ k. (k, texts_for text k)) (sorted_set number_cmp ns)) (map_one cs)
+    ap (λ ns. map {B = Numbers × Texts} (λ k. (k, texts_for text k)) (sorted_set number_cmp ns)) (map_push numbers_called cs c)
     ∙ ap (λ ks. map {B = Numbers × Texts} (λ k. (k, texts_for text k)) ks) (fold_push (insert_once number_cmp) [] (map numbers_called cs) (numbers_called c))
     ∙ insert_mapped_pairs number_total number_exact (texts_for text) (numbers_called c) (numbers_met cs) (sorted_set-rises number_total (map numbers_called cs))
     ∙ ap (λ t. insert_entry number_cmp (services_by_numbers text cs) (numbers_called c) t) e
-  where
-    map_one : (cs : List NumberedCall) → map numbers_called (cs ++ c ∷ []) ≡ map numbers_called cs ++ numbers_called c ∷ []
-    map_one [] = refl
-    map_one (x ∷ xs) = ap (λ l. numbers_called x ∷ l) (map_one xs)
 
 -- ---- both parts of an entry
 pub joined : (n : Numbers → ℕ) (t : Numbers → Texts) (es : List (Numbers × Tally)) (ks : List Numbers) → calls_counted es ≡ map {B = Numbers × ℕ} (λ k. (k, n k)) ks → services_met es ≡ map {B = Numbers × Texts} (λ k. (k, t k)) ks
@@ -182,12 +170,6 @@ joined n t (e ∷ es) (k ∷ ks) a b =
     λ i. (texts i, count i) ∷ joined n t es ks counts services i
 
 -- ---- calls by their texts
-call_total : IsTotalOrder call_cmp
-call_total = then_total (on_total (λ (c : Texts). c.0) nat_list_cmp_total) (on_total (λ (c : Texts). c.1) nat_list_cmp_total)
-
-call_exact : (x y : Texts) → call_cmp x y ≡ Equal → x ≡ y
-call_exact = exact_pairs text_cmp text_cmp exact_bytes exact_bytes
-
 abbrev with_number : (Texts → ℕ) → List Texts → List (Texts × ℕ)
 with_number n ks = map {B = Texts × ℕ} (λ k. (k, n k)) ks
 
@@ -280,12 +262,5 @@ module _ (text : ℕ → List ℕ) (number : List ℕ → ℕ) where
   -- a tally as links
   pub linked : (es : List ((Bor Text × Bor Text) × ℕ)) (cs : List NumberedCall) (ts : List (Numbers × Tally)) → AreCallsNumberedBy text number cs → map entry_seen es ≡ inserted (tallies_seen ts) → calls_counted ts ≡ tally_by_numbers cs → services_met ts ≡ services_by_numbers text cs
       → map (λ e. link_of (entry_seen e)) es ≡ counted (map texts_called cs)
-  linked es cs ts a order counts services = apart es ∙ ap (map link_of) (order ∙ in_order cs ts a counts services) ∙ done (sorted_set call_cmp (map texts_called cs))
-    where
-      apart : (es : List ((Bor Text × Bor Text) × ℕ)) → map (λ e. link_of (entry_seen e)) es ≡ map link_of (map entry_seen es)
-      apart [] = refl
-      apart (x ∷ xs) = ap (λ l. link_of (entry_seen x) ∷ l) (apart xs)
-
-      done : (ks : List Texts) → map link_of (with_number (number_of cs) ks) ≡ map (λ k. link_of (k, number_of cs k)) ks
-      done [] = refl
-      done (k ∷ ks) = ap (λ l. link_of (k, number_of cs k) ∷ l) (done ks)
+  linked es cs ts a order counts services =
+      sym (map-map link_of entry_seen es) ∙ ap (map link_of) (order ∙ in_order cs ts a counts services) ∙ map-map link_of (λ k. (k, number_of cs k)) (sorted_set call_cmp (map texts_called cs))

@@ -5,11 +5,11 @@ use Rattle.std.specs.Option.{option_or}
 use Rattle.std.specs.List.{filter_map, cons_option}
 use Rattle.std.specs.Ordering.{nat_cmp, is_eq}
 use Rattle.std.specs.Cmp.{unsigned_ties}
-use Rattle.std.proofs.lemmas.List.{map-append, take_more, append-nil}
-use Rattle.std.proofs.lemmas.List.Elements.{filter_map-append}
+use Rattle.std.proofs.lemmas.List.{map-append, take_more}
 use Rattle.std.proofs.lemmas.List.Folds.{find-append}
 use Rattle.trace_model.specs.Linking.{has_id}
 use Rattle.trace_model.proofs.Chains.{is_some-map}
+use Rattle.trace_model.proofs.Lists.{read_some, read_none}
 use Rattle.trace_model.proofs.Tables.{entered, kept, entry_map}
 use Rattle.call_links.specs.declared.calls.Service.{Service}
 use Rattle.call_links.specs.declared.numbered.NumberedSpan.{NumberedSpan}
@@ -59,20 +59,15 @@ services_kept q g xs i x l e inv some =
 abbrev pub gathered : (ℕ → Option NumberedService) → List NumberedSpan → List NumberedCall
 gathered t xs = filter_map (call_by t) xs
 
-gathered_step : (t : ℕ → Option NumberedService) (xs : List NumberedSpan) (i : ℕ) (x : NumberedSpan) (r : Option NumberedCall) → i < length xs → x ≡ get_or xs i x → r ≡ call_by t x → gathered t (take (i + 1) xs) ≡ gathered t (take i xs) ++ cons_option r []
-gathered_step t xs i x r l e h =
-    ap (filter_map (call_by t)) (one_more xs i x l e) ∙ filter_map-append (call_by t) (take i xs) (x ∷ [])
-    ∙ ap (λ o. gathered t (take i xs) ++ cons_option o []) (sym h)
-
 pub called : (t : ℕ → Option NumberedService) (all had has : List SeenCall) (call : SeenCall) (xs : List NumberedSpan) (i : ℕ) (x : NumberedSpan) → i < length xs → x ≡ get_or xs i x → Some (numbered_call call) ≡ call_by t x
     → numbered_calls had ≡ numbered_calls all ++ gathered t (take i xs) → has ≡ had ++ call ∷ [] → numbered_calls has ≡ numbered_calls all ++ gathered t (take (i + 1) xs)
 called t all had has call xs i x l e h inv put =
     ap numbered_calls put ∙ map-append numbered_call had (call ∷ []) ∙ ap (λ l. l ++ numbered_call call ∷ []) inv
-    ∙ append_assoc (numbered_calls all) (gathered t (take i xs)) (numbered_call call ∷ []) ∙ ap (λ l. numbered_calls all ++ l) (sym (gathered_step t xs i x (Some (numbered_call call)) l e h))
+    ∙ append_assoc (numbered_calls all) (gathered t (take i xs)) (numbered_call call ∷ []) ∙ ap (λ l. numbered_calls all ++ l) (sym (read_some (call_by t) xs i x (numbered_call call) l (ap (call_by t) (sym e) ∙ sym h)))
 
 pub uncalled : (t : ℕ → Option NumberedService) (all had : List SeenCall) (xs : List NumberedSpan) (i : ℕ) (x : NumberedSpan) → i < length xs → x ≡ get_or xs i x → None ≡ call_by t x
     → numbered_calls had ≡ numbered_calls all ++ gathered t (take i xs) → numbered_calls had ≡ numbered_calls all ++ gathered t (take (i + 1) xs)
-uncalled t all had xs i x l e h inv = inv ∙ ap (λ l. numbered_calls all ++ l) (sym (gathered_step t xs i x None l e h ∙ append-nil (gathered t (take i xs))))
+uncalled t all had xs i x l e h inv = inv ∙ ap (λ l. numbered_calls all ++ l) (sym (read_none (call_by t) xs i x l (ap (call_by t) (sym e) ∙ sym h)))
 
 -- a table of the services of the first spans gives the calls of the trace
 same_filter_map : {X Y : Type 0} (f g : X → Option Y) → ((x : X) → f x ≡ g x) → (xs : List X) → filter_map f xs ≡ filter_map g xs

@@ -1,21 +1,18 @@
 -- Numbers tell services apart, so calls by numbers are calls by texts.
-use Rattle.std.proofs.Common.{◌≡◌, ℕ, Bool, true, false, cond, List, [], ◌∷◌, ◌++◌, map, refl, sym, ap, ◌∙◌, eqb-true, eq-eqb}
-use Rattle.std.specs.Prelude.{Option, Some, None, option_map, find, filter_map, flat_map, ◌==◌, if◌then◌else◌, Vec}
+use Rattle.std.proofs.Common.{◌≡◌, ℕ, Bool, true, false, cond, List, [], ◌∷◌, ◌++◌, map, refl, sym, ap, ◌∙◌}
+use Rattle.std.specs.Prelude.{Option, Some, None, IfSome, option_map, find, filter_map, flat_map, ◌==◌, if◌then◌else◌, Vec}
 use Rattle.std.specs.Global.{Global}
 use Rattle.std.specs.List.{All, AllByRecursion, cons_option}
 use Rattle.std.proofs.lemmas.List.{map-append}
-use Rattle.std.proofs.lemmas.List.Elements.{All-head, All-tail}
+use Rattle.std.proofs.lemmas.List.Elements.{recursion_from_All}
 use Rattle.jaeger_model.specs.declared.ids.SpanId.{SpanId}
 use Rattle.jaeger_model.specs.Parents.{parent}
 use Rattle.jaeger_model.specs.Texts.{same_text}
 use Rattle.trace_model.specs.Linking.{has_id, parent_in, call_from, calls_of}
 use Rattle.call_links.specs.declared.numbered.NumberedSpan.{NumberedSpan}
 use Rattle.call_links.specs.Seen.{NumberedService, NumberedCall, service_in, span_of, service_of, call_between, call_by, calls_in_trace, calls_in_traces, seen_all, seen_traces, texts_called, StandsFor, AreCallsNumberedBy, AreNumberedBy}
-use Rattle.trace_model.proofs.NameLaws.{text_is, text_self}
-
-by_recursion : {X : Type 0} (P : X → Type 0) (xs : List X) → All P xs → AllByRecursion P xs
-by_recursion P [] a = tt
-by_recursion P (x ∷ xs) a = (All-head P x xs a, by_recursion P xs (All-tail P x xs a))
+use Rattle.trace_model.proofs.Lists.{each_append}
+use Rattle.trace_model.proofs.NameLaws.{same_where}
 
 module _ (text : ℕ → List ℕ) (number : List ℕ → ℕ) where
   abbrev Stands : NumberedService → Type 0
@@ -23,49 +20,31 @@ module _ (text : ℕ → List ℕ) (number : List ℕ → ℕ) where
 
   -- two services have one number where they have one text
   pub same_by_number : (a b : NumberedService) → Stands a → Stands b → (a.0 == b.0) ≡ same_text a.1 b.1
-  same_by_number a b p q = elim (a.0 == b.0) as (λ v. (a.0 == b.0) ≡ v → v ≡ same_text a.1 b.1) [
-    | true ↦ λ e.
-        let one : a.1 ≡ b.1 = sym p.1 ∙ ap text (eqb-true a.0 b.0 e) ∙ q.1 in
-        sym (ap (same_text a.1) (sym one) ∙ text_self a.1)
-    | false ↦ λ e. elim (same_text a.1 b.1) as (λ w. same_text a.1 b.1 ≡ w → false ≡ w) [
-      | true ↦ λ f.
-          let one : a.0 ≡ b.0 = p.0 ∙ ap number (text_is a.1 b.1 f) ∙ sym q.0 in
-          sym e ∙ eq-eqb a.0 b.0 one
-      | false ↦ λ f. refl
-    ] refl
-  ] refl
+  same_by_number a b p q = same_where a.0 b.0 a.1 b.1 (λ one. sym p.1 ∙ ap text one ∙ q.1) (λ one. p.0 ∙ ap number one ∙ sym q.0)
 
   abbrev Named : NumberedSpan → Type 0
   Named s = Stands (service_in s)
 
-  abbrev StandsIfSome : Option NumberedService → Type 0
-  StandsIfSome None = Unit {0}
-  StandsIfSome (Some t) = Stands t
-
   abbrev CallStands : NumberedCall → Type 0
   CallStands c = Stands c.0 × Stands c.1
 
-  abbrev CallStandsIfSome : Option NumberedCall → Type 0
-  CallStandsIfSome None = Unit {0}
-  CallStandsIfSome (Some c) = CallStands c
-
-  found_stands : (p : NumberedSpan → Bool) (ss : List NumberedSpan) → AllByRecursion Named ss → StandsIfSome (option_map service_in (find p ss))
+  found_stands : (p : NumberedSpan → Bool) (ss : List NumberedSpan) → AllByRecursion Named ss → IfSome (option_map service_in (find p ss)) Stands
   found_stands p [] a = tt
-  found_stands p (s ∷ ss) a = elim (p s) as (λ b. StandsIfSome (option_map service_in (cond b (Some s) (find p ss)))) [ true ↦ a.0 | false ↦ found_stands p ss a.1 ]
+  found_stands p (s ∷ ss) a = elim (p s) as (λ b. IfSome (option_map service_in (cond b (Some s) (find p ss))) Stands) [ true ↦ a.0 | false ↦ found_stands p ss a.1 ]
 
-  between_stands : (o : Option NumberedService) (callee : NumberedService) → StandsIfSome o → Stands callee → CallStandsIfSome (call_between o callee)
+  between_stands : (o : Option NumberedService) (callee : NumberedService) → IfSome o Stands → Stands callee → IfSome (call_between o callee) CallStands
   between_stands None callee p q = tt
-  between_stands (Some caller) callee p q = elim (caller.0 == callee.0) as (λ b. CallStandsIfSome (if b then None else Some (caller, callee))) [ true ↦ tt | false ↦ (p, q) ]
+  between_stands (Some caller) callee p q = elim (caller.0 == callee.0) as (λ b. IfSome (if b then None else Some (caller, callee)) CallStands) [ true ↦ tt | false ↦ (p, q) ]
 
-  call_stands : (t : List NumberedSpan) (s : NumberedSpan) → AllByRecursion Named t → Named s → CallStandsIfSome (call_by (λ id. service_of id t) s)
+  call_stands : (t : List NumberedSpan) (s : NumberedSpan) → AllByRecursion Named t → Named s → IfSome (call_by (λ id. service_of id t) s) CallStands
   call_stands t s a p =
       let id = (parent (span_of s).span).0 in
-      elim (id == 0) as (λ b. CallStandsIfSome (if b then None else call_between (service_of id t) (service_in s))) [
+      elim (id == 0) as (λ b. IfSome (if b then None else call_between (service_of id t) (service_in s)) CallStands) [
         | true ↦ tt
         | false ↦ between_stands (service_of id t) (service_in s) (found_stands (λ x. has_id (record { 0 = id }) (span_of x)) t a) p
       ]
 
-  cons_stands : (o : Option NumberedCall) (cs : List NumberedCall) → CallStandsIfSome o → AllByRecursion CallStands cs → AllByRecursion CallStands (cons_option o cs)
+  cons_stands : (o : Option NumberedCall) (cs : List NumberedCall) → IfSome o CallStands → AllByRecursion CallStands cs → AllByRecursion CallStands (cons_option o cs)
   cons_stands None cs p a = a
   cons_stands (Some c) cs p a = (p, a)
 
@@ -78,7 +57,7 @@ module _ (text : ℕ → List ℕ) (number : List ℕ → ℕ) where
   find_seen id [] = refl
   find_seen id (s ∷ ss) = elim (has_id id (span_of s)) as (λ b. cond b (Some (span_of s)) (find (has_id id) (seen_all ss)) ≡ option_map span_of (cond b (Some s) (find (λ x. has_id id (span_of x)) ss))) [ true ↦ refl | false ↦ find_seen id ss ]
 
-  texts_between : (o : Option NumberedSpan) (s : NumberedSpan) → StandsIfSome (option_map service_in o) → Named s → option_map texts_called (call_between (option_map service_in o) (service_in s)) ≡ call_from (span_of s) (option_map span_of o)
+  texts_between : (o : Option NumberedSpan) (s : NumberedSpan) → IfSome (option_map service_in o) Stands → Named s → option_map texts_called (call_between (option_map service_in o) (service_in s)) ≡ call_from (span_of s) (option_map span_of o)
   texts_between None s p q = refl
   texts_between (Some x) s p q =
       let a = service_in x in
@@ -106,10 +85,6 @@ module _ (text : ℕ → List ℕ) (number : List ℕ → ℕ) where
       cons_texts (call_by (λ id. service_of id t) s) (filter_map (call_by (λ id. service_of id t)) ss)
       ∙ (λ i. cons_option (texts_by t s a p.0 i) (gathered_texts t ss a p.1 i))
 
-  both_stand : (cs ds : List NumberedCall) → AllByRecursion CallStands cs → AllByRecursion CallStands ds → AllByRecursion CallStands (cs ++ ds)
-  both_stand [] ds p q = q
-  both_stand (c ∷ cs) ds p q = (p.0, both_stand cs ds p.1 q)
-
   abbrev items_of : Vec NumberedSpan Global → List NumberedSpan
   items_of t = t.items
 
@@ -119,19 +94,19 @@ module _ (text : ℕ → List ℕ) (number : List ℕ → ℕ) where
   all_texts : (ts : List (Vec NumberedSpan Global)) → AllByRecursion NamedAll ts → map texts_called (calls_in_traces (map items_of ts)) ≡ flat_map calls_of (seen_traces ts)
   all_texts [] a = refl
   all_texts (t ∷ ts) a =
-      let named = by_recursion Named t.items a.0 in
+      let named = recursion_from_All Named t.items a.0 in
       map-append texts_called (calls_in_trace t.items) (calls_in_traces (map items_of ts))
       ∙ (λ i. gathered_texts t.items t.items named named i ++ all_texts ts a.1 i)
 
   all_stand : (ts : List (Vec NumberedSpan Global)) → AllByRecursion NamedAll ts → AllByRecursion CallStands (calls_in_traces (map items_of ts))
   all_stand [] a = tt
   all_stand (t ∷ ts) a =
-      let named = by_recursion Named t.items a.0 in
-      both_stand (calls_in_trace t.items) (calls_in_traces (map items_of ts)) (gathered_stand t.items t.items named named) (all_stand ts a.1)
+      let named = recursion_from_All Named t.items a.0 in
+      each_append CallStands (calls_in_trace t.items) (calls_in_traces (map items_of ts)) (gathered_stand t.items t.items named named) (all_stand ts a.1)
 
   -- the calls of all traces
   pub calls_stand : (ts : List (Vec NumberedSpan Global)) → AreNumberedBy text number ts → AreCallsNumberedBy text number (calls_in_traces (map (λ (t : Vec NumberedSpan Global). t.items) ts))
-  calls_stand ts a = all_stand ts (by_recursion NamedAll ts a)
+  calls_stand ts a = all_stand ts (recursion_from_All NamedAll ts a)
 
   pub calls_by_texts : (ts : List (Vec NumberedSpan Global)) → AreNumberedBy text number ts → map texts_called (calls_in_traces (map (λ (t : Vec NumberedSpan Global). t.items) ts)) ≡ flat_map calls_of (seen_traces ts)
-  calls_by_texts ts a = all_texts ts (by_recursion NamedAll ts a)
+  calls_by_texts ts a = all_texts ts (recursion_from_All NamedAll ts a)

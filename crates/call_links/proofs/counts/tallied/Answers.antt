@@ -6,7 +6,7 @@ use Rattle.std.proofs.lemmas.List.{length-map, length-take, map_more, map_push, 
 use Rattle.std.proofs.lemmas.Map.Made.{lookup-map_values}
 use Rattle.call_links.specs.Seen.{NumberedCall, numbered_call, numbered_calls, numbers_called, texts_called}
 use Rattle.call_links.specs.Tallies.{Numbers, number_cmp, times, tally_of, calls_counted, services_met, services_by_numbers, texts_seen}
-use Rattle.call_links.proofs.Counting.{tally_at, tally_push, times_few, insert_mapped, services_push, texts_are, numbered_at}
+use Rattle.call_links.proofs.Counting.{tally_at, tally_push, times_few, insert_through, services_push, texts_are, numbered_at}
 use Rattle.call_links.proofs.counts.tallied.Goals as goal
 
 pub overflow_add-calls : goal.overflow_add-calls
@@ -42,11 +42,11 @@ loop-call-preserved c =
     ap (map numbers_called) more ∙ map_push numbers_called earlier (numbered_call item) ∙ ap (λ n. before ++ n ∷ []) (sym kq) in
     record {
       calls =
-          ap calls_counted c.in_ok-insert.ensures.entries ∙ insert_mapped number_cmp (λ t. t.calls) es k _
+          ap calls_counted c.in_ok-insert.ensures.entries ∙ insert_through number_cmp (λ n. n) (λ t. t.calls) es k _
           ∙ ap (λ l. insert_entry number_cmp l k (c.calls_so_far-so_far.result + 1)) c.loop-call.invariant.calls
           ∙ sym (tally_push before k c.calls_so_far-so_far.result so_far) ∙ ap tally_of (sym numbered);
       services = λ text number a.
-          ap services_met c.in_ok-insert.ensures.entries ∙ insert_mapped number_cmp (λ t. texts_seen t.services) es k _
+          ap services_met c.in_ok-insert.ensures.entries ∙ insert_through number_cmp (λ n. n) (λ t. texts_seen t.services) es k _
           ∙ ap (λ l. insert_entry number_cmp l k (texts_seen c.texts_of-services.result)) (c.loop-call.invariant.services text number a)
           ∙ (λ j. insert_entry number_cmp (services_by_numbers text earlier) (kq j) (tq j))
           ∙ sym (services_push text earlier (numbered_call item) (texts_are text number (numbered_call item) (numbered_at text number calls i item there c.call-item.is a)))
