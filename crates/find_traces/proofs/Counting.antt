@@ -8,18 +8,11 @@ use Rattle.std.proofs.lemmas.List.Folds.{list_any-append}
 use Rattle.std.proofs.lemmas.Map.Keys.{IsDistinct-push}
 use Rattle.std.proofs.lemmas.Map.Made.{length-le_from_is_member, length-from_keys}
 use Rattle.std.proofs.lemmas.Map.Steps.{list_any_congr}
-use Rattle.std.proofs.lemmas.Bool.{or_right}
+use Rattle.std.proofs.lemmas.Bool.{or_right, and_parts}
 use Rattle.std.proofs.Math.Bool.{and-false}
+use Rattle.trace_model.proofs.Lists.{each_append}
 
 -- ---- tests
-pub and_first : (a b : Bool) → (a && b) ≡ true → a ≡ true
-and_first true b h = refl
-and_first false b h = h
-
-pub and_last : (a b : Bool) → (a && b) ≡ true → b ≡ true
-and_last true b h = h
-and_last false b h = absurd (true≢false (sym h))
-
 -- one of the own or one of those met before
 either_met : (m p s : Bool) → (((m && not (m && p)) && s) || (m && p)) ≡ (m && (s || p))
 either_met false p s = refl
@@ -43,15 +36,11 @@ module _ {K : Type 0} {eq : K → K → Bool} (laws : IsEquivalence eq) where
       by true t g more = absurd (true≢false g)
       by false t g more = (t, more g)
 
-  all_both : (x : K) (xs ys : List K) → AllByRecursion (λ y. eq x y ≡ false) xs → AllByRecursion (λ y. eq x y ≡ false) ys → AllByRecursion (λ y. eq x y ≡ false) (xs ++ ys)
-  all_both x [] ys a b = b
-  all_both x (z ∷ xs) ys a b = (a.0, all_both x xs ys a.1 b)
-
   distinct_both : (xs ys : List K) → IsDistinct eq xs → IsDistinct eq ys → ((q : K) → is_member eq xs q ≡ true → is_member eq ys q ≡ false) → IsDistinct eq (xs ++ ys)
   unfolding IsDistinct
   distinct_both [] ys d e h = e
   distinct_both (x ∷ xs) ys d e h = (
-    all_both x xs ys d.0 (apart x ys (h x (ap (λ b. b || is_member eq xs x) (laws.refl x)))),
+    each_append (λ y. eq x y ≡ false) xs ys d.0 (apart x ys (h x (ap (λ b. b || is_member eq xs x) (laws.refl x)))),
     distinct_both xs ys d.1 e (λ q m. h q (or_right (eq q x) (is_member eq xs q) m)),
   )
 
@@ -99,10 +88,10 @@ module _ {K : Type 0} {eq : K → K → Bool} (laws : IsEquivalence eq) where
 
   passes : (f : K → Bool) → ((q x : K) → eq q x ≡ true → f q ≡ f x) → (xs : List K) → list_all f xs ≡ true → (q : K) → is_member eq xs q ≡ true → f q ≡ true
   passes f alike [] h q m = absurd (true≢false (sym m))
-  passes f alike (x ∷ xs) h q m = by (eq q x) refl m (passes f alike xs (and_last (f x) (list_all f xs) h) q)
+  passes f alike (x ∷ xs) h q m = by (eq q x) refl m (passes f alike xs (and_parts (f x) (list_all f xs) h).1 q)
     where
       by : (b : Bool) → eq q x ≡ b → (b || is_member eq xs q) ≡ true → (is_member eq xs q ≡ true → f q ≡ true) → f q ≡ true
-      by true e g more = alike q x e ∙ and_first (f x) (list_all f xs) h
+      by true e g more = alike q x e ∙ (and_parts (f x) (list_all f xs) h).0
       by false e g more = more g
 
   -- where none is left, each of the list passes
@@ -111,8 +100,8 @@ module _ {K : Type 0} {eq : K → K → Bool} (laws : IsEquivalence eq) where
   none_left f s p either_is xs met d met_is count = by (list_all f xs) refl
     where
       missed : (x : K) → (b : Bool) → is_member eq met x ≡ b → is_member eq xs x ≡ true → f x ≡ false → true ≡ false
-      missed x true t m e = sym (either_is x ∙ ap (λ b. s x || b) (and_last (is_member eq xs x) (p x) (sym (met_is x) ∙ t)) ∙ or_right (s x) true refl) ∙ e
-      missed x false t m e = let less = fewer xs met x d (λ q n. and_first (is_member eq xs q) (p q) (sym (met_is q) ∙ n)) t m in absurd (omega arith)
+      missed x true t m e = sym (either_is x ∙ ap (λ b. s x || b) (and_parts (is_member eq xs x) (p x) (sym (met_is x) ∙ t)).1 ∙ or_right (s x) true refl) ∙ e
+      missed x false t m e = let less = fewer xs met x d (λ q n. (and_parts (is_member eq xs q) (p q) (sym (met_is q) ∙ n)).0) t m in absurd (omega arith)
 
       by : (b : Bool) → list_all f xs ≡ b → true ≡ b
       by true h = refl
@@ -137,7 +126,7 @@ module _ {K : Type 0} {eq : K → K → Bool} (laws : IsEquivalence eq) where
     both = distinct_both own met own_distinct met_distinct (λ q m. own_is_new (is_member eq xs q) (is_member eq met q) (s q) (sym (own_is q) ∙ m))
 
     within : (q : K) → is_member eq (own ++ met) q ≡ true → is_member eq xs q ≡ true
-    within q m = and_first (is_member eq xs q) (f q) (sym (is_met q) ∙ m)
+    within q m = (and_parts (is_member eq xs q) (f q) (sym (is_met q) ∙ m)).0
 
     and_true : (m b : Bool) → (m ≡ true → b ≡ true) → (m && b) ≡ m
     and_true true b h = h refl

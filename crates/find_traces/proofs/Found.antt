@@ -1,14 +1,15 @@
 -- The traces at the places are those that a search finds.
-use Rattle.std.proofs.Common.{◌≡◌, ℕ, zero, suc, ◌+◌, true, false, cond, List, [], ◌∷◌, ◌++◌, map, length, get_or, take, refl, sym, ap, subst, ◌∙◌, arith, append_assoc, length-append, ◌<◌, ◌≤◌, Option, Some, None}
+use Rattle.std.proofs.Common.{◌≡◌, ℕ, zero, suc, ◌+◌, true, false, cond, List, [], ◌∷◌, ◌++◌, map, length, take, refl, sym, ap, subst, ◌∙◌, arith, append_assoc, length-append, ◌<◌, ◌≤◌}
 use Rattle.std.specs.Prelude.{filter, if◌then◌else◌, ◌==◌}
 use Rattle.std.specs.List.{list_any, All, filter_map, cons_option}
 use Rattle.std.proofs.lemmas.List.{append-nil, length-take-le, map_push, take_more}
-use Rattle.std.proofs.lemmas.List.Elements.{All-nil, All-cons, All-head, All-tail, All-take, All-filter, filter-append, filter_map-append}
+use Rattle.std.proofs.lemmas.List.Elements.{All-nil, All-cons, All-filter, filter-append}
 use Rattle.std.proofs.lemmas.List.Sorted.{All-permutation}
 use Rattle.std.proofs.lemmas.Simd.{map-map}
 use Rattle.jaeger_model.specs.declared.placed.Placed.{Placed}
 use Rattle.trace_model.specs.declared.query.Find.{Find}
 use Rattle.trace_model.specs.Searching.{matches, matching, first_start, first_id, ids_of, ranked_by_start, cut, found_in}
+use Rattle.trace_model.proofs.Lists.{map_agree, all_cut}
 use Rattle.trace_model.proofs.Ranking.{ranked-permutation, ranked-map}
 use Rattle.find_traces.specs.Places.{numbered, is_hit, start_of, hits, places_found, trace_at, id_at}
 use Rattle.find_traces.specs.Keys.{reverse_key_of, reverse_key_place}
@@ -26,13 +27,6 @@ map_take f (suc n) (x ∷ xs) = ap (λ l. f x ∷ l) (map_take f n xs)
 
 pub map_cut : {X Y : Type 0} (f : X → Y) (n : ℕ) (xs : List X) → map f (cut n xs) ≡ cut n (map f xs)
 map_cut f n xs = elim (n == 0) as (λ b. map f (if b then xs else take n xs) ≡ (if b then map f xs else take n (map f xs))) [ true ↦ refl | false ↦ map_take f n xs ]
-
-map_agree : {X Y : Type 0} (f g : X → Y) (xs : List X) → All (λ x. f x ≡ g x) xs → map f xs ≡ map g xs
-map_agree f g [] h = refl
-map_agree f g (x ∷ xs) h =
-    let first = All-head (λ x. f x ≡ g x) x xs h in
-    let rest = map_agree f g xs (All-tail (λ x. f x ≡ g x) x xs h) in
-    λ i. first i ∷ rest i
 
 -- what the sorted and cut hits name
 pub places_of_hits : (q : Find) (ts : List (List Placed)) → map reverse_key_place (cut q.limit (map reverse_key_of (ranked_by_start start_of (hits q ts)))) ≡ places_found q ts
@@ -60,14 +54,11 @@ all_lead ts = numbers_lead [] ts 0 refl
 
 hits_lead : (q : Find) (ts : List (List Placed)) → All (λ (e : ℕ × List Placed). trace_at ts e.0 ≡ e.1) (cut q.limit (ranked_by_start start_of (hits q ts)))
 hits_lead q ts =
-    cut_all q.limit (ranked_by_start start_of (hits q ts))
+    all_cut P q.limit (ranked_by_start start_of (hits q ts))
     (All-permutation P (hits q ts) (ranked_by_start start_of (hits q ts)) (ranked-permutation start_of (hits q ts)) (All-filter (is_hit q) P (numbered 0 ts) (all_lead ts)))
   where
     P : ℕ × List Placed → Type 0
     P e = trace_at ts e.0 ≡ e.1
-
-    cut_all : (n : ℕ) (xs : List (ℕ × List Placed)) → All P xs → All P (cut n xs)
-    cut_all n xs h = elim (n == 0) as (λ b. All P (if b then xs else take n xs)) [ true ↦ h | false ↦ All-take P n xs h ]
 
 hits_match : (q : Find) (n : ℕ) (ts : List (List Placed)) → map trace (filter (is_hit q) (numbered n ts)) ≡ matching q ts
 hits_match q n [] = refl
@@ -113,15 +104,3 @@ hits_hit q ts i h m =
 
 pub hits_miss : (q : Find) (ts : List (List Placed)) (i : ℕ) → i < length ts → list_any (matches q) (trace_at ts i) ≡ false → map reverse_key_of (hits q (take (i + 1) ts)) ≡ map reverse_key_of (hits q (take i ts))
 hits_miss q ts i h m = ap (map reverse_key_of) (hits_read q ts i h ∙ ap (λ b. hits q (take i ts) ++ cond b ((i, trace_at ts i) ∷ []) []) m ∙ append-nil (hits q (take i ts)))
-
-pub kept_some : {X Y : Type 0} (f : X → Option Y) (xs : List X) (x : X) (y : Y) → f x ≡ Some y → filter_map f (xs ++ x ∷ []) ≡ filter_map f xs ++ y ∷ []
-kept_some f xs x y e = filter_map-append f xs (x ∷ []) ∙ ap (λ o. filter_map f xs ++ cons_option o []) e
-
-pub kept_none : {X Y : Type 0} (f : X → Option Y) (xs : List X) (x : X) → f x ≡ None → filter_map f (xs ++ x ∷ []) ≡ filter_map f xs
-kept_none f xs x e = filter_map-append f xs (x ∷ []) ∙ ap (λ o. filter_map f xs ++ cons_option o []) e ∙ append-nil (filter_map f xs)
-
-pub read_some : {X Y : Type 0} (f : X → Option Y) (xs : List X) (i : ℕ) (d : X) (y : Y) → i < length xs → f (get_or xs i d) ≡ Some y → filter_map f (take (i + 1) xs) ≡ filter_map f (take i xs) ++ y ∷ []
-read_some f xs i d y h e = ap (filter_map f) (take_more xs i d h) ∙ kept_some f (take i xs) (get_or xs i d) y e
-
-pub read_none : {X Y : Type 0} (f : X → Option Y) (xs : List X) (i : ℕ) (d : X) → i < length xs → f (get_or xs i d) ≡ None → filter_map f (take (i + 1) xs) ≡ filter_map f (take i xs)
-read_none f xs i d h e = ap (filter_map f) (take_more xs i d h) ∙ kept_none f (take i xs) (get_or xs i d) e

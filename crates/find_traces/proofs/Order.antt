@@ -16,7 +16,7 @@ use Rattle.std.proofs.lemmas.List.Sorted.{All-permutation}
 use Rattle.trace_model.specs.Searching.{put_by_start, ranked_by_start}
 use Rattle.trace_model.proofs.Ranking.{ranked-permutation}
 use Rattle.trace_model.proofs.NameLaws.{both_equal}
-use Rattle.trace_model.proofs.Rising.{Below}
+use Rattle.trace_model.proofs.Rising.{Below, below_chain}
 use Rattle.find_traces.specs.declared.key.Key.{Key}
 use Rattle.find_traces.specs.Places.{numbered}
 use Rattle.find_traces.specs.Keys.{best_cmp, reverse_key_cmp}
@@ -62,10 +62,6 @@ module _ {X : Type 0} (start : ℕ × X → ℤ) where
         ∙ ap (λ b. cond b Less (cond (x.0 == y.0) Equal Greater)) (lt-ltb x.0 y.0 h)
   ]
 
-  below_chain : (x y : ℕ × X) (es : List (ℕ × X)) → rank_cmp x y ≡ Less → Below rank_cmp y es → Below rank_cmp x es
-  below_chain x y [] e h = tt
-  below_chain x y (z ∷ es) e h = (rank_total.trans x y z e h.0, below_chain x y es e h.1)
-
   below_put : (y x : ℕ × X) (es : List (ℕ × X)) → rank_cmp y x ≡ Less → Below rank_cmp y es → Below rank_cmp y (put_by_start start x es)
   below_put y x [] e h = (e, tt)
   below_put y x (z ∷ es) e h = elim (int_lt (start z) (start x)) as (λ b. Below rank_cmp y (if b then x ∷ z ∷ es else z ∷ put_by_start start x es)) [
@@ -77,7 +73,7 @@ module _ {X : Type 0} (start : ℕ × X → ℤ) where
   unfolding IsStrictlySortedBy
   strict_put x [] a h = (tt, tt)
   strict_put x (y ∷ es) a h = elim (int_lt (start y) (start x)) as (λ b. int_lt (start y) (start x) ≡ b → IsStrictlySortedBy rank_cmp (if b then x ∷ y ∷ es else y ∷ put_by_start start x es)) [
-    | true ↦ λ e. ((earlier x y e, below_chain x y es (earlier x y e) h.0), h)
+    | true ↦ λ e. ((earlier x y e, below_chain rank_total x y es (earlier x y e) h.0), h)
     | false ↦ λ e. (below_put y x es (later x y e a.0) h.0, strict_put x es a.1 h.1)
   ] refl
 

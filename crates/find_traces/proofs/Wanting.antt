@@ -6,10 +6,10 @@ use Rattle.std.specs.Int.Bits.{bit_or}
 use Rattle.std.specs.List.{IsDistinct, fold, list_any, list_all}
 use Rattle.std.specs.List.Sorted.{IsStrictlySortedBy}
 use Rattle.std.specs.Ordering.{eq_by_cmp, is_eq, nat_cmp}
-use Rattle.std.specs.Cmp.{IsEquivalence, IsTotalOrder, on_total, then_total, eq_by_cmp_equiv, nat_cmp_total}
+use Rattle.std.specs.Cmp.{IsEquivalence, eq_by_cmp_equiv, nat_cmp_total}
 use Rattle.std.specs.Cmp.Lexicographic.{nat_list_cmp_total, texts_ties, bytes_decides}
 use Rattle.std.proofs.Math.Bool.{and-false, or-false}
-use Rattle.std.proofs.lemmas.Bool.{both_ways, or_cases, or_parts, or_from, and_left, and_right, false_from_ne_true}
+use Rattle.std.proofs.lemmas.Bool.{both_ways, or_cases, or_parts, or_from, and_left, and_right, and_parts, false_from_ne_true}
 use Rattle.std.proofs.lemmas.List.{take_more, flat_map_more}
 use Rattle.std.proofs.lemmas.List.Sums.{fold_more}
 use Rattle.std.proofs.lemmas.Nat.Bits.{bit_at_or, bit_at-lt, bit_at-pow_same}
@@ -28,8 +28,8 @@ use Rattle.trace_model.specs.Linking.{call_cmp as pair_cmp}
 use Rattle.trace_model.specs.Searching.{tag_matches, has_tag, tags_of}
 use Rattle.find_traces.specs.Wanting.{pair_of, same_pair, with_key, key_bits, asks, asked_count, if_asked, has_pair, is_in, wants}
 use Rattle.find_traces.specs.Prepared.{IsJudged}
-use Rattle.find_traces.proofs.Counting.{and_first, few, counted, none_left}
-use Rattle.trace_model.proofs.NameLaws.{then_eq}
+use Rattle.find_traces.proofs.Counting.{few, counted, none_left}
+use Rattle.trace_model.proofs.NameLaws.{call_total, then_eq}
 
 pub text_laws : IsEquivalence (eq_by_cmp text_cmp)
 text_laws = eq_by_cmp_equiv nat_list_cmp_total
@@ -37,11 +37,8 @@ text_laws = eq_by_cmp_equiv nat_list_cmp_total
 pub length_laws : IsEquivalence (eq_by_cmp nat_cmp)
 length_laws = eq_by_cmp_equiv nat_cmp_total
 
-pub pair_total : IsTotalOrder pair_cmp
-pair_total = then_total (on_total (λ (a : List ℕ × List ℕ). a.0) nat_list_cmp_total) (on_total (λ (a : List ℕ × List ℕ). a.1) nat_list_cmp_total)
-
 pub pair_laws : IsEquivalence same_pair
-pair_laws = eq_by_cmp_equiv pair_total
+pair_laws = eq_by_cmp_equiv call_total
 
 pub distinct_pairs : (ps : List (List ℕ × List ℕ)) → IsStrictlySortedBy pair_cmp ps → IsDistinct same_pair ps
 distinct_pairs ps s = IsDistinct-from_sorted pair_cmp ps s
@@ -225,4 +222,4 @@ module _ (q : Find) (o : Process) (s : Span) where
 
 -- ---- the tags of a process
 pub met_few : (q : Find) (o : Process) (met : List (List ℕ × List ℕ)) → IsStrictlySortedBy pair_cmp met → ((a : List ℕ × List ℕ) → is_in met a ≡ (asks q a && has_pair o.tags a)) → length met ≤ asked_count q
-met_few q o met rising is = few pair_laws q.tags met (distinct_pairs met rising) (λ a m. and_first (asks q a) (has_pair o.tags a) (sym (is a) ∙ m))
+met_few q o met rising is = few pair_laws q.tags met (distinct_pairs met rising) (λ a m. (and_parts (asks q a) (has_pair o.tags a) (sym (is a) ∙ m)).0)

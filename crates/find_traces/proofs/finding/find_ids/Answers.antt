@@ -2,8 +2,9 @@ use Rattle.std.proofs.Common.{◌≡◌, ◌≤◌, sym, ◌∙◌, ap, map, Lis
 use Rattle.std.specs.List.{filter_map}
 use Rattle.std.proofs.lemmas.List.{take_all}
 use Rattle.jaeger_model.specs.declared.ids.TraceId.{TraceId}
+use Rattle.trace_model.proofs.Lists.{read_some, read_none}
 use Rattle.find_traces.specs.Places.{id_at, trace_at}
-use Rattle.find_traces.proofs.Found.{ids_found, read_some, read_none}
+use Rattle.find_traces.proofs.Found.{ids_found}
 use Rattle.find_traces.proofs.finding.find_ids.Goals as goal
 use Rattle.find_traces.proofs.finding.find_ids.Goals.{in-Some+in_ok-push, in_default}
 
