@@ -1,9 +1,8 @@
 -- The clock of a span for a program that goes up to the root and down again.
-use Rattle.std.proofs.Common.{◌≡◌, ℕ, zero, suc, pos, ◌+◌, ◌-◌, ◌<◌, ◌≤◌, nat_lt, Bool, true, false, cond, List, [], ◌∷◌, ◌++◌, map, length, get_or, reverse, refl, sym, ap, ◌∙◌, subst, arith, append_assoc}
-use Rattle.std.specs.Prelude.{Option, Some, None, option_map, option_and_then, find, fold, not, ◌==◌, if◌then◌else◌}
-use Rattle.std.specs.List.{position, position_or_len, AllByRecursion}
-use Rattle.std.proofs.lemmas.Bool.Decides.{nat_tests}
-use Rattle.std.proofs.lemmas.List.{get_or-map, length-map, reverse-append}
+use Rattle.std.proofs.Common.{◌≡◌, ℕ, zero, suc, pos, ◌+◌, ◌-◌, ◌<◌, ◌≤◌, true, false, List, [], ◌∷◌, ◌++◌, map, length, get_or, reverse, refl, sym, ap, ◌∙◌, subst, arith, append_assoc}
+use Rattle.std.specs.Prelude.{Option, Some, None, option_map, option_and_then, find, fold, ◌==◌, if◌then◌else◌}
+use Rattle.std.specs.List.{position, AllByRecursion}
+use Rattle.std.proofs.lemmas.List.{get_or-map, length-map, map_push, reverse-append}
 use Rattle.std.proofs.lemmas.List.Quantifiers.{position-Some}
 use Rattle.std.proofs.lemmas.Option.{none-some}
 use Rattle.jaeger_model.specs.declared.placed.Placed.{Placed}
@@ -12,26 +11,8 @@ use Rattle.trace_model.specs.Linking.{has_id, parent_in}
 use Rattle.trace_model.specs.declared.clock.Clock.{Clock}
 use Rattle.trace_model.specs.Adjusting.{chain, chain_through, clock_along, clock_of, clock_at, clock_below, host_of}
 use Rattle.trace_model.proofs.Chains.{chain_step, chain_none}
+use Rattle.trace_model.proofs.Lists.{found_at}
 use Rattle.plain_store.specs.Climbing.{parent_at, path, path_through, next_clock, downward, clock_down}
-
--- ---- what stands at the first place that passes
-zero_first : (m : ℕ) → nat_lt 0 (suc m) ≡ true
-zero_first m = grind (arith, nat_tests)
-
-one_later : (n m : ℕ) → nat_lt (1 + n) (suc m) ≡ nat_lt n m
-one_later n m = grind (arith, nat_tests)
-
-found_at : (t : Placed → Bool) (xs : List Placed) (d : Placed) → option_map (λ j. get_or xs j d) (position t xs) ≡ find t xs
-found_at t [] d = refl
-found_at t (x ∷ xs) d = elim (t x) as (λ b. option_map (λ j. get_or (x ∷ xs) j d) (cond (nat_lt (cond (not b) (1 + position_or_len t xs) 0) (suc (length xs))) (Some (cond (not b) (1 + position_or_len t xs) 0)) None) ≡ cond b (Some x) (find t xs)) [
-  | true ↦ ap (λ c. option_map (λ j. get_or (x ∷ xs) j d) (cond c (Some 0) None)) (zero_first (length xs))
-  | false ↦ ap (λ c. option_map (λ j. get_or (x ∷ xs) j d) (cond c (Some (1 + position_or_len t xs)) None)) (one_later (position_or_len t xs) (length xs))
-      ∙ past (nat_lt (position_or_len t xs) (length xs)) ∙ found_at t xs d
-]
-  where
-    past : (b : Bool) → option_map (λ j. get_or (x ∷ xs) j d) (cond b (Some (1 + position_or_len t xs)) None) ≡ option_map (λ j. get_or xs j d) (cond b (Some (position_or_len t xs)) None)
-    past false = refl
-    past true = let e : 1 + position_or_len t xs ≡ suc (position_or_len t xs) = omega arith in ap (λ k. Some (get_or (x ∷ xs) k d)) e
 
 some_is : {X : Type 0} (a b : X) → Some a ≡ Some b → a ≡ b
 some_is a b e = cc
@@ -159,18 +140,7 @@ module _ (m : ℕ) (trace : List Placed) (ps : List (Option ℕ)) (k : ℕ) (e :
       path_below trace (some_of trace l) (length trace) k ks l (same_path ∙ sym q ∙ sym s)
 
 -- ---- one step down
-pub all_front : (P : ℕ → Type 0) (xs ys : List ℕ) → AllByRecursion P (xs ++ ys) → AllByRecursion P xs
-all_front P [] ys h = tt
-all_front P (x ∷ xs) ys h = (h.0, all_front P xs ys h.1)
-
-pub last_of : (P : ℕ → Type 0) (xs : List ℕ) (x : ℕ) → AllByRecursion P (xs ++ x ∷ []) → P x
-last_of P [] x h = h.0
-last_of P (y ∷ xs) x h = last_of P xs x h.1
-
 pub clock_pops : (m : ℕ) (trace : List Placed) (d : Placed) (c : Option Clock) (rest : List ℕ) (k : ℕ)
     → fold (next_clock m) c (downward trace (rest ++ k ∷ []) d) ≡ fold (next_clock m) (next_clock m c (get_or trace k d)) (downward trace rest d)
-clock_pops m trace d c rest k = ap (fold (next_clock m) c) (ap reverse (pushed rest) ∙ reverse-append (map (λ j. get_or trace j d) rest) (get_or trace k d ∷ []))
-  where
-    pushed : (ks : List ℕ) → map (λ j. get_or trace j d) (ks ++ k ∷ []) ≡ map (λ j. get_or trace j d) ks ++ get_or trace k d ∷ []
-    pushed [] = refl
-    pushed (x ∷ ks) = ap (λ r. get_or trace x d ∷ r) (pushed ks)
+clock_pops m trace d c rest k =
+    ap (fold (next_clock m) c) (ap reverse (map_push (λ j. get_or trace j d) rest k) ∙ reverse-append (map (λ j. get_or trace j d) rest) (get_or trace k d ∷ []))
