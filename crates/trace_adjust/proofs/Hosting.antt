@@ -1,5 +1,5 @@
 -- Numbers tell hosts apart, and clocks by numbers are the spans' clocks.
-use Rattle.std.proofs.Common.{◌≡◌, ℕ, zero, suc, pos, ◌+◌, ◌-◌, ◌<◌, Bool, true, false, List, [], ◌∷◌, ◌++◌, map, take, drop, length, get_or, set, refl, sym, ap, ◌∙◌, arith, subst, eqb-true, eq-eqb}
+use Rattle.std.proofs.Common.{◌≡◌, ℕ, zero, suc, pos, ◌+◌, ◌-◌, ◌<◌, Bool, true, false, List, [], ◌∷◌, ◌++◌, map, take, drop, length, get_or, set, refl, sym, ap, ◌∙◌, arith, subst}
 use Rattle.std.specs.Prelude.{Option, Some, None, IfSome, option_map, is_some, not, ◌||◌, ◌==◌, cond, unwrap_or, codes, if◌then◌else◌}
 use Rattle.std.specs.Option.{option_or}
 use Rattle.std.specs.Ordering.{is_eq}
@@ -17,7 +17,7 @@ use Rattle.trace_adjust.specs.Settling.{near, is_unset, written, clock_delta, de
 use Rattle.trace_model.specs.Sharing.{ShareProcesses}
 use Rattle.trace_adjust.specs.Hosts.{hosts_of, number_in, hosted, all_hosted, AreNumbers, IsNumber, IsNumbered, AreNumbered, clock_by, below_by, near_by, host_delta, delta_by}
 use Rattle.trace_adjust.proofs.Places.{place_push, place_found}
-use Rattle.trace_model.proofs.NameLaws.{text_is, text_self, text_turned}
+use Rattle.trace_model.proofs.NameLaws.{same_where, text_is, text_self, text_turned}
 use Rattle.trace_model.proofs.Chains.{is_some-map}
 use Rattle.trace_model.proofs.Tables.{entered, kept}
 
@@ -31,16 +31,9 @@ is_number hosts t n e = ap (number_in hosts) (number_there hosts t n e) ∙ e
 
 -- two hosts have one number where they are the same
 pub same_number : (hosts : List (List ℕ)) (t u : List ℕ) (n k : ℕ) → number_in hosts t ≡ Some n → number_in hosts u ≡ Some k → (n == k) ≡ same_text t u
-same_number hosts t u n k e f = elim (n == k) as (λ b. (n == k) ≡ b → b ≡ same_text t u) [
-  | true ↦ λ s. sym (ap (same_text t) (sym (sym (number_there hosts t n e) ∙ ap (λ j. get_or hosts j []) (eqb-true n k s) ∙ number_there hosts u k f)) ∙ text_self t)
-  | false ↦ λ s. elim (same_text t u) as (λ b. same_text t u ≡ b → false ≡ b) [
-    | true ↦ λ q.
-        let both : Some n ≡ Some k = sym e ∙ ap (number_in hosts) (text_is t u q) ∙ f in
-        let one : n ≡ k = cc both in
-        sym s ∙ eq-eqb n k one
-    | false ↦ λ q. refl
-  ] refl
-] refl
+same_number hosts t u n k e f =
+    same_where n k t u (λ one. sym (number_there hosts t n e) ∙ ap (λ j. get_or hosts j []) one ∙ number_there hosts u k f)
+    (λ one. let both : Some n ≡ Some k = sym e ∙ ap (number_in hosts) one ∙ f in cc both)
 
 -- ---- clocks by numbers are clocks
 pub below_hosted : (m : ℕ) (trace : List Placed) (c : HostClock) (n : ℕ) (p : Placed) → IsNumber (hosts_of trace) c.host → number_in (hosts_of trace) (host_of p) ≡ Some n

@@ -1,18 +1,20 @@
 -- First places, as a table of them grows, and what stands there.
-use Rattle.std.proofs.Common.{◌≡◌, ℕ, zero, suc, ◌+◌, ◌<◌, Bool, true, false, ◌||◌, cond, List, [], ◌∷◌, ◌++◌, map, take, length, get_or, refl, sym, ap, ◌∙◌, arith, eqb-true, eq-eqb}
+use Rattle.std.proofs.Common.{◌≡◌, ℕ, zero, suc, ◌+◌, ◌<◌, nat_lt, Bool, true, false, ◌||◌, cond, List, [], ◌∷◌, ◌++◌, map, take, length, get_or, refl, sym, ap, ◌∙◌, arith, eqb-true, eq-eqb}
 use Rattle.std.proofs.lemmas.Bool.Decides.{nat_tests}
 use Rattle.std.specs.Prelude.{Option, Some, None, option_map, is_some, find, not, unwrap_or, ◌==◌, if◌then◌else◌}
 use Rattle.std.specs.Option.{option_or}
-use Rattle.std.specs.List.{list_any}
+use Rattle.std.specs.List.{list_any, position, position_or_len}
 use Rattle.std.specs.Ordering.{nat_cmp, is_eq}
 use Rattle.std.specs.Cmp.{unsigned_ties}
 use Rattle.std.proofs.lemmas.Bool.{false≢true}
 use Rattle.std.proofs.lemmas.List.{take_more, map_push, length-map, length-take-le, get_or-map}
+use Rattle.std.proofs.lemmas.List.Quantifiers.{position-Some}
 use Rattle.jaeger_model.specs.declared.placed.Placed.{Placed}
 use Rattle.jaeger_model.specs.Parents.{parent}
 use Rattle.trace_model.specs.Linking.{has_id, parent_in}
 use Rattle.trace_model.specs.declared.answer.Shown.{Shown}
 use Rattle.trace_model.specs.Adjusting.{spans_of}
+use Rattle.trace_model.proofs.Lists.{found_at}
 use Rattle.trace_model.proofs.Tables.{entered, kept, entry_map}
 use Rattle.trace_adjust.specs.Settling.{place_of, first_at, place_in, parent_at}
 
@@ -43,16 +45,18 @@ pub place_kept : (q : ℕ) (g : ℕ → Option ℕ) (xs : List Placed) (i : ℕ)
 place_kept q g xs i x l e inv some = let id = x.span.id.0 in kept g id q i (id == q) (eqb-true id q) some ∙ first_more q xs i x (g q) l e (inv q)
 
 -- ---- what stands at a first place
-pub place_found : {X : Type 0} (test : X → Bool) (xs : List X) (d : X) → option_map (λ j. get_or xs j d) (place_of test xs) ≡ find test xs
-place_found test [] d = refl
-place_found {X} test (x ∷ xs) d = elim (test x) as (λ b. option_map (λ j. get_or (x ∷ xs) j d) (cond b (Some 0) (option_map suc (place_of test xs))) ≡ cond b (Some x) (find test xs)) [
-  | true ↦ refl
-  | false ↦ past (place_of test xs) ∙ place_found test xs d
+place_is : {X : Type 0} (test : X → Bool) (xs : List X) → place_of test xs ≡ position test xs
+place_is test [] = refl
+place_is test (x ∷ xs) = elim (test x) as (λ b. cond b (Some 0) (option_map suc (place_of test xs)) ≡ cond (nat_lt (cond (not b) (1 + position_or_len test xs) 0) (suc (length xs))) (Some (cond (not b) (1 + position_or_len test xs) 0)) None) [
+  | true ↦ grind (arith, nat_tests)
+  | false ↦ ap (option_map suc) (place_is test xs) ∙ one_later (position_or_len test xs) (length xs)
 ]
   where
-    past : (o : Option ℕ) → option_map (λ j. get_or (x ∷ xs) j d) (option_map suc o) ≡ option_map (λ j. get_or xs j d) o
-    past None = refl
-    past (Some j) = refl
+    one_later : (n m : ℕ) → option_map suc (cond (nat_lt n m) (Some n) None) ≡ cond (nat_lt (1 + n) (suc m)) (Some (1 + n)) None
+    one_later n m = grind (arith, nat_tests)
+
+pub place_found : {X : Type 0} (test : X → Bool) (xs : List X) (d : X) → option_map (λ j. get_or xs j d) (place_of test xs) ≡ find test xs
+place_found test xs d = ap (option_map (λ j. get_or xs j d)) (place_is test xs) ∙ found_at test xs d
 
 pub parent_there : (trace : List Placed) (p d : Placed) → option_map (λ j. get_or trace j d) (place_in trace p) ≡ parent_in trace p
 parent_there trace p d = elim ((parent p.span).0 == 0) as (λ b. option_map (λ j. get_or trace j d) (if b then None else first_at (parent p.span).0 trace) ≡ (if b then None else find (has_id (parent p.span)) trace)) [
@@ -60,21 +64,10 @@ parent_there trace p d = elim ((parent p.span).0 == 0) as (λ b. option_map (λ 
   | false ↦ place_found (has_id (parent p.span)) trace d
 ]
 
-one_below : (n j : ℕ) (o : Option ℕ) → ((k : ℕ) → o ≡ Some k → k < n) → option_map suc o ≡ Some j → j < suc n
-one_below n j None up h = absurd (false≢true (ap is_some h))
-one_below n j (Some k) up h = let s : suc k ≡ j = cc in let r : k < n = up k refl in omega arith
-
-first_below : (id : ℕ) (ps : List Placed) (j : ℕ) → first_at id ps ≡ Some j → j < length ps
-first_below id [] j e = absurd (false≢true (ap is_some e))
-first_below id (p ∷ ps) j e = elim (p.span.id.0 == id) as (λ b. cond b (Some 0) (option_map suc (first_at id ps)) ≡ Some j → j < suc (length ps)) [
-  | true ↦ λ h. let z : 0 ≡ j = cc in omega arith
-  | false ↦ λ h. one_below (length ps) j (first_at id ps) (first_below id ps) h
-] e
-
 pub place_below : (trace : List Placed) (p : Placed) (j : ℕ) → place_in trace p ≡ Some j → j < length trace
 place_below trace p j e = elim ((parent p.span).0 == 0) as (λ b. (if b then None else first_at (parent p.span).0 trace) ≡ Some j → j < length trace) [
   | true ↦ λ h. absurd (false≢true (ap is_some h))
-  | false ↦ λ h. first_below (parent p.span).0 trace j h
+  | false ↦ λ h. (position-Some (has_id (parent p.span)) trace j p (sym (place_is (has_id (parent p.span)) trace) ∙ h)).0
 ] e
 
 same_more : (a b : ℕ) → (suc a == suc b) ≡ (a == b)

@@ -1,7 +1,7 @@
 -- Clocks that are set from above are the spans' clocks, and where none can be set any more all are known.
-use Rattle.std.proofs.Common.{◌≡◌, ℕ, zero, suc, ◌+◌, ◌<◌, ◌⊎◌, inl, inr, ⊎_elim, Bool, true, false, ◌&&◌, cond, List, [], ◌∷◌, map, length, get_or, set, refl, sym, ap, ◌∙◌, arith, subst, length-set, get_or-set_same, get_or-set_other}
-use Rattle.std.specs.List.{AllByRecursion}
+use Rattle.std.proofs.Common.{◌≡◌, ℕ, zero, suc, ◌+◌, ◌<◌, ◌⊎◌, inl, inr, ⊎_elim, Bool, true, false, ◌&&◌, cond, List, [], map, length, get_or, set, refl, sym, ap, ◌∙◌, arith, subst, length-set, get_or-set_same, get_or-set_other}
 use Rattle.std.proofs.lemmas.List.{length-map, get_or_default, set-get_or, get_or-map}
+use Rattle.std.proofs.lemmas.List.Elements.{All-from_recursion}
 use Rattle.std.specs.Prelude.{Option, Some, None, option_map, is_some, if◌then◌else◌}
 use Rattle.std.proofs.lemmas.Bool.{false≢true, cases_eq}
 use Rattle.std.proofs.lemmas.List.Sums.{sum_by-set}
@@ -16,11 +16,6 @@ use Rattle.trace_adjust.specs.declared.clock.HostClock.{HostClock}
 use Rattle.trace_adjust.specs.Hosts.{hosts_of, number_in, hosted, all_hosted, near_by, IsNumbered, AreNumbered, AreSet}
 use Rattle.trace_adjust.proofs.Hosting.{hosted_at, hosted_none, written_hosted, written_numbered, near_hosted, near_numbered}
 use Rattle.trace_adjust.proofs.Places.{parent_there, place_below}
-
-each_at : {X : Type 0} (P : X → Type 0) (xs : List X) (k : ℕ) (d : X) → k < length xs → AllByRecursion P xs → P (get_or xs k d)
-each_at P [] k d l h = absurd (omega arith)
-each_at P (x ∷ xs) zero d l h = h.0
-each_at P (x ∷ xs) (suc k) d l h = each_at P xs k d (omega arith) h.1
 
 module _ (max_skew : ℕ) (trace : List Placed) where
   abbrev clock : Placed → Option Clock
@@ -52,7 +47,7 @@ module _ (max_skew : ℕ) (trace : List Placed) where
   ]
     where
       law : clock p ≡ clock_by max_skew clock p (parent_in trace p)
-      law = subst (λ q. clock q ≡ clock_by max_skew clock q (parent_in trace q)) (sym e) (each_at (λ q. clock q ≡ clock_by max_skew clock q (parent_in trace q)) trace i p l (clocks max_skew trace))
+      law = subst (λ q. clock q ≡ clock_by max_skew clock q (parent_in trace q)) (sym e) (All-from_recursion (λ q. clock q ≡ clock_by max_skew clock q (parent_in trace q)) trace (clocks max_skew trace) i p l)
 
       here : (k : ℕ) (d : Placed) → k ≡ i → (get_or (set cs i (near max_skew cs p (place_in trace p))) k None ≡ None) ⊎ (get_or (set cs i (near max_skew cs p (place_in trace p))) k None ≡ clock (get_or trace k d))
       here k d same =
@@ -61,14 +56,10 @@ module _ (max_skew : ℕ) (trace : List Placed) where
           let q : p ≡ get_or trace k d = e ∙ get_or_default trace i p d l ∙ ap (λ j. get_or trace j d) (sym same) in
           ⊎_elim (λ z. inl (at ∙ z)) (λ r. inr (at ∙ r ∙ ap clock q)) (near_right cs p p right law)
 
-  unset_above : (p : Placed) (o : Option Clock) → option_map (λ a. clock_below max_skew a p) o ≡ None → o ≡ None
-  unset_above p None h = refl
-  unset_above p (Some c) h = absurd (false≢true (sym (ap is_some h)))
-
   none_near : (cs : List (Option Clock)) (d p : Placed) (n : ℕ) (o : Option ℕ) → place_in trace p ≡ o → ((j : ℕ) → j < length trace → get_or cs j None ≡ None → clock_within max_skew n trace (get_or trace j d) ≡ None)
       → near max_skew cs p o ≡ None → clock_by max_skew (clock_within max_skew n trace) p (option_map (λ j. get_or trace j d) o) ≡ None
   none_near cs d p n None q up h = absurd (false≢true (sym (ap is_some h)))
-  none_near cs d p n (Some j) q up h = ap (option_map (λ a. clock_below max_skew a p)) (up j (place_below trace p j q) (unset_above p (get_or cs j None) h))
+  none_near cs d p n (Some j) q up h = ap (option_map (λ a. clock_below max_skew a p)) (up j (place_below trace p j q) (hosted_none (λ a. clock_below max_skew a p) (get_or cs j None) h))
 
   -- where nothing is set any more, a clock that is not set is none
   none_within : (cs : List (Option Clock)) (d : Placed) → AreClosed max_skew trace (length trace) cs → (n k : ℕ) → k < length trace → get_or cs k None ≡ None → clock_within max_skew n trace (get_or trace k d) ≡ None
