@@ -1,55 +1,35 @@
 -- Batches with a number among the entries of a list.
-use Rattle.std.proofs.Common.{◌≡◌, ℕ, zero, suc, ◌+◌, ◌-◌, ◌^◌, ◌<◌, ◌≤◌, Bool, true, false, ◌&&◌, List, [], ◌∷◌, ◌++◌, map, length, get_or, Option, Some, None, refl, sym, ap, ◌∙◌, subst, arith, length-append, append_assoc, ℤ, pos, cond, nat_lt}
+use Rattle.std.proofs.Common.{◌≡◌, ℕ, zero, suc, ◌+◌, ◌-◌, ◌^◌, ◌<◌, ◌≤◌, Bool, true, false, List, [], ◌∷◌, ◌++◌, map, length, get_or, Option, Some, None, refl, sym, ap, ◌∙◌, subst, arith, length-append, append_assoc, ℤ, pos, cond, nat_lt}
 use Rattle.std.specs.Prelude.{slice_get, if◌then◌else◌}
 use Rattle.std.specs.Arc.{arc_value}
 use Rattle.std.specs.declared.sync.Arc.{Arc}
 use Rattle.std.specs.Global.{Global}
 use Rattle.std.specs.Option.{is_some, option_map_or, unwrap_or}
 use Rattle.std.specs.List.{list_any, position_or_len}
-use Rattle.std.proofs.lemmas.Bool.{false≢true, lt-ltb, and_parts}
+use Rattle.std.proofs.lemmas.Bool.{false≢true, lt-ltb}
 use Rattle.std.proofs.lemmas.List.Sums.{position_or_len_is}
+use Rattle.std.proofs.lemmas.List.Elements.{All-from_get_or}
 use Rattle.std.proofs.lemmas.List.Folds.{list_any_at, list_any_none}
 use Rattle.std.proofs.lemmas.List.{get_or_append_left, append-nil, length-map, map_push}
 use Rattle.std.proofs.lemmas.Option.{slice_get-get_or}
 use Rattle.sent_batches.specs.declared.keys.BatchKeys.{BatchKeys}
 use Rattle.jaeger_model.specs.declared.batch.Batch.{Batch}
 use Rattle.jaeger_model.specs.declared.batch.Process.{Process}
-use Rattle.jaeger_model.specs.Same.{same_number, same_process}
-use Rattle.jaeger_model.specs.SameLaws.{same_number-decides, same_process-decides}
 use Rattle.trace_model.specs.declared.entry.Entry.{Entry}
 use Rattle.trace_model.specs.declared.entry.Work.{Work}
 use Rattle.trace_model.specs.declared.entry.Work.TheVariants as brings
 use Rattle.trace_model.specs.Histories.{before_last}
 use Rattle.trace_model.specs.Works.{batch_brought}
-use Rattle.trace_model.specs.Resending.{is_sent_as, resends, sent_before, SentOnceAfter}
+use Rattle.trace_model.specs.Resending.{resends, sent_before, SentOnceAfter}
 use Rattle.trace_model.proofs.Admissions.{sent_nowhere}
 use Rattle.trace_model.proofs.LastEntries.{last_entry}
+use Rattle.trace_model.proofs.Lists.{map_agree}
+use Rattle.trace_model.proofs.Resent.{sent_as, as_sent, limit_not_sent}
 use Rattle.sent_batches.specs.Hashing.{hash_of, batch_hash}
 use Rattle.sent_batches.specs.Sent.{has_number, numbered_from, work_hash, hash_behind, is_behind, Sent, IsKept}
 use Rattle.row_places.specs.Leading.{LeadsTo}
 
 -- ---- batches that were sent as one another
-pub record IsSentAs (a b : Batch) : Type 0 where
-  pub numbered : is_some a.seq_no ≡ true
-  pub number : a.seq_no ≡ b.seq_no
-  pub process : a.process ≡ b.process
-
-pub sent_as : (a b : Batch) → is_sent_as a b ≡ true → IsSentAs a b
-sent_as a b e =
-    let first = and_parts (is_some a.seq_no) (same_number a.seq_no b.seq_no && same_process a.process b.process) e in
-    let second = and_parts (same_number a.seq_no b.seq_no) (same_process a.process b.process) first.1 in
-    record {
-      numbered = first.0;
-      number = (same_number-decides a.seq_no b.seq_no).0 second.0;
-      process = (same_process-decides a.process b.process).0 second.1;
-    }
-
-as_sent : (a b : Batch) → IsSentAs a b → is_sent_as a b ≡ true
-as_sent a b s =
-    ap (λ x. x && (same_number a.seq_no b.seq_no && same_process a.process b.process)) s.numbered
-    ∙ ap (λ x. x && same_process a.process b.process) ((same_number-decides a.seq_no b.seq_no).1 s.number)
-    ∙ (same_process-decides a.process b.process).1 s.process
-
 -- two works that a work resends resend one another
 pub resend_each_other : (w u v : Work) → resends w u ≡ true → resends w v ≡ true → resends u v ≡ true
 resend_each_other (brings.Batch a) (brings.Batch b) (brings.Batch c) e f =
@@ -148,12 +128,10 @@ pub behind_last : (keys : BatchKeys) (h : List Entry) (e : Entry) → hash_behin
 behind_last keys [] e = refl
 behind_last keys (d ∷ h) e = behind_last keys h e
 
-map_same : (f g : ℕ → ℕ) (ks : List ℕ) → ((r : ℕ) → r < length ks → f (get_or ks r 0) ≡ g (get_or ks r 0)) → map f ks ≡ map g ks
-map_same f g [] same = refl
-map_same f g (k ∷ ks) same = cc (same 0 (omega arith), map_same f g ks (λ r l. same (suc r) (omega arith)))
-
 pub hashes_same : (keys : BatchKeys) (h : List Entry) (e : Entry) → map (hash_behind keys (h ++ e ∷ [])) (numbered_from 0 h) ≡ map (hash_behind keys h) (numbered_from 0 h)
-hashes_same keys h e = map_same (hash_behind keys (h ++ e ∷ [])) (hash_behind keys h) (numbered_from 0 h) (λ r l. behind_same keys h e (get_or (numbered_from 0 h) r 0) (numbered_within h r l))
+hashes_same keys h e =
+    map_agree (hash_behind keys (h ++ e ∷ [])) (hash_behind keys h) (numbered_from 0 h)
+    (All-from_get_or (λ k. hash_behind keys (h ++ e ∷ []) k ≡ hash_behind keys h k) (numbered_from 0 h) 0 (λ r l. behind_same keys h e (get_or (numbered_from 0 h) r 0) (numbered_within h r l)))
 
 -- ---- no two were sent as one another
 any_false_at : {A : Type 0} (p : A → Bool) (xs : List A) (k : ℕ) (d : A) → list_any p xs ≡ false → k < length xs → p (get_or xs k d) ≡ false
@@ -176,20 +154,9 @@ pub brought_is : (w : Work) (b : Batch) → batch_brought w ≡ Some b → w ≡
 brought_is (brings.Batch a) b e = ap (λ x. brings.Batch x) (cc e)
 brought_is (brings.TraceLimit n) b e = absurd (cc e)
 
-pub nothing_sent : (h : List Entry) (e : Entry) → ((u : Work) → resends e.work u ≡ false) → None ≡ sent_before h e
-nothing_sent h e none = sym (sent_nowhere h e (list_any_none (λ (d : Entry). resends e.work d.work) h (λ k d l. none (get_or h k d).work)))
-
-pub limit_not_sent : (w : Work) → batch_brought w ≡ None → (u : Work) → resends w u ≡ false
-limit_not_sent (brings.Batch b) e u = absurd (cc e)
-limit_not_sent (brings.TraceLimit n) e (brings.Batch b) = refl
-limit_not_sent (brings.TraceLimit n) e (brings.TraceLimit m) = refl
-
-pub unnumbered_not_sent : (w : Work) (b : Batch) → batch_brought w ≡ Some b → b.seq_no ≡ None → (u : Work) → resends w u ≡ false
-unnumbered_not_sent (brings.TraceLimit n) b e none u = absurd (cc e)
-unnumbered_not_sent (brings.Batch a) b e none (brings.TraceLimit m) = refl
-unnumbered_not_sent (brings.Batch a) b e none (brings.Batch c) =
-    let same : a ≡ b = cc e in
-    ap (λ (n : Option ℤ). is_some n && (same_number a.seq_no c.seq_no && same_process a.process c.process)) (ap (λ (x : Batch). x.seq_no) same ∙ none)
+pub nothing_resent : (w : Work) → batch_brought w ≡ None → (u : Work) → resends w u ≡ false
+nothing_resent (brings.Batch b) e u = absurd (cc e)
+nothing_resent (brings.TraceLimit n) e u = limit_not_sent n u
 
 behind_is : (b : Batch) (h : List Entry) (i : ℕ) (d : Entry) → i < length h → is_behind b h i ≡ resends (brings.Batch b) (get_or h i d).work
 behind_is b [] i d l = absurd (omega arith)

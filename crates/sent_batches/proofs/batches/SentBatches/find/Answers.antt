@@ -4,25 +4,27 @@ use Rattle.std.specs.Option.{is_some}
 use Rattle.std.proofs.lemmas.List.{get_or-map, length-map, get_or_default}
 use Rattle.jaeger_model.specs.declared.batch.Process.{Process}
 use Rattle.trace_model.specs.declared.entry.Entry.{Entry}
+use Rattle.trace_model.specs.Resending.{resends}
 use Rattle.trace_model.specs.Works.{batch_brought}
+use Rattle.trace_model.proofs.Resent.{nothing_sent, unnumbered_not_sent}
 use Rattle.row_places.specs.Leading.{Found}
 use Rattle.sent_batches.specs.Hashing.{batch_hash}
 use Rattle.sent_batches.specs.Sent.{Sent, has_number, hash_behind, is_behind, AreBehind, numbered_from}
-use Rattle.sent_batches.proofs.Sending.{hash_is, batch_has, nothing_sent, limit_not_sent, unnumbered_not_sent, numbered_within, same_hash, found_some, found_none, brought_is}
+use Rattle.sent_batches.proofs.Sending.{hash_is, batch_has, nothing_resent, numbered_within, same_hash, found_some, found_none, brought_is}
 use Rattle.sent_batches.proofs.batches.SentBatches.find.Goals as goal
 
 pub returns-in_err-batch : goal.returns-in_err-batch
 returns-in_err-batch c =
     let none : batch_brought c.args.entry.now.work ≡ None = search rules in
     let result : c.from_residual.result ≡ None = search rules in
-    result ∙ nothing_sent (map arc_value c.args.entries.now) c.args.entry.now (limit_not_sent c.args.entry.now.work none)
+    result ∙ sym (nothing_sent (map arc_value c.args.entries.now) c.args.entry.now (nothing_resent c.args.entry.now.work none))
 
 pub returns-then-is_none : goal.returns-then-is_none
 returns-then-is_none c =
     let b = c.in_ok-batch.batch.now in
     let brought : batch_brought c.args.entry.now.work ≡ Some b = search rules in
     let none : b.seq_no ≡ None = search rules in
-    nothing_sent (map arc_value c.args.entries.now) c.args.entry.now (unnumbered_not_sent c.args.entry.now.work b brought none)
+    sym (nothing_sent (map arc_value c.args.entries.now) c.args.entry.now (λ u. ap (λ w. resends w u) (brought_is c.args.entry.now.work b brought) ∙ unnumbered_not_sent b none u))
 
 pub find-requires-clause-can_read : goal.find-requires-clause-can_read
 find-requires-clause-can_read c =
