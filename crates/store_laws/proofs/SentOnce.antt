@@ -1,16 +1,15 @@
 -- In a legal list no batch with a number stands twice, and how one that is handed in again is answered.
 use Rattle.std.proofs.Common.{◌≡◌, ℕ, suc, ◌+◌, ◌<◌, Bool, true, false, ◌&&◌, Some, None, List, [], ◌∷◌, ◌++◌, length, fold, refl, sym, ap, ◌∙◌, subst, append_assoc, arith, add-one, inl, inr, get_or, zero, ◌≤◌}
-use Rattle.std.specs.Prelude.{Result, Ok, Err, position, slice_get, nat_le, if◌then◌else◌}
+use Rattle.std.specs.Prelude.{Result, Ok, Err, position, nat_le, if◌then◌else◌}
 use Rattle.std.specs.Option.{is_some}
 use Rattle.std.specs.List.{list_any}
-use Rattle.std.proofs.lemmas.Bool.{false≢true, false_from_ne_true, leb-true, leb-false, and_parts, and_from, or_parts, or_from}
-use Rattle.std.proofs.lemmas.List.{append-nil}
+use Rattle.std.proofs.lemmas.Bool.{false≢true, false_from_ne_true, leb-true, leb-false, or_parts, or_from}
+use Rattle.std.proofs.lemmas.List.{append-nil, get_or_append_left}
 use Rattle.std.proofs.lemmas.List.Folds.{list_any-append, list_any_at}
 use Rattle.std.proofs.lemmas.List.Quantifiers.{position-Some}
 use Rattle.std.proofs.lemmas.List.Sums.{fold-append}
 use Rattle.jaeger_model.specs.declared.batch.Batch.{Batch}
 use Rattle.jaeger_model.specs.Same.{same_number, same_process}
-use Rattle.jaeger_model.specs.SameLaws.{same_number-decides, same_process-decides}
 use Rattle.trace_model.specs.declared.admission.Admission.{Admission}
 use Rattle.trace_model.specs.declared.admission.Admission.TheVariants.{Added, Resent}
 use Rattle.trace_model.specs.declared.entry.Entry.{Entry}
@@ -25,34 +24,22 @@ use Rattle.trace_model.specs.Refusals.{admission, admitted_anew, with_admitted, 
 use Rattle.trace_model.specs.WorkLaws.{same_work-decides}
 use Rattle.trace_model.specs.Works.{same_work}
 use Rattle.trace_model.specs.Places.{entry_at}
-use Rattle.trace_model.proofs.Admissions.{none_passes, IsAnswered, IsSaid, admission_says, admission_repeated, admission_anew, sent_nowhere}
+use Rattle.trace_model.proofs.Admissions.{none_passes, IsAnswered, IsSaid, admission_says, admission_repeated, admission_anew}
 use Rattle.trace_model.proofs.Legality.{legal_empty}
+use Rattle.trace_model.proofs.Lists.{split_at}
 use Rattle.trace_model.proofs.Prefixes.{prefix_self, prefix_trans}
+use Rattle.trace_model.proofs.Resent.{sent_as, as_sent, limit_not_sent, unnumbered_not_sent, nothing_sent}
 use Rattle.store_laws.specs.Submits.{StandsOnce}
 use Rattle.store_laws.proofs.LegalLists.{legal_snoc}
 use mathlib.Core.List.{IsPrefix}
 
 -- ---- batches of one process and number
--- the one has the number and the process of the other
-abbrev AreOne : Work → Work → Type 0
-AreOne (brings.Batch a) (brings.Batch b) = (a.seq_no ≡ b.seq_no) × (a.process ≡ b.process)
-AreOne v w = ⊥
-
-are_one : (v w : Work) → resends v w ≡ true → AreOne v w
-are_one (brings.Batch a) (brings.Batch b) e =
-    let parts = and_parts (is_some a.seq_no) _ e in
-    let same = and_parts (same_number a.seq_no b.seq_no) _ parts.1 in
-    ((same_number-decides a.seq_no b.seq_no).0 same.0, (same_process-decides a.process b.process).0 same.1)
-are_one (brings.Batch a) (brings.TraceLimit n) e = absurd (false≢true e)
-are_one (brings.TraceLimit m) (brings.Batch b) e = absurd (false≢true e)
-are_one (brings.TraceLimit m) (brings.TraceLimit n) e = absurd (false≢true e)
-
 -- a batch was sent as one exactly where it was sent as the other
 pub alike : (v w : Work) → resends v w ≡ true → (x : Work) → resends v x ≡ resends w x
 alike (brings.Batch a) (brings.Batch b) e (brings.Batch c) =
-    let o = are_one (brings.Batch a) (brings.Batch b) e in
-    ap (λ n. is_some n && (same_number n c.seq_no && same_process a.process c.process)) o.0
-    ∙ ap (λ p. is_some b.seq_no && (same_number b.seq_no c.seq_no && same_process p c.process)) o.1
+    let o = sent_as a b e in
+    ap (λ n. is_some n && (same_number n c.seq_no && same_process a.process c.process)) o.number
+    ∙ ap (λ p. is_some b.seq_no && (same_number b.seq_no c.seq_no && same_process p c.process)) o.process
 alike (brings.Batch a) (brings.Batch b) e (brings.TraceLimit n) = refl
 alike (brings.Batch a) (brings.TraceLimit n) e x = absurd (false≢true e)
 alike (brings.TraceLimit m) (brings.Batch b) e x = absurd (false≢true e)
@@ -60,10 +47,8 @@ alike (brings.TraceLimit m) (brings.TraceLimit n) e x = absurd (false≢true e)
 
 back_true : (v w : Work) → resends v w ≡ true → resends w v ≡ true
 back_true (brings.Batch a) (brings.Batch b) e =
-    let o = are_one (brings.Batch a) (brings.Batch b) e in
-    let numbered = (and_parts (is_some a.seq_no) _ e).0 in
-    and_from (is_some b.seq_no) _ (sym (ap is_some o.0) ∙ numbered)
-    (and_from (same_number b.seq_no a.seq_no) _ ((same_number-decides b.seq_no a.seq_no).1 (sym o.0)) ((same_process-decides b.process a.process).1 (sym o.1)))
+    let o = sent_as a b e in
+    as_sent b a (record { numbered = ap is_some (sym o.number) ∙ o.numbered; number = sym o.number; process = sym o.process })
 back_true (brings.Batch a) (brings.TraceLimit n) e = absurd (false≢true e)
 back_true (brings.TraceLimit m) (brings.Batch b) e = absurd (false≢true e)
 back_true (brings.TraceLimit m) (brings.TraceLimit n) e = absurd (false≢true e)
@@ -85,11 +70,6 @@ at_split : {X : Type 0} (front : List X) (x : X) (rest : List X) (d : X) → get
 at_split [] x rest d = refl
 at_split (y ∷ front) x rest d = at_split front x rest d
 
-in_front : {X : Type 0} (front rest : List X) (i : ℕ) (d : X) → i < length front → get_or (front ++ rest) i d ≡ get_or front i d
-in_front [] rest i d l = absurd (omega arith)
-in_front (y ∷ front) rest zero d l = refl
-in_front (y ∷ front) rest (suc i) d l = in_front front rest i d (omega arith)
-
 -- neither before nor behind
 only_there : (i n : ℕ) → (i < n → ⊥) → (n < i → ⊥) → i ≡ n
 only_there i n lt gt =
@@ -103,7 +83,7 @@ first_passed p front x rest none here = elim (position p (front ++ x ∷ rest)) 
   | None ↦ λ at. absurd (false≢true (sym (none_passed p front x rest (none_passes p (front ++ x ∷ rest) at)).1 ∙ here))
   | Some i ↦ λ at.
       let found = position-Some p (front ++ x ∷ rest) i x at in
-      let not_before : i < length front → ⊥ = λ l. false≢true (sym none ∙ list_any_at p front i x l (ap p (sym (in_front front (x ∷ rest) i x l)) ∙ found.1)) in
+      let not_before : i < length front → ⊥ = λ l. false≢true (sym none ∙ list_any_at p front i x l (ap p (sym (get_or_append_left front (x ∷ rest) x i l)) ∙ found.1)) in
       let not_behind : length front < i → ⊥ = λ l. false≢true (sym (found.2 (length front) l) ∙ (ap p (at_split front x rest x) ∙ here)) in
       ap (λ n. Some n) (only_there i (length front) not_before not_behind)
 ] refl
@@ -161,26 +141,11 @@ damaged_is_refused limits front d rest e l s other =
     ∙ ap (λ n. Err (Conflict n)) (sym (add-one (length front)))
 
 -- what was sent nowhere before is judged by its number and the limits
-nowhere : (limits : Limits) (h : List Entry) (e : Entry) → ((x : Work) → resends e.work x ≡ false) → admission limits h e ≡ admitted_anew limits h e
-nowhere limits h e never = admission_anew limits h e (sent_nowhere h e (none h))
-  where
-    none : (xs : List Entry) → is_sent xs e ≡ false
-    none [] = refl
-    none (x ∷ xs) = or_from (resends e.work x.work) _ (never x.work) (none xs)
-
-unnumbered_never : (b : Batch) → b.seq_no ≡ None → (x : Work) → resends (brings.Batch b) x ≡ false
-unnumbered_never b none (brings.Batch c) = ap (λ n. is_some n && (same_number n c.seq_no && same_process b.process c.process)) none
-unnumbered_never b none (brings.TraceLimit n) = refl
-
-limit_never : (n : ℕ) (x : Work) → resends (brings.TraceLimit n) x ≡ false
-limit_never n (brings.Batch c) = refl
-limit_never n (brings.TraceLimit m) = refl
-
 pub unnumbered_anew : (limits : Limits) (h : List Entry) (e : Entry) (b : Batch) → e.work ≡ brings.Batch b → b.seq_no ≡ None → admission limits h e ≡ admitted_anew limits h e
-unnumbered_anew limits h e b is none = nowhere limits h e (λ x. ap (λ w. resends w x) is ∙ unnumbered_never b none x)
+unnumbered_anew limits h e b is none = admission_anew limits h e (nothing_sent h e (λ x. ap (λ w. resends w x) is ∙ unnumbered_not_sent b none x))
 
 pub limit_anew : (limits : Limits) (h : List Entry) (e : Entry) (n : ℕ) → e.work ≡ brings.TraceLimit n → admission limits h e ≡ admitted_anew limits h e
-limit_anew limits h e n is = nowhere limits h e (λ x. ap (λ w. resends w x) is ∙ limit_never n x)
+limit_anew limits h e n is = admission_anew limits h e (nothing_sent h e (λ x. ap (λ w. resends w x) is ∙ limit_not_sent n x))
 
 -- ---- entries that are handed in
 -- one more keeps the history legal, and its beginning
@@ -199,14 +164,9 @@ later limits h (e ∷ es) l =
     (last.0, prefix_trans h (behind limits h e) (fold (behind limits) (behind limits h e) es) next.1 last.1)
 
 -- the list in front of an entry, and the list behind it
-split_at : (h : List Entry) (n : ℕ) (d : Entry) → slice_get h n ≡ Some d → (front : List Entry) × (rest : List Entry) × (h ≡ front ++ d ∷ rest)
-split_at [] n d e = absurd cc
-split_at (x ∷ xs) zero d e = ([], xs, cc e)
-split_at (x ∷ xs) (suc n) d e = let r = split_at xs n d e in (x ∷ r.0, r.1, cc (r.2))
-
 split_place : (h : List Entry) (place : ℕ) (d : Entry) → entry_at h place ≡ Some d → (front : List Entry) × (rest : List Entry) × (h ≡ front ++ d ∷ rest)
 split_place h zero d e = absurd cc
-split_place h (suc n) d e = split_at h n d e
+split_place h (suc n) d e = let r = split_at h n d e in (r.0, r.1, r.2)
 
 once_by : (limits : Limits) (h front : List Entry) (d : Entry) (rest : List Entry) (e : Entry) → h ≡ front ++ d ∷ rest → IsLegal limits h → AnswersFor d e → resends e.work d.work ≡ true → StandsOnce h e
 once_by limits h front d rest e whole legal answers s =
