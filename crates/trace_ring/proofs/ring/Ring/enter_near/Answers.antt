@@ -2,11 +2,13 @@ use Rattle.std.proofs.Common.{◌<◌, ◌∙◌, ℕ, arith, length, List, ◌�
 use Rattle.std.proofs.lemmas.List.{get_or_push}
 use Rattle.std.specs.Prelude.{if◌then◌else◌}
 use Rattle.jaeger_model.specs.declared.ids.TraceId.{TraceId}
+use Rattle.jaeger_model.specs.Parents.{same_trace}
 use Rattle.id_table.specs.Rows.{no_id, id_at}
 use Rattle.trace_model.specs.Rings.{holds}
+use Rattle.trace_model.proofs.Admissions.{none_passes}
 use Rattle.trace_ring.specs.Windows.{Window}
 use Rattle.trace_ring.specs.Numbers.{window, IsRing}
-use Rattle.trace_ring.proofs.Ringing.{row_is, first_seen, holds_some, holds_none, window_more, ring_learned}
+use Rattle.trace_ring.proofs.Ringing.{row_is, first_seen, holds_some, window_more, ring_learned}
 use Rattle.trace_ring.proofs.ring.Ring.enter_near.Goals as goal
 
 pub invariant_of-self-in-Added : goal.invariant_of-self-in-Added
@@ -41,7 +43,7 @@ returns-in-Added-clause-ids c =
 pub returns-in-Added-clause-seen : goal.returns-in-Added-clause-seen
 returns-in-Added-clause-seen c =
     let added = c.in-Added.ensures.entered in
-    let absent = ap (λ (w : Window). holds w.seen c.args.trace) (sym c.self.view_is) ∙ holds_none c.args.trace c.self.inside.table.ids added.0 in
+    let absent = ap (λ (w : Window). holds w.seen c.args.trace) (sym c.self.view_is) ∙ none_passes (same_trace c.args.trace) c.self.inside.table.ids added.0 in
     added.2 ∙ ap (λ (w : Window). w.seen ++ c.args.trace ∷ []) c.self.view_is
     ∙ sym (ap (λ b. if b then c.args.self.now.seen else (c.args.self.now.seen ++ c.args.trace ∷ [])) absent)
 
