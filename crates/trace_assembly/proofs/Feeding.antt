@@ -12,7 +12,7 @@ use Rattle.trace_model.specs.declared.entry.Entry.{Entry}
 use Rattle.trace_model.specs.Events.{Event, came, limited, event_map, without_limits}
 use Rattle.trace_model.specs.Histories.{events}
 use Rattle.trace_model.specs.Rings.{holds, newest, arrive, LimitedRing, limited_ring}
-use Rattle.trace_model.specs.Showing.{trace_of, ring, limit_after, shown, of_trace, spans_of_trace}
+use Rattle.trace_model.specs.Showing.{trace_of, ring, shown, of_trace, spans_of_trace}
 use Rattle.trace_model.proofs.Shows.{by_pushes, in_ring, in_ring_by, ring_came, ring_limited, limited_ring-mapped, shown_push, shown_by_push}
 use Rattle.trace_model.proofs.Traces.{same_is, filter_within, spans_gone, arrived}
 use Rattle.trace_ring.specs.Windows.{opened_by}
@@ -61,7 +61,7 @@ shown_spots_push_law n es e t =
       | false ↦ refl
     ]
 
-events-push : (es : List (Event (Spot × Placed))) (e : Event (Spot × Placed)) → events_in (es ++ e ∷ []) ≡ events_in es ++ event_map span_of e ∷ []
+pub events-push : (es : List (Event (Spot × Placed))) (e : Event (Spot × Placed)) → events_in (es ++ e ∷ []) ≡ events_in es ++ event_map span_of e ∷ []
 events-push es e = map_push (event_map span_of) es e
 
 spans_of_event : (e : Event (Spot × Placed)) → spans_in (without_limits (e ∷ [])) ≡ without_limits (event_map span_of e ∷ [])
@@ -114,17 +114,16 @@ gone (Some g) old r spots t split out none = elim (same_trace t g) as (λ s. sam
   | false ↦ λ other. none (ap (λ x. holds x t) split ∙ ap (λ b. b || holds r t) other ∙ out)
 ] refl
 
-pub after_arrival_law : (n limit : ℕ) (es : List (Event (Spot × Placed))) (l : Spot × Placed) (left : Option TraceId) (old new : List TraceId) (spots : TraceId → List Spot)
-    → limit ≡ limit_after n (events_in es) → old ≡ ring n (events_in es) → new ≡ arrive limit old (trace_of l.1) → opened_by old (trace_of l.1) ≡ option_to_list left ++ new → IfSome left (λ gone. holds new gone ≡ false)
-    → ((t : TraceId) → spots t ≡ shown_spots n es t) → (t : TraceId) → after_arrival l left spots t ≡ shown_spots n (es ++ came l ∷ []) t
-after_arrival_law n limit es l left old new spots now_limit was is split out same t =
+pub comes_in_law : (n limit : ℕ) (es : List (Event (Spot × Placed))) (l : Spot × Placed) (left : Option TraceId) (old new : List TraceId) (spots : TraceId → List Spot)
+    → ComesIn n limit es l left old new → AreShown n es spots → AreShown n (es ++ came l ∷ []) (after_arrival l left spots)
+comes_in_law n limit es l left old new spots comes same t =
     let now : new ≡ ring n (events_in (es ++ came l ∷ [])) =
-    is ∙ (λ i. arrive (now_limit i) (was i) (trace_of l.1)) ∙ sym (ring_came n (events_in es) l.1) ∙ ap (ring n) (sym (events-push es (came l))) in
-    let own : holds new (trace_of l.1) ≡ true = ap (λ r. holds r (trace_of l.1)) is ∙ arrived limit old (trace_of l.1) in
+    comes.after ∙ (λ i. arrive (comes.limit_is i) (comes.before i) (trace_of l.1)) ∙ sym (ring_came n (events_in es) l.1) ∙ ap (ring n) (sym (events-push es (came l))) in
+    let own : holds new (trace_of l.1) ≡ true = ap (λ r. holds r (trace_of l.1)) comes.after ∙ arrived limit old (trace_of l.1) in
     elim (holds new t) as (λ b. holds new t ≡ b → after_arrival l left spots t ≡ (if b then with_spot (trace_of l.1) l.0 (shown_spots n es) t else [])) [
-      | true ↦ λ held. ap (λ k. if same_trace t (trace_of l.1) then k ++ l.0 ∷ [] else k) (kept left new spots t out held ∙ same t)
+      | true ↦ λ held. ap (λ k. if same_trace t (trace_of l.1) then k ++ l.0 ∷ [] else k) (kept left new spots t comes.gone held ∙ same t)
       | false ↦ λ lost.
-          let none : after_leaving left spots t ≡ [] = gone left (opened_by old (trace_of l.1)) new spots t split lost (λ e. same t ∙ shown_spots-gone n es t (ap (λ r. holds r t) (sym was) ∙ before_too old (trace_of l.1) t e)) in
+          let none : after_leaving left spots t ≡ [] = gone left (opened_by old (trace_of l.1)) new spots t comes.split lost (λ e. same t ∙ shown_spots-gone n es t (ap (λ r. holds r t) (sym comes.before) ∙ before_too old (trace_of l.1) t e)) in
           elim (same_trace t (trace_of l.1)) as (λ s. same_trace t (trace_of l.1) ≡ s → (if s then after_leaving left spots t ++ l.0 ∷ [] else after_leaving left spots t) ≡ []) [
             | true ↦ λ e. absurd (false≢true (sym lost ∙ ap (holds new) (same_is t (trace_of l.1) e) ∙ own))
             | false ↦ λ _. none
@@ -134,21 +133,13 @@ after_arrival_law n limit es l left old new spots now_limit was is split out sam
     ∙ sym (shown_spots_push_law n es (came l) t)
 
 -- where the spots of each trace are those of its shown spans, hiding the traces that leave at a limit keeps them so
-pub after_limit_law : (n m : ℕ) (es : List (Event (Spot × Placed))) (old new : List TraceId) (spots : TraceId → List Spot)
-    → old ≡ ring n (events_in es) → new ≡ newest m old → ((t : TraceId) → spots t ≡ shown_spots n es t) → (t : TraceId) → without_left old new spots t ≡ shown_spots n (es ++ limited m ∷ []) t
-after_limit_law n m es old new spots was is same t =
-    let now : new ≡ ring n (events_in (es ++ limited m ∷ [])) = is ∙ ap (newest m) was ∙ sym (ring_limited n (events_in es) m) ∙ ap (ring n) (sym (events-push es (limited m))) in
+pub lowers_law : (n m : ℕ) (es : List (Event (Spot × Placed))) (old new : List TraceId) (spots : TraceId → List Spot)
+    → Lowers n m es old new → AreShown n es spots → AreShown n (es ++ limited m ∷ []) (without_left old new spots)
+lowers_law n m es old new spots lowers same t =
+    let now : new ≡ ring n (events_in (es ++ limited m ∷ [])) = lowers.after ∙ ap (newest m) lowers.before ∙ sym (ring_limited n (events_in es) m) ∙ ap (ring n) (sym (events-push es (limited m))) in
     elim (holds new t) as (λ b. (if holds old t && not b then [] else spots t) ≡ (if b then shown_spots n es t else [])) [
       | true ↦ elim (holds old t) as (λ a. (if a && false then [] else spots t) ≡ shown_spots n es t) [ true ↦ same t | false ↦ same t ]
-      | false ↦ elim (holds old t) as (λ a. holds old t ≡ a → (if a && true then [] else spots t) ≡ []) [ true ↦ λ _. refl | false ↦ λ e. same t ∙ shown_spots-gone n es t (ap (λ r. holds r t) (sym was) ∙ e) ] refl
+      | false ↦ elim (holds old t) as (λ a. holds old t ≡ a → (if a && true then [] else spots t) ≡ []) [ true ↦ λ _. refl | false ↦ λ e. same t ∙ shown_spots-gone n es t (ap (λ r. holds r t) (sym lowers.before) ∙ e) ] refl
     ]
     ∙ ap (λ r. if holds r t then shown_spots n es t else []) now
     ∙ sym (shown_spots_push_law n es (limited m) t)
-
-pub comes_in_law : (n limit : ℕ) (es : List (Event (Spot × Placed))) (l : Spot × Placed) (left : Option TraceId) (old new : List TraceId) (spots : TraceId → List Spot)
-    → ComesIn n limit es l left old new → AreShown n es spots → AreShown n (es ++ came l ∷ []) (after_arrival l left spots)
-comes_in_law n limit es l left old new spots r same = after_arrival_law n limit es l left old new spots r.limit_is r.before r.after r.split r.gone same
-
-pub lowers_law : (n m : ℕ) (es : List (Event (Spot × Placed))) (old new : List TraceId) (spots : TraceId → List Spot)
-    → Lowers n m es old new → AreShown n es spots → AreShown n (es ++ limited m ∷ []) (without_left old new spots)
-lowers_law n m es old new spots r same = after_limit_law n m es old new spots r.before r.after same
