@@ -1,14 +1,14 @@
 -- Ring and spots follow the events.
 use Rattle.std.proofs.Common.{◌≡◌, ℕ, ◌+◌, ◌<◌, ◌≤◌, false, List, [], ◌∷◌, ◌++◌, map, length, Some, None, refl, sym, ap, subst, ◌∙◌, arith}
-use Rattle.std.proofs.lemmas.List.{map_push, take_all}
-use Rattle.std.specs.Prelude.{Option, option_map, IfSome, option_to_list, if◌then◌else◌}
+use Rattle.std.proofs.lemmas.List.{take_all}
+use Rattle.std.specs.Prelude.{Option, option_map, IfSome, option_to_list}
 use Rattle.jaeger_model.specs.declared.ids.TraceId.{TraceId}
 use Rattle.jaeger_model.specs.declared.placed.Placed.{Placed}
 use Rattle.jaeger_model.specs.declared.batch.Batch.{Batch}
 use Rattle.jaeger_model.specs.Parents.{placed}
 use Rattle.trace_model.specs.declared.entry.Entry.{Entry}
 use Rattle.trace_model.specs.declared.entry.Work.TheVariants as brings
-use Rattle.trace_model.specs.Events.{Event, came, limited, event_map}
+use Rattle.trace_model.specs.Events.{Event, came, limited}
 use Rattle.trace_model.specs.Rings.{holds, newest, arrive}
 use Rattle.trace_model.specs.Showing.{trace_of, ring, limit_after, spans_of_trace, if_any}
 use Rattle.trace_model.specs.Histories.{events}
@@ -19,14 +19,11 @@ use Rattle.trace_ring.specs.Windows.{Window, opened_by}
 use Rattle.trace_assembly.specs.declared.spot.Spot.{Spot}
 use Rattle.trace_assembly.specs.Rows.{with_spot}
 use Rattle.trace_assembly.specs.Located.{span_at, located_events, located_in, located_by, located_upto, events_in, shown_spots, after_leaving, without_left}
-use Rattle.trace_assembly.proofs.Feeding.{after_arrival_law, after_limit_law, spans_at_shown_law}
+use Rattle.trace_assembly.proofs.Feeding.{events-push, comes_in_law, lowers_law, spans_at_shown_law}
 use Rattle.trace_assembly.proofs.Places.{located_push_law, upto_none, upto_all}
 use Rattle.journal_traces.specs.Standing.{spans_named, trace_named}
 use Rattle.journal_traces.proofs.Spots.{named_is}
 use Rattle.span_store.specs.Kept.{Follows, IsWithin}
-
-events-push : (es : List (Event (Spot × Placed))) (e : Event (Spot × Placed)) → events_in (es ++ e ∷ []) ≡ events_in es ++ event_map (λ (l : Spot × Placed). l.1) e ∷ []
-events-push es e = map_push (event_map (λ (l : Spot × Placed). l.1)) es e
 
 -- the ring of any events is within its limit
 pub follows_within : (n : ℕ) (es : List (Event (Spot × Placed))) (newest : Window) (spots : TraceId → List Spot) → Follows n es newest spots → IsWithin newest
@@ -53,7 +50,8 @@ follows_more n es spot p own left old new spots spots' f same steady is opened g
       ring = ring_more n (events_in es) p old.ids new.ids f.ring (is' ∙ ap (λ k. arrive k old.ids (trace_of p)) f.limit) ∙ ap (ring n) push;
       spots = λ t.
           changed t ∙ ap (λ o. with_spot o spot (after_leaving left spots) t) (sym same)
-          ∙ after_arrival_law n old.limit es (spot, p) left old.ids new.ids spots f.limit f.ring is' (ap (opened_by old.ids) same ∙ opened) gone f.spots t;
+          ∙ comes_in_law n old.limit es (spot, p) left old.ids new.ids spots
+          (record { limit_is = f.limit; before = f.ring; after = is'; split = ap (opened_by old.ids) same ∙ opened; gone = gone }) f.spots t;
     }
 
 -- ---- the spans of one batch, one by one
@@ -79,7 +77,7 @@ follows_limit n h e m set old new spots spots' f limit_is is changed =
     subst (λ xs. Follows n xs new spots') (sym all) (record {
       limit = limit_is ∙ sym (limit_limited n (events_in es) m) ∙ ap (limit_after n) push;
       ring = ring_fewer n (events_in es) m old.ids new.ids f.ring is ∙ ap (ring n) push;
-      spots = λ t. changed t ∙ after_limit_law n m es old.ids new.ids spots f.ring is f.spots t;
+      spots = λ t. changed t ∙ lowers_law n m es old.ids new.ids spots (record { before = f.ring; after = is }) f.spots t;
     })
 
 -- ---- what the spots of a trace name
