@@ -13,6 +13,7 @@ use Rattle.jaeger_model.specs.declared.placed.Placed.{Placed}
 use Rattle.jaeger_model.specs.Tags.{tag_text}
 use Rattle.jaeger_model.specs.Texts.{same_text}
 use Rattle.trace_model.specs.Searching.{tag_matches, has_tag, tags_of}
+use Rattle.trace_model.proofs.Lists.{each_append, each_front, each_behind}
 use Rattle.arrival_journal.specs.Tagging.{tag_place, bit_of, with_tag, fields_of, own_tags, bits_of}
 use Rattle.journal_traces.specs.Pruned.{is_marked}
 use Rattle.find_traces.proofs.Wanting.{bit_own}
@@ -34,19 +35,6 @@ each_set b [] = tt
 each_set b (t ∷ ts) = (set_still (with_tag b t) ts (tag_place t.key (tag_text t.value)) (bit_own b (tag_place t.key (tag_text t.value))), each_set (with_tag b t) ts)
 
 -- ---- those of each span, of its process and of its logs
-module _ (P : Tag → Type 0) where
-  in_front : (xs ys : List Tag) → AllByRecursion P (xs ++ ys) → AllByRecursion P xs
-  in_front [] ys all = tt
-  in_front (x ∷ xs) ys all = (all.0, in_front xs ys all.1)
-
-  behind : (xs ys : List Tag) → AllByRecursion P (xs ++ ys) → AllByRecursion P ys
-  behind [] ys all = all
-  behind (x ∷ xs) ys all = behind xs ys all.1
-
-  joined : (xs ys : List Tag) → AllByRecursion P xs → AllByRecursion P ys → AllByRecursion P (xs ++ ys)
-  joined [] ys a b = b
-  joined (x ∷ xs) ys a b = (a.0, joined xs ys a.1 b)
-
 -- the bit of each tag that the span of this process shows is set
 abbrev pub AreSet : ℕ → Process → Span → Type 0
 AreSet bits o s = AllByRecursion (IsSet bits) (tags_of (record { process = o; span = s }))
@@ -54,16 +42,16 @@ AreSet bits o s = AllByRecursion (IsSet bits) (tags_of (record { process = o; sp
 each_span : (bits : ℕ) (o : Process) (ss : List Span) → AllByRecursion (IsSet bits) o.tags → AllByRecursion (IsSet bits) (flat_map own_tags ss) → AllByRecursion (AreSet bits o) ss
 each_span bits o [] a b = tt
 each_span bits o (s ∷ ss) a b =
-    let own = in_front (IsSet bits) (own_tags s) (flat_map own_tags ss) b in
-    let first = joined (IsSet bits) s.tags o.tags (in_front (IsSet bits) s.tags (fields_of s.logs) own) a in (
-      joined (IsSet bits) (s.tags ++ o.tags) (fields_of s.logs) first (behind (IsSet bits) s.tags (fields_of s.logs) own),
-      each_span bits o ss a (behind (IsSet bits) (own_tags s) (flat_map own_tags ss) b),
+    let own = each_front (IsSet bits) (own_tags s) (flat_map own_tags ss) b in
+    let first = each_append (IsSet bits) s.tags o.tags (each_front (IsSet bits) s.tags (fields_of s.logs) own) a in (
+      each_append (IsSet bits) (s.tags ++ o.tags) (fields_of s.logs) first (each_behind (IsSet bits) s.tags (fields_of s.logs) own),
+      each_span bits o ss a (each_behind (IsSet bits) (own_tags s) (flat_map own_tags ss) b),
     )
 
 pub all_set : (b : Batch) → AllByRecursion (AreSet (bits_of b) b.process) b.spans
 all_set b =
     let each = each_set 0 (b.process.tags ++ flat_map own_tags b.spans) in
-    each_span (bits_of b) b.process b.spans (in_front (IsSet (bits_of b)) b.process.tags (flat_map own_tags b.spans) each) (behind (IsSet (bits_of b)) b.process.tags (flat_map own_tags b.spans) each)
+    each_span (bits_of b) b.process b.spans (each_front (IsSet (bits_of b)) b.process.tags (flat_map own_tags b.spans) each) (each_behind (IsSet (bits_of b)) b.process.tags (flat_map own_tags b.spans) each)
 
 -- ---- what matches is marked
 matching_place : (asked : List ℕ × List ℕ) (t : Tag) → tag_matches asked t ≡ true → tag_place t.key (tag_text t.value) ≡ tag_place asked.0 asked.1

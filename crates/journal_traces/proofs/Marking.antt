@@ -1,11 +1,11 @@
 -- The marks of the traces that a search by a service looks at.
-use Rattle.std.proofs.Common.{◌≡◌, ℕ, zero, suc, ◌+◌, ◌-◌, ◌<◌, lt-ltb, ◌≤◌, Bool, true, false, ◌||◌, ◌&&◌, cond, List, [], ◌∷◌, ◌++◌, map, length, take, get_or, refl, sym, ap, ◌∙◌, arith, Some, None}
-use Rattle.std.specs.Prelude.{filter, slice_get, if◌then◌else◌, not, Option}
-use Rattle.std.specs.List.{list_any, position, position_or_len}
+use Rattle.std.proofs.Common.{◌≡◌, ℕ, zero, suc, ◌+◌, ◌-◌, ◌<◌, ◌≤◌, Bool, true, false, ◌||◌, ◌&&◌, cond, List, [], ◌∷◌, ◌++◌, map, length, take, get_or, refl, sym, ap, ◌∙◌, arith, Some, None}
+use Rattle.std.specs.Prelude.{filter, slice_get, not, Option}
+use Rattle.std.specs.List.{list_any, position}
 use Rattle.std.proofs.Math.ListN.{set}
 use Rattle.std.proofs.lemmas.Bool.{false≢true, or_parts}
-use Rattle.std.proofs.lemmas.List.{append-nil, take_more, take_all, flat_map_more, map_push}
-use Rattle.std.proofs.lemmas.List.Elements.{filter-append, filter_more}
+use Rattle.std.proofs.lemmas.List.{append-nil, take_all, flat_map_more, map_push}
+use Rattle.std.proofs.lemmas.List.Elements.{filter_more}
 use Rattle.std.proofs.lemmas.List.Folds.{list_any-append}
 use Rattle.std.proofs.lemmas.List.Quantifiers.{position-Some}
 use Rattle.std.proofs.lemmas.Option.{slice_get-get_or}
@@ -18,9 +18,9 @@ use Rattle.jaeger_model.specs.Parents.{same_trace}
 use Rattle.trace_model.specs.declared.entry.Entry.{Entry}
 use Rattle.trace_model.specs.Rings.{holds}
 use Rattle.trace_model.specs.Showing.{ring}
+use Rattle.trace_model.proofs.Admissions.{none_passes}
 use Rattle.trace_model.proofs.Traces.{same_is, same_self}
 use Rattle.trace_ring.specs.Windows.{NoneTwice}
-use Rattle.trace_assembly.specs.declared.spot.Spot.{Spot}
 use Rattle.trace_assembly.specs.Rows.{is_of}
 use Rattle.trace_assembly.proofs.Written.{same_swap}
 use Rattle.journal_traces.specs.Picked.{reaches, meets, met, met_at, met_along, same_before}
@@ -36,25 +36,6 @@ placed_at : (r : List TraceId) (t : TraceId) (place : ℕ) → position (same_tr
 placed_at r t place e =
     let w = position-Some (same_trace t) r place t e in
     slice_get-get_or r place t w.0 ∙ ap Some (sym (same_is t (get_or r place t) w.1))
-
-found_before : (r : List TraceId) (t : TraceId) → holds r t ≡ true → position_or_len (same_trace t) r < length r
-found_before [] t h = absurd (false≢true h)
-found_before (x ∷ xs) t h = elim (same_trace t x) as (λ b. (b || holds xs t) ≡ true → cond (not b) (1 + position_or_len (same_trace t) xs) 0 < suc (length xs)) [
-  | true ↦ λ _. omega arith
-  | false ↦ λ k. let rest = found_before xs t k in omega arith
-] h
-
-position_none : (r : List TraceId) (t : TraceId) → position (same_trace t) r ≡ None → holds r t ≡ false
-position_none r t e = elim (holds r t) as (λ b. holds r t ≡ b → b ≡ false) [
-  | true ↦ λ h.
-      let test = lt-ltb (position_or_len (same_trace t) r) (length r) (found_before r t h) in
-      let there : position (same_trace t) r ≡ Some (position_or_len (same_trace t) r) = ap (λ b. cond b (Some (position_or_len (same_trace t) r)) None) test in
-      absurd (cc (sym e ∙ there))
-  | false ↦ λ _. refl
-] refl
-
-pub place_below : (r : List TraceId) (t : TraceId) (place : ℕ) → position (same_trace t) r ≡ Some place → place < length r
-place_below r t place e = (position-Some (same_trace t) r place t e).0
 
 -- ---- one more trace is marked
 pub or_same : (b : Bool) → b ≡ (b || false)
@@ -94,7 +75,7 @@ marked_put p r t place marks once e before = ap (λ l. set l place true) before 
 
 -- a trace that is not in the ring changes nothing
 pub marked_absent : (p : TraceId → Bool) (r : List TraceId) (t : TraceId) → position (same_trace t) r ≡ None → map p r ≡ map (λ u. p u || same_trace u t) r
-marked_absent p r t e = unmarked p r t (position_none r t e)
+marked_absent p r t e = unmarked p r t (none_passes (same_trace t) r e)
 
 -- ---- one more of the spans
 pub marked_none : (p : TraceId → Bool) (r : List TraceId) → map p r ≡ map (λ u. p u || false) r
@@ -170,12 +151,9 @@ mark_read p r marks i d b le same = ap (λ l. get_or l i b) same ∙ read r i le
     read (x ∷ xs) zero le = refl
     read (x ∷ xs) (suc i) le = read xs i (omega arith)
 
-module _ (f : TraceId → List Spot) (p : TraceId → Bool) (r : List TraceId) (i : ℕ) (d : TraceId) (le : i < length r) where
-  pick_more : filter p (take (i + 1) r) ≡ filter p (take i r) ++ cond (p (get_or r i d)) (get_or r i d ∷ []) []
-  pick_more = ap (filter p) (take_more r i d le) ∙ filter-append p (take i r) (get_or r i d ∷ [])
-
+module _ {A B : Type 0} (f : A → B) (p : A → Bool) (r : List A) (i : ℕ) (d : A) (le : i < length r) where
   pub picked : p (get_or r i d) ≡ true → map f (filter p (take (i + 1) r)) ≡ map f (filter p (take i r)) ++ f (get_or r i d) ∷ []
-  picked e = ap (map f) (pick_more ∙ ap (λ b. filter p (take i r) ++ cond b (get_or r i d ∷ []) []) e) ∙ map_push f (filter p (take i r)) (get_or r i d)
+  picked e = ap (map f) (filter_more p r i d le ∙ ap (λ b. filter p (take i r) ++ cond b (get_or r i d ∷ []) []) e) ∙ map_push f (filter p (take i r)) (get_or r i d)
 
   pub passed : p (get_or r i d) ≡ false → map f (filter p (take (i + 1) r)) ≡ map f (filter p (take i r))
-  passed e = ap (map f) (pick_more ∙ ap (λ b. filter p (take i r) ++ cond b (get_or r i d ∷ []) []) e ∙ append-nil (filter p (take i r)))
+  passed e = ap (map f) (filter_more p r i d le ∙ ap (λ b. filter p (take i r) ++ cond b (get_or r i d ∷ []) []) e ∙ append-nil (filter p (take i r)))

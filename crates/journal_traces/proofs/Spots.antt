@@ -1,10 +1,9 @@
 -- The spans that spots name, one by one.
-use Rattle.std.proofs.Common.{◌≡◌, ℕ, ℤ, zero, suc, ◌+◌, ◌<◌, Bool, true, false, ◌||◌, cond, List, [], ◌∷◌, ◌++◌, map, length, take, get_or, append_assoc, refl, sym, ap, ◌∙◌, Some, None, Option}
+use Rattle.std.proofs.Common.{◌≡◌, ℕ, ℤ, zero, suc, ◌+◌, ◌<◌, Bool, true, false, ◌||◌, List, [], ◌∷◌, ◌++◌, map, length, take, get_or, append_assoc, refl, sym, ap, ◌∙◌, Some, None, Option}
 use denote.Ref.{Bor}
 use Rattle.std.specs.Prelude.{pos, slice_get, slice_index_or, filter, if◌then◌else◌, flat_map}
 use Rattle.std.specs.List.{list_any, cons_option}
-use Rattle.std.proofs.lemmas.List.{append-nil, take_more, map_push}
-use Rattle.std.proofs.lemmas.List.Elements.{filter-append}
+use Rattle.std.proofs.lemmas.List.{append-nil}
 use Rattle.std.specs.Option.{option_copied, option_and_then}
 use Rattle.std.specs.Slice.{IsItemAt}
 use Rattle.jaeger_model.specs.declared.ids.TraceId.{TraceId}
@@ -24,10 +23,12 @@ use Rattle.arrival_journal.proofs.Places.{lent_item}
 use Rattle.jaeger_model.proofs.Referred.{trace_stays}
 use Rattle.trace_assembly.specs.declared.spot.Spot.{Spot}
 use Rattle.trace_assembly.specs.Located.{span_at}
+use Rattle.trace_assembly.proofs.Lists.{map_filter}
 use Rattle.trace_model.specs.Seeing.{placed_by_its_entry}
 use Rattle.call_links.specs.Seen.{links_in}
 use Rattle.journal_traces.specs.Standing.{batch_at, spans_named, traces_named}
 use Rattle.journal_traces.proofs.Adopting.{start-adopted}
+use Rattle.journal_traces.proofs.Marking.{picked, passed}
 
 pub named_is : (h : List Entry) (ss : List Spot) (ps : List Placed) → map (span_at h) ss ≡ map Some ps → spans_named h ss ≡ ps
 named_is h [] [] e = refl
@@ -137,11 +138,8 @@ links_chosen e l ts = ap counted (calls_chosen e l ts)
 
 -- ---- traces that pass a test, one by one
 module _ (w : List Placed → Bool) (f : TraceId → List Placed) (ids : List TraceId) (i : ℕ) (d : TraceId) (le : i < length ids) where
-  filter_more : filter w (map f (take (i + 1) ids)) ≡ filter w (map f (take i ids)) ++ cond (w (f (get_or ids i d))) (f (get_or ids i d) ∷ []) []
-  filter_more = ap (filter w) (ap (map f) (take_more ids i d le) ∙ map_push f (take i ids) (get_or ids i d)) ∙ filter-append w (map f (take i ids)) (f (get_or ids i d) ∷ [])
-
   pub kept_more : w (f (get_or ids i d)) ≡ true → filter w (map f (take (i + 1) ids)) ≡ filter w (map f (take i ids)) ++ f (get_or ids i d) ∷ []
-  kept_more e = filter_more ∙ ap (λ b. filter w (map f (take i ids)) ++ cond b (f (get_or ids i d) ∷ []) []) e
+  kept_more e = sym (map_filter f w (take (i + 1) ids)) ∙ picked f (λ t. w (f t)) ids i d le e ∙ ap (λ ts. ts ++ f (get_or ids i d) ∷ []) (map_filter f w (take i ids))
 
   pub left_out : w (f (get_or ids i d)) ≡ false → filter w (map f (take (i + 1) ids)) ≡ filter w (map f (take i ids))
-  left_out e = filter_more ∙ ap (λ b. filter w (map f (take i ids)) ++ cond b (f (get_or ids i d) ∷ []) []) e ∙ append-nil (filter w (map f (take i ids)))
+  left_out e = sym (map_filter f w (take (i + 1) ids)) ∙ passed f (λ t. w (f t)) ids i d le e ∙ map_filter f w (take i ids)

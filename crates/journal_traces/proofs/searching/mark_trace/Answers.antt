@@ -1,5 +1,6 @@
 use Rattle.std.proofs.Common.{◌∙◌, sym, arith, ◌<◌, length}
-use Rattle.journal_traces.proofs.Marking.{marked_put, marked_absent, place_below}
+use Rattle.trace_ring.proofs.Ringing.{row_within}
+use Rattle.journal_traces.proofs.Marking.{marked_put, marked_absent}
 use Rattle.journal_traces.proofs.searching.mark_trace.Goals as goal
 
 pub returns-in-Some : goal.returns-in-Some
@@ -10,5 +11,5 @@ returns-in_default c = λ p before. before ∙ marked_absent p c.args.ring.now.i
 
 pub bounds-marks-place : goal.bounds-marks-place
 bounds-marks-place c =
-    let below : c.in-Some.place < length c.args.ring.now.ids = place_below c.args.ring.now.ids c.args.trace c.in-Some.place (sym c.in-Some.ensures) in
+    let below : c.in-Some.place < length c.args.ring.now.ids = row_within c.args.trace c.args.ring.now.ids c.in-Some.place (sym c.in-Some.ensures) in
     omega arith
