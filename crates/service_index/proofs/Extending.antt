@@ -1,18 +1,17 @@
 -- An index stays what it was when more numbers have names.
-use Rattle.std.proofs.Common.{◌≡◌, ℕ, suc, ◌<◌, ◌≤◌, List, [], ◌∷◌, map, length, get_or, refl, sym, ap, subst, arith}
+use Rattle.std.proofs.Common.{◌≡◌, ℕ, ◌<◌, ◌≤◌, List, [], map, length, get_or, sym, ap, subst, arith}
+use Rattle.std.proofs.lemmas.List.Elements.{All-from_get_or}
 use Rattle.jaeger_model.specs.Texts.{sorted_set}
+use Rattle.trace_model.proofs.Lists.{map_agree}
 use Rattle.row_places.specs.Leading.{LeadsTo, AreOnce}
 use Rattle.service_index.specs.Listing.{Listed, listed_cmp}
 use Rattle.service_index.specs.Naming.{Names, LabelValue, Labelling, group_alone, operation_labels, group_labels, Extends}
 use Rattle.service_index.specs.Probes.{Table, no_label, hashes_of, AreNumbers, IsNamed}
 use Rattle.service_index.specs.Indexes.{Index, listing_by, owners, IsLinked, IsIndexed}
 
-pub map_agree : {X : Type 0} (count : ℕ) (f g : ℕ → X) → ((n : ℕ) → n < count → f n ≡ g n) → (numbers : List ℕ) → ((r : ℕ) → r < length numbers → get_or numbers r 0 < count) → map f numbers ≡ map g numbers
-map_agree count f g same [] held = refl
-map_agree count f g same (n ∷ numbers) held =
-    let first = same n (held 0 (omega arith)) in
-    let rest = map_agree count f g same numbers (λ r below. held (suc r) (omega arith)) in
-    λ i. first i ∷ rest i
+-- maps that agree below a count agree on numbers that are below it
+pub numbers_agree : {X : Type 0} (count : ℕ) (f g : ℕ → X) → ((n : ℕ) → n < count → f n ≡ g n) → (numbers : List ℕ) → ((r : ℕ) → r < length numbers → get_or numbers r 0 < count) → map f numbers ≡ map g numbers
+numbers_agree count f g same numbers held = map_agree f g numbers (All-from_get_or (λ n. f n ≡ g n) numbers 0 (λ r below. same (get_or numbers r 0) (held r below)))
 
 -- more labels, and the old ones as they were
 pub record Grows (labels more : Labelling) : Type 0 where
@@ -21,7 +20,7 @@ pub record Grows (labels more : Labelling) : Type 0 where
 
 pub named_extends : (labels more : Labelling) (t : Table) → Grows labels more → IsNamed labels t → IsNamed more t
 named_extends labels more t e h =
-    let same : map labels.at t.numbers ≡ map more.at t.numbers = sym (map_agree labels.count more.at labels.at e.same t.numbers h.numbers.held) in
+    let same : map labels.at t.numbers ≡ map more.at t.numbers = sym (numbers_agree labels.count more.at labels.at e.same t.numbers h.numbers.held) in
     record {
       fits = h.fits;
       within = h.within;
@@ -43,7 +42,7 @@ groups_grow : (names more : Names) → Extends names more → Grows (group_label
 groups_grow names more e = record { count = e.count; same = λ n below. ap group_alone (e.group n below) }
 
 pub owners_extend : (names more : Names) (numbers : List ℕ) → Extends names more → AreNumbers names.count numbers → owners more numbers ≡ owners names numbers
-owners_extend names more numbers e h = map_agree names.count (λ n. (more.at n).service) (λ n. (names.at n).service) (λ n below. ap (λ (l : Listed). l.service) (e.same n below)) numbers h.held
+owners_extend names more numbers e h = numbers_agree names.count (λ n. (more.at n).service) (λ n. (names.at n).service) (λ n below. ap (λ (l : Listed). l.service) (e.same n below)) numbers h.held
 
 pub indexed_extends : (names more : Names) (index : Index) → Extends names more → IsIndexed names index → IsIndexed more index
 indexed_extends names more index e h = record {
@@ -56,4 +55,4 @@ indexed_extends names more index e h = record {
 }
 
 pub listing_extends : (names more : Names) (index : Index) → Extends names more → IsIndexed names index → listing_by more index ≡ listing_by names index
-listing_extends names more index e h = ap (sorted_set listed_cmp) (map_agree names.count more.at names.at e.same index.operations.numbers h.operations.numbers.held)
+listing_extends names more index e h = ap (sorted_set listed_cmp) (numbers_agree names.count more.at names.at e.same index.operations.numbers h.operations.numbers.held)

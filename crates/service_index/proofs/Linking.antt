@@ -9,13 +9,14 @@ use Rattle.std.proofs.Math.Seq.{drop-cons}
 use Rattle.std.proofs.lemmas.Bool.{false≢true, lt-ltb, le-ltb, cases_eq, cases_lt}
 use Rattle.std.proofs.lemmas.List.{length-set, length-map, map_push, drop_all, get_or-map, get_or-set_same, get_or-set_other, get_or_append_left, get_or_push, get_or_past}
 use Rattle.std.proofs.lemmas.List.Sums.{fold_push, passes_at_first, fails_before_first, position_or_len_is, prefix_len-le-length}
-use Rattle.std.proofs.lemmas.List.Folds.{list_any-append, list_any_at}
+use Rattle.std.proofs.lemmas.List.Folds.{list_any-append, list_any_at, list_any_none}
 use Rattle.jaeger_model.specs.Texts.{same_text, text_cmp, sorted_set, insert_once}
 use Rattle.trace_model.specs.declared.answer.Operation.{Operation}
 use Rattle.trace_model.specs.Names.{operation_cmp, same_operation}
 use Rattle.trace_model.proofs.Rising.{any_set, sorted_set-rises}
 use Rattle.trace_model.proofs.NameLaws.{text_total, text_exact, operation_total, operation_exact, any_map, any_filter, text_is, text_self, text_apart}
 use Rattle.row_places.specs.Leading.{AreOnce}
+use Rattle.row_places.proofs.Once.{one_row}
 use Rattle.service_index.specs.Listing.{Listed, listed_cmp, same_listed, services_in, operations_of, names_of}
 use Rattle.service_index.specs.Naming.{Names, IsGrouped, IsGroupOf, service_alone, LabelValue, same_label, Labelling, group_alone, operation_labels, group_labels}
 use Rattle.service_index.specs.Probes.{Table, no_label, label_at, AreNumbers, IsNamed, row_of, with_number}
@@ -26,15 +27,11 @@ use Rattle.service_index.proofs.Sets.{same_set, set_more, listed_total, listed_e
 use Rattle.service_index.proofs.Probing.{same_is, label_of}
 
 -- ---- rows and tests
-none_is : {X : Type 0} (p : X → Bool) (xs : List X) (d : X) → ((k : ℕ) → k < length xs → p (get_or xs k d) ≡ false) → list_any p xs ≡ false
-none_is p [] d none = refl
-none_is p (x ∷ xs) d none = ap (λ b. b || list_any p xs) (none 0 (omega arith)) ∙ none_is p xs d (λ k below. none (suc k) (omega arith))
-
 -- the first place that passes is one of the places where one passes
 pub is_position : {X : Type 0} (p : X → Bool) (xs : List X) (d : X) → nat_lt (position_or_len p xs) (length xs) ≡ list_any p xs
 is_position p xs d = elim (cases_lt (position_or_len p xs) (length xs)) [
   | inl below ↦ lt-ltb (position_or_len p xs) (length xs) below ∙ sym (list_any_at p xs (position_or_len p xs) d below (passes_at_first p xs d below))
-  | inr past ↦ le-ltb (position_or_len p xs) (length xs) past ∙ sym (none_is p xs d (λ k within. fails_before_first p xs k d (omega arith)))
+  | inr past ↦ le-ltb (position_or_len p xs) (length xs) past ∙ sym (list_any_none p xs (λ k e within. fails_before_first p xs k e (omega arith)))
 ]
 
 -- a test of the numbers' keys passes where the label is the sought one
@@ -179,15 +176,9 @@ linked_known rows services newest earlier s new h apart within own =
             (subst (λ (x : List ℕ). IsNewest (rows ++ new ∷ []) x (length rows + 1) (length (rows ++ new ∷ []))) (sym own) (newest_new rows new)))
         | inr other ↦
             subst (λ (x : ℕ). IsNewest (rows ++ new ∷ []) (get_or services r []) x (length (rows ++ new ∷ []))) (sym (get_or-set_other newest s r (length rows + 1) 0 other))
-            (newest_past rows new (get_or services r []) (get_or newest r 0) (λ e. two_rows services apart r s below within other (sym e ∙ sym own)) (h.last r below))
+            (newest_past rows new (get_or services r []) (get_or newest r 0) (λ e. other (one_row [] services r s apart below within (sym e ∙ sym own))) (h.last r below))
       ];
     }
-  where
-    two_rows : (services : List (List ℕ)) → AreOnce [] services → (r s : ℕ) → r < length services → s < length services → (r ≡ s → ⊥) → get_or services r [] ≡ get_or services s [] → ⊥
-    two_rows services apart r s rn sn other same = elim (cases_lt r s) [
-      | inl below ↦ apart r s below sn same
-      | inr past ↦ apart s r (omega arith) rn (sym same)
-    ]
 
 pub none_of : (xs : List (List ℕ)) (s : List ℕ) → list_any (same_text s) xs ≡ false → (k : ℕ) → k < length xs → s ≡ get_or xs k [] → ⊥
 none_of xs s none k below is = false≢true (sym none ∙ list_any_at (same_text s) xs k [] below (ap (same_text s) (sym is) ∙ text_self s))
@@ -304,8 +295,8 @@ pub name_unknown : (names : Names) (index : Index) (l : Listed) → IsIndexed na
 name_unknown names index l h none =
     let numbers = index.operations.numbers in
     let m = length-map numbers names.at in
-    sym (any_set listed_exact (same_listed l) (map names.at numbers) ∙ none_is (same_listed l) (map names.at numbers) (service_alone []) (λ k below.
-    ap (same_listed l) (get_or-map names.at numbers k 0 (service_alone []) (omega arith))
+    sym (any_set listed_exact (same_listed l) (map names.at numbers) ∙ list_any_none (same_listed l) (map names.at numbers) (λ k d below.
+    ap (same_listed l) (get_or-map names.at numbers k 0 d (omega arith))
     ∙ ap (λ b. b && same_operation l.operation (names.at (get_or numbers k 0)).operation) (none (get_or numbers k 0) (h.operations.numbers.held k (omega arith)))))
 
 -- the row of a service, found by its group
