@@ -1,17 +1,15 @@
 -- One more entry.
 use Rattle.std.proofs.Common.{◌≡◌, ℕ, false, ◌+◌, ◌-◌, ◌<◌, ◌≤◌, cond, List, [], ◌∷◌, ◌++◌, map, length, get_or, Some, None, sym, ap, subst, ◌∙◌, inl, inr, arith, length-append}
 use Rattle.std.proofs.Math.Bool.{and-true}
-use Rattle.std.proofs.lemmas.Bool.{false≢true, lt-ltb, cases_eq, cases_lt}
+use Rattle.std.proofs.lemmas.Bool.{ltb-false, lt-ltb, cases_eq, cases_lt}
 use Rattle.std.proofs.lemmas.List.{length-map, get_or-map, get_or_append_left, get_or_push}
-use Rattle.std.proofs.lemmas.List.Sums.{passes_at_first}
-use Rattle.std.proofs.lemmas.List.Folds.{list_any_at}
 use Rattle.std.specs.List.{list_any, position_or_len}
 use Rattle.jaeger_model.specs.Texts.{same_text}
 use Rattle.trace_model.specs.declared.entry.Entry.{Entry}
 use Rattle.service_index.specs.Probes.{Table, AreNumbers, IsNamed, row_of, with_number}
 use Rattle.service_index.specs.LinkedRows.{newest_with}
 use Rattle.service_index.specs.Indexes.{IsNewest, IsLinked}
-use Rattle.service_index.proofs.Extending.{Grows, map_agree, named_extends}
+use Rattle.service_index.proofs.Extending.{Grows, numbers_agree, named_extends}
 use Rattle.service_index.proofs.Linking.{FindsLabel, AreKeys, linked_more, row_by_key, row_within, number_known, number_new, service_own, service_new, none_of, is_position}
 use Rattle.service_places.specs.Reported.{Reported, service_brought, reporters, service_at, service_label, service_labels, group_in, group_of, AreGroups, IsKept}
 use Rattle.service_places.proofs.Grouping.{reporters_push, as_many_reporters, service_old, service_last, group_old, group_new, groups_more}
@@ -43,7 +41,7 @@ row_is h numbers s held = row_by_key (service_labels h) (service_label s) (servi
 linked_still : (h0 h : List Entry) (e : Entry) (old : Reported) → h0 ++ e ∷ [] ≡ h → IsKept h0 old → IsLinked (reporters h0) (map (service_at h) old.services.numbers) old.newest old.earlier
 linked_still h0 h e old is k =
     subst (λ (x : List (List ℕ)). IsLinked (reporters h0) x old.newest old.earlier)
-    (sym (map_agree (length h0) (service_at h) (service_at h0) (λ n below. service_old h0 h e n is below) old.services.numbers k.named.numbers.held)) k.linked
+    (sym (numbers_agree (length h0) (service_at h) (service_at h0) (λ n below. service_old h0 h e n is below) old.services.numbers k.named.numbers.held)) k.linked
 
 -- the first entries of services stay the first
 first_old : (h0 h : List Entry) (e : Entry) (numbers : List ℕ) (r : ℕ) → h0 ++ e ∷ [] ≡ h → AreNumbers (length h0) numbers → ((r : ℕ) → r < length numbers → group_in h0 (service_at h0 (get_or numbers r 0)) ≡ get_or numbers r 0)
@@ -135,7 +133,8 @@ numbered_new h0 h e old services groups s n group m beyond =
     let absent : list_any (same_text new) (map (service_at h) numbers) ≡ false = ap (λ (x : List ℕ). list_any (same_text x) (map (service_at h) numbers)) (sym b.last) ∙ service_new (map (service_at h) numbers) (service_at h n) s b.found (omega (arith, b.listed, beyond)) in
     let fresh : services.numbers ≡ numbers ++ n ∷ [] = m.numbers ∙ number_new labels numbers n (omega (arith, m.row, beyond)) in
     let one = length-append numbers (n ∷ []) in
-    let none : length h0 ≤ group_in h0 new = subst (λ (x : ℕ). x ≤ group_in h0 new) b.reported (none_first (reporters h0) new (sym (b.linked.same (same_text new)) ∙ absent)) in
+    let none : length h0 ≤ group_in h0 new = subst (λ (x : ℕ). x ≤ group_in h0 new) b.reported
+    (ltb-false (position_or_len (same_text new) (reporters h0)) (length (reporters h0)) (is_position (same_text new) (reporters h0) [] ∙ sym (b.linked.same (same_text new)) ∙ absent)) in
     let number : group_in h new ≡ n = group_new h0 h e m.is none ∙ sym m.at in
     let row_last : length numbers ≡ s = omega (arith, m.row, w, beyond) in
     subst (λ (x : List ℕ). IsNumbered h x s new) (sym fresh) (record {
@@ -149,12 +148,6 @@ numbered_new h0 h e old services groups s n group m beyond =
       ];
       number = get_or_push numbers n 0 s row_last ∙ sym number;
     })
-  where
-    none_first : (rows : List (List ℕ)) (s : List ℕ) → list_any (same_text s) rows ≡ false → length rows ≤ position_or_len (same_text s) rows
-    none_first rows s none = elim (cases_lt (position_or_len (same_text s) rows) (length rows)) [
-      | inl below ↦ absurd (false≢true (sym none ∙ list_any_at (same_text s) rows (position_or_len (same_text s) rows) [] below (passes_at_first (same_text s) rows [] below)))
-      | inr past ↦ omega arith
-    ]
 
 pub kept_more : (h0 h : List Entry) (e : Entry) (old : Reported) (services : Table) (newest earlier groups : List ℕ) (s n group : ℕ) → HasOneMore h0 h e old services groups s n group
     → newest ≡ newest_with old.newest s (n + 1) → earlier ≡ old.earlier ++ get_or old.newest s 0 ∷ []
