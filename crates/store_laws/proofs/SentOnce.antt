@@ -1,10 +1,10 @@
 -- In a legal list no batch with a number stands twice, and how one that is handed in again is answered.
-use Rattle.std.proofs.Common.{◌≡◌, ℕ, suc, ◌+◌, ◌<◌, Bool, true, false, ◌&&◌, Some, None, List, [], ◌∷◌, ◌++◌, length, fold, refl, sym, ap, ◌∙◌, subst, append_assoc, arith, add-one, inl, inr, get_or, zero, ◌≤◌}
-use Rattle.std.specs.Prelude.{Result, Ok, Err, position, nat_le, if◌then◌else◌}
+use Rattle.std.proofs.Common.{◌≡◌, ℕ, suc, ◌+◌, ◌<◌, Bool, true, false, ◌&&◌, Some, None, List, [], ◌∷◌, ◌++◌, length, fold, refl, sym, ap, ◌∙◌, subst, append_assoc, add-one, inl, inr, get_or, zero}
+use Rattle.std.specs.Prelude.{Result, Ok, Err, position, if◌then◌else◌}
 use Rattle.std.specs.Option.{is_some}
 use Rattle.std.specs.List.{list_any}
-use Rattle.std.proofs.lemmas.Bool.{false≢true, false_from_ne_true, leb-true, leb-false, or_parts, or_from}
-use Rattle.std.proofs.lemmas.List.{append-nil, get_or_append_left}
+use Rattle.std.proofs.lemmas.Bool.{false≢true, false_from_ne_true, cases_order, or_parts, or_from}
+use Rattle.std.proofs.lemmas.List.{append-nil, get_or_append_left, get_or_at}
 use Rattle.std.proofs.lemmas.List.Folds.{list_any-append, list_any_at}
 use Rattle.std.proofs.lemmas.List.Quantifiers.{position-Some}
 use Rattle.std.proofs.lemmas.List.Sums.{fold-append}
@@ -54,10 +54,7 @@ back_true (brings.TraceLimit m) (brings.Batch b) e = absurd (false≢true e)
 back_true (brings.TraceLimit m) (brings.TraceLimit n) e = absurd (false≢true e)
 
 back_false : (v w : Work) → resends v w ≡ false → resends w v ≡ false
-back_false v w e = elim (resends w v) as (λ b. resends w v ≡ b → b ≡ false) [
-  | true ↦ λ at. absurd (false≢true (sym e ∙ back_true w v at))
-  | false ↦ λ at. refl
-] refl
+back_false v w e = false_from_ne_true (resends w v) (λ at. false≢true (sym e ∙ back_true w v at))
 
 -- ---- lists
 -- what none of the list passes, none of its parts does
@@ -66,17 +63,6 @@ none_passed p front x rest e =
     let parts = or_parts (list_any p front) _ (sym (list_any-append p front (x ∷ rest)) ∙ e) in
     let last = or_parts (p x) _ parts.1 in (parts.0, last.0, last.1)
 
-at_split : {X : Type 0} (front : List X) (x : X) (rest : List X) (d : X) → get_or (front ++ x ∷ rest) (length front) d ≡ x
-at_split [] x rest d = refl
-at_split (y ∷ front) x rest d = at_split front x rest d
-
--- neither before nor behind
-only_there : (i n : ℕ) → (i < n → ⊥) → (n < i → ⊥) → i ≡ n
-only_there i n lt gt =
-    let le : i ≤ n = elim (nat_le i n) as (λ b. nat_le i n ≡ b → i ≤ n) [ true ↦ λ t. leb-true i n t | false ↦ λ f. absurd (gt (leb-false i n f)) ] refl in
-    let ge : n ≤ i = elim (nat_le n i) as (λ b. nat_le n i ≡ b → n ≤ i) [ true ↦ λ t. leb-true n i t | false ↦ λ f. absurd (lt (leb-false n i f)) ] refl in
-    omega arith
-
 -- the first that passes stands behind those of which none does
 first_passed : {X : Type 0} (p : X → Bool) (front : List X) (x : X) (rest : List X) → list_any p front ≡ false → p x ≡ true → position p (front ++ x ∷ rest) ≡ Some (length front)
 first_passed p front x rest none here = elim (position p (front ++ x ∷ rest)) as (λ o. position p (front ++ x ∷ rest) ≡ o → o ≡ Some (length front)) [
@@ -84,8 +70,12 @@ first_passed p front x rest none here = elim (position p (front ++ x ∷ rest)) 
   | Some i ↦ λ at.
       let found = position-Some p (front ++ x ∷ rest) i x at in
       let not_before : i < length front → ⊥ = λ l. false≢true (sym none ∙ list_any_at p front i x l (ap p (sym (get_or_append_left front (x ∷ rest) x i l)) ∙ found.1)) in
-      let not_behind : length front < i → ⊥ = λ l. false≢true (sym (found.2 (length front) l) ∙ (ap p (at_split front x rest x) ∙ here)) in
-      ap (λ n. Some n) (only_there i (length front) not_before not_behind)
+      let not_behind : length front < i → ⊥ = λ l. false≢true (sym (found.2 (length front) l) ∙ (ap p (get_or_at front x rest x (length front) refl) ∙ here)) in
+      let there : i ≡ length front = elim (cases_order i (length front)) [
+        | inl same ↦ same
+        | inr other ↦ elim other [ inl l ↦ absurd (not_before l) | inr l ↦ absurd (not_behind l) ]
+      ] in
+      ap (λ n. Some n) there
 ] refl
 
 -- ---- no batch stands twice
@@ -124,7 +114,7 @@ again_at : (limits : Limits) (front : List Entry) (d : Entry) (rest : List Entry
     → admission limits (front ++ d ∷ rest) e ≡ (if same_work e.work d.work then Ok (Resent (suc (length front))) else Err (Conflict (suc (length front))))
 again_at limits front d rest e l s =
     admission_repeated limits (front ++ d ∷ rest) e (length front) (first_passed (λ (x : Entry). resends e.work x.work) front d rest (unsent_in_front limits front d rest e l s) s)
-    ∙ ap (λ (x : Entry). if same_work e.work x.work then Ok (Resent (suc (length front))) else Err (Conflict (suc (length front)))) (at_split front d rest e)
+    ∙ ap (λ (x : Entry). if same_work e.work x.work then Ok (Resent (suc (length front))) else Err (Conflict (suc (length front)))) (get_or_at front d rest e (length front) refl)
 
 pub repeat_is_answered : (limits : Limits) (front : List Entry) (d : Entry) (rest : List Entry) (e : Entry) → IsLegal limits (front ++ d ∷ rest) → resends e.work d.work ≡ true → d.work ≡ e.work
     → admission limits (front ++ d ∷ rest) e ≡ Ok (Resent (length front + 1))
