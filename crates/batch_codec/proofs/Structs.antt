@@ -52,7 +52,7 @@ gathers_path : {S : Type 0} (Does : S → Field → S → Type 0) (fs : List Fie
 gathers_path Does [] s t p = p
 gathers_path Does (f ∷ fs) s t (u, d, p) = (u, d, gathers_path Does fs u t p)
 
-pub path_gathers : {S : Type 0} (Does : S → Field → S → Type 0) (fs : List Field) (s t : S) → Gathers Does s fs t → Path Does s fs t
+path_gathers : {S : Type 0} (Does : S → Field → S → Type 0) (fs : List Field) (s t : S) → Gathers Does s fs t → Path Does s fs t
 path_gathers Does [] s t p = p
 path_gathers Does (f ∷ fs) s t (u, d, p) = (u, d, path_gathers Does fs u t p)
 

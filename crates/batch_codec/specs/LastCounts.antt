@@ -1,18 +1,16 @@
 -- Of several fields with one id and the declared type the last counts, and each of them spells a value;
 -- every other field is a value of its type, and changes nothing. That says just which bytes spell a struct.
-use Rattle.std.specs.Prelude.{◌≡◌, ◌↔◌, ℕ, ℤ, pos, List, [], ◌∷◌, Bool, ◌||◌, Some, None, false}
+use Rattle.std.specs.Prelude.{◌≡◌, ◌↔◌, ℕ, ℤ, pos, List, [], ◌∷◌, Bool, ◌||◌, Some, false}
 use Rattle.std.specs.List.{AllByRecursion}
-use Rattle.jaeger_model.specs.declared.tag.Tag.{Tag}
-use Rattle.jaeger_model.specs.declared.span.Log.{Log}
-use Rattle.jaeger_model.specs.declared.span.SpanRef.{SpanRef}
-use Rattle.jaeger_model.specs.declared.span.Span.{Span}
-use Rattle.jaeger_model.specs.declared.batch.Process.{Process}
-use Rattle.jaeger_model.specs.declared.batch.Batch.{Batch}
 use Rattle.thrift_binary.specs.Spelling.{Field, IsFields, IsLast, IsString, IsBool, IsDouble, IsI32, IsI64, IsValue, has}
-use Rattle.batch_codec.specs.declared.tag.TagType.{TagType}
 use Rattle.batch_codec.specs.declared.tag.TagSlots.{TagSlots}
-use Rattle.batch_codec.specs.Gathered.{no_tag, value_named}
-use Rattle.batch_codec.specs.Batches.{IsText, IsId, IsTagType, IsRefKind, IsStructList, IsTag, IsLog, IsReference, IsProcess, IsSpan, IsBatch}
+use Rattle.batch_codec.specs.declared.log.LogSlots.{LogSlots}
+use Rattle.batch_codec.specs.declared.reference.ReferenceSlots.{ReferenceSlots}
+use Rattle.batch_codec.specs.declared.process.ProcessSlots.{ProcessSlots}
+use Rattle.batch_codec.specs.declared.span.SpanSlots.{SpanSlots}
+use Rattle.batch_codec.specs.declared.batch.BatchSlots.{BatchSlots}
+use Rattle.batch_codec.specs.Gathered.{no_tag, no_log, no_reference, no_process, no_span, no_batch}
+use Rattle.batch_codec.specs.Batches.{IsText, IsId, IsTagType, IsRefKind, IsStructList, MakesTag, whole_log, whole_reference, whole_process, whole_span, whole_batch, IsTag, IsLog, IsReference, IsProcess, IsSpan, IsBatch}
 
 -- the field has one of these types and ids
 abbrev pub is_known : List (ℕ × ℤ) → Field → Bool
@@ -23,17 +21,19 @@ is_known (d ∷ ds) f = has d.0 d.1 f || is_known ds f
 abbrev pub OthersAreValues : List (ℕ × ℤ) → List Field → Type 0
 OthersAreValues known fs = AllByRecursion (λ f. is_known known f ≡ false → IsValue 64 f.code f.text) fs
 
--- w divides into fields of which the last of each known type and id leave x, and the others are values
-pub record LastCounts {X : Type 0} (known : List (ℕ × ℤ)) (LastOf : List Field → X → Type 0) (w : List ℕ) (x : X) : Type 0 where
+-- w divides into fields of which the last of each known type and id leave what makes x, and the others are values
+pub record LastCounts {S X : Type 0} (none : S) (known : List (ℕ × ℤ)) (LastOf : S → List Field → S → Type 0) (Makes : S → X → Type 0) (w : List ℕ) (x : X) : Type 0 where
   pub fields : List Field
   pub spelled : IsFields fields w
-  pub last : LastOf fields x
+  pub left : S
+  pub last : LastOf none fields left
+  pub makes : Makes left x
   pub others : OthersAreValues known fields
 
 -- The bytes that spell a value are those that divide so; and they divide so in one way, with one value.
-pub record IsByLast {X : Type 0} (Spells : List ℕ → X → Type 0) (known : List (ℕ × ℤ)) (LastOf : List Field → X → Type 0) : Type 0 where
-  pub same : (w : List ℕ) (x : X) → Spells w x ↔ LastCounts known LastOf w x
-  pub one : (w : List ℕ) (x y : X) (a : LastCounts known LastOf w x) (b : LastCounts known LastOf w y) → (a.fields ≡ b.fields) × (x ≡ y)
+pub record IsByLast {S X : Type 0} (Spells : List ℕ → X → Type 0) (none : S) (known : List (ℕ × ℤ)) (LastOf : S → List Field → S → Type 0) (Makes : S → X → Type 0) : Type 0 where
+  pub same : (w : List ℕ) (x : X) → Spells w x ↔ LastCounts none known LastOf Makes w x
+  pub one : (w : List ℕ) (x y : X) (a : LastCounts none known LastOf Makes w x) (b : LastCounts none known LastOf Makes w y) → (a.fields ≡ b.fields) × (x ≡ y)
 
 -- ---- the types and the ids of the known fields
 
@@ -57,67 +57,72 @@ known_of_batch = (12, pos 1) ∷ (15, pos 2) ∷ (10, pos 3) ∷ []
 
 -- ---- what the last of the known fields leave
 
--- the values that the fields of a tag leave, and the one that its type names
-pub record LastOfTag (fs : List Field) (x : Tag) : Type 0 where
-  pub kind : TagType
-  pub left : TagSlots
-  pub value : x.value ≡ value_named kind left
-  pub key_last : IsLast 11 (pos 1) IsText None fs (Some x.key)
-  pub kind_last : IsLast 8 (pos 2) IsTagType None fs (Some kind)
-  pub text_last : IsLast 11 (pos 3) IsText (Some []) fs (Some left.text)
-  pub double_last : IsLast 4 (pos 4) IsDouble (Some no_tag.double) fs (Some left.double)
-  pub bool_last : IsLast 2 (pos 5) IsBool (Some false) fs (Some left.boolean)
-  pub long_last : IsLast 10 (pos 6) IsI64 (Some (pos 0)) fs (Some left.long)
-  pub binary_last : IsLast 11 (pos 7) IsString (Some []) fs (Some left.binary)
+-- Slot by slot: from s on, the last of the fields fs that has the slot's type and id leaves t there, and each
+-- of them spells a value; where there is none, t has what s has.
 
-pub record LastOfLog (fs : List Field) (x : Log) : Type 0 where
-  pub at : IsLast 10 (pos 1) IsI64 None fs (Some x.at)
-  pub fields : IsLast 15 (pos 2) (IsStructList IsTag) None fs (Some x.fields)
+abbrev pub LastOfTag : TagSlots → List Field → TagSlots → Type 0
+LastOfTag s fs t =
+    IsLast 11 (pos 1) IsText s.key fs t.key
+    × IsLast 8 (pos 2) IsTagType s.kind fs t.kind
+    × IsLast 11 (pos 3) IsText (Some s.text) fs (Some t.text)
+    × IsLast 4 (pos 4) IsDouble (Some s.double) fs (Some t.double)
+    × IsLast 2 (pos 5) IsBool (Some s.boolean) fs (Some t.boolean)
+    × IsLast 10 (pos 6) IsI64 (Some s.long) fs (Some t.long)
+    × IsLast 11 (pos 7) IsString (Some s.binary) fs (Some t.binary)
 
-pub record LastOfReference (fs : List Field) (x : SpanRef) : Type 0 where
-  pub kind : IsLast 8 (pos 1) IsRefKind None fs (Some x.kind)
-  pub low : IsLast 10 (pos 2) IsId None fs (Some x.trace.low)
-  pub high : IsLast 10 (pos 3) IsId None fs (Some x.trace.high)
-  pub id : IsLast 10 (pos 4) IsId None fs (Some x.id.0)
+abbrev pub LastOfLog : LogSlots → List Field → LogSlots → Type 0
+LastOfLog s fs t =
+    IsLast 10 (pos 1) IsI64 s.at fs t.at
+    × IsLast 15 (pos 2) (IsStructList IsTag) s.fields fs t.fields
 
-pub record LastOfProcess (fs : List Field) (x : Process) : Type 0 where
-  pub service : IsLast 11 (pos 1) IsText None fs (Some x.service)
-  pub tags : IsLast 15 (pos 2) (IsStructList IsTag) (Some []) fs (Some x.tags)
+abbrev pub LastOfReference : ReferenceSlots → List Field → ReferenceSlots → Type 0
+LastOfReference s fs t =
+    IsLast 8 (pos 1) IsRefKind s.kind fs t.kind
+    × IsLast 10 (pos 2) IsId s.trace_low fs t.trace_low
+    × IsLast 10 (pos 3) IsId s.trace_high fs t.trace_high
+    × IsLast 10 (pos 4) IsId s.id fs t.id
 
-pub record LastOfSpan (fs : List Field) (x : Span) : Type 0 where
-  pub low : IsLast 10 (pos 1) IsId None fs (Some x.trace.low)
-  pub high : IsLast 10 (pos 2) IsId None fs (Some x.trace.high)
-  pub id : IsLast 10 (pos 3) IsId None fs (Some x.id.0)
-  pub parent : IsLast 10 (pos 4) IsId None fs (Some x.parent.0)
-  pub operation : IsLast 11 (pos 5) IsText None fs (Some x.operation)
-  pub references : IsLast 15 (pos 6) (IsStructList IsReference) (Some []) fs (Some x.references)
-  pub flags : IsLast 8 (pos 7) IsI32 None fs (Some x.flags)
-  pub start : IsLast 10 (pos 8) IsI64 None fs (Some x.start)
-  pub duration : IsLast 10 (pos 9) IsI64 None fs (Some x.duration)
-  pub tags : IsLast 15 (pos 10) (IsStructList IsTag) (Some []) fs (Some x.tags)
-  pub logs : IsLast 15 (pos 11) (IsStructList IsLog) (Some []) fs (Some x.logs)
+abbrev pub LastOfProcess : ProcessSlots → List Field → ProcessSlots → Type 0
+LastOfProcess s fs t =
+    IsLast 11 (pos 1) IsText s.service fs t.service
+    × IsLast 15 (pos 2) (IsStructList IsTag) (Some s.tags) fs (Some t.tags)
 
-pub record LastOfBatch (fs : List Field) (x : Batch) : Type 0 where
-  pub process : IsLast 12 (pos 1) IsProcess None fs (Some x.process)
-  pub spans : IsLast 15 (pos 2) (IsStructList IsSpan) None fs (Some x.spans)
-  pub seq_no : IsLast 10 (pos 3) IsI64 None fs x.seq_no
+abbrev pub LastOfSpan : SpanSlots → List Field → SpanSlots → Type 0
+LastOfSpan s fs t =
+    IsLast 10 (pos 1) IsId s.trace_low fs t.trace_low
+    × IsLast 10 (pos 2) IsId s.trace_high fs t.trace_high
+    × IsLast 10 (pos 3) IsId s.id fs t.id
+    × IsLast 10 (pos 4) IsId s.parent fs t.parent
+    × IsLast 11 (pos 5) IsText s.operation fs t.operation
+    × IsLast 15 (pos 6) (IsStructList IsReference) (Some s.references) fs (Some t.references)
+    × IsLast 8 (pos 7) IsI32 s.flags fs t.flags
+    × IsLast 10 (pos 8) IsI64 s.start fs t.start
+    × IsLast 10 (pos 9) IsI64 s.duration fs t.duration
+    × IsLast 15 (pos 10) (IsStructList IsTag) (Some s.tags) fs (Some t.tags)
+    × IsLast 15 (pos 11) (IsStructList IsLog) (Some s.logs) fs (Some t.logs)
 
--- ---- the facts
+abbrev pub LastOfBatch : BatchSlots → List Field → BatchSlots → Type 0
+LastOfBatch s fs t =
+    IsLast 12 (pos 1) IsProcess s.process fs t.process
+    × IsLast 15 (pos 2) (IsStructList IsSpan) s.spans fs t.spans
+    × IsLast 10 (pos 3) IsI64 s.seq_no fs t.seq_no
+
+-- ---- the facts, each of a struct before whose fields nothing was gathered
 
 abbrev pub TagLast : Type 0
-TagLast = IsByLast IsTag known_of_tag LastOfTag
+TagLast = IsByLast IsTag no_tag known_of_tag LastOfTag MakesTag
 
 abbrev pub LogLast : Type 0
-LogLast = IsByLast IsLog known_of_log LastOfLog
+LogLast = IsByLast IsLog no_log known_of_log LastOfLog (λ s x. s ≡ whole_log x)
 
 abbrev pub ReferenceLast : Type 0
-ReferenceLast = IsByLast IsReference known_of_reference LastOfReference
+ReferenceLast = IsByLast IsReference no_reference known_of_reference LastOfReference (λ s x. s ≡ whole_reference x)
 
 abbrev pub ProcessLast : Type 0
-ProcessLast = IsByLast IsProcess known_of_process LastOfProcess
+ProcessLast = IsByLast IsProcess no_process known_of_process LastOfProcess (λ s x. s ≡ whole_process x)
 
 abbrev pub SpanLast : Type 0
-SpanLast = IsByLast IsSpan known_of_span LastOfSpan
+SpanLast = IsByLast IsSpan no_span known_of_span LastOfSpan (λ s x. s ≡ whole_span x)
 
 abbrev pub BatchLast : Type 0
-BatchLast = IsByLast IsBatch known_of_batch LastOfBatch
+BatchLast = IsByLast IsBatch no_batch known_of_batch LastOfBatch (λ s x. s ≡ whole_batch x)
