@@ -156,24 +156,6 @@ module _ (top : Frame) (below : List Frame) where
   pub now-done : (n : Now) (w v : List ℕ) → Comes (now_at (64 - length below) n) (λ u. Ok (tt, u)) w v → Comes (state_at n top below) (state_at now.Nothing top below) w v
   now-done n w v g = now-next top below n now.Nothing w v g
 
-  pub size-waits : (p q : Size) (w v : List ℕ) → NeedsMore Truncated (size_from p) (size_from q) w v → NeedsMore Truncated (state_at (now.Size p) top below) (state_at (now.Size q) top below) w v
-  size-waits p q w v g = now-waits top below (now.Size p) (now.Size q) w v (waits-inside (λ m. past m.0 m.1) g)
-
-  pub size-refused : (p : Size) (w : List ℕ) (e : PieceError) → Refused (size_from p) w e → Refused (state_at (now.Size p) top below) w e
-  size-refused p w e g = now-refused top below (now.Size p) w e (refused-inside (λ m. past m.0 m.1) (size_from p) w e g)
-
-  pub list-waits : (p q : ListHead) (w v : List ℕ) → NeedsMore Truncated (list_head p) (list_head q) w v → NeedsMore Truncated (state_at (now.List p) top below) (state_at (now.List q) top below) w v
-  list-waits p q w v g = now-waits top below (now.List p) (now.List q) w v (waits-inside (λ h. items_of (64 - length below) h.0 h.1) g)
-
-  pub list-refused : (p : ListHead) (w : List ℕ) (e : PieceError) → Refused (list_head p) w e → Refused (state_at (now.List p) top below) w e
-  list-refused p w e g = now-refused top below (now.List p) w e (refused-inside (λ h. items_of (64 - length below) h.0 h.1) (list_head p) w e g)
-
-  pub map-waits : (p q : MapHead) (w v : List ℕ) → NeedsMore Truncated (map_head p) (map_head q) w v → NeedsMore Truncated (state_at (now.Map p) top below) (state_at (now.Map q) top below) w v
-  map-waits p q w v g = now-waits top below (now.Map p) (now.Map q) w v (waits-inside (λ h. pairs_of (64 - length below) h.0 h.1) g)
-
-  pub map-refused : (p : MapHead) (w : List ℕ) (e : PieceError) → Refused (map_head p) w e → Refused (state_at (now.Map p) top below) w e
-  map-refused p w e g = now-refused top below (now.Map p) w e (refused-inside (λ h. pairs_of (64 - length below) h.0 h.1) (map_head p) w e g)
-
   pub size-next : (p : Size) (next : Now) (n : ℕ) (w v : List ℕ) → ((levels : ℕ) (u : List ℕ) → now_at levels next u ≡ past n u) → Comes (size_from p) (λ u. Ok (n, u)) w v → Comes (state_at (now.Size p) top below) (state_at next top below) w v
   size-next p next n w v same g =
       now-next top below (now.Size p) next w v

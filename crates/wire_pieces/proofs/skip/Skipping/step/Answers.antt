@@ -3,8 +3,8 @@ use Rattle.wire_pieces.specs.Pieces.{Comes}
 use Rattle.wire_pieces.specs.Heads.{list_head, map_head}
 use Rattle.std.specs.Option.{is_some}
 use Rattle.std.proofs.lemmas.Result.{err_from_is_err_and}
-use Rattle.wire_pieces.proofs.Steps.{reaches-none, reaches-some}
-use Rattle.wire_pieces.proofs.FramesAgain.{now-waits, now-done, size-waits, size-refused, size-next, list-waits, list-refused, list-next, map-waits, map-refused, map-next}
+use Rattle.wire_pieces.proofs.Steps.{reaches-none, reaches-some, waits-inside, refused-inside}
+use Rattle.wire_pieces.proofs.FramesAgain.{now-waits, now-refused, now-done, size-next, list-next, map-next}
 use Rattle.wire_pieces.proofs.skip.Skipping.step.Goals as goal
 
 pub returns-then-is_none-clause-progress : goal.returns-then-is_none-clause-progress
@@ -20,10 +20,10 @@ returns-else-is_none-clause-progress c =
 pub returns-in_err-size-in-Size-clause-progress : goal.returns-in_err-size-in-Size-clause-progress
 returns-in_err-size-in-Size-clause-progress c =
     let p = err_from_is_err_and c.from_residual.result c.from_residual.ensures.1 in
-    rw (p.1, p.2, c.in-Size.is) (size-refused _ _ _ _ _ c.in_err-size-in-Size.ensures.reads)
+    rw (p.1, p.2, c.in-Size.is) (now-refused _ _ _ _ _ (refused-inside _ _ _ _ c.in_err-size-in-Size.ensures.reads))
 
 pub returns-in_default-clause-progress : goal.returns-in_default-clause-progress
-returns-in_default-clause-progress c = rw c.in-Size.is (size-waits _ _ _ _ _ _ (rw c.in_default.is at c.in_ok-size-in-Size.ensures.reads))
+returns-in_default-clause-progress c = rw c.in-Size.is (now-waits _ _ _ _ _ _ (waits-inside _ (rw c.in_default.is at c.in_ok-size-in-Size.ensures.reads)))
 
 pub returns-in-Some-clause-progress : goal.returns-in-Some-clause-progress
 returns-in-Some-clause-progress c = rw c.in-Size.is (size-next _ _ _ _ _ _ _ c.past_of-self.ensures.reads (rw c.in-Some.is at c.in_ok-size-in-Size.ensures.reads))
@@ -31,10 +31,10 @@ returns-in-Some-clause-progress c = rw c.in-Size.is (size-next _ _ _ _ _ _ _ c.p
 pub returns-in_err-code-in-List-clause-progress : goal.returns-in_err-code-in-List-clause-progress
 returns-in_err-code-in-List-clause-progress c =
     let p = err_from_is_err_and c.from_residual-in_err-code-in-List.result c.from_residual-in_err-code-in-List.ensures.1 in
-    rw (p.1, p.2, c.in-List.is) (list-refused _ _ _ _ _ c.in_err-code-in-List.ensures.reads)
+    rw (p.1, p.2, c.in-List.is) (now-refused _ _ _ _ _ (refused-inside _ _ _ _ c.in_err-code-in-List.ensures.reads))
 
 pub returns-in_default-2-clause-progress : goal.returns-in_default-2-clause-progress
-returns-in_default-2-clause-progress c = rw c.in-List.is (list-waits _ _ _ _ _ _ (rw c.in_default-2.is at c.in_ok-code-in-List.ensures.reads))
+returns-in_default-2-clause-progress c = rw c.in-List.is (now-waits _ _ _ _ _ _ (waits-inside _ (rw c.in_default-2.is at c.in_ok-code-in-List.ensures.reads)))
 
 pub returns-in_ok-push-in-List-clause-progress : goal.returns-in_ok-push-in-List-clause-progress
 returns-in_ok-push-in-List-clause-progress c =
@@ -44,10 +44,10 @@ returns-in_ok-push-in-List-clause-progress c =
 pub returns-in_err-key-in-Map-clause-progress : goal.returns-in_err-key-in-Map-clause-progress
 returns-in_err-key-in-Map-clause-progress c =
     let p = err_from_is_err_and c.from_residual-in_err-key-in-Map.result c.from_residual-in_err-key-in-Map.ensures.1 in
-    rw (p.1, p.2, c.in-Map.is) (map-refused _ _ _ _ _ c.in_err-key-in-Map.ensures.reads)
+    rw (p.1, p.2, c.in-Map.is) (now-refused _ _ _ _ _ (refused-inside _ _ _ _ c.in_err-key-in-Map.ensures.reads))
 
 pub returns-in_default-3-clause-progress : goal.returns-in_default-3-clause-progress
-returns-in_default-3-clause-progress c = rw c.in-Map.is (map-waits _ _ _ _ _ _ (rw c.in_default-3.is at c.in_ok-key-in-Map.ensures.reads))
+returns-in_default-3-clause-progress c = rw c.in-Map.is (now-waits _ _ _ _ _ _ (waits-inside _ (rw c.in_default-3.is at c.in_ok-key-in-Map.ensures.reads)))
 
 pub returns-in_ok-push-in-Map-clause-progress : goal.returns-in_ok-push-in-Map-clause-progress
 returns-in_ok-push-in-Map-clause-progress c =
