@@ -1,6 +1,6 @@
 -- What is read is spelled so.
 use Rattle.std.proofs.Common.{◌≡◌, ℕ, ℤ, pos, zero, suc, ◌<◌, ◌≤◌, ◌^◌, Bool, true, false, cond, eqb, ltb, List, [], ◌∷◌, ◌++◌, length, take, drop, Option, Some, None, Result, Ok, Err, refl, sym, ap, subst, ◌∙◌, append_assoc, arith, w16, w32, w64}
-use Rattle.std.specs.Prelude.{MatchBool, IfOk}
+use Rattle.std.specs.Prelude.{IfOk}
 use Rattle.std.specs.Int.{Width, cast_signed}
 use Rattle.std.proofs.lemmas.Bool.{ltb-false, eqb-true, ltb-true}
 use Rattle.std.proofs.lemmas.List.{take-append-drop, length-take, take_all}
@@ -10,7 +10,7 @@ use Rattle.thrift_binary.specs.declared.fault.WireError.{WireError}
 use Rattle.thrift_binary.specs.declared.fault.WireError.TheVariants.{Truncated, BadLength, BadType, BadBool}
 use Rattle.thrift_binary.specs.Reading.{◌>>=◌, lift, Read, Reads, stopped, typed, bool_at, bytes_at, number_at, signed_at, size_at, string_at, field_at, field_behind, is_code}
 use Rattle.thrift_binary.specs.Fields.{Take, fields_in, fields_at, behind_field}
-use Rattle.thrift_binary.specs.Spelling.{Beginning, IsBool, IsI32, IsI64, IsDouble, IsSize, IsString, Field, IsFieldHead, IsFields, has, IsLast}
+use Rattle.thrift_binary.specs.Spelling.{Beginning, IsBool, IsI32, IsI64, IsDouble, IsSize, IsString, Field, IsFieldHead, IsFields}
 
 -- the value of a step that did not fail
 pub bind_ok : {A B E : Type 0} (r : Result A E) (f : A → Result B E) (y : B) → (r >>= f) ≡ Ok y → (x : A) × (r ≡ Ok x) × (f x ≡ Ok y)
@@ -250,17 +250,6 @@ module _ {S E : Type 0} (wire : WireError → E) (take : Take S E) (P : S → Fi
   pub fields_found : (s : S) (w : List ℕ) (t : S) (r : List ℕ) → fields_at wire take s w ≡ Ok (t, r) → Fielded P s w t r
   unfolding fields_at
   fields_found s w t r e = fields_in_found (length w) s w t r e
-
--- one place of what was read: the last field of its type and id counts
-pub path_last : {S A : Type 0} (P : S → Field → S → Type 0) (place : S → Option A) (c : ℕ) (i : ℤ) (Spells : List ℕ → A → Type 0)
-    → ((s : S) (f : Field) (t : S) → P s f t → MatchBool (has c i f) ((x : A) × Spells f.text x × (place t ≡ Some x)) (place t ≡ place s))
-    → (fs : List Field) (s t : S) → Path P s fs t → IsLast c i Spells (place s) fs (place t)
-path_last P place c i Spells one [] s t p = ap place p
-path_last {A = A} P place c i Spells one (f ∷ fs) s t (u, d, p) = by (path_last P place c i Spells one fs u t p) (has c i f) (one s f u d)
-  where
-    by : IsLast c i Spells (place u) fs (place t) → (b : Bool) → MatchBool b ((x : A) × Spells f.text x × (place u ≡ Some x)) (place u ≡ place s) → MatchBool b ((x : A) × Spells f.text x × IsLast c i Spells (Some x) fs (place t)) (IsLast c i Spells (place s) fs (place t))
-    by rest true m = (m.0, m.1, subst (λ (o : Option A). IsLast c i Spells o fs (place t)) m.2 rest)
-    by rest false m = subst (λ (o : Option A). IsLast c i Spells o fs (place t)) m rest
 
 -- ---- what a call on a cursor gave
 
