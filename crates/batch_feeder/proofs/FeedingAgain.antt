@@ -1,6 +1,6 @@
 -- The steps of a feeder.
 use Rattle.std.proofs.Common.{◌≡◌, ◌≢◌, ℕ, List, [], ◌∷◌, ◌++◌, length, eqb, Result, Ok, Err, true, false, not, refl, ap, sym, ◌∙◌, arith, append-nil}
-use Rattle.std.proofs.lemmas.Bool.{ne_eqb}
+use Rattle.std.proofs.lemmas.Bool.{ne_eqb, false_from_ne_true}
 use Rattle.thrift_binary.specs.declared.fault.WireError.TheVariants.{Truncated, BadLength, BadType, TooDeep, BadBool, BadText}
 use Rattle.thrift_binary.specs.Reading.{◌>>=◌}
 use Rattle.thrift_binary.specs.Fields.{fields_in, fields_at}
@@ -32,18 +32,6 @@ reads s step = struct_from take_batch batch_continues batch_from s step
 pub faults-apart : {X : Type 0} (a : List ℕ → Result X DecodeError) (p : List ℕ) (e : DecodeError) → Faults a p e → e ≡ Wire Truncated → ⊥
 faults-apart a p e g h = (g (λ m. absurd (let k : Wire Truncated ≡ Memory = sym h ∙ m in cc))).no_want h
 
-no_want : (e : DecodeError) → (e ≡ Wire Truncated → ⊥) → not (is_truncated e) ≡ true
-no_want (Wire Truncated) n = absurd (n refl)
-no_want (Wire BadLength) n = refl
-no_want (Wire BadType) n = refl
-no_want (Wire TooDeep) n = refl
-no_want (Wire BadBool) n = refl
-no_want (Wire BadText) n = refl
-no_want (Missing p i) n = refl
-no_want BadEnum n = refl
-no_want Trailing n = refl
-no_want Memory n = refl
-
 want_is : (e : DecodeError) → is_truncated e ≡ true → e ≡ Wire Truncated
 want_is (Wire Truncated) h = refl
 want_is (Wire BadLength) h = absurd cc
@@ -55,6 +43,9 @@ want_is (Missing p i) h = absurd cc
 want_is BadEnum h = absurd cc
 want_is Trailing h = absurd cc
 want_is Memory h = absurd cc
+
+no_want : (e : DecodeError) → (e ≡ Wire Truncated → ⊥) → not (is_truncated e) ≡ true
+no_want e n = ap not (false_from_ne_true (is_truncated e) (λ y. n (want_is e y)))
 
 short-is : {A : Type 0} (r : Result A DecodeError) → is_short r ≡ true → r ≡ Err (Wire Truncated)
 short-is (Ok x) h = absurd cc
@@ -164,20 +155,16 @@ pub whole-ends : (now : State) (b : Batch) → now ≡ state.Whole b → answers
 unfolding answers_of
 whole-ends now b is = rw is refl
 
-pub gives-err : (r : Result Batch DecodeError) (e : DecodeError) → r ≡ Err e → Fails e r
-gives-err r Memory h = tt
-gives-err r (Wire x) h = h
-gives-err r (Missing p i) h = h
-gives-err r BadEnum h = h
-gives-err r Trailing h = h
-
-pub gives-same : (r s : Result Batch DecodeError) → r ≡ s → Gives r s
-gives-same (Ok x) s h = sym h
-gives-same (Err e) s h = gives-err s e (sym h)
-
 pub fails-unless : (r : Result Batch DecodeError) (e : DecodeError) → ((e ≡ Memory → ⊥) → r ≡ Err e) → Fails e r
 fails-unless r Memory h = tt
 fails-unless r (Wire x) h = h (λ m. absurd cc)
 fails-unless r (Missing p i) h = h (λ m. absurd cc)
 fails-unless r BadEnum h = h (λ m. absurd cc)
 fails-unless r Trailing h = h (λ m. absurd cc)
+
+pub gives-err : (r : Result Batch DecodeError) (e : DecodeError) → r ≡ Err e → Fails e r
+gives-err r e h = fails-unless r e (λ n. h)
+
+pub gives-same : (r s : Result Batch DecodeError) → r ≡ s → Gives r s
+gives-same (Ok x) s h = sym h
+gives-same (Err e) s h = gives-err s e (sym h)

@@ -1,5 +1,7 @@
 -- The lines of spans, one by one.
 use Rattle.std.proofs.Common.{◌≡◌, ℕ, zero, suc, arith, ◌+◌, ◌<◌, List, [], ◌∷◌, ◌++◌, length, take, drop, Option, subst, sym, ap, ◌∙◌, append-nil, append_assoc, add-one, refl}
+use Rattle.std.proofs.lemmas.List.{take-append-drop}
+use Rattle.std.proofs.lemmas.Grind.{flat_map-append}
 use Rattle.std.specs.Prelude.{flat_map}
 use Rattle.text_lines.specs.RunErrors.{Moves, WritesSome}
 use Rattle.text_lines.proofs.Pages.{moves_more, moves_nothing, moves_then, some_written}
@@ -13,9 +15,7 @@ flat_map-take f (x ∷ xs) (suc i) d below is =
     rw add-one (append_assoc (f x) (flat_map f (take i xs)) (f d) ∙ ap (λ t. f x ++ t) (flat_map-take f xs i d (omega arith) is ∙ rw add-one refl))
 
 flat_map-split : {X : Type 0} (f : X → List ℕ) (i : ℕ) (xs : List X) → flat_map f xs ≡ flat_map f (take i xs) ++ flat_map f (drop i xs)
-flat_map-split f zero xs = refl
-flat_map-split f (suc i) [] = refl
-flat_map-split f (suc i) (x ∷ xs) = ap (λ t. f x ++ t) (flat_map-split f i xs) ∙ sym (append_assoc (f x) (flat_map f (take i xs)) (flat_map f (drop i xs)))
+flat_map-split f i xs = ap (flat_map f) (sym (take-append-drop i xs)) ∙ flat_map-append f (take i xs) (drop i xs)
 
 pub none_moved : (a : Option (List ℕ)) (page : List ℕ) → page ≡ [] → Moves a a [] page
 none_moved a page is = subst (Moves a a []) (sym is) (moves_nothing a [])

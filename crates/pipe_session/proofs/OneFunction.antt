@@ -1,15 +1,16 @@
 -- What a session over a store that one owner has writes is one function of the bytes, the entries and the limits.
-use Rattle.std.proofs.Common.{◌≡◌, ℕ, ◌+◌, Bool, List, ◌++◌, length, take, Option, Some, None, sym, ap, ◌∙◌, append_assoc}
+use Rattle.std.proofs.Common.{◌≡◌, ℕ, ◌+◌, Bool, List, ◌++◌, length, take, Option, Some, None, sym, ap, ◌∙◌, subst, append_assoc}
 use Rattle.std.proofs.lemmas.List.{append_cancel_left}
 use mathlib.Core.List.{IsPrefix}
 use Rattle.trace_model.specs.Held.{Held}
+use Rattle.trace_model.proofs.Prefixes.{prefix_self, prefix_trans}
 use Rattle.direct_store.specs.Exactly.{DirectSubmits, DirectReads}
 use Rattle.http_session.specs.Sessions.{Exchange, texts, Run, EndsAs, FailsAs, last_of, responses, partings, is_clean, exchange_due, bytes_due}
 use Rattle.http_session.specs.declared.exchanges.SessionError.{SessionError}
 use Rattle.pipe_session.specs.OneFunction.{NeverWants, Finished, Failed}
 use Rattle.pipe_session.proofs.Exactly.{exact}
 use Rattle.pipe_session.proofs.Courses.{Stand, ends_at, RunsTo, runs_to, one_course}
-use Rattle.pipe_session.proofs.Beginnings.{spoken, Stops, stops, due_at, meant_begins, part_begins}
+use Rattle.pipe_session.proofs.Beginnings.{spoken, Stops, stops, due_at, meant, meant_begins, part_begins}
 
 -- the exchanges of a run in which memory didn't run out stand at the beginning of the bytes
 stand : (bytes taken rest left : List ℕ) (s t : Held) (xs : List Exchange) → bytes ≡ taken ++ left → taken ≡ texts xs ++ rest → Run DirectSubmits DirectReads s xs t → NeverWants xs
@@ -49,19 +50,27 @@ one_function bytes s w v t u n m c d one other =
 
 -- ---- the course of a session that failed
 
-pub stopped : (bytes before out : List ℕ) (left : Option (List ℕ)) (s t : Held) (i o : Bool) (e : SessionError) (fails : FailsAs DirectSubmits DirectReads (Some bytes) left (Some before) (Some out) s t i o e)
+stopped : (bytes before out : List ℕ) : List ℕ) (left : Option (List ℕ)) (s t : Held) (i o : Bool) (e : SessionError) (fails : FailsAs DirectSubmits DirectReads (Some bytes) left (Some before) (Some out) s t i o e)
     → NeverWants (fails.opens ++ exchange_due fails.next) → Stops bytes s fails.opens fails.next
 stopped bytes before out None s t i o e fails memory = absurd fails.read
 stopped bytes before out (Some left) s t i o e fails memory =
     stops bytes s fails.opens fails.next (fails.rest ++ left) t fails.each
     (stand bytes fails.taken fails.rest left s t (fails.opens ++ exchange_due fails.next) fails.read fails.split fails.run memory) (due_at e.cause fails.rest left fails.next fails.next_is)
 
+pub failed_course : (bytes : List ℕ) (s : Held) (w : List ℕ) (f : Failed bytes s w) → Stops bytes s f.fails.opens f.fails.next
+failed_course bytes s w f = stopped bytes f.before (f.before ++ w) f.left s f.held f.in_failed f.out_failed f.error f.fails f.memory
+
+-- what was written begins what was meant
+pub wrote : (bytes : List ℕ) (s : Held) (w : List ℕ) (f : Failed bytes s w) → IsPrefix w (meant f.fails.opens f.fails.next)
+wrote bytes s w f =
+    let all : List ℕ = meant f.fails.opens f.fails.next in
+    let own : w ≡ responses f.fails.opens ++ take f.error.written (bytes_due f.fails.next) =
+    append_cancel_left f.before w (responses f.fails.opens ++ take f.error.written (bytes_due f.fails.next)) f.fails.written in
+    subst (λ (l : List ℕ). IsPrefix l all) (sym own) (part_begins (responses f.fails.opens) (bytes_due f.fails.next) all f.error.written (prefix_self all))
+
 pub a_beginning : (bytes : List ℕ) (s : Held) (w v : List ℕ) (t : Held) (n : ℕ) (c : Bool) → Failed bytes s w → Finished bytes s v t n c → IsPrefix w v
 a_beginning bytes s w v t n c failed finished =
-    let wrote : w ≡ responses failed.fails.opens ++ take failed.error.written (bytes_due failed.fails.next) =
-    append_cancel_left failed.before w (responses failed.fails.opens ++ take failed.error.written (bytes_due failed.fails.next)) failed.fails.written in
-    let begins = meant_begins bytes s failed.fails.opens failed.fails.next finished.ends.opens finished.ends.ending t
-    (stopped bytes failed.before (failed.before ++ w) failed.left s failed.held failed.in_failed failed.out_failed failed.error failed.fails failed.memory)
+    let whole = spoken finished.ends.opens finished.ends.ending in
+    let begins = meant_begins bytes s failed.fails.opens failed.fails.next finished.ends.opens finished.ends.ending t (failed_course bytes s w failed)
     (course bytes finished.before (finished.before ++ v) finished.left s t n c finished.ends finished.memory) in
-    let part = part_begins (responses failed.fails.opens) (bytes_due failed.fails.next) (spoken finished.ends.opens finished.ends.ending) failed.error.written begins in
-    (part.0, ap (λ (l : List ℕ). l ++ part.0) wrote ∙ part.1 ∙ sym (said bytes s v t n c finished))
+    subst (IsPrefix w) (sym (said bytes s v t n c finished)) (prefix_trans w (meant failed.fails.opens failed.fails.next) whole (wrote bytes s w failed) begins)

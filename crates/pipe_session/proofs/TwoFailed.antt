@@ -1,7 +1,6 @@
 -- Of two sessions that failed over one input one wrote a beginning of what the other wrote.
-use Rattle.std.proofs.Common.{◌≡◌, ℕ, List, [], ◌∷◌, ◌++◌, take, inl, inr, refl, sym, ◌∙◌, subst, append_assoc}
+use Rattle.std.proofs.Common.{◌≡◌, ℕ, List, [], ◌∷◌, ◌++◌, inl, inr, refl, sym, ◌∙◌, subst, append_assoc}
 use mathlib.Core.List.{IsPrefix}
-use Rattle.std.proofs.lemmas.List.{append_cancel_left}
 use Rattle.trace_model.specs.Held.{Held}
 use Rattle.trace_model.proofs.Prefixes.{prefix_self, prefix_trans}
 use Rattle.http_requests.proofs.Once.{one_breach}
@@ -9,8 +8,8 @@ use Rattle.http_session.specs.Sessions.{Exchange, responses, response_to, Due, D
 use Rattle.pipe_session.specs.Exact.{held_after}
 use Rattle.pipe_session.specs.OneFunction.{Failed, OneBegins}
 use Rattle.pipe_session.proofs.Courses.{same_exchange, not_broken}
-use Rattle.pipe_session.proofs.Beginnings.{Stops, meant, longer, part_begins}
-use Rattle.pipe_session.proofs.OneFunction.{stopped}
+use Rattle.pipe_session.proofs.Beginnings.{Stops, meant, longer}
+use Rattle.pipe_session.proofs.OneFunction.{failed_course, wrote}
 
 -- two beginnings of one list
 both_begin : (w v all : List ℕ) → IsPrefix w all → IsPrefix v all → OneBegins w v
@@ -63,22 +62,11 @@ one_meant bytes s (y ∷ ys) d (x ∷ xs) e stops other =
       | inr p ↦ inr (longer x y (responses xs) (responses ys) (bytes_due e) (bytes_due d) (sym now.0) p)
     ]
 
--- what was written begins what was meant
-wrote : (bytes : List ℕ) (s : Held) (w : List ℕ) (f : Failed bytes s w) → IsPrefix w (meant f.fails.opens f.fails.next)
-wrote bytes s w f =
-    let all : List ℕ = meant f.fails.opens f.fails.next in
-    let own : w ≡ responses f.fails.opens ++ take f.error.written (bytes_due f.fails.next) =
-    append_cancel_left f.before w (responses f.fails.opens ++ take f.error.written (bytes_due f.fails.next)) f.fails.written in
-    subst (λ (l : List ℕ). IsPrefix l all) (sym own) (part_begins (responses f.fails.opens) (bytes_due f.fails.next) all f.error.written (prefix_self all))
-
-course : (bytes : List ℕ) (s : Held) (w : List ℕ) (f : Failed bytes s w) → Stops bytes s f.fails.opens f.fails.next
-course bytes s w f = stopped bytes f.before (f.before ++ w) f.left s f.held f.in_failed f.out_failed f.error f.fails f.memory
-
 pub two_failed : (bytes : List ℕ) (s : Held) (w v : List ℕ) → Failed bytes s w → Failed bytes s v → OneBegins w v
 two_failed bytes s w v one other =
     let mine = wrote bytes s w one in
     let theirs = wrote bytes s v other in
-    elim (one_meant bytes s one.fails.opens one.fails.next other.fails.opens other.fails.next (course bytes s w one) (course bytes s v other)) [
+    elim (one_meant bytes s one.fails.opens one.fails.next other.fails.opens other.fails.next (failed_course bytes s w one) (failed_course bytes s v other)) [
       | inl p ↦ both_begin w v (meant other.fails.opens other.fails.next) (prefix_trans w (meant one.fails.opens one.fails.next) (meant other.fails.opens other.fails.next) mine p) theirs
       | inr p ↦ both_begin w v (meant one.fails.opens one.fails.next) mine (prefix_trans v (meant other.fails.opens other.fails.next) (meant one.fails.opens one.fails.next) theirs p)
     ]

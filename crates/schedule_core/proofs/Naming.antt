@@ -3,7 +3,7 @@ use Rattle.std.proofs.Common.{◌≡◌, ℕ, ◌+◌, ◌⊎◌, zero, suc, tru
 use Rattle.std.specs.Prelude.{slice_get, slice_index, slice_set, if◌then◌else◌, ◌==◌}
 use Rattle.std.specs.List.{range_with_len}
 use Rattle.std.proofs.lemmas.Bool.{cases_eq, eq-eqb, ne_eqb}
-use Rattle.std.proofs.lemmas.List.{append-nil, get_or-set_same, get_or-set_other}
+use Rattle.std.proofs.lemmas.List.{append-nil, map-append, get_or-set_same, get_or-set_other}
 use Rattle.std.proofs.lemmas.Option.{slice_get_within, get_or_from_slice_get}
 use Rattle.trace_model.specs.declared.entry.Work.TheVariants as brings
 use Rattle.trace_model.specs.declared.entry.Entry.{Entry}
@@ -15,10 +15,6 @@ use Rattle.schedule_core.proofs.StepCases.{on_step}
 
 -- ---- names
 
-names_append : (a b : List Entry) → map name_of (a ++ b) ≡ map name_of a ++ map name_of b
-names_append [] b = refl
-names_append (j ∷ a) b = ap (λ l. name_of j ∷ l) (names_append a b)
-
 -- what is accepted is named by what was accepted before and by what is reported
 Names : Machine → Machine → List (ℕ × ℕ) → Type 0
 Names m n reported = map name_of (accepted n) ≡ map name_of (accepted m) ++ reported
@@ -29,7 +25,7 @@ names_same m n e = ap (map name_of) e ∙ sym (append-nil (map name_of (accepted
 
 names_more : (m n : Machine) (job : Entry) → accepted n ≡ accepted m ++ job ∷ [] → Names m n (name_of job ∷ [])
 unfolding Names
-names_more m n job e = ap (map name_of) e ∙ names_append (accepted m) (job ∷ [])
+names_more m n job e = ap (map name_of) e ∙ map-append name_of (accepted m) (job ∷ [])
 
 step_names : (m : Machine) (s : Step) → Names m (step m s).machine (reported_by s (step m s).outcome)
 step_names m = on_step m (λ s t. Names m t.machine (reported_by s t.outcome)) (record {
@@ -77,22 +73,16 @@ counts_put k ns job last has next =
     let now = get_or_from_slice_get ns job.seat last 0 has in
     elim (cases_eq job.seat k) [
       | inl same ↦ inr (
-        ap (λ b. if b then job.number ∷ [] else []) (equal_seats job.seat k same)
+        ap (λ b. if b then job.number ∷ [] else []) (eq-eqb job.seat k same)
             ∙ ap (λ n. n ∷ []) (next ∙ ap (λ n. n + 1) (sym now ∙ ap (slice_index ns) same)),
         ap (slice_index (slice_set ns job.seat (last + 1))) (sym same) ∙ get_or-set_same ns job.seat (last + 1) 0 within
             ∙ ap (λ n. n + 1) (sym now ∙ ap (slice_index ns) same),
       )
       | inr other ↦ inl (
-        ap (λ b. if b then job.number ∷ [] else []) (other_seats job.seat k other),
+        ap (λ b. if b then job.number ∷ [] else []) (ne_eqb job.seat k other),
         get_or-set_other ns job.seat k (last + 1) 0 (λ e. other (sym e)),
       )
     ]
-  where
-    equal_seats : (a b : ℕ) → a ≡ b → (a == b) ≡ true
-    equal_seats a b e = eq-eqb a b e
-
-    other_seats : (a b : ℕ) → (a ≡ b → ⊥) → (a == b) ≡ false
-    other_seats a b e = ne_eqb a b e
 
 step_counts : (m : Machine) (k : ℕ) (s : Step) → Counts k m.numbers (step m s).machine.numbers (job_of s (step m s).outcome)
 step_counts m k = on_step m (λ s t. Counts k m.numbers t.machine.numbers (job_of s t.outcome)) (record {

@@ -295,7 +295,7 @@ pub held_alike : (c : Copied) (q : Queued) (fronts : List ℕ) (places : List Re
     → record { outcome = Held first; machine = machine_of c q fronts places } ≡ publishes (machine_of c q fronts places)
 held_alike c q fronts places first e = ap (λ o. publishes_by (machine_of c q fronts places) o) (sym (held_first c q fronts places ∙ e))
 
-abbrev after : Outcome → Machine → Stepped
+abbrev pub after : Outcome → Machine → Stepped
 after o m = record { outcome = o; machine = m }
 
 pub published_alike : (c now : Copied) (q : Queued) (fronts fronts_now : List ℕ) (places : List ReaderState) (front : ℕ) → IsState c q fronts places

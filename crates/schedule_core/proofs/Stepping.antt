@@ -18,10 +18,7 @@ use Rattle.schedule_core.specs.Copied.{Copied}
 use Rattle.schedule_core.specs.Queued.{Queued}
 use Rattle.schedule_core.specs.Standing.{visit_at, reader_at, Stands}
 use Rattle.schedule_core.specs.MachineStates.{IsState, machine_of}
-use Rattle.schedule_core.proofs.StateSteps.{reader_of, view_set, visit_of}
-
-abbrev pub after : Outcome → Machine → Stepped
-after o m = record { outcome = o; machine = m }
+use Rattle.schedule_core.proofs.StateSteps.{after, reader_of, view_set, visit_of}
 
 -- the element that is there meets what all do
 at_place : {A : Type 0} (P : A → Type 0) (xs : List A) (i : ℕ) (x : A) → slice_get xs i ≡ Some x → All P xs → P x

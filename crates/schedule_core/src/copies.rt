@@ -1,7 +1,7 @@
 //! What is accepted, and two copies of a store that hold beginnings of it. One copy is shown; the other
 //! is brought up to date, and they change their parts.
 
-ghost use Rattle.std.specs.Prelude.{◌≡◌, [], length, map, Ok, OnOk, OnErr, IfOk, IfErr, IsErr};
+ghost use Rattle.std.specs.Prelude.{◌≡◌, [], length, map, Ok, OnOk, OnErr, IfOk, IfErr, IsErr, if◌then◌else◌};
 ghost use Rattle.std.specs.Arc.{arc_value};
 ghost use mathlib.Core.List.{IsPrefix};
 ghost use Rattle.trace_model.specs.Answers.{answer};
@@ -116,28 +116,18 @@ impl Copies {
         Ok(())
     }
 
-    /// The answer at the history.
+    /// The answer at the history, or at that before the last publish.
     ///
     /// # Errors
     ///
     /// [`Refusal::NoMemory`], and nothing else.
-    pub fn answer(&self, query: &Query) -> Result<Answer, Refusal>
-        ensures answer { IfOk result (λ a. a ≡ answer self.now.limits self.now.history query.now) }
+    pub fn answer(&self, query: &Query, is_last: bool) -> Result<Answer, Refusal>
+        ensures answer { IfOk result (λ a. a ≡ answer self.now.limits
+            (if is_last then self.now.history else self.now.before) query.now) }
         ensures reason { IfErr result (λ why. why ≡ NoMemory) }
     {
-        self.shown.answer(query)
-    }
-
-    /// The answer at the history before the last publish.
-    ///
-    /// # Errors
-    ///
-    /// [`Refusal::NoMemory`], and nothing else.
-    pub fn answer_before(&self, query: &Query) -> Result<Answer, Refusal>
-        ensures answer { IfOk result (λ a. a ≡ answer self.now.limits self.now.before query.now) }
-        ensures reason { IfErr result (λ why. why ≡ NoMemory) }
-    {
-        self.spare.answer(query)
+        let store = if is_last { &self.shown } else { &self.spare };
+        store.answer(query)
     }
 }
 

@@ -263,10 +263,6 @@ fn look(
     ensures { IfOk result (λ a. a ≡ answer copies.now.limits (take inside.front copies.now.history)
         query.now) }
 {
-    let answered = if inside.publishes == publishes {
-        copies.answer(query)
-    } else {
-        copies.answer_before(query)
-    };
-    answered.map_err(|_| AllocError)
+    let is_last = inside.publishes == publishes;
+    copies.answer(query, is_last).map_err(|_| AllocError)
 }

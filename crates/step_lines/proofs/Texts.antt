@@ -1,5 +1,6 @@
 -- Texts of a step: pieces joined, and targets.
 use Rattle.std.proofs.Common.{◌≡◌, ℕ, ◌==◌, not, Bool, true, false, List, [], ◌∷◌, ◌++◌, length, map, ◌≢◌, cond, codes, ne_eqb, Ok, Err, refl, sym, ap, ◌∙◌, Bor}
+use Rattle.std.proofs.lemmas.Bool.{false_from_ne_true}
 use Rattle.std.specs.List.{All, AllZip, concat, filter, flat_map, onto_first}
 use Rattle.std.specs.Prelude.{if◌then◌else◌}
 use Rattle.std.specs.Str.{IsUtf8, is_utf8}
@@ -24,15 +25,14 @@ some_text t n e some = let any : (length t == 0) ≡ false = ap (λ (m : ℕ). m
 pub no_text : (t : List ℕ) (n : ℕ) → n ≡ length t → (n == 0) ≡ true → if_any t ≡ Err BadStep
 no_text t n e none = let any : (length t == 0) ≡ true = ap (λ (m : ℕ). m == 0) (sym e) ∙ none in rw any refl
 
+no_text : (bytes : List ℕ) → ¬ IsUtf8 bytes → is_utf8 bytes ≡ false
+no_text bytes none = false_from_ne_true (is_utf8 bytes) (λ e. none (IsUtf8-from_is_utf8 bytes e))
+
 pub target_read : (word : List ℕ) → (length word == 0) ≡ false → IsUtf8 word → target_in word ≡ Ok word
 target_read word some text = rw (some, is_utf8-from_IsUtf8 word text) refl
 
 pub target_bad : (word : List ℕ) → (length word == 0) ≡ false → ¬ IsUtf8 word → target_in word ≡ Err BadStep
-target_bad word some none = by (is_utf8 word) refl
-  where
-    by : (v : Bool) → is_utf8 word ≡ v → target_in word ≡ Err BadStep
-    by true e = absurd (none (IsUtf8-from_is_utf8 word e))
-    by false e = rw (some, e) refl
+target_bad word some none = rw (some, no_text word none) refl
 
 -- the words of a text, joined, are the text without its spaces
 joined_words : (t : List ℕ) → concat (words_of t) ≡ filter (λ c. not (is_space c)) t
@@ -57,8 +57,4 @@ pub text_step : (line : List ℕ) → IsUtf8 line → step_of (words_of line) �
 text_step line text = ap (λ b. if b then step_of (words_of line) else Err BadStep) (sym (is_utf8-from_IsUtf8 line text))
 
 pub bytes_step : (line : List ℕ) → ¬ IsUtf8 line → Err BadStep ≡ step_in line
-bytes_step line none = by (is_utf8 line) refl
-  where
-    by : (v : Bool) → is_utf8 line ≡ v → Err BadStep ≡ step_in line
-    by true e = absurd (none (IsUtf8-from_is_utf8 line e))
-    by false e = ap (λ b. if b then step_of (words_of line) else Err BadStep) (sym e)
+bytes_step line none = ap (λ b. if b then step_of (words_of line) else Err BadStep) (sym (no_text line none))
