@@ -23,7 +23,7 @@ use Rattle.service_index.specs.Indexes.{Index, IsIndexed, listing_by, has_servic
 use Rattle.service_index.proofs.Extending.{listing_extends}
 use Rattle.service_index.proofs.Sets.{listed_exact}
 use Rattle.trace_model.proofs.Rising.{any_set}
-use Rattle.trace_model.proofs.NameLaws.{any_map, text_is}
+use Rattle.trace_model.proofs.NameLaws.{any_map, text_apart}
 use Rattle.trace_model.specs.Histories.{before_last}
 use Rattle.service_places.specs.Reported.{service_brought, reporters, service_at, group_in, group_of}
 use Rattle.trace_model.proofs.LastEntries.{last_of}
@@ -135,11 +135,8 @@ services_reported s ps = any_set listed_exact (λ (l : Listed). same_text s l.se
 pub groups_asked : (h : List Entry) (s : List ℕ) → IsGroupOf (names_of h) s (group_of h s)
 groups_asked h s = elim (nat_lt (group_in h s) (length (reporters h))) as (λ b. nat_lt (group_in h s) (length (reporters h)) ≡ b → IsGroupOf (names_of h) s (cond b (Some (group_in h s)) None)) [
   | true ↦ λ e n below. numbers_keyed h s (reported_at h n).service (ltb-true (group_in h s) (length (reporters h)) e) (arrival_number h n below)
-  | false ↦ λ e n below. elim (same_text s (reported_at h n).service) as (λ t. same_text s (reported_at h n).service ≡ t → t ≡ false) [
-    | true ↦ λ f.
-        let w = arrival_number h n below in
-        let same = ap (group_in h) (text_is s (reported_at h n).service f) in
-        absurd (false≢true (sym e ∙ lt-ltb (group_in h s) (length (reporters h)) (omega arith)))
-    | false ↦ λ _. refl
-  ] refl
+  | false ↦ λ e n below. text_apart s (reported_at h n).service (λ one.
+      let w = arrival_number h n below in
+      let same = ap (group_in h) one in
+      false≢true (sym e ∙ lt-ltb (group_in h s) (length (reporters h)) (omega arith)))
 ] refl

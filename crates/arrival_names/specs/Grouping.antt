@@ -2,7 +2,7 @@
 use Rattle.std.proofs.Common.{◌≡◌, ℕ, Bool, true, false, ◌||◌, ◌<◌, List, [], ◌∷◌, map, length, refl, sym, ap, ◌∙◌, arith}
 use Rattle.std.specs.Prelude.{◌==◌}
 use Rattle.std.specs.List.{list_any}
-use Rattle.std.proofs.lemmas.Bool.{false≢true, ltb-true, eqb-true, eq-eqb}
+use Rattle.std.proofs.lemmas.Bool.{false≢true, ltb-true}
 use Rattle.std.proofs.lemmas.List.{length-map}
 use Rattle.std.proofs.lemmas.List.Sums.{passes_at_first}
 use Rattle.std.proofs.lemmas.List.Folds.{list_any-append, list_any_at}
@@ -17,7 +17,7 @@ use Rattle.trace_model.specs.declared.entry.Work.{Work}
 use Rattle.trace_model.specs.declared.entry.Work.TheVariants as brings
 use Rattle.trace_model.specs.Works.{placed_brought}
 use Rattle.trace_model.specs.Histories.{arrivals}
-use Rattle.trace_model.proofs.NameLaws.{any_map, text_is, text_self}
+use Rattle.trace_model.proofs.NameLaws.{any_map, same_where, text_is, text_self}
 use Rattle.service_index.specs.Listing.{Listed, listed}
 use Rattle.service_index.specs.Naming.{IsGrouped, service_alone}
 use Rattle.service_index.proofs.Linking.{is_position}
@@ -64,15 +64,8 @@ arrival_number h n below =
 
 -- services that entries have are the same where their numbers are
 pub numbers_keyed : (h : List Entry) (s t : List ℕ) → group_in h s < length (reporters h) → group_in h t < length (reporters h) → (group_in h s == group_in h t) ≡ same_text s t
-numbers_keyed h s t a b = elim (same_text s t) as (λ v. same_text s t ≡ v → (group_in h s == group_in h t) ≡ v) [
-  | true ↦ λ e. eq-eqb (group_in h s) (group_in h t) (ap (group_in h) (text_is s t e))
-  | false ↦ λ e. elim (group_in h s == group_in h t) as (λ w. (group_in h s == group_in h t) ≡ w → w ≡ false) [
-    | true ↦ λ f.
-        let one : s ≡ t = service_of_number h s a ∙ ap (service_at h) (eqb-true (group_in h s) (group_in h t) f) ∙ sym (service_of_number h t b) in
-        sym (sym e ∙ ap (same_text s) (sym one) ∙ text_self s)
-    | false ↦ λ f. refl
-  ] refl
-] refl
+numbers_keyed h s t a b =
+    same_where (group_in h s) (group_in h t) s t (λ one. service_of_number h s a ∙ ap (service_at h) one ∙ sym (service_of_number h t b)) (ap (group_in h))
 
 pub names_grouped : (h : List Entry) → IsGrouped (names_of h)
 names_grouped h = record {
