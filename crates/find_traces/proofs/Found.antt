@@ -1,8 +1,8 @@
 -- The traces at the places are those that a search finds.
-use Rattle.std.proofs.Common.{◌≡◌, ℕ, zero, suc, ◌+◌, true, false, cond, List, [], ◌∷◌, ◌++◌, map, length, take, refl, sym, ap, subst, ◌∙◌, arith, append_assoc, length-append, ◌<◌, ◌≤◌}
+use Rattle.std.proofs.Common.{◌≡◌, ℕ, ◌+◌, true, false, cond, List, [], ◌∷◌, ◌++◌, map, length, take, refl, sym, ap, subst, ◌∙◌, arith, append_assoc, length-append, ◌<◌, ◌≤◌}
 use Rattle.std.specs.Prelude.{filter, if◌then◌else◌, ◌==◌}
 use Rattle.std.specs.List.{list_any, All, filter_map, cons_option}
-use Rattle.std.proofs.lemmas.List.{append-nil, length-take-le, map_push, take_more}
+use Rattle.std.proofs.lemmas.List.{append-nil, get_or_at, length-take-le, map_push, take-map, take_more}
 use Rattle.std.proofs.lemmas.List.Elements.{All-nil, All-cons, All-filter, filter-append}
 use Rattle.std.proofs.lemmas.List.Sorted.{All-permutation}
 use Rattle.std.proofs.lemmas.Simd.{map-map}
@@ -20,13 +20,8 @@ place e = e.0
 abbrev trace : ℕ × List Placed → List Placed
 trace e = e.1
 
-pub map_take : {X Y : Type 0} (f : X → Y) (n : ℕ) (xs : List X) → map f (take n xs) ≡ take n (map f xs)
-map_take f zero xs = refl
-map_take f (suc n) [] = refl
-map_take f (suc n) (x ∷ xs) = ap (λ l. f x ∷ l) (map_take f n xs)
-
 pub map_cut : {X Y : Type 0} (f : X → Y) (n : ℕ) (xs : List X) → map f (cut n xs) ≡ cut n (map f xs)
-map_cut f n xs = elim (n == 0) as (λ b. map f (if b then xs else take n xs) ≡ (if b then map f xs else take n (map f xs))) [ true ↦ refl | false ↦ map_take f n xs ]
+map_cut f n xs = elim (n == 0) as (λ b. map f (if b then xs else take n xs) ≡ (if b then map f xs else take n (map f xs))) [ true ↦ refl | false ↦ sym (take-map f n xs) ]
 
 -- what the sorted and cut hits name
 pub places_of_hits : (q : Find) (ts : List (List Placed)) → map reverse_key_place (cut q.limit (map reverse_key_of (ranked_by_start start_of (hits q ts)))) ≡ places_found q ts
@@ -34,15 +29,11 @@ places_of_hits q ts =
     ap (map reverse_key_place) (sym (map_cut reverse_key_of q.limit (ranked_by_start start_of (hits q ts)))) ∙ map-map reverse_key_place reverse_key_of (cut q.limit (ranked_by_start start_of (hits q ts)))
 
 -- ---- each number leads back to its trace
-found_at : (before : List (List Placed)) (t : List Placed) (rest : List (List Placed)) → trace_at (before ++ t ∷ rest) (length before) ≡ t
-found_at [] t rest = refl
-found_at (b ∷ before) t rest = found_at before t rest
-
 numbers_lead : (before rest : List (List Placed)) (n : ℕ) → n ≡ length before → All (λ (e : ℕ × List Placed). trace_at (before ++ rest) e.0 ≡ e.1) (numbered n rest)
 numbers_lead before [] n e = All-nil (λ (e : ℕ × List Placed). trace_at (before ++ []) e.0 ≡ e.1)
 numbers_lead before (t ∷ rest) n e =
     All-cons (λ (x : ℕ × List Placed). trace_at (before ++ t ∷ rest) x.0 ≡ x.1) (n, t) (numbered (n + 1) rest)
-    (ap (trace_at (before ++ t ∷ rest)) e ∙ found_at before t rest)
+    (get_or_at before t rest [] n (sym e))
     (subst (λ l. All (λ (x : ℕ × List Placed). trace_at l x.0 ≡ x.1) (numbered (n + 1) rest)) (append_assoc before (t ∷ []) rest)
     (numbers_lead (before ++ t ∷ []) rest (n + 1) (let l = length-append before (t ∷ []) in omega arith)))
 
