@@ -6,7 +6,7 @@ use Rattle.std.specs.declared.sync.Arc.{Arc}
 use Rattle.std.specs.Global.{Global}
 use Rattle.std.specs.Option.{is_some, option_map_or, unwrap_or}
 use Rattle.std.specs.List.{list_any, position_or_len}
-use Rattle.std.proofs.lemmas.Bool.{false≢true, lt-ltb}
+use Rattle.std.proofs.lemmas.Bool.{false≢true, false_from_ne_true, lt-ltb}
 use Rattle.std.proofs.lemmas.List.Sums.{position_or_len_is}
 use Rattle.std.proofs.lemmas.List.Elements.{All-from_get_or}
 use Rattle.std.proofs.lemmas.List.Folds.{list_any_at, list_any_none}
@@ -135,10 +135,7 @@ hashes_same keys h e =
 
 -- ---- no two were sent as one another
 any_false_at : {A : Type 0} (p : A → Bool) (xs : List A) (k : ℕ) (d : A) → list_any p xs ≡ false → k < length xs → p (get_or xs k d) ≡ false
-any_false_at p xs k d none l = elim (p (get_or xs k d)) as (λ b. p (get_or xs k d) ≡ b → b ≡ false) [
-  | true ↦ λ t. absurd (false≢true (sym none ∙ list_any_at p xs k d l t))
-  | false ↦ λ _. refl
-] refl
+any_false_at p xs k d none l = false_from_ne_true (p (get_or xs k d)) (λ t. false≢true (sym none ∙ list_any_at p xs k d l t))
 
 once_pairs : (before h : List Entry) → SentOnceAfter before h → (i k : ℕ) (d : Entry) → i < length h → k < length before + i → resends (get_or h i d).work (get_or (before ++ h) k d).work ≡ false
 once_pairs before [] once i k d il kl = absurd (omega arith)
@@ -167,10 +164,8 @@ pub found_some : (h : List Entry) (e : Entry) (b : Batch) (i : ℕ) → e.work �
 found_some h e b i brought once l sought =
     let p : Entry → Bool = λ d. resends e.work d.work in
     let at : p (get_or h i e) ≡ true = ap (λ w. resends w (get_or h i e).work) brought ∙ sym (behind_is b h i e l) ∙ sought in
-    let earlier : (k : ℕ) → k < i → p (get_or h k e) ≡ false = λ k below. elim (p (get_or h k e)) as (λ x. p (get_or h k e) ≡ x → x ≡ false) [
-      | true ↦ λ t. absurd (false≢true (sym (once_pairs [] h once i k e l (omega arith)) ∙ resend_each_other e.work (get_or h i e).work (get_or h k e).work at t))
-      | false ↦ λ _. refl
-    ] refl in
+    let earlier : (k : ℕ) → k < i → p (get_or h k e) ≡ false = λ k below.
+    false_from_ne_true (p (get_or h k e)) (λ t. false≢true (sym (once_pairs [] h once i k e l (omega arith)) ∙ resend_each_other e.work (get_or h i e).work (get_or h k e).work at t)) in
     let is : position_or_len p h ≡ i = position_or_len_is p h i e (omega arith) earlier (λ _. at) in
     sym (ap (λ n. cond (nat_lt n (length h)) (Some n) None) is ∙ ap (λ x. cond x (Some i) None) (lt-ltb i (length h) l))
 
@@ -180,14 +175,11 @@ none_more k = omega arith
 pub found_none : (h : List Entry) (e : Entry) (b : Batch) → e.work ≡ brings.Batch b → ((row : ℕ) → row < length (numbered_from 0 h) → is_behind b h (get_or (numbered_from 0 h) row 0) ≡ false) → None ≡ sent_before h e
 found_none h e b brought none =
     let p : Entry → Bool = λ d. resends e.work d.work in
-    sym (sent_nowhere h e (list_any_none p h (λ k d l. elim (p (get_or h k d)) as (λ x. p (get_or h k d) ≡ x → x ≡ false) [
-      | true ↦ λ t.
-          let u = (get_or h k d).work in
-          let r = row_there 0 h k (get_or h k d) (slice_get-get_or h k d l) (resent_has e.work u t) in
-          let behind : is_behind b h k ≡ true = behind_is b h k d l ∙ ap (λ w. resends w u) (sym brought) ∙ t in
-          absurd (false≢true (sym (none r.row r.within) ∙ ap (λ n. is_behind b h n) (r.is ∙ none_more k) ∙ behind))
-      | false ↦ λ _. refl
-    ] refl)))
+    sym (sent_nowhere h e (list_any_none p h (λ k d l. false_from_ne_true (p (get_or h k d)) (λ t.
+    let u = (get_or h k d).work in
+    let r = row_there 0 h k (get_or h k d) (slice_get-get_or h k d l) (resent_has e.work u t) in
+    let behind : is_behind b h k ≡ true = behind_is b h k d l ∙ ap (λ w. resends w u) (sym brought) ∙ t in
+    false≢true (sym (none r.row r.within) ∙ ap (λ n. is_behind b h n) (r.is ∙ none_more k) ∙ behind)))))
 
 -- ---- one more entry
 -- (a list that is longer by an entry with a number has one row more, and else the same)
