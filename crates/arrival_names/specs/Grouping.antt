@@ -20,7 +20,7 @@ use Rattle.trace_model.specs.Histories.{arrivals}
 use Rattle.trace_model.proofs.NameLaws.{any_map, same_where, text_is, text_self}
 use Rattle.service_index.specs.Listing.{Listed, listed}
 use Rattle.service_index.specs.Naming.{IsGrouped, service_alone}
-use Rattle.service_index.proofs.Linking.{is_position}
+use Rattle.trace_model.proofs.Lists.{is_position}
 use Rattle.service_places.specs.Reported.{service_brought, reporters, service_at, group_in}
 use Rattle.arrival_names.specs.Kept.{reports, reported_at, names_of}
 

@@ -19,14 +19,11 @@ use Rattle.schedule_core.specs.Queued.{Queued}
 use Rattle.schedule_core.specs.Standing.{visit_at, reader_at, Stands}
 use Rattle.schedule_core.specs.MachineStates.{IsState, machine_of}
 use Rattle.schedule_core.proofs.StateSteps.{after, reader_of, view_set, visit_of}
+use Rattle.trace_model.proofs.Lists.{none_is}
 
 -- the element that is there meets what all do
 at_place : {A : Type 0} (P : A → Type 0) (xs : List A) (i : ℕ) (x : A) → slice_get xs i ≡ Some x → All P xs → P x
 at_place P xs i x e all = subst P (get_or_from_slice_get xs i x x e) (All-get_or P xs i x (slice_get_within xs i x e) all)
-
-none_is : {A : Type 0} (o : Option A) → is_some o ≡ false → o ≡ None
-none_is None e = refl
-none_is (Some x) e = absurd cc
 
 some_is : {A : Type 0} (o : Option A) → is_some o ≡ true → (x : A) × (o ≡ Some x)
 some_is None e = absurd cc

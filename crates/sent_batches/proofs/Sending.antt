@@ -24,7 +24,7 @@ use Rattle.trace_model.specs.Resending.{resends, sent_before, SentOnceAfter}
 use Rattle.trace_model.proofs.Admissions.{sent_nowhere}
 use Rattle.trace_model.proofs.LastEntries.{last_entry}
 use Rattle.trace_model.proofs.Lists.{map_agree}
-use Rattle.trace_model.proofs.Resent.{sent_as, as_sent, limit_not_sent}
+use Rattle.trace_model.proofs.Resent.{sent_as, limit_not_sent, alike}
 use Rattle.sent_batches.specs.Hashing.{hash_of, batch_hash}
 use Rattle.sent_batches.specs.Sent.{has_number, numbered_from, work_hash, hash_behind, is_behind, Sent, IsKept}
 use Rattle.row_places.specs.Leading.{LeadsTo}
@@ -32,12 +32,7 @@ use Rattle.row_places.specs.Leading.{LeadsTo}
 -- ---- batches that were sent as one another
 -- two works that a work resends resend one another
 pub resend_each_other : (w u v : Work) → resends w u ≡ true → resends w v ≡ true → resends u v ≡ true
-resend_each_other (brings.Batch a) (brings.Batch b) (brings.Batch c) e f =
-    let s = sent_as a b e in let t = sent_as a c f in
-    as_sent b c (record { numbered = ap is_some (sym s.number) ∙ s.numbered; number = sym s.number ∙ t.number; process = sym s.process ∙ t.process })
-resend_each_other (brings.Batch a) (brings.Batch b) (brings.TraceLimit n) e f = absurd (false≢true f)
-resend_each_other (brings.Batch a) (brings.TraceLimit m) v e f = absurd (false≢true e)
-resend_each_other (brings.TraceLimit m) u v e f = absurd (false≢true e)
+resend_each_other w u v e f = sym (alike w u e v) ∙ f
 
 -- what a work resends has a number
 pub resent_has : (w u : Work) → resends w u ≡ true → has_number u ≡ true

@@ -25,15 +25,9 @@ use Rattle.service_index.specs.Indexes.{Index, listing_by, service_row, has_serv
 use Rattle.service_index.proofs.Known.{known_again}
 use Rattle.service_index.proofs.Sets.{same_set, set_more, listed_total, listed_exact}
 use Rattle.service_index.proofs.Probing.{same_is, label_of}
+use Rattle.trace_model.proofs.Lists.{is_position}
 
 -- ---- rows and tests
--- the first place that passes is one of the places where one passes
-pub is_position : {X : Type 0} (p : X → Bool) (xs : List X) (d : X) → nat_lt (position_or_len p xs) (length xs) ≡ list_any p xs
-is_position p xs d = elim (cases_lt (position_or_len p xs) (length xs)) [
-  | inl below ↦ lt-ltb (position_or_len p xs) (length xs) below ∙ sym (list_any_at p xs (position_or_len p xs) d below (passes_at_first p xs d below))
-  | inr past ↦ le-ltb (position_or_len p xs) (length xs) past ∙ sym (list_any_none p xs (λ k e within. fails_before_first p xs k e (omega arith)))
-]
-
 -- a test of the numbers' keys passes where the label is the sought one
 abbrev pub FindsLabel : {X : Type 0} → Labelling → LabelValue → (ℕ → X) → (X → Bool) → Type 0
 FindsLabel labels l key test = (n : ℕ) → n < labels.count → same_label l (labels.at n) ≡ test (key n)

@@ -1,5 +1,5 @@
 -- In a legal list no batch with a number stands twice, and how one that is handed in again is answered.
-use Rattle.std.proofs.Common.{◌≡◌, ℕ, suc, ◌+◌, ◌<◌, Bool, true, false, ◌&&◌, Some, None, List, [], ◌∷◌, ◌++◌, length, fold, refl, sym, ap, ◌∙◌, subst, append_assoc, add-one, inl, inr, get_or, zero}
+use Rattle.std.proofs.Common.{◌≡◌, ℕ, suc, ◌+◌, ◌<◌, Bool, true, false, Some, None, List, [], ◌∷◌, ◌++◌, length, fold, refl, sym, ap, ◌∙◌, subst, append_assoc, add-one, inl, inr, get_or, zero}
 use Rattle.std.specs.Prelude.{Result, Ok, Err, position, if◌then◌else◌}
 use Rattle.std.specs.Option.{is_some}
 use Rattle.std.specs.List.{list_any}
@@ -9,7 +9,6 @@ use Rattle.std.proofs.lemmas.List.Folds.{list_any-append, list_any_at}
 use Rattle.std.proofs.lemmas.List.Quantifiers.{position-Some}
 use Rattle.std.proofs.lemmas.List.Sums.{fold-append}
 use Rattle.jaeger_model.specs.declared.batch.Batch.{Batch}
-use Rattle.jaeger_model.specs.Same.{same_number, same_process}
 use Rattle.trace_model.specs.declared.admission.Admission.{Admission}
 use Rattle.trace_model.specs.declared.admission.Admission.TheVariants.{Added, Resent}
 use Rattle.trace_model.specs.declared.entry.Entry.{Entry}
@@ -28,23 +27,12 @@ use Rattle.trace_model.proofs.Admissions.{none_passes, IsAnswered, IsSaid, admis
 use Rattle.trace_model.proofs.Legality.{legal_empty}
 use Rattle.trace_model.proofs.Lists.{split_at}
 use Rattle.trace_model.proofs.Prefixes.{prefix_self, prefix_trans}
-use Rattle.trace_model.proofs.Resent.{sent_as, as_sent, limit_not_sent, unnumbered_not_sent, nothing_sent}
+use Rattle.trace_model.proofs.Resent.{sent_as, as_sent, limit_not_sent, unnumbered_not_sent, nothing_sent, alike}
 use Rattle.store_laws.specs.Submits.{StandsOnce}
 use Rattle.store_laws.proofs.LegalLists.{legal_snoc}
 use mathlib.Core.List.{IsPrefix}
 
 -- ---- batches of one process and number
--- a batch was sent as one exactly where it was sent as the other
-pub alike : (v w : Work) → resends v w ≡ true → (x : Work) → resends v x ≡ resends w x
-alike (brings.Batch a) (brings.Batch b) e (brings.Batch c) =
-    let o = sent_as a b e in
-    ap (λ n. is_some n && (same_number n c.seq_no && same_process a.process c.process)) o.number
-    ∙ ap (λ p. is_some b.seq_no && (same_number b.seq_no c.seq_no && same_process p c.process)) o.process
-alike (brings.Batch a) (brings.Batch b) e (brings.TraceLimit n) = refl
-alike (brings.Batch a) (brings.TraceLimit n) e x = absurd (false≢true e)
-alike (brings.TraceLimit m) (brings.Batch b) e x = absurd (false≢true e)
-alike (brings.TraceLimit m) (brings.TraceLimit n) e x = absurd (false≢true e)
-
 back_true : (v w : Work) → resends v w ≡ true → resends w v ≡ true
 back_true (brings.Batch a) (brings.Batch b) e =
     let o = sent_as a b e in

@@ -1,12 +1,10 @@
 -- What the reference to the parent in front leaves, and what is lent.
-use Rattle.std.proofs.Common.{◌≡◌, ℕ, zero, suc, ◌+◌, ◌<◌, List, [], ◌∷◌, map, length, get_or, refl, sym, ap, ◌∙◌, subst}
+use Rattle.std.proofs.Common.{◌≡◌, ℕ, ◌<◌, List, [], length, ap, ◌∙◌, subst}
 use Rattle.std.specs.Prelude.{Some}
-use Rattle.jaeger_model.specs.declared.placed.Placed.{Placed}
 use Rattle.jaeger_model.specs.declared.span.Span.{Span}
 use Rattle.jaeger_model.specs.declared.span.SpanRef.{SpanRef}
 use Rattle.jaeger_model.specs.Parents.{parent}
-use Rattle.trace_model.specs.Adjusting.{to_front, parent_place, with_parent_first}
-use Rattle.trace_model.specs.Sharing.{ShareProcesses}
+use Rattle.trace_model.specs.Adjusting.{to_front, parent_place}
 use Rattle.trace_model.proofs.Fronts.{parent_stays}
 use Rattle.trace_adjust.specs.declared.lent_placed.ParentReference.TheVariants.{InFront}
 use Rattle.trace_adjust.specs.Lent.{IsReferred}
@@ -16,12 +14,3 @@ put_in_front s rs i same place within = record {
   parent_stays = ap (λ o. parent (record s { references = to_front o s.references })) (place ∙ ap (parent_place s.trace) same) ∙ parent_stays s;
   place = subst (λ (xs : List SpanRef). i < length xs) same within;
 }
-
--- ---- spans that are lent with the reference in front
-lent_process : (ps : List Placed) (k : ℕ) (d : Placed) → (get_or (map with_parent_first ps) k d).process ≡ (get_or ps k d).process
-lent_process [] k d = refl
-lent_process (p ∷ ps) zero d = refl
-lent_process (p ∷ ps) (suc k) d = lent_process ps k d
-
-pub lent_shares : (ps : List Placed) (places : List ℕ) → ShareProcesses ps places → ShareProcesses (map with_parent_first ps) places
-lent_shares ps places share k d l e = lent_process ps k d ∙ share k d l e ∙ sym (lent_process ps (k + 1) d)

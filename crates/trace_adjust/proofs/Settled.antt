@@ -16,6 +16,7 @@ use Rattle.trace_adjust.specs.declared.clock.HostClock.{HostClock}
 use Rattle.trace_adjust.specs.Hosts.{hosts_of, number_in, hosted, all_hosted, near_by, IsNumbered, AreNumbered, AreSet}
 use Rattle.trace_adjust.proofs.Hosting.{hosted_at, hosted_none, written_hosted, written_numbered, near_hosted, near_numbered}
 use Rattle.trace_adjust.proofs.Places.{parent_there, place_below}
+use Rattle.trace_model.proofs.Lists.{none_is}
 
 module _ (max_skew : ℕ) (trace : List Placed) where
   abbrev clock : Placed → Option Clock
@@ -75,10 +76,6 @@ module _ (max_skew : ℕ) (trace : List Placed) where
 pub written_same : {X : Type 0} (cs : List (Option X)) (i : ℕ) (n : Option X) → writes cs i n ≡ false → (written cs i n ≡ cs) × (get_or cs i None ≡ None → n ≡ None)
 written_same {X} cs i n e = by_now (get_or cs i None) refl e
   where
-    none_is : (n : Option X) → is_some n ≡ false → n ≡ None
-    none_is None h = refl
-    none_is (Some c) h = absurd (false≢true (sym h))
-
     by_now : (c : Option X) → get_or cs i None ≡ c → (is_unset c && is_some n) ≡ false → ((if is_unset c then set cs i n else cs) ≡ cs) × (c ≡ None → n ≡ None)
     by_now None q h = let none : n ≡ None = none_is n h in (ap (set cs i) (none ∙ sym q) ∙ set-get_or cs i None, λ _. none)
     by_now (Some c) q h = (refl, λ z. absurd (false≢true (sym (ap is_some z))))

@@ -1,14 +1,13 @@
 -- What follows from each answer to an entry that is handed in. Whoever stands above uses these facts, and
 -- looks into `admission` no further.
-use Rattle.std.proofs.Common.{◌≡◌, ℕ, suc, ◌+◌, ◌<◌, ◌≤◌, Bool, true, false, ◌&&◌, List, [], ◌∷◌, length, get_or, Some, None, refl, sym, ap, ◌∙◌, arith}
+use Rattle.std.proofs.Common.{◌≡◌, ℕ, suc, ◌+◌, ◌<◌, ◌≤◌, Bool, true, false, ◌&&◌, List, [], length, get_or, Some, None, refl, sym, ap, ◌∙◌, arith}
 use Rattle.std.specs.Prelude.{Result, Ok, Err, nat_le, position, if◌then◌else◌}
-use Rattle.std.specs.List.{list_any, position_or_len}
-use Rattle.std.specs.Option.{option_map_or}
+use Rattle.std.specs.List.{list_any}
+use Rattle.std.specs.Option.{option_map_or, is_some}
 use Rattle.std.proofs.lemmas.Bool.{leb-true, leb-false, false≢true, and_parts}
 use Rattle.std.proofs.lemmas.Grind.{common_steps}
-use Rattle.std.proofs.lemmas.List.Sums.{fails_before_first}
 use Rattle.std.proofs.lemmas.List.Quantifiers.{position-Some}
-use Rattle.std.proofs.lemmas.List.Folds.{list_any_at, list_any_none}
+use Rattle.std.proofs.lemmas.List.Folds.{list_any_at}
 use Rattle.std.proofs.lemmas.Option.{slice_get-get_or}
 use Rattle.trace_model.specs.declared.admission.Admission.{Admission}
 use Rattle.trace_model.specs.declared.admission.Admission.TheVariants.{Added, Resent}
@@ -22,20 +21,15 @@ use Rattle.trace_model.specs.Histories.{last_number, span_count}
 use Rattle.trace_model.specs.Resending.{resends, is_sent, sent_before}
 use Rattle.trace_model.specs.Places.{entry_at}
 use Rattle.trace_model.specs.Refusals.{has_room, repeated, admitted_anew, admission}
+use Rattle.trace_model.proofs.Lists.{place_is_any, none_is}
 
 -- ---- places
 module _ {A : Type 0} (p : A → Bool) where
   pub none_passes : (xs : List A) → position p xs ≡ None → list_any p xs ≡ false
-  none_passes xs e =
-      let past : length xs ≤ position_or_len p xs = grind (arith, common_steps) in
-      list_any_none p xs (λ k d l. fails_before_first p xs k d (omega arith))
+  none_passes xs e = sym (place_is_any p xs) ∙ ap is_some e
 
   pub no_place : (xs : List A) → list_any p xs ≡ false → position p xs ≡ None
-  no_place [] e = refl
-  no_place (x ∷ xs) e = elim (position p (x ∷ xs)) as (λ o. position p (x ∷ xs) ≡ o → o ≡ None) [
-    | None ↦ λ at. refl
-    | Some i ↦ λ at. let found = position-Some p (x ∷ xs) i x at in absurd (false≢true (sym e ∙ list_any_at p (x ∷ xs) i x found.0 found.1))
-  ] refl
+  no_place xs e = none_is (position p xs) (place_is_any p xs ∙ e)
 
 pub not_sent : (h : List Entry) (e : Entry) → sent_before h e ≡ None → is_sent h e ≡ false
 not_sent h e none = none_passes (λ (d : Entry). resends e.work d.work) h none

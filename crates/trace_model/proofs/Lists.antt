@@ -1,9 +1,12 @@
 -- Lists: what holds of each item, what stands at a place, and one item more.
-use Rattle.std.proofs.Common.{◌≡◌, ℕ, zero, suc, ◌+◌, ◌<◌, nat_lt, Bool, true, false, cond, List, [], ◌∷◌, ◌++◌, map, length, take, get_or, refl, ap, ◌∙◌, arith, Some, None, slice_get}
-use Rattle.std.specs.Prelude.{Option, option_map, find, filter_map, not, ◌==◌, if◌then◌else◌}
-use Rattle.std.specs.List.{All, AllByRecursion, cons_option, position, position_or_len}
+use Rattle.std.proofs.Common.{◌≡◌, ℕ, zero, suc, ◌+◌, ◌<◌, nat_lt, Bool, true, false, cond, List, [], ◌∷◌, ◌++◌, map, length, take, get_or, refl, sym, ap, ◌∙◌, arith, inl, inr, Some, None, slice_get}
+use Rattle.std.specs.Prelude.{Option, option_map, is_some, find, filter_map, not, ◌==◌, if◌then◌else◌}
+use Rattle.std.specs.List.{All, AllByRecursion, cons_option, list_any, position, position_or_len}
+use Rattle.std.proofs.lemmas.Bool.{false≢true, lt-ltb, le-ltb, cases_lt}
 use Rattle.std.proofs.lemmas.Bool.Decides.{nat_tests}
 use Rattle.std.proofs.lemmas.List.{take_more, append-nil}
+use Rattle.std.proofs.lemmas.List.Sums.{passes_at_first, fails_before_first}
+use Rattle.std.proofs.lemmas.List.Folds.{list_any_at, list_any_none}
 use Rattle.std.proofs.lemmas.List.Elements.{All-head, All-tail, All-take, filter_map-append}
 use Rattle.trace_model.specs.Searching.{cut}
 
@@ -30,6 +33,26 @@ module _ {X : Type 0} (P : X → Type 0) where
   pub each_behind : (xs ys : List X) → AllByRecursion P (xs ++ ys) → AllByRecursion P ys
   each_behind [] ys h = h
   each_behind (x ∷ xs) ys h = each_behind xs ys h.1
+
+-- ---- whether one passes
+-- the first place that passes is one of the places where one passes
+pub is_position : {X : Type 0} (p : X → Bool) (xs : List X) (d : X) → nat_lt (position_or_len p xs) (length xs) ≡ list_any p xs
+is_position p xs d = elim (cases_lt (position_or_len p xs) (length xs)) [
+  | inl below ↦ lt-ltb (position_or_len p xs) (length xs) below ∙ sym (list_any_at p xs (position_or_len p xs) d below (passes_at_first p xs d below))
+  | inr past ↦ le-ltb (position_or_len p xs) (length xs) past ∙ sym (list_any_none p xs (λ k e within. fails_before_first p xs k e (omega arith)))
+]
+
+pub place_is_any : {X : Type 0} (p : X → Bool) (xs : List X) → is_some (position p xs) ≡ list_any p xs
+place_is_any p [] = refl
+place_is_any p (x ∷ xs) = there (nat_lt (position_or_len p (x ∷ xs)) (length (x ∷ xs))) ∙ is_position p (x ∷ xs) x
+  where
+    there : (b : Bool) → is_some (cond b (Some (position_or_len p (x ∷ xs))) None) ≡ b
+    there true = refl
+    there false = refl
+
+pub none_is : {X : Type 0} (o : Option X) → is_some o ≡ false → o ≡ None
+none_is None e = refl
+none_is (Some x) e = absurd (false≢true (sym e))
 
 -- ---- what stands at a place
 -- the list in front of an item, and the list behind it

@@ -1,7 +1,7 @@
 -- Batches that were sent as one another, and what was sent nowhere.
-use Rattle.std.proofs.Common.{◌≡◌, ℕ, true, false, ◌&&◌, List, Some, None, get_or, refl, sym, ap, ◌∙◌}
+use Rattle.std.proofs.Common.{◌≡◌, ℕ, true, false, ◌&&◌, List, None, get_or, refl, ap, ◌∙◌}
 use Rattle.std.specs.Option.{is_some}
-use Rattle.std.proofs.lemmas.Bool.{and_parts}
+use Rattle.std.proofs.lemmas.Bool.{false≢true, and_parts}
 use Rattle.std.proofs.lemmas.List.Folds.{list_any_none}
 use Rattle.jaeger_model.specs.declared.batch.Batch.{Batch}
 use Rattle.jaeger_model.specs.Same.{same_number, same_process}
@@ -32,6 +32,17 @@ as_sent a b s =
     ap (λ x. x && (same_number a.seq_no b.seq_no && same_process a.process b.process)) s.numbered
     ∙ ap (λ x. x && same_process a.process b.process) ((same_number-decides a.seq_no b.seq_no).1 s.number)
     ∙ (same_process-decides a.process b.process).1 s.process
+
+-- a batch was sent as one exactly where it was sent as the other
+pub alike : (v w : Work) → resends v w ≡ true → (x : Work) → resends v x ≡ resends w x
+alike (brings.Batch a) (brings.Batch b) e (brings.Batch c) =
+    let o = sent_as a b e in
+    ap (λ n. is_some n && (same_number n c.seq_no && same_process a.process c.process)) o.number
+    ∙ ap (λ p. is_some b.seq_no && (same_number b.seq_no c.seq_no && same_process p c.process)) o.process
+alike (brings.Batch a) (brings.Batch b) e (brings.TraceLimit n) = refl
+alike (brings.Batch a) (brings.TraceLimit n) e x = absurd (false≢true e)
+alike (brings.TraceLimit m) (brings.Batch b) e x = absurd (false≢true e)
+alike (brings.TraceLimit m) (brings.TraceLimit n) e x = absurd (false≢true e)
 
 -- a limit resends nothing, and so does a batch without a number
 pub limit_not_sent : (n : ℕ) (u : Work) → resends (brings.TraceLimit n) u ≡ false

@@ -32,8 +32,11 @@ same_spans (p ∷ ps) = ap (λ r. p ∷ r) (same_spans ps)
 pub unadjusted_shares : (ps : List Placed) (places : List ℕ) → ShareProcesses ps places → ShareProcesses (spans_of (map unadjusted ps)) places
 unadjusted_shares ps places share = subst (λ qs. ShareProcesses qs places) (sym (same_spans ps)) share
 
+pub lent_shares : (ps : List Placed) (places : List ℕ) → ShareProcesses ps places → ShareProcesses (map with_parent_first ps) places
+lent_shares ps places share = shared_alike with_parent_first ps ps places (λ i. map (λ p. still_first p i) ps) share
+
 pub first_shares : (ps : List Placed) (places : List ℕ) → ShareProcesses ps places → ShareProcesses (spans_of (map unadjusted (map with_parent_first ps))) places
-first_shares ps places share = unadjusted_shares (map with_parent_first ps) places (shared_alike with_parent_first ps ps places (λ i. map (λ p. still_first p i) ps) share)
+first_shares ps places share = unadjusted_shares (map with_parent_first ps) places (lent_shares ps places share)
 
 pub adjusted_shares : (m : ℕ) (ps : List Placed) (places : List ℕ) → ShareProcesses ps places → ShareProcesses (spans_of (adjusted m ps)) places
 adjusted_shares m ps places share = shared_alike (λ (s : Shown). s.placed) ps (adjusted m ps) places (same_but_times m ps) share
