@@ -46,7 +46,6 @@ use jaeger_model::Batch;
 use std::alloc::Global;
 use std::env;
 use std::io::Read;
-use std::slice;
 
 """ + copies.SPLIT_BODY + "\n" + copies.BODIES + """
 /// The batch of a body that is fed in pieces of this size.
@@ -58,20 +57,10 @@ fn fed(alloc: Global, body: &[u8], size: usize) -> Result<Batch, DecodeError> {
     feeder.finish()
 }
 
-/// The same a byte at a time.
-fn fed_by_bytes(alloc: Global, body: &[u8]) -> Result<Batch, DecodeError> {
-    let mut feeder = Feeder::new(alloc);
-    for byte in body {
-        feeder.feed(alloc, slice::from_ref(byte))?;
-    }
-    feeder.finish()
-}
-
 /// The batch of a body, decoded whole where the size is 0.
 fn read(alloc: Global, body: &[u8], size: usize) -> Result<Batch, DecodeError> {
     match size {
         0 => decode(alloc, body),
-        1 => fed_by_bytes(alloc, body),
         _ => fed(alloc, body, size),
     }
 }
