@@ -1,27 +1,19 @@
 #!/usr/bin/env python3
-"""What two copies of the store cost beside the store of one thread, in one run on one machine.
+"""What two copies of the store cost beside the store of one thread, in one run on one machine; bench/README.md says how.
 
-Batches of 10 spans are handed in until so many spans are held; then so many more are timed, one after the other, and traces are
-read by the ids of held ones. Four kinds of measurement, each a process of its own, one after the other, in some rounds:
+    bench/copies.py [--bin PATH | --folder PATH] [--sizes 1000,10000,100000] [--timed 100] [--rounds 9] [--spread]
 
-  one      the store of one thread: `SpanStore::apply` of the timed batches, then `SpanStore::answer` of 2,000 traces
-  copies   two copies: `Keeper::admit_outlined` of the timed batches, and nobody reads
-  beside   the same while three threads read, each by its own `Pass::read`, as fast as they can
-  still    three threads read for 20 ms, and nobody writes
+Each row is a process of its own, one after the other:
 
-    bench/copies.py [--bin PATH | --folder PATH] [--sizes 1000,10000,100000] [--timed 100] [--rounds 9]
+  one thread             `SpanStore::apply` of the timed batches, then `SpanStore::answer` of 2,000 traces
+  two copies             `Keeper::admit_outlined` of the timed batches, and nobody reads
+  two copies, 3 readers  the same while three threads read, each by its own `Pass::read`, as fast as they can
+  3 readers, no writer   three threads read for 20 ms, and nobody writes
 
-Timed batches are decoded behind the others, just before they are timed, as a server decodes a batch before it hands it in. For two
-copies their outlines are made then too, since workers make them and not the one that writes; the store of one thread makes them
-within the timing.
-
-The program is proved and built by `rt run` in a copy of the crates that it stands on: some five minutes where their `out/` has the
-proofs, and about an hour from a plain clone. The copy is temporary, or stays in the folder that `--folder` names; `--bin` names a program that
-was built so. Times are those of the machine's monotonic clock, taken in the program around each call; a read's time does not have
-the letting go of its answer. `admits/s` is the number of timed batches by the sum of their times, and `of one` its ratio
-to that of one thread in the same round. `reads/s` is of all reading
-threads together, and has the letting go of the answers. Each figure is the median of the rounds' own figures; with `--spread` the
-least and the most of the rounds follow.
+Each call is timed in the program, by the machine's monotonic clock; a read's time does not have the letting go of its answer.
+`admits/s` is the number of timed batches by the sum of their times, and `of one` its ratio to that of one thread in the same
+round. `reads/s` is of all reading threads together, and has the letting go of the answers. Each figure is the median of the
+rounds' own figures; with `--spread` the least and the most of the rounds follow.
 """
 import os
 import random

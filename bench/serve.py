@@ -1,9 +1,7 @@
 #!/usr/bin/env python3
-"""What `jaeger_one serve` takes and answers over loopback, beside a plain scanning server, in one run on one machine.
+"""What `jaeger_one serve` takes and answers over loopback, beside a plain scanning server; bench/README.md says how.
 
-The plain server is bench/plain_server.rs: one mutex around one list of spans, which a read looks through, in plain Rust
-without proofs. The clients are bench/load.rs. Both are built by `rustc` in a temporary folder. For each number of spans held
-each server is started anew for each measurement, filled, measured and killed, the two in turn, in some rounds:
+    bench/serve.py [--bin PATH] [--sizes 1000,10000,100000] [--seconds 0.6] [--rounds 3] [--only ours|plain]
 
   spans a second    1, 2, 4 and 8 writers at full speed, each of which waits for the 202 of a batch of 10 spans
   beside readers    the same beside two readers of traces by their ids at full speed, and how long a POST takes then
@@ -14,12 +12,8 @@ each server is started anew for each measurement, filled, measured and killed, t
                     writing: processor time of the server a request, and the median time
   processor time    of the server a span, beside the spans a second
 
-    bench/serve.py [--bin PATH] [--sizes 1000,10000,100000] [--seconds 0.6] [--rounds 3] [--only ours|plain]
-
 A figure is the median of the rounds. A ratio is that of the two medians, and behind it stand the least and the most of the
-rounds' own ratios. How far equal servers seem to differ is seen by giving the plain server as `--bin` (build it as its head
-says): what is within that says nothing. Clients and server share the machine's cores, so the figures are those of both
-together. It ends by itself after five minutes at most; what was not measured by then is `-`.
+rounds' own ratios.
 """
 import os
 import statistics

@@ -6,11 +6,11 @@
   memory    a server under a limit of address space (as `ulimit -v` sets it) is posted to until it refuses: each POST gets an answer, 202
             or 500 or 503, in time; left alone it takes less than a tenth of a core; queries are answered; once the limit is lifted a
             batch is accepted again
-  refusals  a server whose journal is full refuses N batches (`--posts`, a million unless told otherwise); the memory that it holds
-            then is compared with that before
+  refusals  a server whose journal is full refuses N batches (`--posts`, a million unless told otherwise), and the memory that it
+            holds stays as it was after the first ten thousand
   idle      a server that nobody asks takes less than a hundredth of a core
-  told      what stands on standard error: at the start how much is held at most, once that the journal is full, and of each worker
-            that can accept no more why (the limit of open files is reached)
+  told      what stands on standard error, each line once: at the start how much is held at most, that the journal is full, and
+            of each worker that can accept no more why (the limit of open files is reached)
 
 Standard library alone, Linux. One line for each part; the last line is `N passed, M failed`.
 """
