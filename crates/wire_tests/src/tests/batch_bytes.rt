@@ -6,30 +6,11 @@ use std::test::*;
 use trace_samples::spellings::ALL;
 use trace_samples::{again, batch};
 
-/// The value of a hexadecimal digit.
-fn digit_of(c: u8) -> Option<u8> {
-    match c {
-        48..=57 => Some(c - 48),
-        97..=102 => Some(c - 87),
-        _ => None,
-    }
-}
-
 /// The bytes of hexadecimal text; spaces are skipped.
-pub(crate) fn bytes_of(alloc: Global, hex: &str) -> Result<Vec<u8>, AllocError> {
+pub(crate) fn bytes_of(alloc: Global, text: &str) -> Result<Vec<u8>, Fail> {
     let mut bytes = Vec::new(alloc);
-    let mut high = None;
-    for c in hex.as_bytes() {
-        let Some(low) = digit_of(*c) else {
-            continue;
-        };
-        match high {
-            None => high = Some(low),
-            Some(before) => {
-                bytes.push(before << 4 | low)?;
-                high = None;
-            }
-        }
+    for part in text.split(' ') {
+        bytes.extend_from_slice(&hex::decode(alloc, part)?)?;
     }
     Ok(bytes)
 }
@@ -59,14 +40,6 @@ fn text_of_no_memory(rt: HostRuntime) -> Result<(), Fail> {
     let text = DecodeError::Memory.text(rt.alloc())?;
     assert_eq!(rt; text.as_str(), "22 NoMemory");
     Ok(())
-}
-
-/// The bytes of three texts, one after the other.
-fn joined(alloc: Global, parts: (&str, &str, &str)) -> Result<Vec<u8>, AllocError> {
-    let mut bytes = bytes_of(alloc, parts.0)?;
-    bytes.extend_from_slice(&bytes_of(alloc, parts.1)?)?;
-    bytes.extend_from_slice(&bytes_of(alloc, parts.2)?)?;
-    Ok(bytes)
 }
 
 /// A batch up to its process's one tag, and what follows that.
@@ -155,10 +128,14 @@ const SPELLINGS: [(&str, &str); 9] = [
     ),
 ];
 
-/// The one spelling of the batch that these bytes spell.
-fn respelled(alloc: Global, parts: (&str, &str, &str)) -> Result<Vec<u8>, Fail> {
-    let bytes = joined(alloc, parts)?;
-    let batch = decode(alloc, &bytes)?;
+/// The bytes of a batch with a tag of these fields.
+fn with_tag(alloc: Global, fields: &str) -> Result<Vec<u8>, Fail> {
+    bytes_of(alloc, &[TAG, fields, TAG_END].join(alloc, " ")?)
+}
+
+/// The one spelling of the batch with that tag.
+fn respelled(alloc: Global, fields: &str) -> Result<Vec<u8>, Fail> {
+    let batch = decode(alloc, &with_tag(alloc, fields)?)?;
     let written = encode(alloc, &batch);
     drop(batch);
     Ok(written?)
@@ -166,8 +143,8 @@ fn respelled(alloc: Global, parts: (&str, &str, &str)) -> Result<Vec<u8>, Fail> 
 
 /// Whether the one spelling of a tag that is read so is the one that is written.
 fn is_respelled(alloc: Global, read: &str, written: &str) -> Result<bool, Fail> {
-    let want = joined(alloc, (TAG, written, TAG_END))?;
-    let bytes = respelled(alloc, (TAG, read, TAG_END))?;
+    let want = with_tag(alloc, written)?;
+    let bytes = respelled(alloc, read)?;
     Ok(bytes.as_slice() == want.as_slice())
 }
 

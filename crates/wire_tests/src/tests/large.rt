@@ -12,7 +12,7 @@ const MANY: u64 = 5_000;
 
 /// A text and a binary of a megabyte each.
 fn long_values(alloc: Global) -> Result<Vec<Tag>, Fail> {
-    let text = Value::Text(Text::from_string(long_text(alloc)?));
+    let text = Value::Text(Text::from_string("a".repeat(alloc, MEGABYTE)?));
     let tags = with_tag(alloc, Vec::new(alloc), "text", text)?;
     with_long_bytes(alloc, tags)
 }
@@ -21,21 +21,6 @@ fn long_values(alloc: Global) -> Result<Vec<Tag>, Fail> {
 fn with_long_bytes(alloc: Global, tags: Vec<Tag>) -> Result<Vec<Tag>, Fail> {
     let (tags, bytes) = beside(tags, vec![in alloc; 0x61; MEGABYTE])?;
     with_tag(alloc, tags, "bytes", Value::Bytes(Seq::from_vec(bytes)))
-}
-
-/// The text, so many times in a row.
-fn repeated(alloc: Global, text: &str, times: usize) -> Result<String, AllocError> {
-    let mut word = String::new(alloc);
-    for _ in 0..times {
-        word.push_str(text)?;
-    }
-    Ok(word)
-}
-
-/// A text of a megabyte.
-fn long_text(alloc: Global) -> Result<String, AllocError> {
-    let part = repeated(alloc, "a", 1_000)?;
-    repeated(alloc, &part, MEGABYTE / 1_000)
 }
 
 /// Adds many tags.

@@ -180,11 +180,7 @@ fn batches(rt: HostRuntime) -> Result<(), Fail> {
 
 /// The references are to these spans, in this order.
 fn are_to(references: &[SpanRef], ids: [u64; 2]) -> bool {
-    references.len() == ids.len()
-        && references
-            .iter()
-            .zip(&ids)
-            .all(|(reference, id)| reference.id == SpanId(*id))
+    references.iter().map(|reference| reference.id.0).eq(ids)
 }
 
 /// The span of the batch as it stands in the store.
