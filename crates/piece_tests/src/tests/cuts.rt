@@ -24,13 +24,9 @@ fn is_same(got: Result<Batch, DecodeError>, whole: &Result<Batch, DecodeError>) 
 
 /// What a call has to answer by which these bytes have come: their first fault, unless they may be too few.
 fn said_of(alloc: Global, bytes: &[u8]) -> Result<(), DecodeError> {
-    match decode(alloc, bytes) {
-        Ok(batch) => {
-            drop(batch);
-            Ok(())
-        }
+    match decode(alloc, bytes).map(drop) {
         Err(DecodeError::Wire(WireError::Truncated)) => Ok(()),
-        Err(fault) => Err(fault),
+        said => said,
     }
 }
 
@@ -188,13 +184,6 @@ fn batch_of(alloc: Global, count: u64) -> Result<Batch, AllocError> {
     batch(alloc, "orders", kept(spans, added)?)
 }
 
-/// A piece of these bytes.
-fn piece_of(alloc: Global, bytes: &[u8]) -> Result<Vec<u8>, AllocError> {
-    let mut piece = Vec::new(alloc);
-    piece.extend_from_slice(bytes)?;
-    Ok(piece)
-}
-
 /// Adds the bytes in pieces of 1, 4, 13 and so on bytes, and from 1 again where they would be large.
 fn add_odd_pieces(
     alloc: Global,
@@ -208,7 +197,7 @@ fn add_odd_pieces(
             break;
         }
         let (front, rest) = left.split_at(size.min(left.len()));
-        pieces.push(piece_of(alloc, front)?)?;
+        pieces.push(front.to_vec(alloc)?)?;
         left = rest;
         size = if size > 10_000 { 1 } else { size * 3 + 1 };
     }

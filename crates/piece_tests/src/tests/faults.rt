@@ -21,18 +21,7 @@ fn answers(alloc: Global, first: &[u8], second: &[u8]) -> [Result<(), DecodeErro
     let one = feeder.feed(alloc, first);
     let two = feeder.feed(alloc, second);
     let three = feeder.feed(alloc, &[]);
-    [one, two, three, ended(feeder)]
-}
-
-/// What is answered at the end.
-fn ended(feeder: Feeder) -> Result<(), DecodeError> {
-    match feeder.finish() {
-        Ok(batch) => {
-            drop(batch);
-            Ok(())
-        }
-        Err(error) => Err(error),
-    }
+    [one, two, three, feeder.finish().map(drop)]
 }
 
 #[test]
@@ -47,13 +36,7 @@ fn a_refusal_stays(rt: HostRuntime) {
 
 /// The fault that decoding answers, asked once more where memory ran out.
 fn fault_of(alloc: Global, bytes: &[u8]) -> Option<DecodeError> {
-    match again(DecodeError::Memory, || decode(alloc, bytes)) {
-        Ok(batch) => {
-            drop(batch);
-            None
-        }
-        Err(fault) => Some(fault),
-    }
+    again(DecodeError::Memory, || decode(alloc, bytes)).err()
 }
 
 /// What is answered of the bytes in one piece, asked once more where memory ran out.
@@ -216,7 +199,7 @@ fn ended_by_bytes(alloc: Global, bytes: &[u8]) -> Option<DecodeError> {
     for byte in bytes {
         let _ = feeder.feed(alloc, &[*byte]);
     }
-    ended(feeder).err()
+    feeder.finish().err()
 }
 
 /// Decoding answers this, and a Feeder at its end, however the bytes come.
