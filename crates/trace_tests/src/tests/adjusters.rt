@@ -1,11 +1,11 @@
-use crate::tests::histories::{CYCLE, Row as Reported, SpanRow, answer_of, trace_of};
-use jaeger_model::{Log, Placed, Process, Seq, SharedProcess, Span, SpanId, Text, TraceId};
+use crate::tests::histories::{CYCLE, Row as Reported, SpanRow, answer_of, span_of, trace_of};
+use jaeger_model::{Log, Placed, Process, Seq, SharedProcess, Span, Text, TraceId};
 use std::alloc::{AllocError, Global};
 use std::mem::drop;
 use std::test::*;
 use trace_adjust::{adjust_skew, adjusted};
 use trace_model::{Answer, Query, Shown};
-use trace_samples::{beside, host_process, kept, list_of, made_spans, process, span};
+use trace_samples::{beside, host_process, kept, list_of, made_spans, process};
 
 const OWN: TraceId = TraceId { high: 0, low: 1 };
 
@@ -39,12 +39,9 @@ fn set_log(alloc: Global, span: &mut Span, at: i64) -> Result<(), AllocError> {
 }
 
 /// A span with one log, at its start.
-fn span_of(alloc: Global, row: Row) -> Result<Span, AllocError> {
+fn logged_span(alloc: Global, row: Row) -> Result<Span, AllocError> {
     let (_, id, parent, start, duration) = row;
-    let mut span = span(alloc, 1, id)?;
-    span.parent = SpanId(parent);
-    span.start = start;
-    span.duration = duration;
+    let mut span = span_of(alloc, [1, id, parent], [start, duration])?;
     let set = set_log(alloc, &mut span, start);
     kept(span, set)
 }
@@ -62,7 +59,7 @@ fn placed_on(alloc: Global, host: &str, span: Span) -> Result<Placed, AllocError
 /// A span with one log, at its start, and its process.
 impl SpanRow for Row {
     fn placed(self, alloc: Global) -> Result<Placed, AllocError> {
-        placed_on(alloc, self.0, span_of(alloc, self)?)
+        placed_on(alloc, self.0, logged_span(alloc, self)?)
     }
 }
 
@@ -217,7 +214,7 @@ const CHILD: Row = ("h2", 2, 1, 900, 50);
 /// The child, with a log so late that no time is 125 microseconds later.
 fn late_child(alloc: Global) -> Result<Placed, AllocError> {
     let (host, ..) = CHILD;
-    let mut span = span_of(alloc, CHILD)?;
+    let mut span = logged_span(alloc, CHILD)?;
     let set = set_log(alloc, &mut span, i64::MAX - 124);
     placed_on(alloc, host, kept(span, set)?)
 }

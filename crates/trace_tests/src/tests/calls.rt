@@ -1,28 +1,25 @@
 use crate::tests::histories::{
-    CYCLE, Row as Reported, SpanRow, answer_of, store_answer_to, trace_of,
+    CYCLE, Row as Reported, SpanRow, answer_of, span_of, store_answer_to, trace_of,
 };
-use jaeger_model::{Placed, Span, SpanId};
+use jaeger_model::Placed;
 use std::alloc::{AllocError, Global};
 use std::hash::RandomState;
 use std::mem::drop;
 use std::test::*;
 use trace_model::{Answer, Link, Query};
-use trace_samples::{placed, span};
+use trace_samples::placed;
 
 /// Service, id, parent and start of a span.
 type Row = (&'static str, u64, u64, i64);
 
-fn span_at(alloc: Global, id: u64, parent: u64, start: i64) -> Result<Span, AllocError> {
-    let mut span = span(alloc, 1, id)?;
-    span.parent = SpanId(parent);
-    span.start = start;
-    Ok(span)
-}
-
 impl SpanRow for Row {
     fn placed(self, alloc: Global) -> Result<Placed, AllocError> {
         let (service, id, parent, start) = self;
-        placed(alloc, service, span_at(alloc, id, parent, start)?)
+        placed(
+            alloc,
+            service,
+            span_of(alloc, [1, id, parent], [start, 50])?,
+        )
     }
 }
 
@@ -45,17 +42,11 @@ fn links_found(
     Ok(found)
 }
 
-/// The link is as wanted.
-fn is_link(link: &Link, (parent, child, calls): &(&str, &str, u64)) -> bool {
-    link.parent.as_str() == *parent && link.child.as_str() == *child && link.calls == *calls
-}
-
 fn are_links(found: &[Link], wanted: &[(&str, &str, u64)]) -> bool {
-    found.len() == wanted.len()
-        && found
-            .iter()
-            .zip(wanted)
-            .all(|(link, wanted)| is_link(link, wanted))
+    found
+        .iter()
+        .map(|link| (link.parent.as_str(), link.child.as_str(), link.calls))
+        .eq(wanted.iter().copied())
 }
 
 fn links_in(answer: &Answer) -> &[Link] {

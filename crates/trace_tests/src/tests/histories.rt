@@ -20,9 +20,12 @@ pub(crate) const CYCLE: [Row; 2] = [
     (["b", "h2"], [1, 3, 2], [1010, 50]),
 ];
 
-fn span_of(alloc: Global, ids: [u64; 3], times: [i64; 2]) -> Result<Span, AllocError> {
-    let [trace, id, parent] = ids;
-    let [start, duration] = times;
+/// A span with these ids and times, as they stand in a row.
+pub(crate) fn span_of(
+    alloc: Global,
+    [trace, id, parent]: [u64; 3],
+    [start, duration]: [i64; 2],
+) -> Result<Span, AllocError> {
     let mut span = span(alloc, trace, id)?;
     span.parent = SpanId(parent);
     span.start = start;

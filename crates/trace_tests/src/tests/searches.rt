@@ -1,4 +1,4 @@
-use crate::tests::histories::{Row, answer_of, store_answer_of, store_answer_to};
+use crate::tests::histories::{Row, answer_of, span_of, store_answer_of, store_answer_to};
 use find_traces::{JudgedProcess, Wanted};
 use jaeger_model::{Log, Placed, Process, Seq, SharedProcess, Tag, TagValue, Text, TraceId, Value};
 use std::alloc::{AllocError, Global};
@@ -7,14 +7,15 @@ use std::mem::drop;
 use std::test::*;
 use trace_adjust::shown;
 use trace_model::{Answer, AnsweredTrace, Find, Query, Shown};
-use trace_samples::{beside, first_otherwise, kept, list_of, placed, process, service_find, span};
+use trace_samples::{beside, first_otherwise, kept, list_of, placed, process, service_find};
 
 /// A span of service `a` of this trace.
 fn begun_once(alloc: Global, trace: u64, start: i64, duration: i64) -> Result<Placed, AllocError> {
-    let mut span = span(alloc, trace, 1)?;
-    span.start = start;
-    span.duration = duration;
-    placed(alloc, "a", span)
+    placed(
+        alloc,
+        "a",
+        span_of(alloc, [trace, 1, 0], [start, duration])?,
+    )
 }
 
 /// A search by service `a` within bounds of durations and of starts.
@@ -149,7 +150,7 @@ const ORDERS: [(&[[i64; 2]], u64, &[u64]); 9] = [
 
 /// The ids have these low halves.
 fn are_lows(ids: &[TraceId], wanted: &[u64]) -> bool {
-    ids.len() == wanted.len() && ids.iter().zip(wanted).all(|(id, low)| id.low == *low)
+    ids.iter().map(|id| id.low).eq(wanted.iter().copied())
 }
 
 /// The answer has the ids with these low halves, and no others.
