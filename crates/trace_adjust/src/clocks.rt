@@ -148,11 +148,7 @@ fn no_clocks(alloc: Global, count: usize) -> Result<Vec<Option<HostClock>>, Allo
     ensures len { IfOk result (λ v. length v.items ≡ count) }
     ensures none { IfOk result (λ v. (k : ℕ) → get_or v.items k None ≡ None) }
 {
-    let mut clocks = Vec::new(alloc);
-    while clocks.len() < count {
-        clocks.push(None)?;
-    }
-    Ok(clocks)
+    vec![in alloc; None; count]
 }
 
 /// The clock of each span: those that lead to a root have one, those on a cycle and below one have
