@@ -131,11 +131,10 @@ fn has_names(
 
 /// Whether these are the names.
 fn is_named(names: &[Text], wanted: &[&str]) -> bool {
-    names.len() == wanted.len()
-        && names
-            .iter()
-            .zip(wanted)
-            .all(|(name, word)| name.as_str() == *word)
+    names
+        .iter()
+        .map(|name| name.as_str())
+        .eq(wanted.iter().copied())
 }
 
 /// What the entries of `ADDED` are named by.
@@ -217,9 +216,10 @@ const ASKED: [(&str, &[(&str, &str)]); 3] = [
 
 /// Whether these are the operations.
 fn is_listed(found: &[Operation], wanted: &[(&str, &str)]) -> bool {
-    found.len() == wanted.len()
-        && found.iter().zip(wanted).all(|(one, (name, kind))| one.name.as_str() == *name
-            && one.kind.as_str() == *kind)
+    found
+        .iter()
+        .map(|one| (one.name.as_str(), one.kind.as_str()))
+        .eq(wanted.iter().copied())
 }
 
 /// Whether these are the operations of `c` with the kind.

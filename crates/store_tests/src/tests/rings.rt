@@ -155,12 +155,10 @@ fn is_wanted(answer: &Answer, wanted: Option<&[u64]>) -> bool {
     match (answer, wanted) {
         (Answer::Trace(None), None) => true,
         (Answer::Trace(Some(trace)), Some(ids)) => {
-            let spans = made_spans(trace);
-            spans.len() == ids.len()
-                && spans
-                    .iter()
-                    .zip(ids)
-                    .all(|(shown, id)| shown.placed.span.id.0 == *id)
+            let spans = made_spans(trace).iter();
+            spans
+                .map(|shown| shown.placed.span.id.0)
+                .eq(ids.iter().copied())
         }
         _ => false,
     }
