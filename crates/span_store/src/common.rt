@@ -1,7 +1,6 @@
 //! Searches by a service that many entries are of, and by nothing else. Most traces have a span of it, so that a look at each
 //! trace costs less than one at each span of the service. What is decided here makes a search quick, and changes no answer.
 
-use service_places::Places;
 use trace_model::Find;
 
 /// A service is common where more than one entry in so many is of it.
@@ -15,16 +14,4 @@ pub(crate) fn asks_service_alone(query: &Find) -> bool {
         && query.start_max.is_none()
         && query.duration_min == 0
         && query.duration_max == 0
-}
-
-/// Whether there are more places than so many. No more of them are looked at.
-pub(crate) fn are_more(places: Places<'_>, count: u64) -> bool {
-    let mut left = count;
-    for _place in places {
-        if left == 0 {
-            return true;
-        }
-        left -= 1;
-    }
-    false
 }

@@ -20,7 +20,7 @@ ghost use Rattle.span_store.specs.Kept.{IsNamed, IsPlaced};
 ghost use Rattle.span_store.specs.NextEntry.{next_entry};
 
 use crate::arrange::follow;
-use crate::common::{COMMON, are_more, asks_service_alone};
+use crate::common::{COMMON, asks_service_alone};
 use crate::finding;
 use arrival_journal::{Journal, OutlinedEntry, PreparedEntry};
 use arrival_names::ArrivalNames;
@@ -294,10 +294,9 @@ impl SpanStore {
         }
         let entries = self.journal.entries();
         let service = query.service.as_str();
-        let places = self.reported.places_of(entries, service);
-        if !are_more(places, self.journal.len() / COMMON) {
-            return None;
-        }
+        let mut places = self.reported.places_of(entries, service);
+        // Common is what has one place more than so many.
+        places.nth((self.journal.len() / COMMON) as usize)?;
         self.reported.group_of(entries, service)
     }
 
