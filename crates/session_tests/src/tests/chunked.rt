@@ -17,15 +17,6 @@ const POST: &[u8] =
 const TRUNCATED: &[u8] =
     b"HTTP/1.1 400 Bad Request\r\nContent-Type: application/json\r\nContent-Length: 103\r\n\r\n{\"data\":null,\"errors\":[{\"code\":400,\"msg\":\"batch refused: 1 Truncated\"}],\"limit\":0,\"offset\":0,\"total\":0}";
 
-/// The same bytes so many times.
-fn repeated(alloc: Global, bytes: &[u8], count: usize) -> Result<Vec<u8>, Fail> {
-    let mut all = Vec::new(alloc);
-    for _ in 0..count {
-        all.extend_from_slice(bytes)?;
-    }
-    Ok(all)
-}
-
 /// Whether a request with these bytes behind its head is one with this body and this rest, read so many
 /// bytes at a time.
 fn has_body(
@@ -194,14 +185,14 @@ fn heads_of_chunked_bodies(rt: HostRuntime) -> Result<(), Fail> {
 
 /// A size line of a chunk of one byte, of so many bytes with its end, and the rest of a body.
 fn long_line(alloc: Global, length: usize) -> Result<Vec<u8>, Fail> {
-    let filler = repeated(alloc, b"e", length.saturating_sub(4))?;
+    let filler = b"e".repeat(alloc, length.saturating_sub(4))?;
     joined(alloc, &[b"1;", filler.as_slice(), b"\r\nx\r\n0\r\n\r\n"])
 }
 
 /// A body of no bytes with a trailer of so many fields, the first of so many bytes.
 fn long_trailer(alloc: Global, fields: usize, first: usize) -> Result<Vec<u8>, Fail> {
-    let filler = repeated(alloc, b"e", first.saturating_sub(4))?;
-    let others = repeated(alloc, b"a:b\r\n", fields.saturating_sub(1))?;
+    let filler = b"e".repeat(alloc, first.saturating_sub(4))?;
+    let others = b"a:b\r\n".repeat(alloc, fields.saturating_sub(1))?;
     joined(
         alloc,
         &[
@@ -251,7 +242,7 @@ fn lines_and_trailers_at_their_limits(rt: HostRuntime) -> Result<(), Fail> {
 /// The largest piece of a body of 100,000 bytes in one chunk that is put into a sink, where so many bytes are
 /// read at a time.
 fn largest_piece(alloc: Global, step: usize) -> Result<usize, Fail> {
-    let body = repeated(alloc, b"0123456789", 10_000)?;
+    let body = b"0123456789".repeat(alloc, 10_000)?;
     let whole = joined(
         alloc,
         &[HEAD, b"186a0\r\n", body.as_slice(), b"\r\n0\r\n\r\n"],
@@ -424,7 +415,7 @@ fn a_reader_that_fails_inside_chunks(rt: HostRuntime) -> Result<(), Fail> {
 
 /// A request with a body of 4,194,304 bytes in one chunk, these bytes behind the data, and another request.
 fn largest_and(alloc: Global, behind: &[u8]) -> Result<Vec<u8>, Fail> {
-    let body = repeated(alloc, b"abcdefgh", 524_288)?;
+    let body = b"abcdefgh".repeat(alloc, 524_288)?;
     let head = b"GET /api/services HTTP/1.1\r\nTransfer-Encoding: chunked\r\n\r\n400000\r\n";
     joined(alloc, &[head, body.as_slice(), behind, SERVICES])
 }

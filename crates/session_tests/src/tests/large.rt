@@ -1,4 +1,4 @@
-use crate::tests::pipes::played;
+use crate::tests::pipes::{joined, played};
 use http_session::{Ended, SessionError, SessionErrorKind};
 use std::alloc::Global;
 use std::hash::RandomState;
@@ -20,17 +20,9 @@ const TAIL: &[u8] = b"\"],\"errors\":null,\"limit\":0,\"offset\":0,\"total\":1}"
 
 /// Bytes with the letters between them.
 fn round_letters(alloc: Global, front: &[&[u8]], back: &[&[u8]]) -> Result<Vec<u8>, Fail> {
-    let mut bytes = Vec::new(alloc);
-    for piece in front {
-        bytes.extend_from_slice(piece)?;
-    }
-    for _ in 0..LETTERS {
-        bytes.push(b'a')?;
-    }
-    for piece in back {
-        bytes.extend_from_slice(piece)?;
-    }
-    Ok(bytes)
+    let (front, back) = (joined(alloc, front)?, joined(alloc, back)?);
+    let letters = b"a".repeat(alloc, LETTERS)?;
+    joined(alloc, &[&front, &letters, &back])
 }
 
 /// How a session ends whose output has room for so many bytes of two responses, which have so many in all.

@@ -56,26 +56,12 @@ pub(crate) fn joined(alloc: Global, parts: &[&[u8]]) -> Result<Vec<u8>, Fail> {
 
 /// The bytes of the three requests.
 fn three_requests(alloc: Global) -> Result<Vec<u8>, Fail> {
-    let mut bytes = Vec::new(alloc);
-    for request in REQUESTS {
-        for part in request {
-            bytes.extend_from_slice(part)?;
-        }
-    }
-    Ok(bytes)
+    Ok(REQUESTS.concat(alloc)?.concat(alloc)?)
 }
 
 /// The first responses of a row.
 fn first_of(alloc: Global, row: [&[u8]; 3], count: u64) -> Result<Vec<u8>, Fail> {
-    let mut bytes = Vec::new(alloc);
-    let mut before = 0u64;
-    for response in row {
-        if before < count {
-            bytes.extend_from_slice(response)?;
-        }
-        before = before.saturating_add(1);
-    }
-    Ok(bytes)
+    joined(alloc, &row[..row.len().min(count as usize)])
 }
 
 /// How many of the three requests are whole in so many bytes.

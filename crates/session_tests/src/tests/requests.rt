@@ -59,8 +59,7 @@ fn look_in(alloc: Global, source: MemoryInput<'_>) -> Result<LookOutcome, ReadEr
         Next::Clean => return Ok(LookOutcome::Clean),
         Next::Broken => return Ok(LookOutcome::Broken(Breach::Head)),
     };
-    let mut head = Vec::new(alloc);
-    head.extend_from_slice(&received.as_slice()[..length])?;
+    let head = received.as_slice()[..length].to_vec(alloc)?;
     received.take(length);
     let mut sink = Joined {
         bytes: Vec::new(alloc),
@@ -73,13 +72,11 @@ fn look_in(alloc: Global, source: MemoryInput<'_>) -> Result<LookOutcome, ReadEr
     if sink.lacks_memory {
         return Err(ReadError::Memory);
     }
-    let mut behind = Vec::new(alloc);
-    behind.extend_from_slice(received.as_slice())?;
     Ok(LookOutcome::One(Taken {
         head,
         largest_piece: sink.largest_piece,
         body: sink.bytes,
-        behind,
+        behind: received.as_slice().to_vec(alloc)?,
     }))
 }
 
