@@ -73,7 +73,7 @@ lines_meet (c ∷ cs) (d ∷ ds) line end r q size more one other l m e =
     let long : length (contents (c ∷ cs)) ≡ length c.content + length (contents cs) = length-append c.content (contents cs) in
     let wide : length (contents (d ∷ ds)) ≡ length d.content + length (contents ds) = length-append d.content (contents ds) in
     elim (lines_meet cs ds line end r q size more (All-tail IsChunk c cs one) (All-tail IsChunk d ds other) l m now.1)
-        as (λ _. Meet (c ∷ cs) (d ∷ ds) line end r q size more) [
+    as (λ _. Meet (c ∷ cs) (d ∷ ds) line end r q size more) [
       | inl later ↦ inl ((λ i. now.0 i ∷ later.0 i), later.1, later.2, later.3)
       | inr room ↦ inr (⊎_elim (λ over. inl (over.0, omega (arith, over.1, same, long, wide))) (λ over. inr (over.0, omega (arith, over.1, same, long, wide))) room)
     ]
@@ -84,7 +84,7 @@ bodies_once : (cs ds : List Chunk) (last end trailer fields r q : List ℕ) → 
     → texts cs ++ (last ++ (trailer ++ r)) ≡ texts ds ++ (end ++ (fields ++ q)) → (cs ≡ ds) × (last ≡ end) × (trailer ≡ fields) × (r ≡ q)
 bodies_once cs ds last end trailer fields r q one other l m t u e =
     elim (lines_meet cs ds last end (trailer ++ r) (fields ++ q) 0 0 one other l m e)
-        as (λ _. (cs ≡ ds) × (last ≡ end) × (trailer ≡ fields) × (r ≡ q)) [
+    as (λ _. (cs ≡ ds) × (last ≡ end) × (trailer ≡ fields) × (r ≡ q)) [
       | inl same ↦ let ends = trailer_once trailer fields r q t u same.3 in (same.0, same.1, ends.0, ends.1)
       | inr room ↦ ⊎_elim (λ over. absurd (omega (arith, over.0))) (λ over. absurd (omega (arith, over.0))) room
     ]

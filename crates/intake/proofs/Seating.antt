@@ -2,20 +2,13 @@
 use Rattle.std.proofs.Common.{◌≡◌, ℕ, zero, suc, ◌+◌, List, [], ◌∷◌, ◌++◌, map, refl, ap, sym, subst, ◌∙◌, arith}
 use Rattle.std.specs.List.{All, range_with_len}
 use Rattle.std.proofs.lemmas.List.Elements.{All-push}
-use Rattle.std.proofs.lemmas.List.{map-append}
+use Rattle.std.proofs.lemmas.List.{map-append, map-id}
 use Rattle.atomic_table.specs.Seated.{TableId}
 use Rattle.intake.specs.Seats.{SeatValue, IsNewSeat}
+use Rattle.std.proofs.lemmas.List.FromFn.{map-range_with_len_more}
 
-pub range-next : (a n m : ℕ) → m ≡ n + 1 → range_with_len a m ≡ range_with_len a n ++ (a + n) ∷ []
-range-next a zero (suc zero) e = ap (λ k. k ∷ []) (omega arith)
-range-next a zero zero e = absurd (omega (arith, e))
-range-next a zero (suc (suc m)) e = absurd (omega (arith, e))
-range-next a (suc n) zero e = absurd (omega (arith, e))
-range-next a (suc n) (suc m) e =
-    let P : ℕ → Type 0 = λ k. range_with_len (a + 1) m ≡ range_with_len (a + 1) n ++ k ∷ [] in
-    let same : a + 1 + n ≡ a + suc n = omega arith in
-    let rest : range_with_len (a + 1) m ≡ range_with_len (a + 1) n ++ (a + suc n) ∷ [] = subst P same (range-next (a + 1) n m (omega (arith, e))) in
-    ap (λ (l : List ℕ). a ∷ l) rest
+range-next : (n : ℕ) → range_with_len 0 (n + 1) ≡ range_with_len 0 n ++ n ∷ []
+range-next n = sym (map-id (range_with_len 0 (n + 1))) ∙ map-range_with_len_more (λ k. k) 0 n n refl ∙ ap (λ l. l ++ n ∷ []) (map-id (range_with_len 0 n))
 
 -- one more seat was made: `old` was the desk's name, which is `here` and `there` now
 pub seated-on : (old here there : TableId) (room capacity number : ℕ) (made made' : List SeatValue) (s : SeatValue)
@@ -26,8 +19,7 @@ seated-on old here there room capacity number made made' s same its size each nu
     let before : All (IsNewSeat here capacity) made = subst (λ (d : TableId). All (IsNewSeat d capacity) made) (sym same) each in
     let one : IsNewSeat here capacity s = (new.0 ∙ its, new.1 ∙ size, new.2, new.3) in
     let P : List SeatValue → Type 0 = λ z. All (IsNewSeat here capacity) z in
-    let F : SeatValue → ℕ = λ z. z.seat in
-    let at : s.seat ≡ 0 + number = omega (arith, seat) in (
+    let F : SeatValue → ℕ = λ z. z.seat in (
       subst P (sym grown) (All-push (IsNewSeat here capacity) made s before one),
-      ap (map F) grown ∙ (map-append F made (s ∷ []) ∙ (ap (λ (l : List ℕ). l ++ s.seat ∷ []) numbers ∙ (ap (λ n. range_with_len 0 number ++ n ∷ []) at ∙ sym (range-next 0 number (number + 1) refl)))),
+      ap (map F) grown ∙ (map-append F made (s ∷ []) ∙ (ap (λ (l : List ℕ). l ++ s.seat ∷ []) numbers ∙ (ap (λ n. range_with_len 0 number ++ n ∷ []) seat ∙ sym (range-next number)))),
     )

@@ -11,18 +11,14 @@ use Rattle.intake.specs.Queues.{jobs_of, CountUp, AreWhole}
 use Rattle.intake.specs.Books.{HasEnded, AllTaken, Balances, is_job, has_job, EachNeeded, MovesFor, StillEnded, StaysTaken}
 use Rattle.intake.proofs.Steps.{jobs_of-append, counted-left}
 use Rattle.intake.proofs.Ends.{whole-of, no-more}
+use Rattle.trace_model.proofs.NameLaws.{any_filter}
 
 abbrev pub numbered : ℕ → List Entry → Bool
 numbered n js = list_any (λ (j : Entry). j.number == n) js
 
 -- a job of the seat is one of the seat's jobs
 pub job-of-seat : (s n : ℕ) (js : List Entry) → has_job s n js ≡ numbered n (jobs_of s js)
-job-of-seat s n [] = refl
-job-of-seat s n (j ∷ js) = go (j.seat == s) (job-of-seat s n js)
-  where
-    go : (b : Bool) → has_job s n js ≡ numbered n (jobs_of s js) → ((b && (j.number == n)) || has_job s n js) ≡ numbered n (cond b (j ∷ jobs_of s js) (jobs_of s js))
-    go true rest = ap (λ z. (j.number == n) || z) rest
-    go false rest = rest
+job-of-seat s n js = sym (any_filter (λ (j : Entry). j.number == n) (λ (j : Entry). j.seat == s) js)
 
 pub counted-within : (k n : ℕ) (js : List Entry) → CountUp k js → numbered n js ≡ true → n < k + length js
 counted-within k n [] c h = absurd (cc h)

@@ -1,7 +1,7 @@
 -- The workers' seats, before and after their work, and how they are taken in.
 use Rattle.std.proofs.Common.{◌≡◌, ℕ, suc, ◌+◌, ◌<◌, List, [], ◌∷◌, ◌++◌, length, map, get_or, refl, sym, ap, ◌∙◌, arith, append_assoc, subst, true, Some, Result, Ok, Err, IfOk}
 use Rattle.std.proofs.lemmas.List.{length-map, map-append}
-use Rattle.std.specs.List.{All, range_with_len}
+use Rattle.std.specs.List.{All, range_with_len, AllZip}
 use Rattle.std.proofs.lemmas.List.Elements.{All-cons, All-pop}
 use Rattle.std.proofs.lemmas.List.FromFn.{length-range_with_len}
 use Rattle.atomic_table.specs.Seated.{TableId}
@@ -13,13 +13,13 @@ use Rattle.intake.specs.Seats.{SeatValue}
 use Rattle.intake.specs.Books.{AllTaken, HasEnded, MovesFor, StillEnded, StaysTaken}
 use Rattle.live_store.specs.Sharing.{GoesOn}
 use Rattle.trace_server.specs.Serving.{ClosesBooks}
-use Rattle.trace_server.specs.WorkerSeats.{AreNew, AreOpen, GoOn, Each, HasJudged, Moves, AreTaken}
+use Rattle.trace_server.specs.WorkerSeats.{AreNew, AreOpen, HasJudged, Moves, AreTaken}
 
 -- ---- their work
 
 -- each result is of the argument at its place
 pub each_given : {J X : Type 0} (gives : J → X → Type 0) (js : List J) (xs : List X) → length xs ≡ length js
-    → ((i : ℕ) (d : X) → i < length js → (j : J) × ((e : J) → get_or js i e ≡ j) × gives j (get_or xs i d)) → Each gives js xs
+    → ((i : ℕ) (d : X) → i < length js → (j : J) × ((e : J) → get_or js i e ≡ j) × gives j (get_or xs i d)) → AllZip gives js xs
 each_given gives [] [] len each = tt
 each_given gives [] (x ∷ xs) len each = absurd (omega (arith, len))
 each_given gives (j ∷ js) [] len each = absurd (omega (arith, len))
@@ -29,7 +29,7 @@ each_given gives (j ∷ js) (x ∷ xs) len each =
       each_given gives js xs (omega (arith, len)) (λ i d lt. let next = each (suc i) d (omega (arith, lt)) in (next.0, (λ e. next.1 e), next.2)),
     )
 
-pub go_on : {J X : Type 0} (f : J → SeatValue) (g : X → SeatValue) (js : List J) (xs : List X) → Each (λ j x. GoesOn (f j) (g x)) js xs → GoOn (map f js) (map g xs)
+pub go_on : {J X : Type 0} (f : J → SeatValue) (g : X → SeatValue) (js : List J) (xs : List X) → AllZip (λ j x. GoesOn (f j) (g x)) js xs → AllZip GoesOn (map f js) (map g xs)
 go_on f g [] [] each = tt
 go_on f g [] (x ∷ xs) each = absurd each
 go_on f g (j ∷ js) [] each = absurd each
@@ -39,7 +39,7 @@ pub if_ok_then : {X E : Type 0} (r : Result X E) (P Q : X → Type 0) → ((x : 
 if_ok_then (Ok x) P Q f h = f x h
 if_ok_then (Err e) P Q f h = tt
 
-pub numbers_stay : (ss ts : List SeatValue) → GoOn ss ts → map (λ (s : SeatValue). s.seat) ts ≡ map (λ (s : SeatValue). s.seat) ss
+pub numbers_stay : (ss ts : List SeatValue) → AllZip GoesOn ss ts → map (λ (s : SeatValue). s.seat) ts ≡ map (λ (s : SeatValue). s.seat) ss
 numbers_stay [] [] g = refl
 numbers_stay [] (t ∷ ts) g = absurd g
 numbers_stay (s ∷ ss) [] g = absurd g
@@ -47,7 +47,7 @@ numbers_stay (s ∷ ss) (t ∷ ts) g =
     let rest = numbers_stay ss ts g.1 in
     ap (λ (n : ℕ). n ∷ map (λ (z : SeatValue). z.seat) ts) g.0.seat_is ∙ ap (λ (l : List ℕ). s.seat ∷ l) rest
 
-pub open_still : (desk : TableId) (ss ts : List SeatValue) → GoOn ss ts → AreOpen desk ss → AreOpen desk ts
+pub open_still : (desk : TableId) (ss ts : List SeatValue) → AllZip GoesOn ss ts → AreOpen desk ss → AreOpen desk ts
 open_still desk [] [] g free = free
 open_still desk [] (t ∷ ts) g free = absurd g
 open_still desk (s ∷ ss) [] g free = absurd g

@@ -1,6 +1,6 @@
 -- What a server says of itself, and how it ends.
 use Rattle.std.specs.Prelude.{◌≡◌, ℕ, ◌⊎◌, ◌++◌, Bool, false, if◌then◌else◌, List, [], Option, codes, length, map, All}
-use Rattle.std.specs.List.{range_with_len}
+use Rattle.std.specs.List.{range_with_len, AllZip}
 use Rattle.std.specs.Fmt.{decimal}
 use Rattle.std.specs.Io.KnownBytes.{Appends}
 use Rattle.atomic_table.specs.Seated.{TableId}
@@ -13,7 +13,8 @@ use Rattle.intake.specs.Books.{Ran, AllTaken}
 use Rattle.intake.specs.Books.{acknowledged as acknowledged_of, refused as refused_of}
 use Rattle.text_lines.specs.declared.run_error.RunError.{RunError}
 use Rattle.text_lines.specs.RunErrors.{WritesSome, IsWhyOf, status_by}
-use Rattle.trace_server.specs.WorkerSeats.{AreNew, GoOn}
+use Rattle.trace_server.specs.WorkerSeats.{AreNew}
+use Rattle.live_store.specs.Sharing.{GoesOn}
 
 abbrev pub listening_line : ℕ → List ℕ
 listening_line port = codes "listening 127.0.0.1:" ++ decimal port ++ codes "\n"
@@ -85,7 +86,7 @@ pub record Closes (limits : Limits) (workers : ℕ) (opened : List SeatValue) (f
   pub refused : ℕ
   pub left : ℕ
   pub seats : List SeatValue
-  pub gone_on : GoOn opened seats
+  pub gone_on : AllZip GoesOn opened seats
   pub one_for_each : OneForEach workers seats
   pub books : ClosesBooks limits seats acknowledged refused left
   pub ends : Ends out0 out1 out_failed (front ++ last_lines served acknowledged refused left) failed status

@@ -26,18 +26,6 @@ pub record HasJudged (limits : Limits) (taken : List Entry) (accounts : List Acc
   pub acknowledged_is : acknowledged ≡ acknowledged_of accounts
   pub refused_is : refused ≡ refused_of accounts
 
--- each seat has gone on to the one at its place
-abbrev pub GoOn : List SeatValue → List SeatValue → Type 0
-GoOn [] [] = Unit {0}
-GoOn (s ∷ ss) (t ∷ ts) = GoesOn s t × GoOn ss ts
-GoOn _ _ = ⊥
-
--- each of these may be given for the argument at its place
-abbrev pub Each : {J X : Type 0} → (J → X → Type 0) → List J → List X → Type 0
-Each gives [] [] = Unit {0}
-Each gives (j ∷ js) (x ∷ xs) = gives j x × Each gives js xs
-Each gives _ _ = ⊥
-
 -- these jobs were taken, and all of them are left
 abbrev pub Moves : List Entry → List Entry → List Entry → List Entry → Type 0
 Moves taken left taken' left' =

@@ -1,10 +1,12 @@
 //! Serving on a socket.
 
+ghost use Rattle.live_store.specs.Sharing.{GoesOn};
+ghost use Rattle.std.specs.List.{AllZip};
 ghost use Rattle.std.specs.Prelude.{◌≡◌, [], false, map, IfOk};
 ghost use Rattle.read_side.specs.Keepers.{no_entries};
 ghost use Rattle.intake.specs.Turns.{IsNewClerk};
 ghost use Rattle.trace_server.specs.Serving.{OneForEach, Reports, Serves};
-ghost use Rattle.trace_server.specs.WorkerSeats.{AreNew, GoOn, HasJudged};
+ghost use Rattle.trace_server.specs.WorkerSeats.{AreNew, HasJudged};
 
 use crate::config::ServerConfig;
 use crate::ending::close_books;
@@ -49,7 +51,7 @@ fn work_all<
     server: &Server<'_, '_, N, D, G>,
     lives: Vec<(u32, Live<N>)>,
 ) -> Result<Vec<(WorkerOutcome, Live<N>)>, AllocError>
-    ensures { IfOk result (λ v. GoOn (map (λ p. p.1.seat) lives.items)
+    ensures { IfOk result (λ v. AllZip GoesOn (map (λ p. p.1.seat) lives.items)
         (map (λ w. w.1.seat) v.items)) }
 {
     each_done(rt, server, lives)
@@ -69,7 +71,7 @@ fn serve_sessions<
         result.0.acknowledged result.0.refused }
     ensures left { result.0.left.items ≡ [] }
     ensures desk { result.0.inbox.desk ≡ shared.clerk.desk }
-    ensures seats { IfOk result.1 (λ v. GoOn (map (λ p. p.1.seat) shared.lives.items)
+    ensures seats { IfOk result.1 (λ v. AllZip GoesOn (map (λ p. p.1.seat) shared.lives.items)
         (map (λ w. w.1.seat) v.items)) }
 {
     let SharedStore {

@@ -1,7 +1,7 @@
 //! Work that is split among threads.
 
+ghost use Rattle.std.specs.List.{AllZip};
 ghost use Rattle.std.specs.Prelude.{IfOk};
-ghost use Rattle.trace_server.specs.WorkerSeats.{Each};
 
 use std::alloc::AllocError;
 use std::thread::{Threads, map_vec};
@@ -21,7 +21,7 @@ pub(crate) fn each_done<P: Send + Drop, X: Send + Drop, R: Threads + Sync, T: Ta
     task: &T,
     arguments: Vec<P>,
 ) -> Result<Vec<X>, AllocError>
-    ensures { IfOk result (λ v. Each T.gives arguments.items v.items) }
+    ensures { IfOk result (λ v. AllZip T.gives arguments.items v.items) }
 {
     map_vec(rt, arguments, &|argument| task.done(rt, argument))
 }
