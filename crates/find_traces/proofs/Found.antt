@@ -1,9 +1,9 @@
 -- The traces at the places are those that a search finds.
-use Rattle.std.proofs.Common.{◌≡◌, ℕ, ◌+◌, true, false, cond, List, [], ◌∷◌, ◌++◌, map, length, take, refl, sym, ap, subst, ◌∙◌, arith, append_assoc, length-append, ◌<◌, ◌≤◌}
+use Rattle.std.proofs.Common.{◌≡◌, ℕ, ◌+◌, true, false, cond, List, [], ◌∷◌, ◌++◌, map, length, take, refl, sym, ap, subst, ◌∙◌, arith, ◌<◌, ◌≤◌}
 use Rattle.std.specs.Prelude.{filter, if◌then◌else◌, ◌==◌}
-use Rattle.std.specs.List.{list_any, All, filter_map, cons_option}
-use Rattle.std.proofs.lemmas.List.{append-nil, get_or_at, length-take-le, map_push, take-map, take_more}
-use Rattle.std.proofs.lemmas.List.Elements.{All-nil, All-cons, All-filter, filter-append}
+use Rattle.std.specs.List.{list_any, All, filter_map, cons_option, enumerate_from}
+use Rattle.std.proofs.lemmas.List.{append-nil, length-take-le, map_push, take-map, take_more}
+use Rattle.std.proofs.lemmas.List.Elements.{All-from_get_or, All-filter, filter-append}
 use Rattle.std.proofs.lemmas.List.Sorted.{All-permutation}
 use Rattle.std.proofs.lemmas.Simd.{map-map}
 use Rattle.jaeger_model.specs.declared.placed.Placed.{Placed}
@@ -11,8 +11,9 @@ use Rattle.trace_model.specs.declared.query.Find.{Find}
 use Rattle.trace_model.specs.Searching.{matches, matching, first_start, first_id, ids_of, ranked_by_start, cut, found_in}
 use Rattle.trace_model.proofs.Lists.{map_agree, all_cut}
 use Rattle.trace_model.proofs.Ranking.{ranked-permutation, ranked-map}
-use Rattle.find_traces.specs.Places.{numbered, is_hit, start_of, hits, places_found, trace_at, id_at}
+use Rattle.find_traces.specs.Places.{is_hit, start_of, hits, places_found, trace_at, id_at}
 use Rattle.find_traces.specs.Keys.{reverse_key_of, reverse_key_place}
+use Rattle.std.proofs.lemmas.List.FromFn.{get_or-enumerate_from, length-enumerate_from}
 
 abbrev place : ℕ × List Placed → ℕ
 place e = e.0
@@ -29,31 +30,26 @@ places_of_hits q ts =
     ap (map reverse_key_place) (sym (map_cut reverse_key_of q.limit (ranked_by_start start_of (hits q ts)))) ∙ map-map reverse_key_place reverse_key_of (cut q.limit (ranked_by_start start_of (hits q ts)))
 
 -- ---- each number leads back to its trace
-numbers_lead : (before rest : List (List Placed)) (n : ℕ) → n ≡ length before → All (λ (e : ℕ × List Placed). trace_at (before ++ rest) e.0 ≡ e.1) (numbered n rest)
-numbers_lead before [] n e = All-nil (λ (e : ℕ × List Placed). trace_at (before ++ []) e.0 ≡ e.1)
-numbers_lead before (t ∷ rest) n e =
-    All-cons (λ (x : ℕ × List Placed). trace_at (before ++ t ∷ rest) x.0 ≡ x.1) (n, t) (numbered (n + 1) rest)
-    (get_or_at before t rest [] n (sym e))
-    (subst (λ l. All (λ (x : ℕ × List Placed). trace_at l x.0 ≡ x.1) (numbered (n + 1) rest)) (append_assoc before (t ∷ []) rest)
-    (numbers_lead (before ++ t ∷ []) rest (n + 1) (let l = length-append before (t ∷ []) in omega arith)))
-
 abbrev pub Leads : List (List Placed) → List (ℕ × List Placed) → Type 0
 Leads ts es = All (λ (e : ℕ × List Placed). trace_at ts e.0 ≡ e.1) es
 
-pub all_lead : (ts : List (List Placed)) → Leads ts (numbered 0 ts)
-all_lead ts = numbers_lead [] ts 0 refl
+pub all_lead : (ts : List (List Placed)) → Leads ts (enumerate_from 0 ts)
+all_lead ts =
+    All-from_get_or (λ (e : ℕ × List Placed). trace_at ts e.0 ≡ e.1) (enumerate_from 0 ts) (0, []) (λ i l.
+    let within : i < length ts = omega (arith, l, length-enumerate_from 0 ts) in
+    subst (λ (e : ℕ × List Placed). trace_at ts e.0 ≡ e.1) (sym (get_or-enumerate_from 0 ts i (0, []) within)) refl)
 
 hits_lead : (q : Find) (ts : List (List Placed)) → All (λ (e : ℕ × List Placed). trace_at ts e.0 ≡ e.1) (cut q.limit (ranked_by_start start_of (hits q ts)))
 hits_lead q ts =
     all_cut P q.limit (ranked_by_start start_of (hits q ts))
-    (All-permutation P (hits q ts) (ranked_by_start start_of (hits q ts)) (ranked-permutation start_of (hits q ts)) (All-filter (is_hit q) P (numbered 0 ts) (all_lead ts)))
+    (All-permutation P (hits q ts) (ranked_by_start start_of (hits q ts)) (ranked-permutation start_of (hits q ts)) (All-filter (is_hit q) P (enumerate_from 0 ts) (all_lead ts)))
   where
     P : ℕ × List Placed → Type 0
     P e = trace_at ts e.0 ≡ e.1
 
-hits_match : (q : Find) (n : ℕ) (ts : List (List Placed)) → map trace (filter (is_hit q) (numbered n ts)) ≡ matching q ts
+hits_match : (q : Find) (n : ℕ) (ts : List (List Placed)) → map trace (filter (is_hit q) (enumerate_from n ts)) ≡ matching q ts
 hits_match q n [] = refl
-hits_match q n (t ∷ ts) = elim (list_any (matches q) t) as (λ b. map trace (cond b ((n, t) ∷ filter (is_hit q) (numbered (n + 1) ts)) (filter (is_hit q) (numbered (n + 1) ts))) ≡ cond b (t ∷ matching q ts) (matching q ts)) [
+hits_match q n (t ∷ ts) = elim (list_any (matches q) t) as (λ b. map trace (cond b ((n, t) ∷ filter (is_hit q) (enumerate_from (n + 1) ts)) (filter (is_hit q) (enumerate_from (n + 1) ts))) ≡ cond b (t ∷ matching q ts) (matching q ts)) [
   | true ↦ ap (λ l. t ∷ l) (hits_match q (n + 1) ts)
   | false ↦ hits_match q (n + 1) ts
 ]
@@ -73,21 +69,21 @@ pub ids_found : (q : Find) (ts : List (List Placed)) (ns : List ℕ) → map (tr
 ids_found q ts ns e = ids_through ts ns ∙ ap ids_of e
 
 -- ---- one more trace
-numbered_push : {X : Type 0} (n : ℕ) (xs : List X) (x : X) → numbered n (xs ++ x ∷ []) ≡ numbered n xs ++ (n + length xs, x) ∷ []
+numbered_push : {X : Type 0} (n : ℕ) (xs : List X) (x : X) → enumerate_from n (xs ++ x ∷ []) ≡ enumerate_from n xs ++ (n + length xs, x) ∷ []
 numbered_push n [] x = let e : n ≡ n + 0 = omega arith in ap (λ m. (m, x) ∷ []) e
-numbered_push n (y ∷ ys) x = let e : (n + 1) + length ys ≡ n + length (y ∷ ys) = omega arith in ap (λ l. (n, y) ∷ l) (numbered_push (n + 1) ys x ∙ ap (λ m. numbered (n + 1) ys ++ (m, x) ∷ []) e)
+numbered_push n (y ∷ ys) x = let e : (n + 1) + length ys ≡ n + length (y ∷ ys) = omega arith in ap (λ l. (n, y) ∷ l) (numbered_push (n + 1) ys x ∙ ap (λ m. enumerate_from (n + 1) ys ++ (m, x) ∷ []) e)
 
 -- the traces once one more is looked at
-numbered_read : (ts : List (List Placed)) (i : ℕ) → i < length ts → numbered 0 (take (i + 1) ts) ≡ numbered 0 (take i ts) ++ (i, trace_at ts i) ∷ []
+numbered_read : (ts : List (List Placed)) (i : ℕ) → i < length ts → enumerate_from 0 (take (i + 1) ts) ≡ enumerate_from 0 (take i ts) ++ (i, trace_at ts i) ∷ []
 numbered_read ts i h =
     let count : 0 + length (take i ts) ≡ i = omega (arith, length-take-le i ts (let l : i ≤ length ts = omega arith in l)) in
-    ap (numbered 0) (take_more ts i [] h) ∙ numbered_push 0 (take i ts) (trace_at ts i) ∙ ap (λ n. numbered 0 (take i ts) ++ (n, trace_at ts i) ∷ []) count
+    ap (enumerate_from 0) (take_more ts i [] h) ∙ numbered_push 0 (take i ts) (trace_at ts i) ∙ ap (λ n. enumerate_from 0 (take i ts) ++ (n, trace_at ts i) ∷ []) count
 
-pub made_read : {K : Type 0} (f : ℕ × List Placed → K) (ts : List (List Placed)) (i : ℕ) → i < length ts → map f (numbered 0 (take (i + 1) ts)) ≡ map f (numbered 0 (take i ts)) ++ f (i, trace_at ts i) ∷ []
-made_read f ts i h = ap (map f) (numbered_read ts i h) ∙ map_push f (numbered 0 (take i ts)) (i, trace_at ts i)
+pub made_read : {K : Type 0} (f : ℕ × List Placed → K) (ts : List (List Placed)) (i : ℕ) → i < length ts → map f (enumerate_from 0 (take (i + 1) ts)) ≡ map f (enumerate_from 0 (take i ts)) ++ f (i, trace_at ts i) ∷ []
+made_read f ts i h = ap (map f) (numbered_read ts i h) ∙ map_push f (enumerate_from 0 (take i ts)) (i, trace_at ts i)
 
 hits_read : (q : Find) (ts : List (List Placed)) (i : ℕ) → i < length ts → hits q (take (i + 1) ts) ≡ hits q (take i ts) ++ cond (list_any (matches q) (trace_at ts i)) ((i, trace_at ts i) ∷ []) []
-hits_read q ts i h = ap (filter (is_hit q)) (numbered_read ts i h) ∙ filter-append (is_hit q) (numbered 0 (take i ts)) ((i, trace_at ts i) ∷ [])
+hits_read q ts i h = ap (filter (is_hit q)) (numbered_read ts i h) ∙ filter-append (is_hit q) (enumerate_from 0 (take i ts)) ((i, trace_at ts i) ∷ [])
 
 pub hits_hit : (q : Find) (ts : List (List Placed)) (i : ℕ) → i < length ts → list_any (matches q) (trace_at ts i) ≡ true → map reverse_key_of (hits q (take (i + 1) ts)) ≡ map reverse_key_of (hits q (take i ts)) ++ reverse_key_of (i, trace_at ts i) ∷ []
 hits_hit q ts i h m =

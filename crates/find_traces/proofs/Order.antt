@@ -1,7 +1,7 @@
 -- Numbered elements, once ranked, rise strictly by start and then place, best first.
 use Rattle.std.proofs.Common.{◌≡◌, ℕ, ℤ, ◌+◌, ◌<◌, ◌≤◌, true, false, cond, List, [], ◌∷◌, map, refl, sym, ap, ◌∙◌, arith}
 use Rattle.std.specs.Prelude.{if◌then◌else◌, ◌==◌, int_lt}
-use Rattle.std.specs.List.{AllByRecursion}
+use Rattle.std.specs.List.{AllByRecursion, enumerate_from}
 use Rattle.std.specs.List.Sorted.{IsStrictlySortedBy}
 use Rattle.std.specs.declared.cmp.Ordering.{Ordering}
 use Rattle.std.specs.declared.cmp.Reverse.{Reverse}
@@ -18,7 +18,6 @@ use Rattle.trace_model.proofs.Ranking.{ranked-permutation}
 use Rattle.trace_model.proofs.NameLaws.{both_equal}
 use Rattle.trace_model.proofs.Rising.{Below, below_chain}
 use Rattle.find_traces.specs.declared.key.Key.{Key}
-use Rattle.find_traces.specs.Places.{numbered}
 use Rattle.find_traces.specs.Keys.{best_cmp, reverse_key_cmp}
 
 pub best_total : IsTotalOrder best_cmp
@@ -94,16 +93,16 @@ module _ {X : Type 0} (start : ℕ × X → ℤ) where
   above n [] a = tt
   above n (x ∷ es) a = (let b = a.0 in omega arith, above n es a.1)
 
-  places_above : (n : ℕ) (xs : List X) → AllByRecursion (λ (e : ℕ × X). n ≤ e.0) (numbered n xs)
+  places_above : (n : ℕ) (xs : List X) → AllByRecursion (λ (e : ℕ × X). n ≤ e.0) (enumerate_from n xs)
   places_above n [] = tt
-  places_above n (x ∷ xs) = (omega arith, weaker n (numbered (n + 1) xs) (places_above (n + 1) xs))
+  places_above n (x ∷ xs) = (omega arith, weaker n (enumerate_from (n + 1) xs) (places_above (n + 1) xs))
 
-  places_rise : (n : ℕ) (xs : List X) → PlacesRise (numbered n xs)
+  places_rise : (n : ℕ) (xs : List X) → PlacesRise (enumerate_from n xs)
   places_rise n [] = tt
-  places_rise n (x ∷ xs) = (above n (numbered (n + 1) xs) (places_above (n + 1) xs), places_rise (n + 1) xs)
+  places_rise n (x ∷ xs) = (above n (enumerate_from (n + 1) xs) (places_above (n + 1) xs), places_rise (n + 1) xs)
 
-  pub ranked_rises : (xs : List X) → IsStrictlySortedBy rank_cmp (ranked_by_start start (numbered 0 xs))
-  ranked_rises xs = strict_ranked (numbered 0 xs) (places_rise 0 xs)
+  pub ranked_rises : (xs : List X) → IsStrictlySortedBy rank_cmp (ranked_by_start start (enumerate_from 0 xs))
+  ranked_rises xs = strict_ranked (enumerate_from 0 xs) (places_rise 0 xs)
 
 -- ---- and so does what they are mapped to, where that is in the same order
 module _ {X Y : Type 0} (f : X → Y) (cmp : Y → Y → Ordering) where

@@ -9,15 +9,16 @@ use Rattle.trace_model.specs.declared.query.Find.{Find}
 use Rattle.trace_model.specs.Searching.{ranked_by_start}
 use Rattle.trace_model.proofs.Ranking.{ranked-permutation, ranked-filter}
 use Rattle.find_traces.specs.declared.key.Key.{Key}
-use Rattle.find_traces.specs.Places.{numbered, is_hit, start_of, hits}
+use Rattle.find_traces.specs.Places.{is_hit, start_of, hits}
+use Rattle.std.specs.List.{enumerate_from}
 use Rattle.find_traces.specs.Keys.{reverse_key_of, reverse_key_cmp}
 use Rattle.find_traces.proofs.Order.{rank_cmp, ranked_rises, reverse_total, reverse_exact, strict_map}
 use Rattle.find_traces.proofs.Rising.{sorted_is}
 
 hits_rise : (q : Find) (ts : List (List Placed)) → IsStrictlySortedBy (rank_cmp start_of) (ranked_by_start start_of (hits q ts))
 hits_rise q ts =
-    subst (λ (l : List (ℕ × List Placed)). IsStrictlySortedBy (rank_cmp start_of) l) (ranked-filter start_of (is_hit q) (numbered 0 ts))
-    (IsStrictlySortedBy-filter (rank_cmp start_of) (is_hit q) (ranked_by_start start_of (numbered 0 ts)) (ranked_rises start_of ts))
+    subst (λ (l : List (ℕ × List Placed)). IsStrictlySortedBy (rank_cmp start_of) l) (ranked-filter start_of (is_hit q) (enumerate_from 0 ts))
+    (IsStrictlySortedBy-filter (rank_cmp start_of) (is_hit q) (ranked_by_start start_of (enumerate_from 0 ts)) (ranked_rises start_of ts))
 
 pub sorted_hits : (q : Find) (ts : List (List Placed)) (ys : List (Reverse Key)) → IsPermutation (map reverse_key_of (hits q ts)) ys → IsSorted reverse_key_cmp ys → ys ≡ map reverse_key_of (ranked_by_start start_of (hits q ts))
 sorted_hits q ts ys moved sorted =

@@ -1,15 +1,10 @@
 -- The places of the traces that a search finds.
-use Rattle.std.specs.Prelude.{ℕ, ℤ, Bool, ◌+◌, List, [], ◌∷◌, map, filter, slice_index_or, Option}
-use Rattle.std.specs.List.{list_any}
+use Rattle.std.specs.Prelude.{ℕ, ℤ, Bool, List, [], map, filter, slice_index_or, Option}
+use Rattle.std.specs.List.{list_any, enumerate_from}
 use Rattle.jaeger_model.specs.declared.ids.TraceId.{TraceId}
 use Rattle.jaeger_model.specs.declared.placed.Placed.{Placed}
 use Rattle.trace_model.specs.declared.query.Find.{Find}
 use Rattle.trace_model.specs.Searching.{matches, first_start, ranked_by_start, cut, first_id}
-
--- each with its place, where the first stands at n
-abbrev pub numbered : {X : Type 0} → ℕ → List X → List (ℕ × X)
-numbered n [] = []
-numbered n (x ∷ xs) = (n, x) ∷ numbered (n + 1) xs
 
 abbrev pub is_hit : Find → ℕ × List Placed → Bool
 is_hit q e = list_any (matches q) e.1
@@ -19,7 +14,7 @@ start_of e = first_start e.1
 
 -- those that match, with their places
 abbrev pub hits : Find → List (List Placed) → List (ℕ × List Placed)
-hits q ts = filter (is_hit q) (numbered 0 ts)
+hits q ts = filter (is_hit q) (enumerate_from 0 ts)
 
 -- the places of the answer, in its order
 abbrev pub places_found : Find → List (List Placed) → List ℕ

@@ -5,7 +5,8 @@ ghost use Rattle.std.specs.Prelude.{◌≡◌, IfOk, List, map, filter};
 ghost use Rattle.std.specs.List.Sorted.{IsPermutation, IsStrictlySortedBy};
 ghost use Rattle.std.specs.BinaryHeap.{heap_items, IsHeap};
 ghost use Rattle.trace_model.specs.Searching.{cut};
-ghost use Rattle.find_traces.specs.Places.{places_found, numbered};
+ghost use Rattle.find_traces.specs.Places.{places_found};
+ghost use Rattle.std.specs.List.{enumerate_from};
 ghost use Rattle.find_traces.specs.Keys.{is_full, key_of, key_place, key_cmp, best_cmp, key_judged};
 
 use crate::key::{Key, key_at};
@@ -15,7 +16,7 @@ use std::collections::BinaryHeap;
 
 /// A key for each trace.
 fn all_keys<T: Searched>(alloc: Global, traces: &T) -> Result<Vec<Key>, AllocError>
-    ensures { IfOk result (λ v. v.items ≡ map key_of (numbered 0 (T.traces traces.now))) }
+    ensures { IfOk result (λ v. v.items ≡ map key_of (enumerate_from 0 (T.traces traces.now))) }
 {
     let mut keys = Vec::with_capacity(alloc, traces.count())?;
     for place in 0..traces.count() {

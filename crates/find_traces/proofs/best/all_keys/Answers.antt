@@ -1,6 +1,6 @@
 use Rattle.std.proofs.Common.{◌<◌, sym, ◌∙◌, ap, map, ◌++◌, ◌∷◌, [], length, arith}
 use Rattle.std.proofs.lemmas.List.{take_all}
-use Rattle.find_traces.specs.Places.{numbered}
+use Rattle.std.specs.List.{enumerate_from}
 use Rattle.find_traces.specs.Keys.{key_of}
 use Rattle.find_traces.proofs.Found.{made_read}
 use Rattle.find_traces.proofs.best.all_keys.Goals as goal
@@ -14,4 +14,4 @@ loop-place-preserved g c =
 pub returns : goal.returns
 returns g c =
     let ts = g.T.Searched.traces c.args.traces.now in
-    c.loop-place.invariant ∙ ap (λ l. map key_of (numbered 0 l)) (take_all c.loop-place.place ts (omega arith))
+    c.loop-place.invariant ∙ ap (λ l. map key_of (enumerate_from 0 l)) (take_all c.loop-place.place ts (omega arith))
