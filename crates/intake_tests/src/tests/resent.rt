@@ -10,6 +10,7 @@ use std::sync::Wait;
 use trace_model::Refusal;
 
 /// What a seat hands in, and what its ticket returns.
+#[derive(Drop)]
 struct Job {
     /// The id of the batch's span.
     id: u64,
@@ -80,14 +81,9 @@ fn answered<N: StoreName, R: Wait>(
 
 /// There is an account of each job, and as many of them as are wanted to be were acknowledged.
 fn are_booked<N: StoreName>(books: &Books<N>) -> bool {
-    let (mut jobs, mut acknowledged) = (0u64, 0u64);
-    for job in JOBS.iter() {
-        jobs = jobs.saturating_add(1);
-        if job.wanted.is_ok() {
-            acknowledged = acknowledged.saturating_add(1);
-        }
-    }
-    books.accounts.count() == jobs && books.accounts.acknowledged() == acknowledged
+    let acknowledged = JOBS.iter().filter(|job| job.wanted.is_ok()).count();
+    books.accounts.count() == JOBS.len() as u64
+        && books.accounts.acknowledged() == acknowledged as u64
 }
 
 /// A batch that was sent before is acknowledged at its old place, where the store is full too, and counts as
