@@ -1,6 +1,6 @@
 //! Devices that fail.
 use crate::tests::host::Host;
-use crate::tests::runs::{HEAD, SPAN, TAIL, joined};
+use crate::tests::runs::{HEAD, SPAN, TAIL};
 use program_run::run;
 use session_devices::{Input, MemoryInput, Watched};
 use std::alloc::Global;
@@ -81,8 +81,8 @@ fn check_failures<H: Host + Net<Stream = TcpStream, Listener = TcpListener>>(
 #[test]
 fn of_get(rt: HostRuntime) -> Result<(), Fail> {
     let alloc = rt.alloc();
-    let input = joined(alloc, &["zz\n", HEAD, TAIL])?;
-    let wanted = joined(alloc, &["line 1: bad hex\n", SPAN])?;
+    let input = ["zz\n", HEAD, TAIL].concat(alloc)?;
+    let wanted = ["line 1: bad hex\n", SPAN].concat(alloc)?;
     let words = ["jaeger_one", "get", "1"];
     check_failures(&rt, alloc, &words, input.as_bytes(), 3, wanted.as_bytes())
 }

@@ -27,15 +27,6 @@ pub(crate) const SPAN: &str = "0000000000000001 0000000000000002 1000 50 a op\n"
 
 pub(crate) const NONE: &str = "trace not found\n";
 
-/// The pieces of a text, joined.
-pub(crate) fn joined(alloc: Global, pieces: &[&str]) -> Result<String, Fail> {
-    let mut text = String::new(alloc);
-    for piece in pieces {
-        text.push_str(piece)?;
-    }
-    Ok(text)
-}
-
 /// Runs the words over the input, and looks at the status and the output.
 pub(crate) fn check<H: Host + Net<Stream = TcpStream, Listener = TcpListener>>(
     rt: &H,
@@ -45,8 +36,8 @@ pub(crate) fn check<H: Host + Net<Stream = TcpStream, Listener = TcpListener>>(
     status: u8,
     output: &[&str],
 ) -> Result<(), Fail> {
-    let input = joined(alloc, input)?;
-    let wanted = joined(alloc, output)?;
+    let input = input.concat(alloc)?;
+    let wanted = output.concat(alloc)?;
     let mut written = Vec::new(alloc);
     let got = run(
         rt,
