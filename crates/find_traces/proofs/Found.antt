@@ -37,7 +37,8 @@ pub all_lead : (ts : List (List Placed)) → Leads ts (enumerate_from 0 ts)
 all_lead ts =
     All-from_get_or (λ (e : ℕ × List Placed). trace_at ts e.0 ≡ e.1) (enumerate_from 0 ts) (0, []) (λ i l.
     let within : i < length ts = omega (arith, l, length-enumerate_from 0 ts) in
-    subst (λ (e : ℕ × List Placed). trace_at ts e.0 ≡ e.1) (sym (get_or-enumerate_from 0 ts i (0, []) within)) refl)
+    let place : 0 + i ≡ i = omega arith in
+    subst (λ (e : ℕ × List Placed). trace_at ts e.0 ≡ e.1) (sym (get_or-enumerate_from 0 ts i (0, []) within)) (ap (trace_at ts) place))
 
 hits_lead : (q : Find) (ts : List (List Placed)) → All (λ (e : ℕ × List Placed). trace_at ts e.0 ≡ e.1) (cut q.limit (ranked_by_start start_of (hits q ts)))
 hits_lead q ts =
