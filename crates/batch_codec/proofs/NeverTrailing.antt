@@ -15,6 +15,7 @@ use Rattle.batch_codec.specs.Decoding.{Reading, wire, skipped, bool_at, double_a
 use Rattle.batch_codec.specs.TagReading.{type_at, type_of_number}
 use Rattle.batch_codec.specs.ReferenceReading.{kind_at, kind_of_number}
 use Rattle.batch_codec.proofs.AtStop.{OnlyMissing}
+use Rattle.thrift_binary.proofs.Found.{failed, err_is}
 
 -- the result isn't Trailing
 pub record Not {A : Type 0} (r : Result A DecodeError) : Type 0 where
@@ -36,15 +37,9 @@ not_lift : {A : Type 0} (r : Result A WireError) → Not (lift wire r)
 not_lift (Ok x) = not_ok x
 not_lift (Err e) = not_wire e
 
-abbrev failed : {A : Type 0} → DecodeError → Result A DecodeError
-failed e = Err e
-
-failed_is : {A : Type 0} (e : DecodeError) → failed {A = A} e ≡ failed Trailing → e ≡ Trailing
-failed_is e h = cc
-
 not_then : {A B : Type 0} (r : Result A DecodeError) (f : A → Result B DecodeError) → Not r → ((x : A) → Not (f x)) → Not (r >>= f)
 not_then (Ok x) f one more = more x
-not_then {A = A} {B = B} (Err e) f one more = record { never = λ h. one.never (ap (failed {A = A}) (failed_is {A = B} e h)) }
+not_then {A = A} {B = B} (Err e) f one more = record { never = λ h. one.never (ap (failed {A = A}) (err_is {A = B} e Trailing h)) }
 
 not_if : {A : Type 0} (b : Bool) (x y : Result A DecodeError) → Not x → Not y → Not (cond b x y)
 not_if true x y one two = one

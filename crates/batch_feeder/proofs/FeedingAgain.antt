@@ -22,6 +22,7 @@ use Rattle.batch_feeder.specs.Fields.{struct_at, struct_from}
 use Rattle.batch_feeder.specs.Batches.{batch_continues}
 use Rattle.batch_feeder.specs.Feeding.{answers_of, is_truncated, is_short, settled, IsSettled, HasNoFault, HasRefused, Repeats, Taken, Ends, Advances}
 use Rattle.batch_feeder.proofs.ContinuingAgain.{faults-inside}
+use Rattle.thrift_binary.proofs.Found.{err_is}
 
 -- a state of a struct as a reading
 abbrev pub reads : BatchSlots → Step BatchHeld → Reading Batch
@@ -53,12 +54,9 @@ short-is (Err e) h = ap (λ d. Err d) (want_is e h)
 
 -- ---- the same refusal again
 
-same_fault : (e f : DecodeError) → ◌≡◌ {A = Result Batch DecodeError} (Err e) (Err f) → e ≡ f
-same_fault e f h = cc
-
 -- what is refused now was refused before
 pub refused-repeats : (a : List ℕ → Result Batch DecodeError) (w : List ℕ) (e : DecodeError) → a w ≡ Err e → Repeats a e
-refused-repeats a w e h before refused = same_fault before e (sym (refused.all w) ∙ h)
+refused-repeats a w e h before refused = err_is before e (sym (refused.all w) ∙ h)
 
 -- nothing was refused before
 pub none-refused : (a : List ℕ → Result Batch DecodeError) (w : List ℕ) → HasNoFault (a w) → (e : DecodeError) → HasRefused a e → ⊥
@@ -69,7 +67,7 @@ none-repeats a w e sound before refused = absurd (none-refused a w sound before 
 
 pub short-sound : (r : Result Batch DecodeError) → r ≡ Err (Wire Truncated) → HasNoFault r
 short-sound (Ok b) h = tt
-short-sound (Err e) h = same_fault e (Wire Truncated) h
+short-sound (Err e) h = err_is e (Wire Truncated) h
 
 -- ---- the start
 

@@ -1,8 +1,9 @@
 -- Of two sessions that failed over one input one wrote a beginning of what the other wrote.
-use Rattle.std.proofs.Common.{◌≡◌, ℕ, List, [], ◌∷◌, ◌++◌, inl, inr, refl, sym, ◌∙◌, subst, append_assoc}
+use Rattle.std.proofs.Common.{◌≡◌, ℕ, List, [], ◌∷◌, ◌++◌, inl, inr, refl, sym, ◌∙◌, subst, append_assoc, length, arith}
 use mathlib.Core.List.{IsPrefix}
+use Rattle.std.proofs.lemmas.Bool.{cases_lt}
 use Rattle.trace_model.specs.Held.{Held}
-use Rattle.trace_model.proofs.Prefixes.{prefix_self, prefix_trans}
+use Rattle.trace_model.proofs.Prefixes.{prefix_self, prefix_trans, prefix_shorter}
 use Rattle.http_requests.proofs.Once.{one_breach}
 use Rattle.http_session.specs.Sessions.{Exchange, responses, response_to, Due, Due.{none_yet, due, due_parting}, bytes_due}
 use Rattle.pipe_session.specs.Exact.{held_after}
@@ -13,16 +14,10 @@ use Rattle.pipe_session.proofs.OneFunction.{failed_course, wrote}
 
 -- two beginnings of one list
 both_begin : (w v all : List ℕ) → IsPrefix w all → IsPrefix v all → OneBegins w v
-both_begin [] v all p q = inl (v, refl)
-both_begin (x ∷ xs) [] all p q = inr (x ∷ xs, refl)
-both_begin (x ∷ xs) (y ∷ ys) all p q =
-    let same : x ∷ (xs ++ p.0) ≡ y ∷ (ys ++ q.0) = p.1 ∙ sym q.1 in
-    let first : x ≡ y = cc same in
-    let rest : xs ++ p.0 ≡ ys ++ q.0 = cc same in
-    elim (both_begin xs ys (xs ++ p.0) (p.0, refl) (q.0, sym rest)) [
-      | inl r ↦ inl (r.0, λ i. first i ∷ r.1 i)
-      | inr r ↦ inr (r.0, λ i. sym first i ∷ r.1 i)
-    ]
+both_begin w v all p q = elim (cases_lt (length w) (length v)) [
+  | inl less ↦ inl (prefix_shorter w v all p q (omega arith))
+  | inr more ↦ inr (prefix_shorter v w all q p (omega arith))
+]
 
 stops_behind : (s : Held) (x y : Exchange) (rest more : List ℕ) (ys : List Exchange) (d : Due) → x ≡ y → rest ≡ more
     → Stops more (held_after s y.verdict) ys d → Stops rest (held_after s x.verdict) ys d

@@ -2,6 +2,7 @@
 use Rattle.std.specs.Prelude.{ℕ, ◌==◌, ◌&&◌, not, List, [], ◌∷◌, length, Result, Ok, Err, if◌then◌else◌, codes}
 use Rattle.std.specs.List.{concat}
 use Rattle.std.specs.Str.{is_utf8}
+use Rattle.query_http.specs.Queries.{◌>>=◌}
 use Rattle.jaeger_model.specs.declared.batch.Batch.{Batch}
 use Rattle.jaeger_model.specs.Texts.{same_text}
 use Rattle.hex_batches.specs.declared.fault.HexFault.{HexFault}
@@ -14,11 +15,6 @@ use Rattle.step_lines.specs.declared.verb.Verb.{Verb}
 use Rattle.step_lines.specs.declared.verb.Verb.TheVariants as verb
 use Rattle.step_lines.specs.Words.{words_of, number_in}
 use Rattle.step_lines.specs.Targets.{query_in}
-
-infixl 10 ◌>>=◌
-abbrev pub ◌>>=◌ : {A B : Type 0} → Result A StepFault → (A → Result B StepFault) → Result B StepFault
-(Ok x) >>= f = f x
-(Err e) >>= f = Err e
 
 -- the text, unless it is empty
 abbrev pub if_any : List ℕ → Result (List ℕ) StepFault

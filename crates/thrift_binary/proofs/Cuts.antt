@@ -5,7 +5,7 @@ use Rattle.std.proofs.lemmas.List.{take-append-le, take-append-drop, length-take
 use Rattle.std.proofs.lemmas.Bool.{ltb-false, ltb-true, le-ltb, lt-ltb, ne_eqb}
 use Rattle.thrift_binary.specs.declared.fault.WireError.{WireError}
 use Rattle.thrift_binary.specs.Reading.{◌>>=◌, lift}
-use Rattle.thrift_binary.proofs.Found.{both_are}
+use Rattle.thrift_binary.proofs.Found.{done, err_is, ok_is_no_err, both_are}
 use Rattle.thrift_binary.specs.Cuts.{Settled, Cut, whole, faulty, unsettled, IsCutSafe, FaultsHavePlaces, ValuesHaveEnds, ShortStaysShort}
 
 -- ---- a beginning of two texts
@@ -19,18 +19,6 @@ take_past m a b le =
     ap (λ (k : ℕ). take k (a ++ b)) split ∙ take-append-add a b (m - length a)
 
 -- ---- what follows from it
-
-abbrev bad : {A E : Type 0} → E → Result (A × List ℕ) E
-bad e = Err e
-
-abbrev ok_with : {A E : Type 0} → A → List ℕ → Result (A × List ℕ) E
-ok_with x v = Ok (x, v)
-
-ok_is_no_err : {A E : Type 0} (x : A) (v : List ℕ) (e : E) → ok_with x v ≡ Err e → ⊥
-ok_is_no_err x v e h = absurd cc
-
-err_is : {A E : Type 0} (d e : E) → bad {A = A} d ≡ bad e → d ≡ e
-err_is d e h = cc
 
 module _ {A E : Type 0} (short : E) (read : List ℕ → Result (A × List ℕ) E) where
   -- the answer at the bytes themselves
@@ -54,7 +42,7 @@ module _ {A E : Type 0} (short : E) (read : List ℕ → Result (A × List ℕ) 
   faults_have_places safe w e is not_short = by (safe w)
     where
       by : Cut short read w → (n : ℕ) × (n ≤ length w) × ((m : ℕ) → m < n → read (take m w) ≡ Err short) × ((v : List ℕ) → read (take n w ++ v) ≡ Err e)
-      by (whole x s) = absurd (ok_is_no_err x s.rest e (sym (settled_here w (λ v. Ok (x, v)) s) ∙ is))
+      by (whole x s) = absurd (ok_is_no_err {A = A × List ℕ} (x, s.rest) e (sym (settled_here w (λ v. Ok (x, v)) s) ∙ is))
       by (faulty d s) =
           let here : d ≡ e = err_is d e (sym (settled_here w (λ v. Err d) s) ∙ is) in
           let front : take (length s.text) w ≡ s.text = ap (take (length s.text)) s.parts ∙ take-append_seam s.text s.rest in
@@ -72,15 +60,15 @@ module _ {A E : Type 0} (short : E) (read : List ℕ → Result (A × List ℕ) 
       by : Cut short read w → (text : List ℕ) × (w ≡ text ++ r) × ((m : ℕ) → m < length text → read (take m text) ≡ Err short) × ((v : List ℕ) → read (text ++ v) ≡ Ok (x, v))
       by (whole y s) =
           let same = both_are {E = E} y x s.rest r (sym (settled_here w (λ v. Ok (y, v)) s) ∙ is) in
-          (s.text, s.parts ∙ ap (λ (t : List ℕ). s.text ++ t) same.1, s.before, λ v. s.same v ∙ ap (λ (z : A). ok_with z v) same.0)
-      by (faulty e s) = absurd (ok_is_no_err x r e (sym is ∙ settled_here w (λ v. Err e) s))
-      by (unsettled b) = absurd (ok_is_no_err x r short (sym is ∙ ap read (sym (take-length w)) ∙ b (length w)))
+          (s.text, s.parts ∙ ap (λ (t : List ℕ). s.text ++ t) same.1, s.before, λ v. s.same v ∙ ap (λ (z : A). done {A = A × List ℕ} {E = E} (z, v)) same.0)
+      by (faulty e s) = absurd (ok_is_no_err {A = A × List ℕ} (x, r) e (sym is ∙ settled_here w (λ v. Err e) s))
+      by (unsettled b) = absurd (ok_is_no_err {A = A × List ℕ} (x, r) short (sym is ∙ ap read (sym (take-length w)) ∙ b (length w)))
 
   pub short_stays_short : IsCutSafe short read → ShortStaysShort short read
   short_stays_short safe w is m = by (safe w)
     where
       by : Cut short read w → read (take m w) ≡ Err short
-      by (whole x s) = absurd (ok_is_no_err x s.rest short (sym (settled_here w (λ v. Ok (x, v)) s) ∙ is))
+      by (whole x s) = absurd (ok_is_no_err {A = A × List ℕ} (x, s.rest) short (sym (settled_here w (λ v. Ok (x, v)) s) ∙ is))
       by (faulty e s) =
           let same : e ≡ short = err_is e short (sym (settled_here w (λ v. Err e) s) ∙ is) in
           ap (λ (v : List ℕ). read (take m v)) s.parts ∙ short_behind w (λ v. Err e) s s.rest m (λ le. ap (λ (x : E). Err x) same)

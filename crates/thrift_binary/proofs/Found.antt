@@ -30,11 +30,20 @@ pub lift_ok : {A E : Type 0} (wire : WireError → E) (r : Result A WireError) (
 lift_ok wire (Ok y) x e = cc
 lift_ok wire (Err d) x e = absurd cc
 
-abbrev done : {A E : Type 0} → A → Result A E
+abbrev pub done : {A E : Type 0} → A → Result A E
 done x = Ok x
+
+abbrev pub failed : {A E : Type 0} → E → Result A E
+failed e = Err e
 
 pub ok_is : {A E : Type 0} (x y : A) → done {E = E} x ≡ done y → x ≡ y
 ok_is x y e = cc
+
+pub err_is : {A E : Type 0} (d e : E) → failed {A = A} d ≡ failed e → d ≡ e
+err_is d e h = cc
+
+pub ok_is_no_err : {A E : Type 0} (x : A) (e : E) → done x ≡ failed e → ⊥
+ok_is_no_err x e h = absurd cc
 
 pub both_are : {A B E : Type 0} (x y : A) (v u : B) → done {A = A × B} {E = E} (x, v) ≡ done {A = A × B} (y, u) → (x ≡ y) × (v ≡ u)
 both_are {A = A} {B = B} {E = E} x y v u e =
@@ -68,10 +77,6 @@ pub big_number-take : (n : ℕ) (w : List ℕ) → n ≤ length w → big_number
 big_number-take n w le =
     let long : n ≤ length (take n w) = omega (arith, length-take n w) in
     ap (λ v. big_number n v) (sym (take-append-drop n w)) ∙ big_from-append n (take n w) (drop n w) long
-
--- what was read of the beginning
-pub record Takes (w text rest : List ℕ) : Type 0 where
-  pub parts : w ≡ text ++ rest
 
 -- n bytes from the beginning, of which f makes what it makes of all that follow
 pub beginning_found : {A : Type 0} (n : ℕ) (f : List ℕ → A) → ((w : List ℕ) → n ≤ length w → f w ≡ f (take n w)) → (w : List ℕ) (x : A) (r : List ℕ) → cond {A = Result (A × List ℕ) WireError} (ltb (length w) n) (Err Truncated) (Ok (f w, drop n w)) ≡ Ok (x, r)

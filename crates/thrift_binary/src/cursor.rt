@@ -122,7 +122,7 @@ impl<'a> Cursor<'a> {
         Ok(front)
     }
 
-    /// The first N bytes, copied: a number of them costs less than one of a reference to them, which is tested for null.
+    /// The first N bytes, copied. (A reference to them, as `take` gives it, would be tested for null once more.)
     #[inline]
     fn array<const N: usize>(&mut self) -> Result<[u8; N], WireError>
         ensures exact { Reads (λ x. x) (bytes_at N) self.old result self.new }
