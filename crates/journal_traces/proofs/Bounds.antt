@@ -1,6 +1,6 @@
 -- Where the outline of an entry doesn't meet the search, no span meets it.
 use Rattle.std.proofs.Common.{◌≡◌, ℤ, ◌≤ℤ◌, Bool, true, false, ◌&&◌, cond, List, [], ◌∷◌, refl, sym, ap, ◌∙◌, arith}
-use Rattle.std.specs.Prelude.{Option, Some, None, int_le, not, option_map}
+use Rattle.std.specs.Prelude.{Option, Some, None, int_le, option_map}
 use Rattle.std.specs.List.{list_all, AllByRecursion}
 use Rattle.std.proofs.lemmas.Bool.{false≢true, and_parts, true_from_ne_false}
 use Rattle.std.proofs.lemmas.Int.{fold-int_min_bounds, fold-int_max_bounds, ints}
@@ -108,7 +108,3 @@ passed_there q (Some x) ol e none = let same : ol ≡ outline_in x = cc e in pas
 pub none_there : (q : Find) (e : Option Entry) → None ≡ option_map outline_in e → met_or_none q (option_and_then (λ (x : Entry). batch_brought x.work) e) ≡ []
 none_there q None e = refl
 none_there q (Some x) e = absurd (cc e)
-
-pub denied : (b : Bool) → not b ≡ true → b ≡ false
-denied true e = absurd (false≢true e)
-denied false e = refl

@@ -1,21 +1,16 @@
 -- The clock of a span for a program that goes up to the root and down again.
-use Rattle.std.proofs.Common.{◌≡◌, ℕ, zero, suc, pos, ◌+◌, ◌-◌, ◌<◌, ◌≤◌, true, false, List, [], ◌∷◌, ◌++◌, map, length, get_or, reverse, refl, sym, ap, ◌∙◌, subst, arith, append_assoc}
-use Rattle.std.specs.Prelude.{Option, Some, None, option_map, option_and_then, find, fold, ◌==◌, if◌then◌else◌}
-use Rattle.std.specs.List.{position, AllByRecursion}
+use Rattle.std.proofs.Common.{◌≡◌, ℕ, zero, suc, pos, ◌+◌, ◌-◌, ◌<◌, ◌≤◌, List, [], ◌∷◌, ◌++◌, map, length, get_or, reverse, refl, sym, ap, ◌∙◌, subst, arith, append_assoc}
+use Rattle.std.specs.Prelude.{Option, Some, None, option_map, option_and_then, fold, if◌then◌else◌}
+use Rattle.std.specs.List.{AllByRecursion}
 use Rattle.std.proofs.lemmas.List.{get_or-map, length-map, map_push, reverse-append}
-use Rattle.std.proofs.lemmas.List.Quantifiers.{position-Some}
-use Rattle.std.proofs.lemmas.Option.{none-some}
+use Rattle.std.proofs.lemmas.Option.{none-some, same_Some}
 use Rattle.jaeger_model.specs.declared.placed.Placed.{Placed}
 use Rattle.jaeger_model.specs.Parents.{parent}
-use Rattle.trace_model.specs.Linking.{has_id, parent_in}
+use Rattle.trace_model.specs.Linking.{parent_in, place_of_parent}
 use Rattle.trace_model.specs.declared.clock.Clock.{Clock}
 use Rattle.trace_model.specs.Adjusting.{chain, chain_through, clock_along, clock_of, clock_at, clock_below, host_of}
-use Rattle.trace_model.proofs.Chains.{chain_step, chain_none}
-use Rattle.trace_model.proofs.Lists.{found_at}
-use Rattle.plain_store.specs.Climbing.{parent_at, path, path_through, next_clock, downward, clock_down}
-
-some_is : {X : Type 0} (a b : X) → Some a ≡ Some b → a ≡ b
-some_is a b e = cc
+use Rattle.trace_model.proofs.Chains.{chain_step, chain_none, parent_there, parent_within}
+use Rattle.plain_store.specs.Climbing.{path, path_through, next_clock, downward, clock_down}
 
 -- ---- a path, one step at a time
 path_step : (n : ℕ) (ps : List (Option ℕ)) (k : ℕ) → path (suc n) ps k ≡ path_through k (λ j. path n ps j) (get_or ps k None)
@@ -52,25 +47,13 @@ module _ (ps : List (Option ℕ)) (whole : Option (List ℕ)) (n i at : ℕ) (do
 -- ---- the places of a trace
 module _ (trace : List Placed) (d : Placed) where
   abbrev parents : List (Option ℕ)
-  parents = map (parent_at trace) trace
+  parents = map (place_of_parent trace) trace
 
   abbrev at : ℕ → Placed
   at k = get_or trace k d
 
-  there : (p : Placed) → option_map at (parent_at trace p) ≡ parent_in trace p
-  there p = elim ((parent p.span).0 == 0) as (λ b. option_map at (if b then None else position (has_id (parent p.span)) trace) ≡ (if b then None else find (has_id (parent p.span)) trace)) [
-    | true ↦ refl
-    | false ↦ found_at (has_id (parent p.span)) trace d
-  ]
-
-  within_at : (p : Placed) (j : ℕ) → parent_at trace p ≡ Some j → j < length trace
-  within_at p j e = elim ((parent p.span).0 == 0) as (λ b. (if b then None else position (has_id (parent p.span)) trace) ≡ Some j → j < length trace) [
-    | true ↦ λ e. absurd (none-some j e)
-    | false ↦ λ e. (position-Some (has_id (parent p.span)) trace j d e).0
-  ] e
-
-  read : (k : ℕ) → k < length trace → get_or parents k None ≡ parent_at trace (at k)
-  read k l = get_or-map (parent_at trace) trace k d None l
+  read : (k : ℕ) → k < length trace → get_or parents k None ≡ place_of_parent trace (at k)
+  read k l = get_or-map (place_of_parent trace) trace k d None l
 
   -- the places up to a root are the spans down from it
   path_chain : (n k : ℕ) → k < length trace → chain n trace (at k) ≡ option_map (λ ks. downward trace ks d) (path n parents k)
@@ -78,7 +61,7 @@ module _ (trace : List Placed) (d : Placed) where
   path_chain (suc n) k l = chain_step n trace (at k) ∙ by_parent (path_chain n) (get_or parents k None) refl ∙ ap (option_map (λ ks. downward trace ks d)) (sym (path_step n parents k))
     where
       above : (o : Option ℕ) → get_or parents k None ≡ o → parent_in trace (at k) ≡ option_map at o
-      above o e = sym (there (at k)) ∙ ap (option_map at) (sym (read k l) ∙ e)
+      above o e = sym (parent_there trace (at k) d) ∙ ap (option_map at) (sym (read k l) ∙ e)
 
       turned : (o : Option (List ℕ)) → option_map (λ ups. ups ++ at k ∷ []) (option_map (λ ks. downward trace ks d) o) ≡ option_map (λ ks. downward trace ks d) (option_map (λ ks. k ∷ ks) o)
       turned None = refl
@@ -88,7 +71,7 @@ module _ (trace : List Placed) (d : Placed) where
       by_parent up None e = ap (chain_through (at k) (λ q. chain n trace q)) (above None e)
       by_parent up (Some j) e =
           ap (chain_through (at k) (λ q. chain n trace q)) (above (Some j) e)
-          ∙ ap (option_map (λ ups. ups ++ at k ∷ [])) (up j (within_at (at k) j (sym (read k l) ∙ e)))
+          ∙ ap (option_map (λ ups. ups ++ at k ∷ [])) (up j (parent_within trace (at k) j (sym (read k l) ∙ e)))
           ∙ turned (path n parents j)
 
   -- and each of them is of the trace
@@ -98,11 +81,11 @@ module _ (trace : List Placed) (d : Placed) where
     where
       on : ((j : ℕ) (ks : List ℕ) → j < length trace → path n parents j ≡ Some ks → AllByRecursion (λ j. j < length trace) ks) → (j : ℕ) (o : Option (List ℕ)) → j < length trace → path n parents j ≡ o → option_map (λ above. k ∷ above) o ≡ Some ks → AllByRecursion (λ j. j < length trace) ks
       on up j None lj e f = absurd (none-some ks f)
-      on up j (Some above) lj e f = subst (AllByRecursion (λ j. j < length trace)) (some_is (k ∷ above) ks f) (l, up j above lj e)
+      on up j (Some above) lj e f = subst (AllByRecursion (λ j. j < length trace)) (same_Some (k ∷ above) ks f) (l, up j above lj e)
 
       by_parent : ((j : ℕ) (ks : List ℕ) → j < length trace → path n parents j ≡ Some ks → AllByRecursion (λ j. j < length trace) ks) → (o : Option ℕ) → get_or parents k None ≡ o → path_through k (λ j. path n parents j) o ≡ Some ks → AllByRecursion (λ j. j < length trace) ks
-      by_parent up None e f = subst (AllByRecursion (λ j. j < length trace)) (some_is (k ∷ []) ks f) (l, tt)
-      by_parent up (Some j) e f = on up j (path n parents j) (within_at (at k) j (sym (read k l) ∙ e)) refl f
+      by_parent up None e f = subst (AllByRecursion (λ j. j < length trace)) (same_Some (k ∷ []) ks f) (l, tt)
+      by_parent up (Some j) e f = on up j (path n parents j) (parent_within trace (at k) j (sym (read k l) ∙ e)) refl f
 
 -- ---- down again
 below : (m : ℕ) (c : Clock) (ys : List Placed) → fold (next_clock m) (Some c) ys ≡ Some (fold (clock_below m) c ys)
@@ -113,12 +96,12 @@ along : (m : ℕ) (xs : List Placed) → fold (next_clock m) None xs ≡ clock_a
 along m [] = refl
 along m (x ∷ xs) = below m (clock_at m (host_of x) (pos 0) x.span) xs
 
-module _ (m : ℕ) (trace : List Placed) (ps : List (Option ℕ)) (k : ℕ) (e : ps ≡ map (parent_at trace) trace) (l : k < length trace) where
+module _ (m : ℕ) (trace : List Placed) (ps : List (Option ℕ)) (k : ℕ) (e : ps ≡ map (place_of_parent trace) trace) (l : k < length trace) where
   as_long : length ps ≡ length trace
-  as_long = ap length e ∙ length-map trace (parent_at trace)
+  as_long = ap length e ∙ length-map trace (place_of_parent trace)
 
-  same_path : path (length trace) (map (parent_at trace) trace) k ≡ path (length ps) ps k
-  same_path = ap (λ n. path n (map (parent_at trace) trace) k) (sym as_long) ∙ ap (λ r. path (length ps) r k) (sym e)
+  same_path : path (length trace) (map (place_of_parent trace) trace) k ≡ path (length ps) ps k
+  same_path = ap (λ n. path n (map (place_of_parent trace) trace) k) (sym as_long) ∙ ap (λ r. path (length ps) r k) (sym e)
 
   way_up : (d : Placed) → chain (length trace) trace (get_or trace k d) ≡ option_map (λ ks. downward trace ks d) (path (length ps) ps k)
   way_up d = path_chain trace d (length trace) k l ∙ ap (option_map (λ ks. downward trace ks d)) same_path

@@ -1,15 +1,9 @@
 -- The way from a span up to its root, by the places of parents.
-use Rattle.std.specs.Prelude.{ℕ, zero, suc, pos, ◌==◌, List, [], ◌∷◌, map, get_or, reverse, fold, Option, Some, None, option_map, if◌then◌else◌}
-use Rattle.std.specs.List.{position}
+use Rattle.std.specs.Prelude.{ℕ, zero, suc, pos, List, [], ◌∷◌, map, get_or, reverse, fold, Option, Some, None, option_map}
 use Rattle.jaeger_model.specs.declared.placed.Placed.{Placed}
 use Rattle.jaeger_model.specs.Parents.{parent}
 use Rattle.trace_model.specs.declared.clock.Clock.{Clock}
-use Rattle.trace_model.specs.Linking.{has_id}
 use Rattle.trace_model.specs.Adjusting.{host_of, clock_at, clock_below}
-
--- the place of the parent
-abbrev pub parent_at : List Placed → Placed → Option ℕ
-parent_at trace p = if (parent p.span).0 == 0 then None else position (has_id (parent p.span)) trace
 
 -- a place, and behind it those that lead up from its parent, where it has one
 abbrev pub path_through : ℕ → (ℕ → Option (List ℕ)) → Option ℕ → Option (List ℕ)

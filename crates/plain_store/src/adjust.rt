@@ -4,9 +4,9 @@
 ghost use Rattle.std.specs.Prelude.{◌≡◌, ◌<◌, ℕ, None, IfOk, map, length, get_or, option_map, if◌then◌else◌};
 ghost use Rattle.std.specs.List.{list_any, position, AllByRecursion};
 ghost use Rattle.jaeger_model.specs.declared.placed.Placed.{Placed as PlacedValue};
-ghost use Rattle.trace_model.specs.Linking.{has_id};
+ghost use Rattle.trace_model.specs.Linking.{has_id, place_of_parent};
 ghost use Rattle.trace_model.specs.Adjusting.{with_parent_first, clock_of, unadjusted, shifted_by, skew_adjusted, adjusted};
-ghost use Rattle.plain_store.specs.Climbing.{parent_at, path, next_clock, clock_down};
+ghost use Rattle.plain_store.specs.Climbing.{path, next_clock, clock_down};
 
 use crate::clock::{clock_below, root_clock, shifted};
 use jaeger_model::{Placed, Seq, SpanId, parent_of};
@@ -35,7 +35,7 @@ fn place_of(trace: &[Placed], id: SpanId) -> Option<usize>
 
 /// The place of the span's parent in its trace.
 fn parent_at(trace: &[Placed], placed: &Placed) -> Option<usize>
-    ensures { result ≡ parent_at trace.now placed.now }
+    ensures { result ≡ place_of_parent trace.now placed.now }
 {
     let parent = parent_of(&placed.span);
     if parent.0 == 0 {
@@ -47,7 +47,7 @@ fn parent_at(trace: &[Placed], placed: &Placed) -> Option<usize>
 /// The places of the parents of the spans.
 #[tactic(auto, using(std::proofs::lemmas::List::map_more))]
 fn parent_places(alloc: Global, trace: &[Placed]) -> Result<Vec<Option<usize>>, AllocError>
-    ensures { IfOk result (λ v. v.items ≡ map (parent_at trace.now) trace.now) }
+    ensures { IfOk result (λ v. v.items ≡ map (place_of_parent trace.now) trace.now) }
 {
     let mut parents = Vec::new(alloc);
     for placed in trace {
@@ -128,7 +128,7 @@ fn clock_of(
     place: usize,
     max_skew: u64,
 ) -> Result<Option<Clock>, AllocError>
-    requires parents { parents.now ≡ map (parent_at trace.now) trace.now }
+    requires parents { parents.now ≡ map (place_of_parent trace.now) trace.now }
     requires within { place < length trace.now }
     ensures { IfOk result (λ c. (d : PlacedValue) →
         c ≡ clock_of max_skew trace.now (get_or trace.now place d)) }

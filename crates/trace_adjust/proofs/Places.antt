@@ -6,17 +6,16 @@ use Rattle.std.specs.Option.{option_or}
 use Rattle.std.specs.List.{list_any, position, position_or_len}
 use Rattle.std.specs.Ordering.{nat_cmp, is_eq}
 use Rattle.std.specs.Cmp.{unsigned_ties}
-use Rattle.std.proofs.lemmas.Bool.{false≢true}
 use Rattle.std.proofs.lemmas.List.{take_more, map_push, length-map, length-take-le, get_or-map}
-use Rattle.std.proofs.lemmas.List.Quantifiers.{position-Some}
 use Rattle.jaeger_model.specs.declared.placed.Placed.{Placed}
 use Rattle.jaeger_model.specs.Parents.{parent}
-use Rattle.trace_model.specs.Linking.{has_id, parent_in}
+use Rattle.trace_model.specs.Linking.{has_id, parent_in, place_of_parent}
 use Rattle.trace_model.specs.declared.answer.Shown.{Shown}
 use Rattle.trace_model.specs.Adjusting.{spans_of}
 use Rattle.trace_model.proofs.Lists.{found_at}
 use Rattle.trace_model.proofs.Tables.{entered, kept, entry_map}
 use Rattle.trace_adjust.specs.Settling.{place_of, first_at, place_in, parent_at}
+use Rattle.trace_model.proofs.Chains.{parent_there, parent_within}
 
 -- in a list with one item more
 pub place_push : {X : Type 0} (test : X → Bool) (xs : List X) (x : X) → place_of test (xs ++ x ∷ []) ≡ option_or (place_of test xs) (cond (test x) (Some (length xs)) None)
@@ -58,17 +57,14 @@ place_is test (x ∷ xs) = elim (test x) as (λ b. cond b (Some 0) (option_map s
 pub place_found : {X : Type 0} (test : X → Bool) (xs : List X) (d : X) → option_map (λ j. get_or xs j d) (place_of test xs) ≡ find test xs
 place_found test xs d = ap (option_map (λ j. get_or xs j d)) (place_is test xs) ∙ found_at test xs d
 
-pub parent_there : (trace : List Placed) (p d : Placed) → option_map (λ j. get_or trace j d) (place_in trace p) ≡ parent_in trace p
-parent_there trace p d = elim ((parent p.span).0 == 0) as (λ b. option_map (λ j. get_or trace j d) (if b then None else first_at (parent p.span).0 trace) ≡ (if b then None else find (has_id (parent p.span)) trace)) [
-  | true ↦ refl
-  | false ↦ place_found (has_id (parent p.span)) trace d
-]
+same_place : (trace : List Placed) (p : Placed) → place_in trace p ≡ place_of_parent trace p
+same_place trace p = ap (λ (o : Option ℕ). if (parent p.span).0 == 0 then None else o) (place_is (has_id (parent p.span)) trace)
+
+pub place_there : (trace : List Placed) (p d : Placed) → option_map (λ j. get_or trace j d) (place_in trace p) ≡ parent_in trace p
+place_there trace p d = ap (option_map (λ j. get_or trace j d)) (same_place trace p) ∙ parent_there trace p d
 
 pub place_below : (trace : List Placed) (p : Placed) (j : ℕ) → place_in trace p ≡ Some j → j < length trace
-place_below trace p j e = elim ((parent p.span).0 == 0) as (λ b. (if b then None else first_at (parent p.span).0 trace) ≡ Some j → j < length trace) [
-  | true ↦ λ h. absurd (false≢true (ap is_some h))
-  | false ↦ λ h. (position-Some (has_id (parent p.span)) trace j p (sym (place_is (has_id (parent p.span)) trace) ∙ h)).0
-] e
+place_below trace p j e = parent_within trace p j (sym (same_place trace p) ∙ e)
 
 same_more : (a b : ℕ) → (suc a == suc b) ≡ (a == b)
 same_more a b = grind (arith, nat_tests)

@@ -15,7 +15,7 @@ use Rattle.trace_adjust.specs.Settling.{place_in, near, is_unset, written, write
 use Rattle.trace_adjust.specs.declared.clock.HostClock.{HostClock}
 use Rattle.trace_adjust.specs.Hosts.{hosts_of, number_in, hosted, all_hosted, near_by, IsNumbered, AreNumbered, AreSet}
 use Rattle.trace_adjust.proofs.Hosting.{hosted_at, hosted_none, written_hosted, written_numbered, near_hosted, near_numbered}
-use Rattle.trace_adjust.proofs.Places.{parent_there, place_below}
+use Rattle.trace_adjust.proofs.Places.{place_there, place_below}
 use Rattle.trace_model.proofs.Lists.{none_is}
 
 module _ (max_skew : ℕ) (trace : List Placed) where
@@ -28,10 +28,10 @@ module _ (max_skew : ℕ) (trace : List Placed) where
   near_right cs p d right law = by_place (place_in trace p) refl
     where
       by_place : (o : Option ℕ) → place_in trace p ≡ o → (near max_skew cs p o ≡ None) ⊎ (near max_skew cs p o ≡ clock p)
-      by_place None e = inr (sym (law ∙ ap (clock_by max_skew clock p) (sym (parent_there trace p d) ∙ ap (option_map (λ j. get_or trace j d)) e)))
+      by_place None e = inr (sym (law ∙ ap (clock_by max_skew clock p) (sym (place_there trace p d) ∙ ap (option_map (λ j. get_or trace j d)) e)))
       by_place (Some j) e = ⊎_elim
           (λ n. inl (ap (option_map (λ a. clock_below max_skew a p)) n))
-          (λ r. inr (ap (option_map (λ a. clock_below max_skew a p)) r ∙ sym (law ∙ ap (clock_by max_skew clock p) (sym (parent_there trace p d) ∙ ap (option_map (λ j. get_or trace j d)) e))))
+          (λ r. inr (ap (option_map (λ a. clock_below max_skew a p)) r ∙ sym (law ∙ ap (clock_by max_skew clock p) (sym (place_there trace p d) ∙ ap (option_map (λ j. get_or trace j d)) e))))
           (right.1 j d (place_below trace p j e))
 
   -- a step keeps what is right
@@ -66,7 +66,7 @@ module _ (max_skew : ℕ) (trace : List Placed) where
   none_within : (cs : List (Option Clock)) (d : Placed) → AreClosed max_skew trace (length trace) cs → (n k : ℕ) → k < length trace → get_or cs k None ≡ None → clock_within max_skew n trace (get_or trace k d) ≡ None
   none_within cs d closed zero k l e = within_none max_skew trace (get_or trace k d)
   none_within cs d closed (suc n) k l e =
-      within_step max_skew n trace (get_or trace k d) ∙ ap (clock_by max_skew (clock_within max_skew n trace) (get_or trace k d)) (sym (parent_there trace (get_or trace k d) d))
+      within_step max_skew n trace (get_or trace k d) ∙ ap (clock_by max_skew (clock_within max_skew n trace) (get_or trace k d)) (sym (place_there trace (get_or trace k d) d))
       ∙ none_near cs d (get_or trace k d) n (place_in trace (get_or trace k d)) refl (none_within cs d closed n) (closed k l d e)
 
   pub all_known : (cs : List (Option Clock)) → AreRight max_skew trace cs → AreClosed max_skew trace (length trace) cs → AreClocks max_skew trace cs

@@ -35,10 +35,6 @@ go_on f g [] (x ∷ xs) each = absurd each
 go_on f g (j ∷ js) [] each = absurd each
 go_on f g (j ∷ js) (x ∷ xs) each = (each.0, go_on f g js xs each.1)
 
-pub if_ok_then : {X E : Type 0} (r : Result X E) (P Q : X → Type 0) → ((x : X) → P x → Q x) → IfOk r P → IfOk r Q
-if_ok_then (Ok x) P Q f h = f x h
-if_ok_then (Err e) P Q f h = tt
-
 pub numbers_stay : (ss ts : List SeatValue) → AllZip GoesOn ss ts → map (λ (s : SeatValue). s.seat) ts ≡ map (λ (s : SeatValue). s.seat) ss
 numbers_stay [] [] g = refl
 numbers_stay [] (t ∷ ts) g = absurd g
@@ -120,9 +116,6 @@ books_closed limits seats judged accounts before taken left a0 r0 a r l h aa rr 
 }
 
 -- ---- what a call gave
-
-pub if_ok : {X E : Type 0} (P : X → Type 0) (r : Result X E) (x : X) → r ≡ Ok x → IfOk r P → P x
-if_ok P r x is h = subst (λ z. IfOk z P) is h
 
 pub if_ok_both : {X E : Type 0} (r : Result X E) (P Q S : X → Type 0) → ((x : X) → P x → Q x → S x) → IfOk r P → IfOk r Q → IfOk r S
 if_ok_both (Ok x) P Q S both p q = both x p q

@@ -1,5 +1,6 @@
 use crate::tests::entries::{batch_under, limit_under, works_to};
 use crate::tests::fixture::{Row, plays};
+use crate::tests::rows::answer_to;
 use jaeger_model::TraceId;
 use read_side::{Keeper, Pass, Reading, StoreName};
 use schedule_core::{Outcome, Step, play};
@@ -178,18 +179,6 @@ fn round<N: StoreName, R: Wait>(
     around
 }
 
-/// The place of an entry that is admitted, or why it is refused.
-fn place_of<N: StoreName, R: Wait>(
-    rt: &R,
-    keeper: &mut Keeper<N>,
-    entry: Arc<Entry>,
-) -> Result<u64, Refusal> {
-    let receipt = keeper.admit(rt, entry)?;
-    let place = receipt.place().unwrap_or(0);
-    drop(receipt);
-    Ok(place)
-}
-
 /// The same with this question.
 fn round_asked<N: StoreName, R: Wait>(
     rt: &R,
@@ -202,7 +191,7 @@ fn round_asked<N: StoreName, R: Wait>(
     let held = six.hold()?;
     let first = held.read(query);
     let second = five.read(query);
-    let judged = place_of(rt, keeper, entry);
+    let judged = answer_to(rt, keeper, entry).map(|said| said.1);
     let third = five.read(query);
     let fourth = held.read(query);
     held.leave();

@@ -1,8 +1,9 @@
 use Rattle.std.proofs.Common.{rules, ◌≡◌, ◌∙◌, ◌+◌, ap, sym, subst, [], List}
 use Rattle.std.specs.List.{All}
 use Rattle.read_side.specs.Passes.{PassValue, new_pass}
-use Rattle.read_side.proofs.Steps.{admits, all_snoc, starts}
+use Rattle.read_side.proofs.Steps.{admits, starts}
 use Rattle.read_side.proofs.opening.open.Goals as goal
+use Rattle.std.proofs.lemmas.List.Elements.{All-push}
 
 pub new-requires-clause-rule : goal.new-requires-clause-rule
 new-requires-clause-rule g c =
@@ -22,7 +23,7 @@ loop-made-init g c =
 pub loop-made-preserved : goal.loop-made-preserved
 loop-made-preserved g c =
     let empty : c.new-pass.result ≡ new_pass = search rules in (
-      (let P : List PassValue → Type 0 = λ z. All (λ p. p ≡ new_pass) z in subst P (sym c.push_reserved.ensures.items) (all_snoc (λ p. p ≡ new_pass) _ _ c.loop-made.invariant.0 empty)),
+      (let P : List PassValue → Type 0 = λ z. All (λ p. p ≡ new_pass) z in subst P (sym c.push_reserved.ensures.items) (All-push (λ p. p ≡ new_pass) _ _ c.loop-made.invariant.0 empty)),
       c.push_reserved.ensures.len ∙ ap (λ n. n + 1) c.loop-made.invariant.1,
       rw c.push_reserved.ensures.capacity c.loop-made.invariant.2,
     )

@@ -1,21 +1,22 @@
 use Rattle.std.proofs.Common.{◌∙◌, inl, inr, map}
 use Rattle.trace_server.specs.Serving.{served_line}
 use Rattle.trace_server.proofs.Endings.{broken_off}
-use Rattle.trace_server.proofs.Workers.{if_ok, new_open, open_at, open_still, numbers_stay}
+use Rattle.trace_server.proofs.Workers.{new_open, open_at, open_still, numbers_stay}
 use Rattle.trace_server.proofs.serving.serve_store.Goals as goal
+use Rattle.std.proofs.lemmas.Result.{IfOk-at_ok}
 
 pub returns-in_default : goal.returns-in_default
 returns-in_default g c = inl (0, broken_off _ (g.W.Output.has_failed c.args.output.now) (served_line 0) c.requires.output_works)
 
 pub close_books-requires-clause-open : goal.close_books-requires-clause-open
 close_books-requires-clause-open g c =
-    let on = if_ok _ c.serve_sessions-books.result.1 c.in-Ok.workers c.in-Ok.is c.serve_sessions-books.ensures.seats in
+    let on = IfOk-at_ok _ c.in-Ok.is c.serve_sessions-books.ensures.seats in
     let desk = c.serve_sessions-books.ensures.desk in
     open_at c.serve_sessions-books.result.0.inbox.desk c.args.shared.clerk.desk _ desk (open_still c.args.shared.clerk.desk _ _ on (new_open c.args.shared.clerk.desk _ c.requires.new))
 
 pub returns-in-Ok-close_books : goal.returns-in-Ok-close_books
 returns-in-Ok-close_books g c =
-    let on = if_ok _ c.serve_sessions-books.result.1 c.in-Ok.workers c.in-Ok.is c.serve_sessions-books.ensures.seats in
+    let on = IfOk-at_ok _ c.in-Ok.is c.serve_sessions-books.ensures.seats in
     let totals = c.in-Ok-close_books.totals in
     inr (record {
       served = c.together-all.result.served;

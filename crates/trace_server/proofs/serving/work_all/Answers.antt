@@ -1,6 +1,7 @@
-use Rattle.trace_server.proofs.Workers.{go_on, if_ok_then}
+use Rattle.trace_server.proofs.Workers.{go_on}
 use Rattle.trace_server.proofs.serving.work_all.Goals as goal
+use Rattle.std.proofs.lemmas.Result.{IfOk-weaker}
 
 pub returns : goal.returns
 returns g c =
-    if_ok_then c.each_done.result _ _ (λ v each. go_on (λ p. p.1.seat) (λ w. w.1.seat) c.args.lives.items v.items each) c.each_done.ensures
+    IfOk-weaker c.each_done.result _ _ (λ v each. go_on (λ p. p.1.seat) (λ w. w.1.seat) c.args.lives.items v.items each) c.each_done.ensures

@@ -3,7 +3,8 @@ use Rattle.schedule_core.specs.declared.outcome.Outcome.TheVariants.{Left}
 use Rattle.schedule_core.specs.declared.readers.ReaderState.{ReaderState}
 use Rattle.schedule_core.specs.Machine.{Machine, by_reader, leaves}
 use Rattle.schedule_core.specs.MachineStates.{machine_of}
-use Rattle.schedule_core.proofs.Stepping.{after, left_alike}
+use Rattle.schedule_core.proofs.StateSteps.{after}
+use Rattle.schedule_core.proofs.Stepping.{left_alike}
 use Rattle.schedule_core.proofs.machine_state.MachineState.leave.Goals as goal
 
 pub returns : goal.returns

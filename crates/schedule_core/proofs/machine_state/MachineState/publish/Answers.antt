@@ -4,8 +4,7 @@ use Rattle.schedule_core.specs.declared.outcome.Outcome.TheVariants.{Held, Publi
 use Rattle.schedule_core.specs.Machine.{Machine, publishes}
 use Rattle.schedule_core.specs.Standing.{is_held}
 use Rattle.schedule_core.specs.MachineStates.{IsState, machine_of}
-use Rattle.schedule_core.proofs.StateSteps.{held_alike, published_alike, state_kept, state_turned}
-use Rattle.schedule_core.proofs.Stepping.{after}
+use Rattle.schedule_core.proofs.StateSteps.{after, held_alike, published_alike, state_kept, state_turned}
 use Rattle.schedule_core.proofs.machine_state.MachineState.publish.Goals as goal
 
 pub returns-in-Some : goal.returns-in-Some

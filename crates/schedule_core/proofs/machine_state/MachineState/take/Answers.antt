@@ -3,8 +3,7 @@ use Rattle.std.specs.Arc.{arc_value}
 use Rattle.trace_model.specs.Refusals.{admission}
 use Rattle.schedule_core.specs.Machine.{Machine, takes}
 use Rattle.schedule_core.specs.MachineStates.{machine_of}
-use Rattle.schedule_core.proofs.StateSteps.{state_after, taken_alike}
-use Rattle.schedule_core.proofs.Stepping.{after}
+use Rattle.schedule_core.proofs.StateSteps.{after, state_after, taken_alike}
 use Rattle.schedule_core.proofs.machine_state.MachineState.take.Goals as goal
 
 pub invariant_of-self-2 : goal.invariant_of-self-2
