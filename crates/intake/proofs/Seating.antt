@@ -8,7 +8,7 @@ use Rattle.intake.specs.Seats.{SeatValue, IsNewSeat}
 use Rattle.std.proofs.lemmas.List.FromFn.{map-range_with_len_more}
 
 range-next : (n : ℕ) → range_with_len 0 (n + 1) ≡ range_with_len 0 n ++ n ∷ []
-range-next n = sym (map-id (range_with_len 0 (n + 1))) ∙ map-range_with_len_more (λ k. k) 0 n n refl ∙ ap (λ l. l ++ n ∷ []) (map-id (range_with_len 0 n))
+range-next n = sym (map-id (range_with_len 0 (n + 1))) ∙ map-range_with_len_more (λ k. k) 0 n n (omega arith) ∙ ap (λ l. l ++ n ∷ []) (map-id (range_with_len 0 n))
 
 -- one more seat was made: `old` was the desk's name, which is `here` and `there` now
 pub seated-on : (old here there : TableId) (room capacity number : ℕ) (made made' : List SeatValue) (s : SeatValue)
