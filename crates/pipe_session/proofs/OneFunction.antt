@@ -50,7 +50,7 @@ one_function bytes s w v t u n m c d one other =
 
 -- ---- the course of a session that failed
 
-stopped : (bytes before out : List ℕ) : List ℕ) (left : Option (List ℕ)) (s t : Held) (i o : Bool) (e : SessionError) (fails : FailsAs DirectSubmits DirectReads (Some bytes) left (Some before) (Some out) s t i o e)
+stopped : (bytes before out : List ℕ) (left : Option (List ℕ)) (s t : Held) (i o : Bool) (e : SessionError) (fails : FailsAs DirectSubmits DirectReads (Some bytes) left (Some before) (Some out) s t i o e)
     → NeverWants (fails.opens ++ exchange_due fails.next) → Stops bytes s fails.opens fails.next
 stopped bytes before out None s t i o e fails memory = absurd fails.read
 stopped bytes before out (Some left) s t i o e fails memory =
