@@ -25,14 +25,14 @@ some_text t n e some = let any : (length t == 0) ≡ false = ap (λ (m : ℕ). m
 pub no_text : (t : List ℕ) (n : ℕ) → n ≡ length t → (n == 0) ≡ true → if_any t ≡ Err BadStep
 no_text t n e none = let any : (length t == 0) ≡ true = ap (λ (m : ℕ). m == 0) (sym e) ∙ none in rw any refl
 
-no_text : (bytes : List ℕ) → ¬ IsUtf8 bytes → is_utf8 bytes ≡ false
-no_text bytes none = false_from_ne_true (is_utf8 bytes) (λ e. none (IsUtf8-from_is_utf8 bytes e))
+not_utf8 : (bytes : List ℕ) → ¬ IsUtf8 bytes → is_utf8 bytes ≡ false
+not_utf8 bytes none = false_from_ne_true (is_utf8 bytes) (λ e. none (IsUtf8-from_is_utf8 bytes e))
 
 pub target_read : (word : List ℕ) → (length word == 0) ≡ false → IsUtf8 word → target_in word ≡ Ok word
 target_read word some text = rw (some, is_utf8-from_IsUtf8 word text) refl
 
 pub target_bad : (word : List ℕ) → (length word == 0) ≡ false → ¬ IsUtf8 word → target_in word ≡ Err BadStep
-target_bad word some none = rw (some, no_text word none) refl
+target_bad word some none = rw (some, not_utf8 word none) refl
 
 -- the words of a text, joined, are the text without its spaces
 joined_words : (t : List ℕ) → concat (words_of t) ≡ filter (λ c. not (is_space c)) t
@@ -57,4 +57,4 @@ pub text_step : (line : List ℕ) → IsUtf8 line → step_of (words_of line) �
 text_step line text = ap (λ b. if b then step_of (words_of line) else Err BadStep) (sym (is_utf8-from_IsUtf8 line text))
 
 pub bytes_step : (line : List ℕ) → ¬ IsUtf8 line → Err BadStep ≡ step_in line
-bytes_step line none = ap (λ b. if b then step_of (words_of line) else Err BadStep) (sym (no_text line none))
+bytes_step line none = ap (λ b. if b then step_of (words_of line) else Err BadStep) (sym (not_utf8 line none))
