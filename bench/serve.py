@@ -11,6 +11,7 @@
   reads, alone      one reader of random traces by their ids, then one of the 20 latest traces of the one service, with nobody
                     writing: processor time of the server a request, and the median time
   processor time    of the server a span, beside the spans a second
+  left alone        processor time of `jaeger_one` in ten seconds after 1,000 spans, with nobody connected
 
 A figure is the median of the rounds. A ratio is that of the two medians, and behind it stand the least and the most of the
 rounds' own ratios.
@@ -91,6 +92,14 @@ class Bench:
         numbers["held"] = size + numbers["spans"]
         return numbers
 
+    def left_alone(self, seconds=10):
+        """Seconds of a processor that the server takes while nobody is connected."""
+        with started(self.programs["ours"], 8) as server:
+            self.load_with("--port", server.port, "--fill", 1000, "--writers", 0)
+            before = server.processor()
+            time.sleep(seconds)
+            return server.processor() - before
+
     def both(self, *words, **more):
         """The numbers of each round, of each server; each goes first in turn."""
         orders = (SERVERS if number % 2 == 0 else SERVERS[::-1] for number in range(self.rounds))
@@ -154,6 +163,8 @@ def main():
         print(f"{cores} cores, load {os.getloadavg()[0]:.1f} at the start; batches of 10 spans, 8 tags each")
         bench = Bench(programs, rust_program(folder, "bench/load.rs"), options.seconds, options.rounds)
         table(bench, [int(size) for size in options.sizes.split(",")])
+        if "ours" in programs:
+            print(f"Left alone for ten seconds: {bench.left_alone():.2f} s of a processor")
     if len(bench.shown) == 2:
         ours, plain = bench.shown["ours"], bench.shown["plain"]
         same = "the same bytes" if ours[0] == plain[0] else "NOT the same"

@@ -5,6 +5,8 @@ import pathlib
 import re
 import sys
 
+from crates import asked_of
+
 TOP = pathlib.Path(__file__).resolve().parent.parent
 NAME = re.compile(r"[A-Za-z0-9_-][A-Za-z0-9_.-]*\.edit")
 PARTS = ("src/", "specs/", "proofs/")
@@ -71,6 +73,7 @@ def folders():
 
 def main():
     """Prints each edit that does not apply, and the count."""
+    asked_of(__doc__, None).parse_args()
     edits = faults = 0
     for folder, crate in folders():
         for edit in sorted(folder.iterdir()) if folder.is_dir() else []:
