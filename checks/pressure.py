@@ -10,12 +10,15 @@
             holds stays as it was after the first ten thousand
   idle      a server that nobody asks takes less than a hundredth of a core
   told      what stands on standard error, each line once: at the start how much is held at most, that the journal is full, and
-            of each worker that can accept no more why (the limit of open files is reached)
+            of each worker that can accept no more why (the listening socket is shut from outside)
+  files     a server at its limit of open files says so once and takes less than a tenth of a core; once the limit is lifted it accepts
+            who waits; the same a second time
 
 Standard library alone, Linux. One line for each part; the last line is `N passed, M failed`.
 """
 import os
 import resource
+import select
 import time
 
 from crates import asked_of
@@ -98,17 +101,43 @@ def told():
         full = server.told()[len(begin):]
         check(len(begin) == 2 and begin[0].startswith("holds at most 1 batches"), f"it began with {begin}")
         check(len(full) == 1 and full[0].startswith("the journal is full"), f"when it was full it said {full}")
-        time.sleep(0.5)  # the connection is closed by then
-        files = len(os.listdir(f"/proc/{server.run.pid}/fd"))
-        resource.prlimit(server.run.pid, resource.RLIMIT_NOFILE, (files, files))
-        for _ in range(2):  # a worker that waits has the room for one more
-            with server.client() as client:
-                client.ask(get("/api/services"), 200)
+        server.shut_listener()
         status, output = server.ends()
         more = server.told()[len(begin) + len(full):]
-        check(status == 4 and output.splitlines()[1:] == ["served 3", "books 1 3 0"], f"it ended with {status}: {output!r}")
+        check(status == 4 and output.splitlines()[1:] == ["served 1", "books 1 3 0"], f"it ended with {status}: {output!r}")
         check(len(more) == 2 and all("accepts no more connections: " in line for line in more), f"two workers ended and said {more}")
     return "; ".join([*begin, *full, *more])
+
+
+def short_of_files(server):
+    """Brings a server of two workers that wait to its limit of open files and lifts it again; the share of a core that it took."""
+    limit = resource.prlimit(server.run.pid, resource.RLIMIT_NOFILE)
+    files = len(os.listdir(f"/proc/{server.run.pid}/fd"))
+    resource.prlimit(server.run.pid, resource.RLIMIT_NOFILE, (files, limit[1]))
+    with server.client() as one, server.client() as other:  # a worker that waits has the room for one more
+        one.ask(get("/api/services"), 200)
+        other.ask(get("/api/services"), 200)
+    with server.client() as late:
+        late.send(get("/api/services"))
+        share = server.share(2)
+        check(not select.select([late.socket], [], [], 0)[0], "it serves a connection beyond its limit")
+        resource.prlimit(server.run.pid, resource.RLIMIT_NOFILE, limit)
+        check(late.response().status == 200, "it serves nobody once the limit is lifted")
+    return share
+
+
+def files():
+    with Server("--workers", 2, "--sessions", 6) as server:
+        begin = server.told()
+        time.sleep(0.5)  # both workers wait by then
+        shares = [short_of_files(server)]
+        time.sleep(0.5)
+        shares.append(short_of_files(server))
+        server.served(6, 0)
+        told = server.told()[len(begin):]
+        check(max(shares) < 0.1, f"at the limit it takes {max(shares):.2f} of a core")
+        check(len(told) == 2 and all(line.startswith("no connection can be accepted for now: ") for line in told), f"it said {told}")
+    return f"{told[0]}; {max(shares):.3f} of a core"
 
 
 def main():
@@ -117,7 +146,7 @@ def main():
     asked.add_argument("--only", default="", help="the parts whose name has this word")
     options = asked.parse_args()
     Server.binary = options.bin
-    run_cases({"memory": memory, "refusals": lambda: refusals(options.posts), "idle": idle, "told": told}, options.only)
+    run_cases({"memory": memory, "refusals": lambda: refusals(options.posts), "idle": idle, "told": told, "files": files}, options.only)
 
 
 if __name__ == "__main__":

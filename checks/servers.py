@@ -4,6 +4,7 @@ a run of cases.
 `sockets.py` and `pressure.py` use it; `clients.py`, `history.py`, `bench/serve.py` and `bench/memory.py` start their servers by it, and the
 clients of `history_clients.py` read by it. Standard library alone; what it tells of a process is for Linux.
 """
+import ctypes
 import json
 import os
 import resource
@@ -21,6 +22,7 @@ import wire
 PATIENCE = 10
 TICK = os.sysconf("SC_CLK_TCK")
 THRIFT = "application/x-thrift"
+PIDFD_GETFD = 438  # the number of this call of Linux, which Python has no function for
 
 
 class Failed(Exception):
@@ -222,6 +224,20 @@ class Server:
             return []
         self.errors.seek(0)
         return self.errors.read().decode().splitlines()
+
+    def shut_listener(self):
+        """Shuts its listening socket, the first one that it opened, from outside, so that it can accept no more."""
+        process, libc = os.pidfd_open(self.run.pid), ctypes.CDLL(None, use_errno=True)
+        sockets = [int(name) for name in os.listdir(f"/proc/{self.run.pid}/fd") if self.is_socket(name)]
+        listener = libc.syscall(PIDFD_GETFD, process, min(sockets), 0)
+        os.close(process)
+        check(listener >= 0, f"pidfd_getfd: {os.strerror(ctypes.get_errno())}")
+        with socket.socket(fileno=listener) as listener:
+            listener.shutdown(socket.SHUT_RDWR)
+
+    def is_socket(self, name):
+        """Whether the file that it has opened under this number is a socket."""
+        return os.readlink(f"/proc/{self.run.pid}/fd/{name}").startswith("socket:")
 
     def processor(self):
         """The seconds of a processor that it took, system time too."""

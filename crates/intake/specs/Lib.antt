@@ -2,4 +2,3 @@ pub mod Queues
 pub mod Seats
 pub mod Turns
 pub mod Books
-pub mod Naming

@@ -1,27 +1,23 @@
 //! A bell that sleepers wait for.
 
-use std::hint::spin_loop;
 use std::sync::Wait;
 use std::sync::atomic::{AtomicU64, Ordering};
-
-/// How often one looks for a ring before one sleeps, with a pause between the looks. A ring that comes so soon costs
-/// no sleep, and its ringer no wake.
-const LOOKS: u32 = 2_000;
+use std::thread::yield_now;
 
 /// Counts its rings. Who has read the count before looking for work sleeps only until the next ring, so
 /// that no ring is missed.
 #[derive(Drop)]
 pub(crate) struct Bell {
     rings: AtomicU64,
-    /// How many sleep, or are about to.
-    sleepers: AtomicU64,
+    /// 1 where one may sleep whom the next ring has to wake, else 0.
+    awaited: AtomicU64,
 }
 
 impl Bell {
     pub(crate) fn new() -> Bell {
         Bell {
             rings: AtomicU64::new(0),
-            sleepers: AtomicU64::new(0),
+            awaited: AtomicU64::new(0),
         }
     }
 
@@ -30,33 +26,35 @@ impl Bell {
         self.rings.load(Ordering::SeqCst)
     }
 
-    /// Rings once more, and wakes all that sleep.
+    /// Rings once more, and wakes all that sleep. Where nobody does it makes no call of the system, and of several rings
+    /// behind one sleep the first alone makes one.
     pub(crate) fn ring(&self) {
         self.rings.fetch_add(1, Ordering::SeqCst);
-        // Who isn't counted yet finds the new count when it is about to sleep.
-        if self.sleepers.load(Ordering::SeqCst) > 0 {
+        // Who doesn't say yet that it sleeps finds the new count when it is about to.
+        if self.awaited.load(Ordering::SeqCst) != 0 && self.awaited.swap(0, Ordering::SeqCst) != 0 {
             self.rings.wake_all();
         }
     }
 
-    /// Whether it rings while one looks for a ring.
-    fn rings_soon(&self, rings: u64) -> bool {
-        for _look in 0..LOOKS {
+    /// Whether it rings while one looks for a ring so often.
+    fn rings_soon(&self, rings: u64, looks: u32) -> bool {
+        for _look in 0..looks {
             if self.rings() != rings {
                 return true;
             }
-            spin_loop();
+            yield_now();
         }
         false
     }
 
-    /// Sleeps while it has rung so often and no more. It may wake for no reason.
-    pub(crate) fn sleep<R: Wait>(&self, rt: &R, rings: u64) {
-        if self.rings_soon(rings) {
-            return;
+    /// Waits while it has rung so often and no more: looks a while, with other threads let run between the looks, and
+    /// then sleeps. It may wake for no reason. The answer is whether it came to sleep.
+    pub(crate) fn wait<R: Wait>(&self, rt: &R, rings: u64, looks: u32) -> bool {
+        if self.rings_soon(rings, looks) {
+            return false;
         }
-        self.sleepers.fetch_add(1, Ordering::SeqCst);
+        self.awaited.store(1, Ordering::SeqCst);
         self.rings.park(rt, (rings % 4_294_967_296) as u32);
-        self.sleepers.fetch_sub(1, Ordering::SeqCst);
+        true
     }
 }

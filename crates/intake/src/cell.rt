@@ -80,17 +80,15 @@ impl<N: StoreName> Cell<N> {
         drop(claim.put(Some(outcome), PRESENT));
     }
 
-    /// Whether an outcome lies there.
-    pub(crate) fn is_filled(&self) -> bool {
-        self.slot.load() == PRESENT
-    }
-
     /// The answer, if it lies there.
     pub(crate) fn take(&self) -> Option<Result<Ack<N>, Refusal>>
         ensures answered { IfSome result (λ r. IfOk r (λ a.
             AnsweredAt (arc_value a.receipt).entries a.place self.now)) }
         ensures reason { IfSome result (λ r. IfErr r IsUnacknowledged) }
     {
+        if self.slot.load() != PRESENT {
+            return None;
+        }
         let (found, claim) = self.slot.turn(PRESENT, TAKEN);
         if found != PRESENT {
             claim.done();

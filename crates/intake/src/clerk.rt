@@ -23,6 +23,13 @@ use std::marker::Model;
 use std::sync::{Arc, Wait};
 use trace_model::Refusal;
 
+/// The clerk expects another job soon once it has served this many since it last slept. After fewer it sleeps at once:
+/// a sender that waits for its answer doesn't hand in the next job so soon.
+const BURST: u64 = 3;
+
+/// How often the clerk looks for a job that it expects soon before it sleeps.
+const LOOKS: u32 = 40;
+
 /// What a turn did.
 #[derive(Clone, Copy, PartialEq, Eq, Debug)]
 pub enum Turn {
@@ -181,6 +188,13 @@ impl<N: StoreName> Clerk<N> {
         &self.accounts
     }
 
+    /// Waits while so many jobs were handed in and no more. It looks for the next one before it sleeps if it has served
+    /// at least [`BURST`] jobs since it last slept. Returns whether it slept.
+    fn await_job<R: Wait>(&self, rt: &R, rings: u64, served: u64) -> bool {
+        let looks = if served >= BURST { LOOKS } else { 0 };
+        self.ending.shared.jobs.wait(rt, rings, looks)
+    }
+
     /// Serves until the desk is closed and the queue is empty, and leaves the books.
     ///
     /// Where there is nothing to do, or there are as many accounts as there may be, it sleeps until a job is handed
@@ -199,13 +213,17 @@ impl<N: StoreName> Clerk<N> {
         let mut clerk = self;
         let mut keeper = keeper;
         let _each = clerk.accounts().count();
+        let mut served: u64 = 0;
         for _ in rt.forever() {
             let rings = clerk.ending.shared.jobs.rings();
             match clerk.turn(rt, &mut keeper) {
                 Ok(Turn::Ended) => return clerk.leave(keeper),
-                Ok(Turn::Served { .. }) => {}
-                Ok(Turn::Idle) => clerk.ending.shared.jobs.sleep(rt, rings),
-                Err(_) => clerk.ending.shared.jobs.sleep(rt, rings),
+                Ok(Turn::Served { .. }) => served = served.saturating_add(1),
+                Ok(Turn::Idle) | Err(_) => {
+                    if clerk.await_job(rt, rings, served) {
+                        served = 0;
+                    }
+                }
             }
         }
         unreachable!()

@@ -11,7 +11,6 @@
 //! * `job`: what is queued. `cell`: where its answer is laid down. `ticket`: the [`Ticket`].
 //! * `seat`: the [`Seat`]. `inbox`: the clerk's end of the queue.
 //! * `account`: what became of a job. `accounts`: the same of all. `clerk`: the [`Clerk`]. `books`: what it leaves.
-//! * `shared_clerk`: a clerk without a thread of its own, whose work is done by whoever waits.
 //! * `shared`: what all of them share. `bell`: how a sleeper is woken.
 //! * `opening`: [`desk`]. `closing`: the [`Desk`], which closes the queue.
 #![tactic(auto)]
@@ -29,7 +28,6 @@ mod opening;
 mod queue;
 mod seat;
 mod shared;
-mod shared_clerk;
 mod ticket;
 
 pub use account::Account;
@@ -41,5 +39,4 @@ pub use inbox::Inbox;
 pub use opening::desk;
 pub use queue::{EndedSeat, QueueView};
 pub use seat::Seat;
-pub use shared_clerk::{DeskName, SharedClerk};
 pub use ticket::{Ack, Ticket};

@@ -13,6 +13,7 @@ use crate::inbox::Inbox;
 use crate::queue::{MakeSeat, Queue, QueueEnd};
 use crate::seat::Seat;
 use crate::shared::Shared;
+use crossbeam_utils::CachePadded;
 use read_side::{Receipt, StoreName};
 use std::alloc::{AllocError, Global};
 use std::sync::atomic::AtomicBool;
@@ -20,10 +21,10 @@ use std::sync::{Arc, Mutex};
 use trace_model::Refusal;
 
 /// So many bells.
-fn bells(alloc: Global, count: u16) -> Result<Vec<Bell>, AllocError> {
+fn bells(alloc: Global, count: u16) -> Result<Vec<CachePadded<Bell>>, AllocError> {
     let mut bells = Vec::with_capacity(alloc, count as usize)?;
     for _made in 0..count {
-        bells.push(Bell::new())?;
+        bells.push(CachePadded::new(Bell::new()))?;
     }
     Ok(bells)
 }
@@ -58,7 +59,7 @@ pub fn desk<N: StoreName>(
             queue,
             closed: AtomicBool::new(false),
             ended: AtomicBool::new(false),
-            jobs: Bell::new(),
+            jobs: CachePadded::new(Bell::new()),
             replies,
             last,
         },

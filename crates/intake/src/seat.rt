@@ -226,6 +226,6 @@ impl<N: StoreName> Seat<N> {
         let cell = Arc::new(alloc, Cell::new(entry))?;
         let job = Job::new(entry, &cell)?;
         let shared = Arc::try_clone(&self.shared)?;
-        Ok((Ticket::new(self.number, cell, shared), job))
+        Ok((Ticket::new(Arc::try_clone(entry)?, cell, shared), job))
     }
 }

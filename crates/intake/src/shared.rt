@@ -9,6 +9,7 @@ ghost use Rattle.intake.specs.Seats.{IsUnacknowledged};
 use crate::bell::Bell;
 use crate::cell::{Cell, JobOutcome};
 use crate::queue::Queue;
+use crossbeam_utils::CachePadded;
 use read_side::{Receipt, StoreName};
 use std::sync::atomic::{AtomicBool, Ordering};
 use std::sync::{Arc, Mutex, Wait};
@@ -22,9 +23,9 @@ pub(crate) struct Shared<N: StoreName> {
     /// The clerk has ended.
     pub(crate) ended: AtomicBool,
     /// Rings where a job was handed in, and where the desk is closed.
-    pub(crate) jobs: Bell,
+    pub(crate) jobs: CachePadded<Bell>,
     /// One for each seat: rings where a reply to it is laid down, and where the clerk ends.
-    pub(crate) replies: Vec<Bell>,
+    pub(crate) replies: Vec<CachePadded<Bell>>,
     /// The last receipt that was laid down, or the first of all.
     pub(crate) last: Mutex<Arc<Receipt<N>>>,
 }
@@ -40,7 +41,8 @@ impl<N: StoreName> Shared<N> {
 
     /// The bell of a seat.
     pub(crate) fn bell(&self, seat: u16) -> Option<&Bell> {
-        self.replies.get(seat as usize)
+        let bell = self.replies.get(seat as usize)?;
+        Some(&**bell)
     }
 
     /// Why a job has no reply, once the clerk has ended.
@@ -81,7 +83,7 @@ impl<N: StoreName> Shared<N> {
         }
     }
 
-    /// The clerk has ended: whoever waits for a reply looks once more.
+    /// Records that the clerk has ended. Every waiting ticket looks once more.
     pub(crate) fn end(&self) {
         self.ended.store(true, Ordering::SeqCst);
         for bell in &self.replies {

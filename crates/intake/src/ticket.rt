@@ -1,6 +1,6 @@
 //! What a seat waits for.
 
-ghost use Rattle.std.specs.Prelude.{◌≡◌, IfOk, IfErr, IfSome};
+ghost use Rattle.std.specs.Prelude.{◌≡◌, IfOk, IfErr};
 ghost use Rattle.std.specs.Arc.{arc_value};
 ghost use Rattle.read_side.specs.Receipts.{AnsweredAt};
 ghost use Rattle.intake.specs.Seats.{IsUnacknowledged};
@@ -11,7 +11,10 @@ use read_side::{Receipt, StoreName};
 use std::marker::Model;
 use std::sync::{Arc, Wait};
 use std::thread::yield_now;
-use trace_model::Refusal;
+use trace_model::{Entry, Refusal};
+
+/// How often a ticket looks for its answer before it sleeps.
+const LOOKS: u32 = 40;
 
 /// An acknowledgement: a receipt, and the place in its list, the first one being 1, of the entry that answers
 /// for the job's: that one itself, or the one that had its batch before.
@@ -24,48 +27,36 @@ pub struct Ack<N: StoreName> {
 /// Waits for the answer to one job. Contracts see the job's entry.
 #[derive(Drop)]
 pub struct Ticket<N: StoreName> {
-    /// The seat that handed it in.
-    seat: u16,
+    /// The job's entry. The clerk gives up its own share before it answers, so the waiting thread frees an entry that the
+    /// store does not keep.
+    entry: Arc<Entry>,
     cell: Arc<Cell<N>>,
     shared: Arc<Shared<N>>,
 }
 
 impl<N: StoreName> Model for Ticket<N> {
+    ghost use Rattle.std.specs.Prelude.{◌≡◌};
     ghost use Rattle.std.specs.Arc.{arc_value};
     ghost use Rattle.trace_model.specs.declared.entry.Entry.{Entry};
 
     ghost Value = { Entry };
 
-    ghost view = { λ t. arc_value t.cell };
+    ghost view = { λ t. arc_value t.entry };
+
+    ghost invariant = { λ t. arc_value t.cell ≡ arc_value t.entry };
 }
 
 impl<N: StoreName> Ticket<N> {
-    /// A ticket for the seat's entry of the cell.
-    pub(crate) fn new(seat: u16, cell: Arc<Cell<N>>, shared: Arc<Shared<N>>) -> Ticket<N>
-        ensures { result ≡ arc_value cell }
+    /// A ticket for the entry, whose answer comes into the cell.
+    pub(crate) fn new(entry: Arc<Entry>, cell: Arc<Cell<N>>, shared: Arc<Shared<N>>) -> Ticket<N>
+        requires { arc_value cell ≡ arc_value entry }
+        ensures { result ≡ arc_value entry }
     {
-        Ticket { seat, cell, shared }
-    }
-
-    /// Whether the answer is there.
-    pub(crate) fn is_answered(&self) -> bool {
-        self.cell.is_filled()
-    }
-
-    /// The answer, if it is there.
-    pub(crate) fn answer(&self) -> Option<Result<Ack<N>, Refusal>>
-        ensures answered { IfSome result (λ r. IfOk r (λ a.
-            AnsweredAt (arc_value a.receipt).entries a.place self.now)) }
-        ensures reason { IfSome result (λ r. IfErr r IsUnacknowledged) }
-    {
-        self.cell.take()
-    }
-
-    /// Why there will be no answer, once the clerk has ended.
-    pub(crate) fn lost(&self) -> Refusal
-        ensures { IsUnacknowledged result }
-    {
-        self.shared.lost()
+        Ticket {
+            entry,
+            cell,
+            shared,
+        }
     }
 
     /// Waits for the answer. An acknowledgement's list has at the place an entry that answers for the job's:
@@ -84,29 +75,31 @@ impl<N: StoreName> Ticket<N> {
         for _ in rt.forever() {
             let rings = self.rings();
             let ended = self.shared.has_ended();
-            if let Some(answer) = self.answer() {
+            if let Some(answer) = self.cell.take() {
                 return answer;
             }
             if ended {
-                return Err(self.lost());
+                return Err(self.shared.lost());
             }
-            self.sleep(rt, rings);
+            self.await_ring(rt, rings);
         }
         unreachable!()
     }
 
     /// How often the seat's bell has rung.
     fn rings(&self) -> u64 {
-        match self.shared.bell(self.seat) {
+        match self.shared.bell(self.entry.seat) {
             Some(bell) => bell.rings(),
             None => 0,
         }
     }
 
-    /// Sleeps until the seat's bell rings once more.
-    fn sleep<R: Wait>(&self, rt: &R, rings: u64) {
-        match self.shared.bell(self.seat) {
-            Some(bell) => bell.sleep(rt, rings),
+    /// Waits until the seat's bell rings once more.
+    fn await_ring<R: Wait>(&self, rt: &R, rings: u64) {
+        match self.shared.bell(self.entry.seat) {
+            Some(bell) => {
+                let _slept = bell.wait(rt, rings, LOOKS);
+            }
             None => yield_now(),
         }
     }

@@ -17,7 +17,7 @@ ghost use Rattle.live_store.specs.Sharing.{HandsIn, LiveSubmits};
 
 mod processes;
 
-use intake::{Ack, DeskName, Seat, SharedClerk, Ticket};
+use intake::{Ack, Seat, Ticket};
 use jaeger_model::{Batch, SharedProcess};
 use processes::share_process;
 use read_side::{Pass, Receipt, StoreName};
@@ -66,26 +66,6 @@ impl<N: StoreName> Live<N> {
             (self.new.known ≡ receipt.now.entries) }
     {
         self.pass.learn(receipt);
-    }
-
-    /// Hands a batch in, as [`Backend::submit`] does. While it waits it does the work of the clerk that the waiting
-    /// share.
-    ///
-    /// # Errors
-    ///
-    /// The batch was not accepted, for the reason that is returned.
-    pub fn submit_shared<D: DeskName, R: Wait>(
-        &mut self,
-        rt: &R,
-        alloc: Global,
-        clerk: &SharedClerk<'_, N, D>,
-        batch: Batch,
-    ) -> Result<u64, Refusal>
-        ensures { LiveSubmits N.limits self.old batch result self.new }
-    {
-        let ticket = self.hand_in(rt, alloc, batch)?;
-        let ack = clerk.answer(rt, ticket)?;
-        Ok(self.learn_ack(ack))
     }
 
     /// Hands a batch in by the seat, with the process of the batch before where it has the same, and gives its ticket.

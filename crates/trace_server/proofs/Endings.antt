@@ -76,6 +76,7 @@ reported limits workers desk opened a b c failed port status new said (inr close
     acknowledged = closes.acknowledged;
     refused = closes.refused;
     left = closes.left;
+    lists = closes.lists;
     seats = closes.seats;
     gone_on = closes.gone_on;
     one_for_each = closes.one_for_each;

@@ -7,6 +7,7 @@ use Rattle.std.proofs.lemmas.List.FromFn.{length-range_with_len}
 use Rattle.atomic_table.specs.Seated.{TableId}
 use Rattle.trace_model.specs.declared.entry.Entry.{Entry}
 use Rattle.trace_model.specs.declared.limits.Limits.{Limits}
+use Rattle.read_side.specs.Keepers.{Lists}
 use Rattle.intake.specs.declared.account.Account.{Account}
 use Rattle.intake.specs.declared.queue.EndedSeat.{EndedSeat}
 use Rattle.intake.specs.Seats.{SeatValue}
@@ -101,12 +102,11 @@ new_open desk seats each = λ k d lt. let n = each k d lt in (n.0, n.1)
 
 -- ---- the books
 
-pub books_closed : (limits : Limits) (seats : List SeatValue) (judged : List Entry) (accounts : List Account) (before taken left : List Entry) (a0 r0 a r l : ℕ)
-    → HasJudged limits judged accounts a0 r0 → a ≡ a0 → r ≡ r0 → before ≡ [] → Moves judged before taken left → AreTaken taken seats → l ≡ length left → ClosesBooks limits seats a r l
-books_closed limits seats judged accounts before taken left a0 r0 a r l h aa rr none moves whole ls = record {
+pub books_closed : (limits : Limits) (lists : Lists) (seats : List SeatValue) (judged : List Entry) (accounts : List Account) (before taken left : List Entry) (a0 r0 a r l : ℕ)
+    → HasJudged limits judged accounts lists a0 r0 → a ≡ a0 → r ≡ r0 → before ≡ [] → Moves judged before taken left → AreTaken taken seats → l ≡ length left → ClosesBooks limits lists seats a r l
+books_closed limits lists seats judged accounts before taken left a0 r0 a r l h aa rr none moves whole ls = record {
   judged_jobs = judged;
   accounts = accounts;
-  lists = h.lists;
   unjudged_jobs = moves.0;
   ran = h.ran;
   whole = subst (λ z. AreTaken z seats) moves.1 whole;

@@ -33,12 +33,11 @@ last_lines served acknowledged refused left =
 
 -- ---- what became of the batches
 
--- A clerk of an empty store judged some jobs, and some are left. All that these seats handed in is among
--- them, for each seat whole and in order. The counts are those of the answers, and of what is left.
-pub record ClosesBooks (limits : Limits) (seats : List SeatValue) (acknowledged refused left : ℕ) : Type 0 where
+-- A clerk of an empty store judged some jobs, which led to these lists, and some jobs are left. All that these seats
+-- handed in is among them, for each seat whole and in order. The counts are those of the answers, and of what is left.
+pub record ClosesBooks (limits : Limits) (lists : Lists) (seats : List SeatValue) (acknowledged refused left : ℕ) : Type 0 where
   pub judged_jobs : List Entry
   pub accounts : List Account
-  pub lists : Lists
   pub unjudged_jobs : List Entry
   pub ran : Ran limits [] [] no_entries judged_jobs accounts lists
   pub whole : All (λ (s : SeatValue). AllTaken s.seat s.jobs (judged_jobs ++ unjudged_jobs)) seats
@@ -85,10 +84,11 @@ pub record Closes (limits : Limits) (workers : ℕ) (opened : List SeatValue) (f
   pub acknowledged : ℕ
   pub refused : ℕ
   pub left : ℕ
+  pub lists : Lists
   pub seats : List SeatValue
   pub gone_on : AllZip GoesOn opened seats
   pub one_for_each : OneForEach workers seats
-  pub books : ClosesBooks limits seats acknowledged refused left
+  pub books : ClosesBooks limits lists seats acknowledged refused left
   pub ends : Ends out0 out1 out_failed (front ++ last_lines served acknowledged refused left) failed status
 
 -- behind the first line: it stopped before its books were closed, or it closed those of the seats that these have become

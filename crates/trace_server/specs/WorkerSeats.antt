@@ -19,9 +19,8 @@ abbrev pub AreNew : TableId → List SeatValue → Type 0
 AreNew desk seats =
     All (λ (s : SeatValue). (s.desk ≡ desk) × (s.hands_in ≡ true) × (s.jobs ≡ [])) seats
 
--- a clerk of an empty store judged all that it took, and the counts are those of its answers
-pub record HasJudged (limits : Limits) (taken : List Entry) (accounts : List Account) (acknowledged refused : ℕ) : Type 0 where
-  pub lists : Lists
+-- a clerk of an empty store judged all that it took, which led to these lists, and the counts are those of its answers
+pub record HasJudged (limits : Limits) (taken : List Entry) (accounts : List Account) (lists : Lists) (acknowledged refused : ℕ) : Type 0 where
   pub ran : Ran limits [] [] no_entries taken accounts lists
   pub acknowledged_is : acknowledged ≡ acknowledged_of accounts
   pub refused_is : refused ≡ refused_of accounts

@@ -5,7 +5,6 @@ ghost use Rattle.live_store.specs.Sharing.{GoesOn};
 use crate::gate::Gate;
 use crate::gated::Gated;
 use http_session::serve_connection;
-use intake::DeskName;
 use read_side::StoreName;
 use session_devices::{Join, Watched};
 use std::alloc::Global;
@@ -55,12 +54,12 @@ fn shut_down<R: Clock>(rt: &R, stream: &TcpStream) -> io::Result<()> {
 
 /// Serves a connection. An error of it ends it, and nothing else: the store's seat stays, and knows what was
 /// handed in.
-pub(crate) fn attend<N: StoreName, D: DeskName, G: Gate, R: Wait + Clock + Eprint>(
+pub(crate) fn attend<N: StoreName, G: Gate, R: Wait + Clock + Eprint>(
     rt: &R,
     alloc: Global,
     stream: &TcpStream,
     idle: u32,
-    store: &mut Gated<'_, '_, N, D, G, R>,
+    store: &mut Gated<'_, N, G, R>,
 )
     ensures { GoesOn store.old.seat store.new.seat }
 {

@@ -58,11 +58,11 @@ pub(crate) fn close_books<N: StoreName, R: Wait>(
     workers: Vec<(WorkerOutcome, Live<N>)>,
 ) -> Result<Totals, Refusal>
     requires open { AreOpen books.inbox.desk (map (λ w. w.1.seat) workers.items) }
-    requires judged { HasJudged N.limits books.inbox.taken books.accounts books.acknowledged
-        books.refused }
+    requires judged { HasJudged N.limits books.inbox.taken books.accounts books.keeper
+        books.acknowledged books.refused }
     requires left { books.left.items ≡ [] }
-    ensures { IfOk result (λ t. ClosesBooks N.limits (map (λ w. w.1.seat) workers.items)
-        t.acknowledged t.refused t.left) }
+    ensures { IfOk result (λ t. ClosesBooks N.limits books.keeper
+        (map (λ w. w.1.seat) workers.items) t.acknowledged t.refused t.left) }
 {
     let mut books = books;
     let taken_in = take_all_in(rt, &mut books, workers);

@@ -5,7 +5,6 @@ ghost use mathlib.Core.List.{IsPrefix};
 
 use crate::gate::Gate;
 use crate::notices::Notices;
-use intake::{DeskName, SharedClerk};
 use jaeger_model::Batch;
 use live_store::Live;
 use read_side::{Receipt, StoreName};
@@ -28,19 +27,18 @@ fn grow_heap(alloc: Global) {
     drop(Vec::<u8>::with_capacity(alloc, GROWTH));
 }
 
-/// A worker's store, of whose calls the gate hears, and which does the clerk's work while it waits. Contracts see the store alone.
+/// A worker's store, of whose calls the gate hears. Contracts see the store alone.
 #[derive(Drop)]
-pub(crate) struct Gated<'a, 'k, N: StoreName, D: DeskName, G, R> {
+pub(crate) struct Gated<'a, N: StoreName, G, R> {
     rt: &'a R,
     gate: &'a G,
     notices: &'a Notices,
-    clerk: &'a SharedClerk<'k, N, D>,
     worker: u32,
     calls: u64,
     live: Live<N>,
 }
 
-impl<'a, 'k, N: StoreName, D: DeskName, G, R> Model for Gated<'a, 'k, N, D, G, R> {
+impl<'a, N: StoreName, G, R> Model for Gated<'a, N, G, R> {
     ghost use Rattle.live_store.specs.Sharing.{LiveValue};
 
     ghost Value = { LiveValue };
@@ -48,23 +46,21 @@ impl<'a, 'k, N: StoreName, D: DeskName, G, R> Model for Gated<'a, 'k, N, D, G, R
     ghost view = { λ g. g.live };
 }
 
-impl<'a, 'k, N: StoreName, D: DeskName, G, R> Gated<'a, 'k, N, D, G, R> {
+impl<'a, N: StoreName, G, R> Gated<'a, N, G, R> {
     /// The store of the worker with this number.
     pub(crate) fn new(
         rt: &'a R,
         gate: &'a G,
         notices: &'a Notices,
-        clerk: &'a SharedClerk<'k, N, D>,
         worker: u32,
         live: Live<N>,
-    ) -> Gated<'a, 'k, N, D, G, R>
+    ) -> Gated<'a, N, G, R>
         ensures { result ≡ live }
     {
         Gated {
             rt,
             gate,
             notices,
-            clerk,
             worker,
             calls: 0,
             live,
@@ -79,7 +75,6 @@ impl<'a, 'k, N: StoreName, D: DeskName, G, R> Gated<'a, 'k, N, D, G, R> {
             rt: _,
             gate: _,
             notices: _,
-            clerk: _,
             worker: _,
             calls: _,
             live,
@@ -97,8 +92,7 @@ impl<'a, 'k, N: StoreName, D: DeskName, G, R> Gated<'a, 'k, N, D, G, R> {
     }
 }
 
-impl<'a, 'k, N: StoreName, D: DeskName, G: Gate, R: Wait + Eprint> Backend<R>
-    for Gated<'a, 'k, N, D, G, R> {
+impl<'a, N: StoreName, G: Gate, R: Wait + Eprint> Backend<R> for Gated<'a, N, G, R> {
     ghost use Rattle.live_store.specs.Sharing.{LiveKnows, LiveSubmits, LiveReads};
     ghost use Rattle.live_store.specs.SharingLaws.{submit_knows, read_knows};
 
@@ -120,7 +114,7 @@ impl<'a, 'k, N: StoreName, D: DeskName, G: Gate, R: Wait + Eprint> Backend<R>
             grow_heap(alloc);
         }
         self.gate.before(self.rt, self.worker, self.calls);
-        let place = self.live.submit_shared(rt, alloc, self.clerk, batch);
+        let place = self.live.submit(rt, alloc, batch);
         self.gate.after(self.rt, self.worker, self.calls);
         if let Err(Refusal::JournalFull { .. }) = place {
             self.notices.say_full(self.rt);

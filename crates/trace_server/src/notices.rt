@@ -16,6 +16,8 @@ const BYTES_WITH_FIVE_TAGS: u64 = 680;
 #[derive(Drop)]
 pub(crate) struct Notices {
     said_full: AtomicBool,
+    /// The system's shortage was said, and no connection was accepted since.
+    said_shortage: AtomicBool,
 }
 
 impl Notices {
@@ -23,6 +25,7 @@ impl Notices {
     pub(crate) fn new() -> Notices {
         Notices {
             said_full: AtomicBool::new(false),
+            said_shortage: AtomicBool::new(false),
         }
     }
 
@@ -32,6 +35,20 @@ impl Notices {
             let _lost = eprintln!(rt;
                 "the journal is full: a batch that doesn't fit is answered 503 from now on"
             );
+        }
+    }
+
+    /// Says why no connection is accepted for now, unless it was said since one was accepted.
+    pub(crate) fn say_shortage<R: Eprint>(&self, rt: &R, error: &io::Error) {
+        if !self.said_shortage.swap(true, Ordering::SeqCst) {
+            let _lost = eprintln!(rt; "no connection can be accepted for now: {error}");
+        }
+    }
+
+    /// A connection was accepted: the next shortage is said anew.
+    pub(crate) fn end_shortage(&self) {
+        if self.said_shortage.load(Ordering::SeqCst) {
+            self.said_shortage.store(false, Ordering::SeqCst);
         }
     }
 }

@@ -2,7 +2,7 @@
 
 ghost use Rattle.live_store.specs.Sharing.{GoesOn};
 ghost use Rattle.std.specs.List.{AllZip};
-ghost use Rattle.std.specs.Prelude.{◌≡◌, [], false, map, IfOk};
+ghost use Rattle.std.specs.Prelude.{◌≡◌, [], Some, false, map, IfOk};
 ghost use Rattle.read_side.specs.Keepers.{no_entries};
 ghost use Rattle.intake.specs.Turns.{IsNewClerk};
 ghost use Rattle.trace_server.specs.Serving.{OneForEach, Reports, Serves};
@@ -16,16 +16,17 @@ use crate::reporting::{report, report_unclosed, say_listening, together};
 use crate::shared::SharedStore;
 use crate::threads::each_done;
 use crate::worker::{Server, WorkerOutcome};
-use intake::{Books, DeskName, SharedClerk};
+use intake::{Books, Clerk};
 use live_store::Live;
-use read_side::{Opened, StoreName};
+use read_side::{Keeper, Opened, StoreName};
 use session_devices::Output;
 use std::alloc::{AllocError, Global};
 use std::marker::Brand;
 use std::net::TcpListener;
+use std::snapshot::Snapshot;
 use std::sync::Wait;
 use std::sync::atomic::AtomicU64;
-use std::thread::{Threads, spawn};
+use std::thread::{Promise, Threads, scope, scope_env, spawn};
 use std::time::Clock;
 use trace_model::Limits;
 
@@ -37,37 +38,117 @@ struct ServerSetup<'a, G> {
     gate: &'a G,
 }
 
-/// What the clerk leaves, and what the workers did, each with its ends of the store.
-type Left<N> = (Books<N>, Result<Vec<(WorkerOutcome, Live<N>)>, AllocError>);
+/// What the workers did, each with its ends of the store.
+type Outcomes<N> = Result<Vec<(WorkerOutcome, Live<N>)>, AllocError>;
 
-/// Has each worker serve until all sessions are over.
-fn work_all<
+/// What the clerk leaves, and what the workers did.
+type Left<N> = (Books<N>, Outcomes<N>);
+
+/// The promise that workers that began with these ends of the store go on with their seats.
+#[derive(Drop)]
+struct KeepSeats<N: StoreName>(Snapshot<Vec<(u32, Live<N>)>>);
+
+impl<N: StoreName> Promise<Outcomes<N>> for KeepSeats<N> {
+    ghost use Rattle.live_store.specs.Sharing.{GoesOn};
+    ghost use Rattle.std.specs.List.{AllZip};
+    ghost use Rattle.std.specs.Prelude.{map, IfOk};
+
+    ghost kept_by = { λ began ended. IfOk ended (λ v.
+        AllZip GoesOn (map (λ p. p.1.seat) began.0.value.items) (map (λ w. w.1.seat) v.items)) };
+}
+
+/// Has each worker serve until all sessions are over, and closes the desk then.
+fn work_all<N: StoreName + Send + Sync, G: Gate + Sync, R: Threads + Wait + Clock + Eprint + Sync>(
+    rt: &R,
+    server: &Server<'_, N, G>,
+    lives: Vec<(u32, Live<N>)>,
+) -> Outcomes<N>
+    ensures { IfOk result (λ v. AllZip GoesOn (map (λ p. p.1.seat) lives.items)
+        (map (λ w. w.1.seat) v.items)) }
+{
+    let outcomes = each_done(rt, server, lives);
+    server.desk.close(rt);
+    outcomes
+}
+
+/// Has the clerk of an empty store serve until the desk is closed. It takes the keeper out of the slot.
+fn keep_books<N: StoreName, R: Wait>(
+    rt: &R,
+    clerk: Clerk<N>,
+    slot: &mut Option<Keeper<N>>,
+) -> Books<N>
+    requires keeper { slot.old ≡ Some no_entries }
+    requires clerk { IsNewClerk clerk }
+    ensures judged { HasJudged N.limits result.inbox.taken result.accounts result.keeper
+        result.acknowledged result.refused }
+    ensures left { result.left.items ≡ [] }
+    ensures desk { result.inbox.desk ≡ clerk.desk }
+{
+    let Some(keeper) = slot.take() else {
+        unreachable!()
+    };
+    clerk.run(rt, keeper)
+}
+
+/// Has the clerk serve in this thread, and the workers in threads of their own, until all sessions are over. Where no
+/// thread can be made for them, the desk is closed and nobody is served.
+fn serve_beside<
     N: StoreName + Send + Sync,
-    D: DeskName + Send + Sync,
     G: Gate + Sync,
     R: Threads + Wait + Clock + Eprint + Sync,
 >(
     rt: &R,
-    server: &Server<'_, '_, N, D, G>,
+    server: &Server<'_, N, G>,
     lives: Vec<(u32, Live<N>)>,
-) -> Result<Vec<(WorkerOutcome, Live<N>)>, AllocError>
-    ensures { IfOk result (λ v. AllZip GoesOn (map (λ p. p.1.seat) lives.items)
+    clerk: Clerk<N>,
+    slot: &mut Option<Keeper<N>>,
+) -> Left<N>
+    requires keeper { slot.old ≡ Some no_entries }
+    requires clerk { IsNewClerk clerk }
+    ensures judged { HasJudged N.limits result.0.inbox.taken result.0.accounts result.0.keeper
+        result.0.acknowledged result.0.refused }
+    ensures left { result.0.left.items ≡ [] }
+    ensures desk { result.0.inbox.desk ≡ clerk.desk }
+    ensures seats { IfOk result.1 (λ v. AllZip GoesOn (map (λ p. p.1.seat) lives.items)
         (map (λ w. w.1.seat) v.items)) }
 {
-    each_done(rt, server, lives)
+    scope(
+        scope_env(),
+        rt,
+        |scope| -> Left<N>
+            requires keeper { slot.now ≡ Some no_entries }
+            requires clerk { IsNewClerk clerk }
+            ensures judged { HasJudged N.limits result.0.inbox.taken result.0.accounts
+                result.0.keeper result.0.acknowledged result.0.refused }
+            ensures left { result.0.left.items ≡ [] }
+            ensures desk { result.0.inbox.desk ≡ clerk.desk }
+            ensures seats { IfOk result.1 (λ v. AllZip GoesOn (map (λ p. p.1.seat) lives.items)
+                (map (λ w. w.1.seat) v.items)) }
+        {
+            let began = KeepSeats(Snapshot::of(&lives));
+            match scope.spawn_with(began, || work_all(rt, server, lives)) {
+                Ok(workers) => {
+                    let books = keep_books(rt, clerk, slot);
+                    (books, workers.join(rt))
+                }
+                Err(_) => {
+                    server.desk.close(rt);
+                    (keep_books(rt, clerk, slot), Err(AllocError))
+                }
+            }
+        },
+    )
 }
 
-/// Has the workers serve, and do the clerk's work, until all sessions are over.
+/// Serves until all sessions are over.
 fn serve_sessions<
     N: StoreName + Send + Sync,
-    D: DeskName + Send + Sync,
     G: Gate + Sync,
     R: Threads + Wait + Clock + Eprint + Sync,
 >(rt: &R, alloc: Global, shared: SharedStore<N>, setup: &ServerSetup<'_, G>) -> Left<N>
     requires keeper { shared.keeper ≡ no_entries }
     requires clerk { IsNewClerk shared.clerk }
-    requires desk { shared.clerk.desk ≡ D.desk }
-    ensures judged { HasJudged N.limits result.0.inbox.taken result.0.accounts
+    ensures judged { HasJudged N.limits result.0.inbox.taken result.0.accounts result.0.keeper
         result.0.acknowledged result.0.refused }
     ensures left { result.0.left.items ≡ [] }
     ensures desk { result.0.inbox.desk ≡ shared.clerk.desk }
@@ -80,27 +161,23 @@ fn serve_sessions<
         clerk,
         lives,
     } = shared;
-    let mut keeper = keeper;
-    let clerk = SharedClerk::<N, D>::new(clerk, &mut keeper);
-    let claimed = AtomicU64::new(0);
-    let notices = Notices::new();
-    let workers = {
-        let server = Server {
-            alloc,
-            listener: setup.listener,
-            desk: &desk,
-            gate: setup.gate,
-            notices: &notices,
-            clerk: &clerk,
-            sessions: setup.config.options.sessions,
-            claimed: &claimed,
-            idle: setup.config.options.idle,
-        };
-        work_all(rt, &server, lives)
+    let (claimed, notices) = (AtomicU64::new(0), Notices::new());
+    let server = Server {
+        alloc,
+        listener: setup.listener,
+        desk: &desk,
+        gate: setup.gate,
+        notices: &notices,
+        sessions: setup.config.options.sessions,
+        claimed: &claimed,
+        idle: setup.config.options.idle,
     };
-    desk.close(rt);
-    let clerk = clerk.finish(rt);
-    (clerk.leave(keeper), workers)
+    let mut slot = Some(keeper);
+    let left = serve_beside(rt, &server, lives, clerk, &mut slot);
+    if let Some(untaken) = slot {
+        untaken.close(rt);
+    }
+    left
 }
 
 /// Has the store served, closes its books and the store, reports, and gives the exit status.
@@ -120,7 +197,7 @@ fn serve_store<
         (map (λ p. p.1.seat) shared.lives.items)
         (W.contents output.old) (W.contents output.new) (W.has_failed output.new) result }
 {
-    let (books, workers) = serve_sessions::<N, Brand, G, R>(rt, alloc, shared, setup);
+    let (books, workers) = serve_sessions(rt, alloc, shared, setup);
     let Ok(workers) = workers else {
         books.close(rt);
         return 5;
@@ -187,8 +264,8 @@ fn serve_named<
 /// were acknowledged, refused by the store, and left unanswered. A worker serves one connection at a time; an error of a connection ends it
 /// alone. Every call of the store stands between two calls of the gate.
 ///
-/// An operator is told on standard error how much the store holds at most, that it is full, and why a worker accepts
-/// no more. Nothing of that is in the output.
+/// An operator is told on standard error how much the store holds at most, that it is full, and why no connection is
+/// accepted. Nothing of that is in the output.
 pub fn serve_with<G: Gate + Sync, W: Output, R: Threads + Wait + Clock + Eprint + Sync>(
     rt: &R,
     alloc: Global,

@@ -7,25 +7,38 @@ use crate::gate::Gate;
 use crate::gated::Gated;
 use crate::notices::{Notices, say_accepts_no_more};
 use crate::threads::Task;
-use intake::{Desk, DeskName, SharedClerk};
+use intake::Desk;
 use live_store::Live;
 use read_side::StoreName;
 use std::alloc::Global;
+use std::io;
 use std::io::ErrorKind;
 use std::net::{TcpListener, TcpStream};
 use std::sync::Wait;
 use std::sync::atomic::{AtomicU64, Ordering};
-use std::time::Clock;
+use std::thread::sleep;
+use std::time::{Clock, Duration};
+
+/// How many milliseconds a worker waits before it accepts again if the system has no room for one more connection.
+const SHORTAGE_PAUSE: u64 = 100;
+
+// Linux's numbers of errors.
+const ENOMEM: i32 = 12;
+
+const ENFILE: i32 = 23;
+
+const EMFILE: i32 = 24;
+
+const ENOBUFS: i32 = 105;
 
 /// What all workers share.
 #[derive(Drop)]
-pub(crate) struct Server<'a, 'k, N: StoreName, D: DeskName, G> {
+pub(crate) struct Server<'a, N: StoreName, G> {
     pub(crate) alloc: Global,
     pub(crate) listener: &'a TcpListener,
     pub(crate) desk: &'a Desk<N>,
     pub(crate) gate: &'a G,
     pub(crate) notices: &'a Notices,
-    pub(crate) clerk: &'a SharedClerk<'k, N, D>,
     /// How many sessions there are to serve; 0 is without end.
     pub(crate) sessions: u32,
     /// How many of them were claimed.
@@ -42,25 +55,47 @@ pub(crate) struct WorkerOutcome {
     pub(crate) failed: bool,
 }
 
-impl<'a, 'k, N: StoreName, D: DeskName, G: Gate> Server<'a, 'k, N, D, G> {
+/// Whether an accept failed for this once: it was interrupted, or the client has gone.
+fn is_passing(error: &io::Error) -> bool {
+    matches!(
+        error.kind(),
+        ErrorKind::Interrupted | ErrorKind::ConnectionAborted
+    )
+}
+
+/// Whether the system has no memory, no buffer or no file descriptor left for one more connection.
+fn is_shortage(error: &io::Error) -> bool {
+    matches!(
+        error.raw_os_error(),
+        Some(ENOMEM | ENFILE | EMFILE | ENOBUFS)
+    )
+}
+
+impl<'a, N: StoreName, G: Gate> Server<'a, N, G> {
     /// Claims a session, so that no more are accepted than there are to serve.
     fn claim(&self) -> bool {
         self.sessions == 0 || self.claimed.fetch_add(1, Ordering::SeqCst) < self.sessions as u64
     }
 
-    /// The next connection, to the worker with this number. An interrupted call is made again, and so is one
-    /// whose client has gone. Where there can be none, the reason is said.
-    fn accept<R: Wait + Eprint>(&self, rt: &R, worker: u32) -> Option<TcpStream> {
+    /// The next connection, to the worker with this number. It accepts again after a call that was interrupted or
+    /// whose client has gone, and after a pause if the system has no room for one more connection. Where there can be
+    /// none, the reason is said.
+    fn accept<R: Wait + Clock + Eprint>(&self, rt: &R, worker: u32) -> Option<TcpStream> {
         for _ in rt.forever() {
             match self.listener.accept() {
-                Ok((stream, _)) => return Some(stream),
-                Err(error) => match error.kind() {
-                    ErrorKind::Interrupted | ErrorKind::ConnectionAborted => {}
-                    _ => {
-                        say_accepts_no_more(rt, worker, &error);
-                        return None;
-                    }
-                },
+                Ok((stream, _)) => {
+                    self.notices.end_shortage();
+                    return Some(stream);
+                }
+                Err(error) if is_passing(&error) => {}
+                Err(error) if is_shortage(&error) => {
+                    self.notices.say_shortage(rt, &error);
+                    sleep(rt, Duration::from_millis(SHORTAGE_PAUSE));
+                }
+                Err(error) => {
+                    say_accepts_no_more(rt, worker, &error);
+                    return None;
+                }
             }
         }
         unreachable!()
@@ -71,7 +106,7 @@ impl<'a, 'k, N: StoreName, D: DeskName, G: Gate> Server<'a, 'k, N, D, G> {
         &self,
         rt: &R,
         stream: &TcpStream,
-        store: &mut Gated<'_, '_, N, D, G, R>,
+        store: &mut Gated<'_, N, G, R>,
     )
         ensures { GoesOn store.old.seat store.new.seat }
     {
@@ -91,7 +126,7 @@ impl<'a, 'k, N: StoreName, D: DeskName, G: Gate> Server<'a, 'k, N, D, G> {
         ensures { GoesOn post.1.seat result.1.seat }
     {
         let (worker, live) = post;
-        let mut store = Gated::new(rt, self.gate, self.notices, self.clerk, worker, live);
+        let mut store = Gated::new(rt, self.gate, self.notices, worker, live);
         let mut outcome = WorkerOutcome {
             served: 0,
             failed: false,
@@ -111,11 +146,11 @@ impl<'a, 'k, N: StoreName, D: DeskName, G: Gate> Server<'a, 'k, N, D, G> {
     }
 }
 
-impl<'a, 'k, N: StoreName, D: DeskName, G: Gate, R: Wait + Clock + Eprint> Task<
+impl<'a, N: StoreName, G: Gate, R: Wait + Clock + Eprint> Task<
     R,
     (u32, Live<N>),
     (WorkerOutcome, Live<N>),
-> for Server<'a, 'k, N, D, G> {
+> for Server<'a, N, G> {
     ghost use Rattle.live_store.specs.Sharing.{GoesOn};
 
     ghost gives = { λ argument end. GoesOn argument.1.seat end.1.seat };

@@ -24,6 +24,7 @@ returns-in-Ok-close_books g c =
       acknowledged = totals.acknowledged;
       refused = totals.refused;
       left = totals.left;
+      lists = c.serve_sessions-books.result.0.keeper;
       seats = map (λ w. w.1.seat) c.in-Ok.workers.items;
       gone_on = on;
       one_for_each = numbers_stay _ _ on ∙ c.requires.numbers;

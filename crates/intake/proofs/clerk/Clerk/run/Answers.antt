@@ -6,8 +6,8 @@ use Rattle.intake.proofs.clerk.Clerk.run.Goals as goal
 pub loop-init : goal.loop-init
 loop-init g c = (ran-start _ _ _ _ c.accounts.ensures.each, refl, refl)
 
-pub loop-preserved-in-Ok-Served : goal.loop-preserved-in-Ok-Served
-loop-preserved-in-Ok-Served g c =
+pub loop-preserved-in-Served-1 : goal.loop-preserved-in-Served-1
+loop-preserved-in-Served-1 g c =
     let i = c.loop.invariant in
     let e = c.turn.ensures in
     let t = ran-on _ _ _ _ c.loop.clerk c.turn.new.self c.loop.keeper c.turn.new.keeper c.turn.result i.0 e.served e.unchanged in
