@@ -128,8 +128,8 @@ def short_of_files(server):
 
 def files():
     with Server("--workers", 2, "--sessions", 6) as server:
+        time.sleep(0.5)  # both workers wait by then, and the limits are said
         begin = server.told()
-        time.sleep(0.5)  # both workers wait by then
         shares = [short_of_files(server)]
         time.sleep(0.5)
         shares.append(short_of_files(server))
