@@ -26,8 +26,8 @@ impl Bell {
         self.rings.load(Ordering::SeqCst)
     }
 
-    /// Rings once more, and wakes all that sleep. Where nobody does it makes no call of the system, and of several rings
-    /// behind one sleep the first alone makes one.
+    /// Rings once more, and wakes all that sleep. If nobody sleeps it makes no system call; of several rings after one
+    /// sleep only the first makes one.
     pub(crate) fn ring(&self) {
         self.rings.fetch_add(1, Ordering::SeqCst);
         // Who doesn't say yet that it sleeps finds the new count when it is about to.

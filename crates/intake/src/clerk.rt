@@ -188,7 +188,7 @@ impl<N: StoreName> Clerk<N> {
         &self.accounts
     }
 
-    /// Waits while so many jobs were handed in and no more. It looks for the next one before it sleeps if it has served
+    /// Waits for the next ring after this many. It looks for it before it sleeps if the clerk has served
     /// at least [`BURST`] jobs since it last slept. Returns whether it slept.
     fn await_job<R: Wait>(&self, rt: &R, rings: u64, served: u64) -> bool {
         let looks = if served >= BURST { LOOKS } else { 0 };
