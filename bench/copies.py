@@ -6,7 +6,7 @@
 Each row is a process of its own, one after the other:
 
   one thread             `SpanStore::apply` of the timed batches, then `SpanStore::answer` of 2,000 traces
-  two copies             `Keeper::admit_outlined` of the timed batches, and nobody reads
+  two copies             `Keeper::admit_record` of the timed batches, and nobody reads
   two copies, 3 readers  the same while three threads read, each by its own `Pass::read`, as fast as they can
   3 readers, no writer   three threads read for 20 ms, and nobody writes
 
@@ -94,10 +94,11 @@ MAIN = """//! Times the store of one thread, or two copies of a store, over the 
 ghost use Rattle.std.specs.Prelude.{◌≡◌};
 
 use anyhow::{Result, bail};
-use arrival_journal::OutlinedEntry;
+use arrival_journal::Record;
 use batch_codec::decode;
 use jaeger_model::TraceId;
 use read_side::{Keeper, Opened, Pass, StoreName, open};
+use sent_batches::BatchKeys;
 use span_store::SpanStore;
 use std::alloc::Global;
 use std::hash::RandomState;
@@ -299,13 +300,18 @@ fn read_on<N: StoreName, R: Clock>(
     Ok(Reads { each, took })
 }
 
-/// The entries with their outlines.
-fn outlined(alloc: Global, entries: Vec<Arc<Entry>>) -> Result<Vec<OutlinedEntry>, Refusal> {
-    let mut outlined = Vec::with_capacity(alloc, entries.len())?;
+/// The records of the entries.
+fn recorded(
+    alloc: Global,
+    keys: RandomState,
+    entries: Vec<Arc<Entry>>,
+) -> Result<Vec<Record>, Refusal> {
+    let keys = BatchKeys::new(keys);
+    let mut recorded = Vec::with_capacity(alloc, entries.len())?;
     for entry in entries {
-        outlined.push(OutlinedEntry::new(entry))?;
+        recorded.push(Record::new(keys, entry))?;
     }
-    Ok(outlined)
+    Ok(recorded)
 }
 
 /// Admits entries and times each.
@@ -313,12 +319,12 @@ fn admit_timed<N: StoreName, R: Wait + Clock>(
     rt: &R,
     alloc: Global,
     keeper: &mut Keeper<N>,
-    entries: Vec<OutlinedEntry>,
+    entries: Vec<Record>,
 ) -> Result<Vec<u64>, Refusal> {
     let mut times = Vec::with_capacity(alloc, entries.len())?;
     for entry in entries {
         let begin = now(rt);
-        let _receipt = keeper.admit_outlined(rt, entry)?;
+        let _receipt = keeper.admit_record(rt, entry)?;
         times.push(now(rt).saturating_sub(begin))?;
     }
     Ok(times)
@@ -329,7 +335,7 @@ fn write_beside<N: StoreName, R: Wait + Clock>(
     rt: &R,
     alloc: Global,
     keeper: &mut Keeper<N>,
-    entries: Vec<OutlinedEntry>,
+    entries: Vec<Record>,
     readers: u64,
     phases: &Phases,
 ) -> Result<Vec<u64>, Refusal> {
@@ -352,15 +358,16 @@ fn write_beside<N: StoreName, R: Wait + Clock>(
 fn write_and_read<N: StoreName + Send + Sync, R: Threads + Wait + Clock + Sync>(
     rt: &R,
     alloc: Global,
+    keys: RandomState,
     keeper: &mut Keeper<N>,
     passes: Vec<Pass<N>>,
     load: Load<'_>,
 ) -> Result<Times, Refusal> {
     let Load { first, timed, ids } = load;
     let held = first.len() as u64;
-    let first = outlined(alloc, first)?;
+    let first = recorded(alloc, keys, first)?;
     admit_timed(rt, alloc, keeper, first)?;
-    let timed = outlined(alloc, decode_timed(alloc, timed, held)?)?;
+    let timed = recorded(alloc, keys, decode_timed(alloc, timed, held)?)?;
     let phases = Phases {
         reading: AtomicU64::new(0),
         phase: AtomicU64::new(0),
@@ -402,7 +409,7 @@ fn timed_named<N: StoreName + Send + Sync, R: Threads + Wait + Clock + Sync>(
     if !readers {
         passes.clear();
     }
-    let times = write_and_read(rt, alloc, &mut keeper, passes, load);
+    let times = write_and_read(rt, alloc, keys, &mut keeper, passes, load);
     keeper.close(rt);
     times
 }
@@ -468,7 +475,7 @@ abbrev pub ghosts-timed_named : goal.ghosts-timed_named
 ghosts-timed_named g a = record { book = a.name.seen.book; limits = a.limits }
 """
 
-DEPS = "read_side arrival_journal span_store batch_codec jaeger_model trace_model anyhow left_right crossbeam_utils atomic_table logbook"
+DEPS = "read_side sent_batches arrival_journal span_store batch_codec jaeger_model trace_model anyhow left_right crossbeam_utils atomic_table logbook"
 
 
 def build(top, name, deps, files):

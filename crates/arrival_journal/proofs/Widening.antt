@@ -4,8 +4,7 @@ use Rattle.std.proofs.lemmas.List.{take_more, map_push}
 use Rattle.std.proofs.lemmas.List.Sums.{fold_push}
 use Rattle.std.specs.List.{fold}
 use Rattle.jaeger_model.specs.declared.span.Span.{Span}
-use Rattle.arrival_journal.specs.declared.times.Times.{Times}
-use Rattle.arrival_journal.specs.Times.{times_of, times_with, starts, durations, latest, earliest}
+use Rattle.arrival_journal.specs.Times.{times_of, times_with, latest, earliest}
 use Rattle.std.specs.Int.{int_min, int_max}
 
 folded : (f : ℤ → ℤ → ℤ) (a : ℤ) (g : Span → ℤ) (ss : List Span) (s : Span) → fold f a (map g (ss ++ s ∷ [])) ≡ f (fold f a (map g ss)) (g s)

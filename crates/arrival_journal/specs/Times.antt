@@ -1,5 +1,5 @@
 -- When the spans of an entry start, and how long they last.
-use Rattle.std.specs.Prelude.{ℕ, ℤ, pos, negsuc, List, map}
+use Rattle.std.specs.Prelude.{ℤ, pos, negsuc, List, map}
 use Rattle.std.specs.List.{fold}
 use Rattle.std.specs.Int.{int_min, int_max}
 use Rattle.jaeger_model.specs.declared.span.Span.{Span}

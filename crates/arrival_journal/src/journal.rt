@@ -9,10 +9,9 @@ ghost use Rattle.arrival_journal.specs.Journals.{admission_by, place_by};
 ghost use Rattle.arrival_journal.specs.Outlines.{outline_in, with_outline};
 
 use crate::outline::Outline;
-use crate::outlined::OutlinedEntry;
-use crate::prepared::PreparedEntry;
+use crate::record::Record;
 use crate::seats::{SEATS, note};
-use sent_batches::{BatchKeys, HashedEntry, SentBatches};
+use sent_batches::{BatchKeys, SentBatches};
 use std::alloc::{AllocError, Global};
 use std::hash::RandomState;
 use std::marker::Model;
@@ -181,11 +180,11 @@ impl Journal {
             .unwrap_or(0)
     }
 
-    /// The entry with the hash by which its batch is found.
-    pub fn hashed(&self, entry: Arc<Entry>) -> HashedEntry
+    /// Makes the record of an entry, with the hash by which this journal finds its batch.
+    pub fn recorded(&self, entry: Arc<Entry>) -> Record
         ensures { result ≡ arc_value entry }
     {
-        HashedEntry::new(self.sent.keys(), entry)
+        Record::new(self.sent.keys(), entry)
     }
 
     /// An entry whose batch was sent before and stands behind so many entries: the one there answers for it,
@@ -230,40 +229,26 @@ impl Journal {
     /// and other spans; then [`Refusal::Stale`], where the entry's number is not above the last one of its seat;
     /// then [`Refusal::JournalFull`], with the counts now held, where it or its spans would pass the limits.
     /// Nothing else.
-    pub fn judge(&self, entry: &HashedEntry) -> Result<Admission, Refusal>
+    pub fn judge(&self, entry: &Record) -> Result<Admission, Refusal>
         ensures answer { result ≡ admission_by self.now.held entry.now }
         ensures legal { IsLegal self.now.held.limits self.now.held.entries }
     {
-        match self.sent.find(&self.entries, entry) {
-            Some(before) => self.judge_again(entry.entry(), before),
-            None => self.judge_anew(entry.entry()),
+        let hash = entry.hash(self.sent.keys());
+        let entry = entry.entry();
+        match self.sent.find(&self.entries, entry, hash) {
+            Some(before) => self.judge_again(entry, before),
+            None => self.judge_anew(entry),
         }
     }
 
-    /// The entry with the hash by which its batch is found, and with the outline that goes along.
-    pub fn prepared(&self, entry: OutlinedEntry) -> PreparedEntry
-        ensures { result ≡ entry }
-    {
-        PreparedEntry::new(self.sent.keys(), entry)
-    }
-
-    /// Adds an entry that may follow.
-    pub fn append(&mut self, entry: HashedEntry)
+    /// Appends an entry that may follow.
+    pub fn append(&mut self, entry: Record)
         requires { admission_by self.old.held entry ≡ Ok Added }
         ensures appended { self.new.held ≡ followed_by self.old.held entry }
         ensures legal { IsLegal self.new.held.limits self.new.held.entries }
     {
-        self.append_prepared(PreparedEntry::of(entry));
-    }
-
-    /// The same of an entry whose outline goes along.
-    pub fn append_prepared(&mut self, entry: PreparedEntry)
-        requires { admission_by self.old.held entry ≡ Ok Added }
-        ensures appended { self.new.held ≡ followed_by self.old.held entry }
-        ensures legal { IsLegal self.new.held.limits self.new.held.entries }
-    {
-        let (entry, outline) = entry.split();
         let hash = entry.hash(self.sent.keys());
+        let outline = entry.outline();
         let entry = entry.into_entry();
         self.spans += entry.work.spans().len() as u64;
         note(&mut self.last_numbers, entry.seat, entry.number);
@@ -284,7 +269,7 @@ impl Journal {
             (admission_by self.old.held (arc_value entry)) }
         ensures legal { IsLegal self.new.held.limits self.new.held.entries }
     {
-        let entry = self.hashed(entry);
+        let entry = self.recorded(entry);
         match self.judge(&entry)? {
             Admission::Added => {
                 self.append(entry);

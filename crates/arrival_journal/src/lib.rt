@@ -8,7 +8,7 @@
 //!
 //! * `journal`: the [`Journal`].
 //! * `outline`: what is known of an entry without a look at its spans, its [`Outline`]. `kind`, `span_kinds`: the kinds of its
-//!   first spans. `outlined`, `prepared`: an entry with both, and with its hash too.
+//!   first spans. `record`: an entry with both and with the hash of its batch, a [`Record`].
 //! * `times`: bounds of the starts and durations of an entry's spans.
 //! * `tagging`: bits that tell which tags an entry can't have.
 //! * `seats`: the last numbers of seats.
@@ -17,8 +17,7 @@
 mod journal;
 mod kind;
 mod outline;
-mod outlined;
-mod prepared;
+mod record;
 mod seats;
 mod span_kinds;
 mod tagging;
@@ -27,8 +26,7 @@ mod times;
 pub use journal::Journal;
 pub use kind::Kind;
 pub use outline::Outline;
-pub use outlined::OutlinedEntry;
-pub use prepared::PreparedEntry;
+pub use record::Record;
 pub use span_kinds::SpanKinds;
 pub use tagging::tag_place;
 pub use times::Times;

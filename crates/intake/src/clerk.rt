@@ -16,7 +16,7 @@ use crate::cell::JobOutcome;
 use crate::inbox::Inbox;
 use crate::shared::Shared;
 use crate::ticket::Ack;
-use arrival_journal::OutlinedEntry;
+use arrival_journal::Record;
 use read_side::{Keeper, Receipt, StoreName};
 use std::alloc::Global;
 use std::marker::Model;
@@ -98,7 +98,7 @@ fn judge_entry<N: StoreName, R: Wait>(
     rt: &R,
     alloc: Global,
     keeper: &mut Keeper<N>,
-    entry: OutlinedEntry,
+    entry: Record,
 ) -> Result<Ack<N>, Refusal>
     ensures judged { Answers N.limits keeper.old entry
         (place_or_refusal (λ a. a.place) result) keeper.new }
@@ -107,9 +107,9 @@ fn judge_entry<N: StoreName, R: Wait>(
     ensures reason { IfErr result IsUnacknowledged }
 {
     let Ok(room) = Arc::new(alloc, keeper.receipt()) else {
-        return Err(keeper.turn_away(entry.into_entry()));
+        return Err(keeper.turn_away(&entry));
     };
-    let receipt = keeper.admit_outlined(rt, entry)?;
+    let receipt = keeper.admit_record(rt, entry)?;
     let Some(place) = receipt.place() else {
         unreachable!()
     };

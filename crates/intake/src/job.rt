@@ -4,8 +4,9 @@ ghost use Rattle.std.specs.Prelude.{◌≡◌, IfOk};
 ghost use Rattle.std.specs.Arc.{arc_value};
 
 use crate::cell::Cell;
-use arrival_journal::OutlinedEntry;
+use arrival_journal::Record;
 use read_side::StoreName;
+use sent_batches::BatchKeys;
 use std::marker::Model;
 use std::sync::Arc;
 use trace_model::{Entry, Refusal};
@@ -13,7 +14,7 @@ use trace_model::{Entry, Refusal};
 /// An entry on its way to the clerk, and where its answer goes. Contracts see the entry.
 #[derive(Drop)]
 pub(crate) struct Job<N: StoreName> {
-    entry: OutlinedEntry,
+    entry: Record,
     cell: Arc<Cell<N>>,
 }
 
@@ -30,13 +31,18 @@ impl<N: StoreName> Model for Job<N> {
 }
 
 impl<N: StoreName> Job<N> {
-    /// The job of an entry, whose answer goes into the entry's cell. It makes the entry's outline.
-    pub(crate) fn new(entry: &Arc<Entry>, cell: &Arc<Cell<N>>) -> Result<Job<N>, Refusal>
+    /// The job of an entry, whose answer goes into the entry's cell. It makes the entry's record, with a hash under these
+    /// keys.
+    pub(crate) fn new(
+        keys: BatchKeys,
+        entry: &Arc<Entry>,
+        cell: &Arc<Cell<N>>,
+    ) -> Result<Job<N>, Refusal>
         requires { arc_value cell.now ≡ arc_value entry.now }
         ensures { IfOk result (λ j. j ≡ arc_value entry.now) }
     {
         let cell = Arc::try_clone(cell)?;
-        let entry = OutlinedEntry::new(Arc::try_clone(entry)?);
+        let entry = Record::new(keys, Arc::try_clone(entry)?);
         Ok(Job { entry, cell })
     }
 
@@ -49,7 +55,7 @@ impl<N: StoreName> Job<N> {
     }
 
     /// The entry, and where its answer goes.
-    pub(crate) fn split(self) -> (OutlinedEntry, Arc<Cell<N>>)
+    pub(crate) fn split(self) -> (Record, Arc<Cell<N>>)
         ensures entry { result.0 ≡ self }
         ensures cell { arc_value result.1 ≡ self }
     {

@@ -15,7 +15,9 @@ use crate::seat::Seat;
 use crate::shared::Shared;
 use crossbeam_utils::CachePadded;
 use read_side::{Receipt, StoreName};
+use sent_batches::BatchKeys;
 use std::alloc::{AllocError, Global};
+use std::hash::RandomState;
 use std::sync::atomic::AtomicBool;
 use std::sync::{Arc, Mutex};
 use trace_model::Refusal;
@@ -30,13 +32,15 @@ fn bells(alloc: Global, count: u16) -> Result<Vec<CachePadded<Bell>>, AllocError
 }
 
 /// Opens a desk of the store that the receipt is of, whose queue has room for 1 to 4,096 jobs, with 1 to
-/// 64 seats and a clerk. The seats have the numbers 0, 1 and so on.
+/// 64 seats and a clerk. The seats have the numbers 0, 1 and so on. The keys are those that the store was opened with: with
+/// others each batch is hashed once more by the clerk.
 ///
 /// # Errors
 ///
 /// [`Refusal::NoMemory`]: nothing is left behind.
 pub fn desk<N: StoreName>(
     alloc: Global,
+    keys: RandomState,
     first: Receipt<N>,
     capacity: usize,
     seats: u16,
@@ -56,6 +60,7 @@ pub fn desk<N: StoreName>(
     let shared = Arc::new(
         alloc,
         Shared {
+            keys: BatchKeys::new(keys),
             queue,
             closed: AtomicBool::new(false),
             ended: AtomicBool::new(false),

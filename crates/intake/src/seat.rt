@@ -224,7 +224,7 @@ impl<N: StoreName> Seat<N> {
         ensures job { IfOk result (λ r. r.1 ≡ arc_value entry.now) }
     {
         let cell = Arc::new(alloc, Cell::new(entry))?;
-        let job = Job::new(entry, &cell)?;
+        let job = Job::new(self.shared.keys, entry, &cell)?;
         let shared = Arc::try_clone(&self.shared)?;
         Ok((Ticket::new(Arc::try_clone(entry)?, cell, shared), job))
     }

@@ -11,12 +11,15 @@ use crate::cell::{Cell, JobOutcome};
 use crate::queue::Queue;
 use crossbeam_utils::CachePadded;
 use read_side::{Receipt, StoreName};
+use sent_batches::BatchKeys;
 use std::sync::atomic::{AtomicBool, Ordering};
 use std::sync::{Arc, Mutex, Wait};
 use trace_model::Refusal;
 
 #[derive(Drop)]
 pub(crate) struct Shared<N: StoreName> {
+    /// Those of the store, by which batches are hashed.
+    pub(crate) keys: BatchKeys,
     pub(crate) queue: Queue<N>,
     /// The desk was closed.
     pub(crate) closed: AtomicBool,

@@ -1,3 +1,4 @@
 pub mod Walking
 pub mod Marking
+pub mod Sizes
 pub mod Once

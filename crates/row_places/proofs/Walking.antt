@@ -5,7 +5,7 @@ use Rattle.std.specs.List.{sum_by}
 use Rattle.std.proofs.lemmas.Bool.{false≢true, lt-ltb, cases_eq}
 use Rattle.std.proofs.lemmas.Bool.Decides.{nat_tests}
 use Rattle.std.proofs.lemmas.List.Sums.{sum_by-cons}
-use Rattle.row_places.specs.Leading.{start_of, steps, is_taken, EachBefore, AreTaken, Reaches, Walked, LeadsTo, Found}
+use Rattle.row_places.specs.Leading.{start_of, steps, is_taken, EachBefore, AreTaken, Reaches, Walked, LeadsIn, Found}
 
 -- steps
 pub steps_within : (n s k : ℕ) → s < n → k < n → steps n s k < n
@@ -45,7 +45,7 @@ never_all slots s sn free taken =
     absurd (omega arith)
 
 -- what a walk from the hash says of all rows
-pub found_is : (hashes slots : List ℕ) (is : ℕ → Bool) (hash : ℕ) → LeadsTo hashes slots → ((row : ℕ) → row < length hashes → is row ≡ true → get_or hashes row 0 ≡ hash)
+pub found_is : (hashes slots : List ℕ) (is : ℕ → Bool) (hash : ℕ) → LeadsIn hashes slots → ((row : ℕ) → row < length hashes → is row ≡ true → get_or hashes row 0 ≡ hash)
     → (r : Option ℕ) → Walked slots (start_of hash (length slots)) (length hashes) is r → Found (length hashes) is r
 found_is hashes slots is hash h same (Some row) w = w
 found_is hashes slots is hash h same None w = λ row below. elim (is row) as (λ b. is row ≡ b → b ≡ false) [

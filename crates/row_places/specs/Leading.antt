@@ -1,9 +1,17 @@
 -- How places lead to rows. A place has 0 where it is free, else a row and one more.
-use Rattle.std.specs.Prelude.{◌≡◌, ℕ, ◌+◌, ◌-◌, ◌*◌, ◌%◌, ◌<◌, ◌≤◌, Bool, true, false, cond, nat_lt, nat_eq, List, Option, Some, None, length, get_or, count_by}
+use Rattle.std.specs.Prelude.{◌≡◌, ℕ, ◌+◌, ◌-◌, ◌*◌, ◌%◌, ◌<◌, ◌≤◌, Bool, true, false, cond, nat_lt, nat_eq, List, Option, Some, None, length, get_or, count_by, take}
 
--- what is seen of places: what each has, and how many rows there is room for in all
+-- two tables of places, which take turns: what the places of the one in use have, and those of the next one; how many places the
+-- next one will have, and how many rows, from the first on, were moved to it
+pub record Slots : Type 0 where
+  pub used : List ℕ
+  pub next : List ℕ
+  pub places : ℕ
+  pub moved : ℕ
+
+-- what is seen of places: both tables, and how many rows there is room for in all
 pub record Places : Type 0 where
-  pub slots : List ℕ
+  pub slots : Slots
   pub room : ℕ
 
 -- where the walk for a hash begins, among so many places
@@ -38,12 +46,24 @@ abbrev pub Walked : List ℕ → ℕ → ℕ → (ℕ → Bool) → Option ℕ �
 Walked slots start rows is_sought (Some row) = (row < rows) × (is_sought row ≡ true)
 Walked slots start rows is_sought None = (row : ℕ) → Reaches slots start (row + 1) → is_sought row ≡ false
 
--- the places lead to the rows of these hashes; more than half of them are free
-pub record LeadsTo (hashes : List ℕ) (slots : List ℕ) : Type 0 where
+-- the places of a table lead to the rows of these hashes; more than half of them are free
+pub record LeadsIn (hashes : List ℕ) (slots : List ℕ) : Type 0 where
   pub half : 2 * length hashes < length slots
   pub taken : count_by is_taken slots ≡ length hashes
   pub known : (k : ℕ) → get_or slots k 0 ≤ length hashes
   pub found : (row : ℕ) → row < length hashes → Reaches slots (start_of (get_or hashes row 0) (length slots)) (row + 1)
+
+-- the next table, which will have so many places, leads to the rows that were moved to it; no row is moved before it has all of them
+pub record IsPrepared (hashes : List ℕ) (places : ℕ) (next : List ℕ) (moved : ℕ) : Type 0 where
+  pub within : length next ≤ places
+  pub some : moved ≤ length hashes
+  pub full : 0 < moved → length next ≡ places
+  pub leads : 0 < length next → LeadsIn (take moved hashes) next
+
+-- the table in use leads to the rows of these hashes, and the next one to those of them that were moved
+pub record LeadsTo (hashes : List ℕ) (slots : Slots) : Type 0 where
+  pub used : LeadsIn hashes slots.used
+  pub prepared : IsPrepared hashes slots.places slots.next slots.moved
 
 -- a row that is sought, or none of so many is
 abbrev pub Found : ℕ → (ℕ → Bool) → Option ℕ → Type 0

@@ -1,7 +1,8 @@
-ghost use Rattle.std.specs.Prelude.{◌≡◌, ℕ, ◌<◌, true, [], ◌∷◌, ◌++◌, length, get_or, IfOk};
+ghost use Rattle.std.specs.Prelude.{◌≡◌, ℕ, ◌+◌, ◌*◌, ◌<◌, true, [], ◌∷◌, ◌++◌, length, get_or, IfOk};
 ghost use Rattle.row_places.specs.Leading.{LeadsTo, Found};
 
-use crate::slots::{first_place, make_place, mark_row, walk};
+use crate::growing::{NextPlaces, add_free, growths_for, places_before};
+use crate::slots::{first_place, mark_row, walk};
 use crate::sought::Sought;
 use std::alloc::{AllocError, Global};
 use std::marker::Model;
@@ -10,24 +11,39 @@ use std::marker::Model;
 #[derive(Drop)]
 pub struct RowPlaces {
     room: u32,
-    /// A row and one more, at the first place that was free from where its hash points on; 0 where a
-    /// place is free. There are only as many as the rows need: the rest of the room isn't touched.
+    /// How many growths are still to come.
+    growths: u32,
+    /// The table in use, which leads to all rows: a row and one more, at the first place that was free from
+    /// where its hash points on; 0 where a place is free.
     slots: Vec<u32>,
+    /// The table after the next growth. It is prepared from when a quarter of the places in use are taken, and is
+    /// ready before half of them are.
+    next: NextPlaces,
 }
 
 impl Model for RowPlaces {
-    ghost use Rattle.std.specs.Prelude.{vec_capacity, ◌*◌, ◌<◌};
+    ghost use Rattle.std.specs.Prelude.{vec_capacity, length, ◌-◌};
     ghost use Rattle.row_places.specs.Leading.{Places};
+    ghost use Rattle.row_places.specs.Sizes.{places_before, IsSized};
 
     ghost Value = { Places };
 
-    ghost view = { λ p. record { room = p.room; slots = p.slots.items } };
+    ghost view = { λ p. record {
+      slots = record {
+        used = p.slots.items;
+        next = p.next.slots.items;
+        places = places_before p.room (p.growths - 1);
+        moved = p.next.moved;
+      };
+      room = p.room;
+    } };
 
-    ghost invariant = { λ p. 2 * p.room < vec_capacity p.slots };
+    ghost invariant = { λ p. IsSized p.room p.growths (length p.slots.items)
+        (vec_capacity p.slots) (vec_capacity p.next.slots) };
 }
 
 impl RowPlaces {
-    /// Places that lead to no row, with room for so many. Only one place is touched.
+    /// Places that lead to no row, with room for so many. At most three places are touched.
     ///
     /// # Errors
     ///
@@ -36,9 +52,19 @@ impl RowPlaces {
         ensures leads { IfOk result (λ places. LeadsTo [] places.slots) }
         ensures room { IfOk result (λ places. places.room ≡ room) }
     {
-        let mut slots = Vec::with_capacity(alloc, 2 * room as usize + 1)?;
-        slots.push_reserved(0);
-        Ok(RowPlaces { room, slots })
+        let growths = growths_for(room);
+        let mut slots = Vec::with_capacity(alloc, places_before(room, growths % 2))?;
+        let next = Vec::with_capacity(alloc, places_before(room, 1 - growths % 2))?;
+        add_free(&mut slots, places_before(room, growths));
+        Ok(RowPlaces {
+            room,
+            growths,
+            slots,
+            next: NextPlaces {
+                slots: next,
+                moved: 0,
+            },
+        })
     }
 
     /// How many rows there is room for in all.
@@ -59,6 +85,28 @@ impl RowPlaces {
         walk(&self.slots, first_place(self.slots.len(), hash), sought)
     }
 
+    /// Does one step of the next growth. Grows if otherwise half of the places would be taken once one more
+    /// row has its place.
+    fn make_place<S: Sought>(&mut self, rows: &S)
+        requires can_read { S.can_read rows.now }
+        requires leads { LeadsTo (S.hashes rows.now) self.old.slots }
+        requires room { length (S.hashes rows.now) < self.old.room }
+        ensures half { 2 * length (S.hashes rows.now) + 2 < length self.new.slots.used }
+        ensures leads { LeadsTo (S.hashes rows.now) self.new.slots }
+        ensures room { self.new.room ≡ self.old.room }
+    {
+        if self.growths == 0 {
+            return;
+        }
+        let growths = self.growths - 1;
+        let places = places_before(self.room, growths);
+        self.next.prepare(rows, places);
+        if self.slots.len() <= 2 * (rows.rows() + 1) {
+            self.next.replace(&mut self.slots, rows, places);
+            self.growths = growths;
+        }
+    }
+
     /// Marks a place of the row that comes behind all others, by its hash. No memory is taken.
     pub fn mark<S: Sought>(&mut self, hash: u64, rows: &S)
         requires can_read { S.can_read rows.now }
@@ -67,7 +115,7 @@ impl RowPlaces {
         ensures leads { LeadsTo (S.hashes rows.now ++ hash ∷ []) self.new.slots }
         ensures room { self.new.room ≡ self.old.room }
     {
-        make_place(&mut self.slots, rows, self.room);
+        self.make_place(rows);
         mark_row(&mut self.slots, hash, rows.rows() as u32);
     }
 }

@@ -1,7 +1,7 @@
 //! Walks over places, each of which has 0 where it is free, else a row and one more.
 
-ghost use Rattle.std.specs.Prelude.{◌≡◌, ℕ, ◌+◌, ◌*◌, ◌^◌, ◌<◌, ◌≤◌, List, [], ◌∷◌, ◌++◌, length, get_or, count_by, replicate, vec_capacity};
-ghost use Rattle.row_places.specs.Leading.{start_of, place_after, is_taken, steps, AreTaken, Walked, LeadsTo};
+ghost use Rattle.std.specs.Prelude.{◌≡◌, ℕ, ◌+◌, ◌*◌, ◌^◌, ◌<◌, ◌≤◌, List, [], ◌∷◌, ◌++◌, length, get_or, count_by};
+ghost use Rattle.row_places.specs.Leading.{start_of, place_after, is_taken, steps, AreTaken, Walked, LeadsIn};
 
 use crate::sought::Sought;
 
@@ -70,55 +70,10 @@ pub(crate) fn mark_row(slots: &mut [u32], hash: u64, row: u32)
     requires half { 2 * row + 2 < length slots.old }
     requires taken { count_by is_taken slots.old ≡ row }
     ensures length { length slots.new ≡ length slots.old }
-    ensures leads { (hashes : List ℕ) → length hashes ≡ row → LeadsTo hashes slots.old
-        → LeadsTo (hashes ++ hash ∷ []) slots.new }
+    ensures leads { (hashes : List ℕ) → length hashes ≡ row → LeadsIn hashes slots.old
+        → LeadsIn (hashes ++ hash ∷ []) slots.new }
 {
     let start = first_place(slots.len(), hash);
     let at = free_place(slots, start);
     slots[at] = row + 1;
-}
-
-/// So many places, all of them free.
-fn set_free(slots: &mut Vec<u32>, places: usize)
-    requires { places ≤ vec_capacity slots.old }
-    ensures items { slots.new.items ≡ replicate places 0 }
-    ensures capacity { vec_capacity slots.new ≡ vec_capacity slots.old }
-{
-    slots.clear();
-    for _set in 0..places {
-        slots.push_reserved(0);
-    }
-}
-
-/// Spreads the rows over so many places.
-fn spread<S: Sought>(slots: &mut Vec<u32>, rows: &S, places: usize)
-    requires can_read { S.can_read rows.now }
-    requires fits { length (S.hashes rows.now) < 2 ^ 32 }
-    requires capacity { places ≤ vec_capacity slots.old }
-    requires half { 2 * length (S.hashes rows.now) < places }
-    ensures length { length slots.new.items ≡ places }
-    ensures leads { LeadsTo (S.hashes rows.now) slots.new.items }
-    ensures capacity { vec_capacity slots.new ≡ vec_capacity slots.old }
-{
-    set_free(slots, places);
-    for row in 0..rows.rows() {
-        mark_row(slots, rows.hash_at(row), row as u32);
-    }
-}
-
-/// Sees to it that more than half of the places are free once one more row has its place. Where they
-/// wouldn't be, the rows are spread over about four times as many.
-pub(crate) fn make_place<S: Sought>(slots: &mut Vec<u32>, rows: &S, room: u32)
-    requires can_read { S.can_read rows.now }
-    requires more { length (S.hashes rows.now) < room }
-    requires capacity { 2 * room < vec_capacity slots.old }
-    requires leads { LeadsTo (S.hashes rows.now) slots.old.items }
-    ensures half { 2 * length (S.hashes rows.now) + 2 < length slots.new.items }
-    ensures leads { LeadsTo (S.hashes rows.now) slots.new.items }
-    ensures capacity { vec_capacity slots.new ≡ vec_capacity slots.old }
-{
-    let needed = rows.rows() + 1;
-    if slots.len() <= 2 * needed {
-        spread(slots, rows, 2 * (4 * needed).min(room as usize) + 1);
-    }
 }

@@ -94,7 +94,7 @@ impl Copies {
         ensures admitted { self.new ≡ after_admission self.old (arc_value entry)
             (admission_by (all_of self.old) (arc_value entry)) }
     {
-        let entry = self.accepted.hashed(entry);
+        let entry = self.accepted.recorded(entry);
         let admission = self.accepted.judge(&entry)?;
         if admission == Admission::Added {
             self.accepted.append(entry);

@@ -1,13 +1,13 @@
 -- What is kept of the batches with a number in a list of entries.
-use Rattle.std.specs.Prelude.{◌≡◌, ℕ, ◌+◌, ◌<◌, ◌≤◌, ◌^◌, Bool, false, List, [], ◌∷◌, map, length, get_or, slice_get, Option, Some, None, if◌then◌else◌}
+use Rattle.std.specs.Prelude.{◌≡◌, ℕ, ◌+◌, ◌<◌, ◌≤◌, ◌^◌, Bool, false, List, [], ◌∷◌, map, length, get_or, slice_get, if◌then◌else◌}
 use Rattle.std.specs.Option.{is_some, option_map_or}
 use Rattle.jaeger_model.specs.declared.batch.Batch.{Batch}
 use Rattle.trace_model.specs.declared.entry.Entry.{Entry}
 use Rattle.trace_model.specs.declared.entry.Work.{Work}
 use Rattle.trace_model.specs.declared.entry.Work.TheVariants as brings
 use Rattle.trace_model.specs.Works.{batch_brought}
-use Rattle.trace_model.specs.Resending.{is_sent_as, resends}
-use Rattle.row_places.specs.Leading.{LeadsTo}
+use Rattle.trace_model.specs.Resending.{resends}
+use Rattle.row_places.specs.Leading.{Slots, LeadsTo}
 use Rattle.sent_batches.specs.declared.keys.BatchKeys.{BatchKeys}
 use Rattle.sent_batches.specs.Hashing.{batch_hash}
 
@@ -39,7 +39,7 @@ pub record Sent : Type 0 where
   pub keys : BatchKeys
   pub befores : List ℕ
   pub hashes : List ℕ
-  pub slots : List ℕ
+  pub slots : Slots
   pub room : ℕ
 
 -- each stands behind entries of the list

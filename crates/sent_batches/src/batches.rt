@@ -7,7 +7,6 @@ ghost use Rattle.trace_model.specs.Histories.{before_last};
 ghost use Rattle.trace_model.specs.declared.entry.Entry.{Entry as EntryValue};
 ghost use Rattle.sent_batches.specs.Sent.{IsKept, has_number, work_hash};
 
-use crate::hashed::HashedEntry;
 use crate::keys::BatchKeys;
 use crate::sought::SoughtBatch;
 use row_places::RowPlaces;
@@ -68,14 +67,17 @@ impl SentBatches {
         self.keys
     }
 
-    /// How many entries stand before the one that brought a batch of this entry's number and process; none
-    /// where no entry did, and where this one has no batch with a number.
-    pub fn find(&self, entries: &[Arc<Entry>], entry: &HashedEntry) -> Option<u32>
+    /// Returns how many entries stand before the one that brought a batch with this entry's number and process, or
+    /// None if there is no such entry or this one has no batch with a number. The hash is the one that
+    /// [`BatchKeys::hash`] computes of the entry's work.
+    pub fn find(&self, entries: &[Arc<Entry>], entry: &Entry, hash: u64) -> Option<u32>
         requires kept { IsKept (map arc_value entries.now) self.now }
+        requires hash { has_number entry.now.work ≡ true →
+            hash ≡ work_hash self.now.keys entry.now.work }
         requires once { SentOnceAfter [] (map arc_value entries.now) }
         ensures { result ≡ sent_before (map arc_value entries.now) entry.now }
     {
-        let batch = entry.entry().work.batch()?;
+        let batch = entry.work.batch()?;
         if batch.seq_no.is_none() {
             return None;
         }
@@ -85,7 +87,7 @@ impl SentBatches {
             hashes: &self.hashes,
             batch,
         };
-        let row = self.places.find(entry.hash(self.keys), &sought)?;
+        let row = self.places.find(hash, &sought)?;
         Some(self.befores[row as usize])
     }
 

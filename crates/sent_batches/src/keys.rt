@@ -1,10 +1,13 @@
 //! The keys of the hash under which batches are found.
 
-ghost use Rattle.std.specs.Prelude.{◌≡◌, fold};
+ghost use Rattle.std.specs.Prelude.{◌≡◌, true, fold};
 ghost use Rattle.std.specs.Hash.DefaultHasher as sip;
 ghost use Rattle.sent_batches.specs.Hashing.{keys_fed};
+ghost use Rattle.sent_batches.specs.Sent.{has_number, work_hash};
 
+use crate::hashing::batch_hash;
 use std::hash::{BuildHasher, DefaultHasher, Hasher, RandomState};
+use trace_model::Work;
 
 /// Two numbers that whoever sends batches doesn't know. Lists with the same keys take a hash from one
 /// another.
@@ -27,6 +30,16 @@ impl BatchKeys {
         BatchKeys {
             first: drawn(keys, 0),
             second: drawn(keys, 1),
+        }
+    }
+
+    /// Computes the hash by which a batch with a number is found. Without such a batch it returns 0.
+    pub fn hash(self, work: &Work) -> u64
+        ensures { has_number work.now ≡ true → result ≡ work_hash self work.now }
+    {
+        match work.batch() {
+            Some(batch) if batch.seq_no.is_some() => batch_hash(self, batch),
+            _ => 0,
         }
     }
 

@@ -5,20 +5,18 @@
 //! holds of it is a clause of each call (`IsKept`). Following one more entry takes no memory. Batches are found
 //! by a hash of number and process under a key that is drawn at the program's start, over places of which more
 //! than half are free. Every part of a process delimits itself in what is hashed, so no sender can make two
-//! batches collide. The hash is taken once and goes along with the entry ([`HashedEntry`]). A batch without a
-//! number costs nothing.
+//! batches collide. The caller computes the hash once
+//! ([`BatchKeys::hash`]) and passes it to each call. A batch without a number costs nothing.
 //!
 //! * `batches`: the [`SentBatches`].
-//! * `hashed`: an entry with the hash of its batch. `hashing`: that hash. `keys`: its [`BatchKeys`].
+//! * `hashing`: the hash of a batch. `keys`: its [`BatchKeys`].
 //! * `sought`: a batch that is sought among those of entries.
 #![tactic(auto)]
 
 mod batches;
-mod hashed;
 mod hashing;
 mod keys;
 mod sought;
 
 pub use batches::SentBatches;
-pub use hashed::HashedEntry;
 pub use keys::BatchKeys;

@@ -10,7 +10,7 @@ use Rattle.std.proofs.lemmas.Bool.{false≢true, cases_lt, cond_below, cond_abov
 use Rattle.std.proofs.lemmas.Bool.Decides.{Decides-eqb, Decides-and, Decides-like, not_from_Decides}
 use Rattle.std.proofs.lemmas.List.{length-map, map_push, get_or-map, get_or_append_left, get_or_push}
 use Rattle.std.specs.declared.random_state.RandomState.{RandomState}
-use Rattle.row_places.specs.Leading.{LeadsTo, Found, AreOnce}
+use Rattle.row_places.specs.Leading.{Slots, LeadsTo, Found, AreOnce}
 use Rattle.row_places.proofs.Once.{row_none, row_some, once_more}
 use Rattle.jaeger_model.specs.Texts.{same_text}
 use Rattle.service_index.specs.Naming.{LabelValue, same_label, Labelling}
@@ -94,7 +94,7 @@ numbers_are labels t n h None f =
     cond_above (row_of labels t.numbers (labels.at n)) (length t.numbers) t.numbers (t.numbers ++ n ∷ []) (t.numbers ++ n ∷ []) (omega arith) refl
 
 -- no number yet
-pub named_empty : (labels : Labelling) (keys : RandomState) (room : ℕ) (slots : List ℕ) → room < 2 ^ 32 → LeadsTo [] slots → IsNamed labels (record { numbers = []; room = room; keys = keys; slots = slots })
+pub named_empty : (labels : Labelling) (keys : RandomState) (room : ℕ) (slots : Slots) → room < 2 ^ 32 → LeadsTo [] slots → IsNamed labels (record { numbers = []; room = room; keys = keys; slots = slots })
 named_empty labels keys room slots fits leads = record {
   fits = fits;
   within = omega arith;
@@ -112,7 +112,7 @@ numbers_more labels numbers n h held = record {
   ];
 }
 
-pub named_more : (labels : Labelling) (t : Table) (n : ℕ) (slots : List ℕ) → IsNamed labels t → n < labels.count → length t.numbers < t.room → Found (length t.numbers) (is_label labels t.numbers (labels.at n)) None
+pub named_more : (labels : Labelling) (t : Table) (n : ℕ) (slots : Slots) → IsNamed labels t → n < labels.count → length t.numbers < t.room → Found (length t.numbers) (is_label labels t.numbers (labels.at n)) None
     → LeadsTo (hashes_of t.keys (map labels.at t.numbers) ++ hash_of t.keys (labels.at n) ∷ []) slots → IsNamed labels (record { numbers = t.numbers ++ n ∷ []; room = t.room; keys = t.keys; slots = slots })
 named_more labels t n slots h held more f leads =
     let known = map labels.at t.numbers in

@@ -5,7 +5,7 @@ use Rattle.std.specs.Hash as fed
 use Rattle.std.specs.Hash.DefaultHasher as sip
 use Rattle.std.specs.RandomState.{initial_hasher}
 use Rattle.std.specs.declared.random_state.RandomState.{RandomState}
-use Rattle.row_places.specs.Leading.{LeadsTo, AreOnce}
+use Rattle.row_places.specs.Leading.{Slots, LeadsTo, AreOnce}
 use Rattle.service_index.specs.Naming.{LabelValue, same_label, Labelling, group_alone}
 
 -- what is seen of a table: the numbers in the order of adding, how many there is room for in all, and
@@ -14,7 +14,7 @@ pub record Table : Type 0 where
   pub numbers : List ℕ
   pub room : ℕ
   pub keys : RandomState
-  pub slots : List ℕ
+  pub slots : Slots
 
 -- the hash of a label under the keys
 unfoldable pub hash_of : RandomState → LabelValue → ℕ

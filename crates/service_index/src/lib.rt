@@ -10,10 +10,10 @@
 //! its name and its kind, so that no text of a service is hashed or compared when a number is added.
 //! Adding a number takes no memory. Its label is compared with one that was found lately; where that is
 //! another, the label is hashed under keys drawn at the start, and sought in the few places of a table at
-//! most half full that the hash leads to. Where a new label would take half of the
-//! places, the labels are spread over about four times as many, in the room that was taken. That it leads to
-//! its numbers by the names is a clause of each call (`IsIndexed`), which every call keeps and which
-//! stays true when more spans arrive (`laws::more_names`).
+//! most half full that the hash leads to. Before half of the places are taken, the labels are moved to about
+//! four times as many, a few with each new label, in the room that was taken. That it leads to its numbers by
+//! the names is a clause of each call (`IsIndexed`), which every call keeps and which stays true when more
+//! spans arrive (`laws::more_names`).
 //!
 //! * `index`: the [`ServiceIndex`].
 //! * `texts`: where names stand.

@@ -22,7 +22,7 @@ ghost use Rattle.span_store.specs.NextEntry.{next_entry};
 use crate::arrange::follow;
 use crate::common::{COMMON, asks_service_alone};
 use crate::finding;
-use arrival_journal::{Journal, OutlinedEntry, PreparedEntry};
+use arrival_journal::{Journal, Record};
 use arrival_names::ArrivalNames;
 use call_links::NumberedSpan;
 use find_traces::Wanted;
@@ -157,38 +157,36 @@ impl SpanStore {
             (admission_by self.old (arc_value entry)) }
         ensures legal { IsLegal self.new.limits self.new.entries }
     {
-        let entry = self.journal.prepared(OutlinedEntry::new(entry));
-        self.apply_prepared(entry)
-    }
-
-    /// The same of an entry with its outline, and the hash of its batch, which isn't taken again where the keys are
-    /// the same.
-    ///
-    /// # Errors
-    ///
-    /// Those of [`apply`](Self::apply).
-    pub fn apply_prepared(&mut self, entry: PreparedEntry) -> Result<u64, Refusal>
-        ensures place { result ≡ place_by self.old entry }
-        ensures applied { self.new ≡ with_admitted self.old entry (admission_by self.old entry) }
-        ensures legal { IsLegal self.new.limits self.new.entries }
-    {
-        match self.journal.judge(entry.hashed())? {
-            Admission::Added => Ok(self.add(entry)),
+        let entry = self.journal.recorded(entry);
+        match self.journal.judge(&entry)? {
+            Admission::Added => Ok(self.append(entry)),
             Admission::Resent { place } => Ok(place),
         }
     }
 
-    /// Adds an entry that may follow and gives its place.
-    fn add(&mut self, entry: PreparedEntry) -> u64
+    /// Says whether the entry may follow, or was sent before.
+    ///
+    /// # Errors
+    ///
+    /// Those of [`apply`](Self::apply).
+    pub fn judge(&self, entry: &Record) -> Result<Admission, Refusal>
+        ensures { result ≡ admission_by self.now entry.now }
+    {
+        self.journal.judge(entry)
+    }
+
+    /// Appends an entry that was judged before and may follow, and returns its place. It judges nothing, cannot be refused
+    /// and takes no memory.
+    pub fn append(&mut self, entry: Record) -> u64
         requires { admission_by self.old entry ≡ Ok Added }
-        ensures added { self.new ≡ followed_by self.old entry }
+        ensures appended { self.new ≡ followed_by self.old entry }
         ensures place { result ≡ length self.old.entries + 1 }
         ensures legal { IsLegal self.new.limits self.new.entries }
     {
         let place = self.journal.len() + 1;
         follow(entry.entry(), place, &mut self.shown);
         let kinds = entry.kinds().again();
-        self.journal.append_prepared(entry);
+        self.journal.append(entry);
         let entries = self.journal.entries();
         self.reported.add(entries);
         self.names.add(entries, &self.reported, &kinds);

@@ -25,6 +25,12 @@ pub record HasJudged (limits : Limits) (taken : List Entry) (accounts : List Acc
   pub acknowledged_is : acknowledged ≡ acknowledged_of accounts
   pub refused_is : refused ≡ refused_of accounts
 
+-- it judged them at this desk, and left none
+pub record KeepsBooks {A : Type 0} (limits : Limits) (opened closed : TableId) (taken : List Entry) (accounts : List Account) (lists : Lists) (acknowledged refused : ℕ) (left : List A) : Type 0 where
+  pub judged : HasJudged limits taken accounts lists acknowledged refused
+  pub same_desk : closed ≡ opened
+  pub none_left : left ≡ []
+
 -- these jobs were taken, and all of them are left
 abbrev pub Moves : List Entry → List Entry → List Entry → List Entry → Type 0
 Moves taken left taken' left' =

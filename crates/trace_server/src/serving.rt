@@ -14,9 +14,9 @@ use crate::gate::Gate;
 use crate::notices::{Notices, say_limits};
 use crate::reporting::{report, report_unclosed, say_listening, together};
 use crate::shared::SharedStore;
-use crate::threads::each_done;
+use crate::threads::{OwnWork, beside, each_done};
 use crate::worker::{Server, WorkerOutcome};
-use intake::{Books, Clerk};
+use intake::{Books, Clerk, Desk};
 use live_store::Live;
 use read_side::{Keeper, Opened, StoreName};
 use session_devices::Output;
@@ -26,7 +26,7 @@ use std::net::TcpListener;
 use std::snapshot::Snapshot;
 use std::sync::Wait;
 use std::sync::atomic::AtomicU64;
-use std::thread::{Promise, Threads, scope, scope_env, spawn};
+use std::thread::{Promise, Threads, spawn};
 use std::time::Clock;
 use trace_model::Limits;
 
@@ -44,19 +44,6 @@ type Outcomes<N> = Result<Vec<(WorkerOutcome, Live<N>)>, AllocError>;
 /// What the clerk leaves, and what the workers did.
 type Left<N> = (Books<N>, Outcomes<N>);
 
-/// The promise that workers that began with these ends of the store go on with their seats.
-#[derive(Drop)]
-struct KeepSeats<N: StoreName>(Snapshot<Vec<(u32, Live<N>)>>);
-
-impl<N: StoreName> Promise<Outcomes<N>> for KeepSeats<N> {
-    ghost use Rattle.live_store.specs.Sharing.{GoesOn};
-    ghost use Rattle.std.specs.List.{AllZip};
-    ghost use Rattle.std.specs.Prelude.{map, IfOk};
-
-    ghost kept_by = { λ began ended. IfOk ended (λ v.
-        AllZip GoesOn (map (λ p. p.1.seat) began.0.value.items) (map (λ w. w.1.seat) v.items)) };
-}
-
 /// Has each worker serve until all sessions are over, and closes the desk then.
 fn work_all<N: StoreName + Send + Sync, G: Gate + Sync, R: Threads + Wait + Clock + Eprint + Sync>(
     rt: &R,
@@ -71,76 +58,54 @@ fn work_all<N: StoreName + Send + Sync, G: Gate + Sync, R: Threads + Wait + Cloc
     outcomes
 }
 
-/// Has the clerk of an empty store serve until the desk is closed. It takes the keeper out of the slot.
-fn keep_books<N: StoreName, R: Wait>(
-    rt: &R,
+/// The promise that workers that began with these ends of the store go on with their seats.
+#[derive(Drop)]
+struct KeepSeats<N: StoreName>(Snapshot<Vec<(u32, Live<N>)>>);
+
+impl<N: StoreName> Promise<Outcomes<N>> for KeepSeats<N> {
+    ghost use Rattle.live_store.specs.Sharing.{GoesOn};
+    ghost use Rattle.std.specs.List.{AllZip};
+    ghost use Rattle.std.specs.Prelude.{map, IfOk};
+
+    ghost kept_by = { λ began ended. IfOk ended (λ v.
+        AllZip GoesOn (map (λ p. p.1.seat) began.0.value.items) (map (λ w. w.1.seat) v.items)) };
+}
+
+/// The clerk of an empty store, and the slot in which its keeper is.
+#[derive(Drop)]
+struct ClerkWork<'d, 's, N: StoreName> {
+    desk: &'d Desk<N>,
     clerk: Clerk<N>,
-    slot: &mut Option<Keeper<N>>,
-) -> Books<N>
-    requires keeper { slot.old ≡ Some no_entries }
-    requires clerk { IsNewClerk clerk }
-    ensures judged { HasJudged N.limits result.inbox.taken result.accounts result.keeper
-        result.acknowledged result.refused }
-    ensures left { result.left.items ≡ [] }
-    ensures desk { result.inbox.desk ≡ clerk.desk }
-{
-    let Some(keeper) = slot.take() else {
-        unreachable!()
-    };
-    clerk.run(rt, keeper)
+    slot: &'s mut Option<Keeper<N>>,
+}
+
+impl<'d, 's, N: StoreName, R: Wait> OwnWork<R, Books<N>> for ClerkWork<'d, 's, N> {
+    ghost use Rattle.std.specs.Prelude.{◌≡◌, [], Some};
+    ghost use Rattle.read_side.specs.Keepers.{no_entries};
+    ghost use Rattle.intake.specs.Turns.{IsNewClerk};
+    ghost use Rattle.trace_server.specs.WorkerSeats.{KeepsBooks};
+
+    ghost ready = { λ w. (w.slot.now ≡ Some no_entries) × IsNewClerk w.clerk };
+
+    ghost gives = { λ w books. KeepsBooks N.limits w.clerk.desk books.inbox.desk books.inbox.taken
+        books.accounts books.keeper books.acknowledged books.refused books.left.items };
+
+    /// Has the clerk serve until the desk is closed. It takes the keeper out of the slot. Where there are no workers, the
+    /// desk is closed first.
+    fn run(self, rt: &R, has_other: bool) -> Books<N> {
+        let ClerkWork { desk, clerk, slot } = self;
+        if !has_other {
+            desk.close(rt);
+        }
+        let Some(keeper) = slot.take() else {
+            unreachable!()
+        };
+        clerk.run(rt, keeper)
+    }
 }
 
 /// Has the clerk serve in this thread, and the workers in threads of their own, until all sessions are over. Where no
 /// thread can be made for them, the desk is closed and nobody is served.
-fn serve_beside<
-    N: StoreName + Send + Sync,
-    G: Gate + Sync,
-    R: Threads + Wait + Clock + Eprint + Sync,
->(
-    rt: &R,
-    server: &Server<'_, N, G>,
-    lives: Vec<(u32, Live<N>)>,
-    clerk: Clerk<N>,
-    slot: &mut Option<Keeper<N>>,
-) -> Left<N>
-    requires keeper { slot.old ≡ Some no_entries }
-    requires clerk { IsNewClerk clerk }
-    ensures judged { HasJudged N.limits result.0.inbox.taken result.0.accounts result.0.keeper
-        result.0.acknowledged result.0.refused }
-    ensures left { result.0.left.items ≡ [] }
-    ensures desk { result.0.inbox.desk ≡ clerk.desk }
-    ensures seats { IfOk result.1 (λ v. AllZip GoesOn (map (λ p. p.1.seat) lives.items)
-        (map (λ w. w.1.seat) v.items)) }
-{
-    scope(
-        scope_env(),
-        rt,
-        |scope| -> Left<N>
-            requires keeper { slot.now ≡ Some no_entries }
-            requires clerk { IsNewClerk clerk }
-            ensures judged { HasJudged N.limits result.0.inbox.taken result.0.accounts
-                result.0.keeper result.0.acknowledged result.0.refused }
-            ensures left { result.0.left.items ≡ [] }
-            ensures desk { result.0.inbox.desk ≡ clerk.desk }
-            ensures seats { IfOk result.1 (λ v. AllZip GoesOn (map (λ p. p.1.seat) lives.items)
-                (map (λ w. w.1.seat) v.items)) }
-        {
-            let began = KeepSeats(Snapshot::of(&lives));
-            match scope.spawn_with(began, || work_all(rt, server, lives)) {
-                Ok(workers) => {
-                    let books = keep_books(rt, clerk, slot);
-                    (books, workers.join(rt))
-                }
-                Err(_) => {
-                    server.desk.close(rt);
-                    (keep_books(rt, clerk, slot), Err(AllocError))
-                }
-            }
-        },
-    )
-}
-
-/// Serves until all sessions are over.
 fn serve_sessions<
     N: StoreName + Send + Sync,
     G: Gate + Sync,
@@ -173,11 +138,28 @@ fn serve_sessions<
         idle: setup.config.options.idle,
     };
     let mut slot = Some(keeper);
-    let left = serve_beside(rt, &server, lives, clerk, &mut slot);
+    let seats = KeepSeats(Snapshot::of(&lives));
+    let work = ClerkWork {
+        desk: &desk,
+        clerk,
+        slot: &mut slot,
+    };
+    let (books, outcomes) = beside(
+        rt,
+        seats,
+        || -> Outcomes<N>
+            ensures { IfOk result (λ v. AllZip GoesOn (map (λ p. p.1.seat) lives.items)
+                (map (λ w. w.1.seat) v.items)) }
+        { work_all(rt, &server, lives) },
+        work,
+    );
     if let Some(untaken) = slot {
         untaken.close(rt);
     }
-    left
+    match outcomes {
+        Some(outcomes) => (books, outcomes),
+        None => (books, Err(AllocError)),
+    }
 }
 
 /// Has the store served, closes its books and the store, reports, and gives the exit status.

@@ -63,6 +63,7 @@ fn open_desk<N: StoreName>(
     let first = keeper.receipt();
     let (desk, seats, clerk) = desk(
         alloc,
+        config.keys,
         first,
         config.options.queue as usize,
         config.options.workers,

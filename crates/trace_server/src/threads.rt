@@ -1,10 +1,11 @@
 //! Work that is split among threads.
 
 ghost use Rattle.std.specs.List.{AllZip};
-ghost use Rattle.std.specs.Prelude.{IfOk};
+ghost use Rattle.std.specs.Prelude.{IfOk, IfSome};
 
 use std::alloc::AllocError;
-use std::thread::{Threads, map_vec};
+use std::sync::Wait;
+use std::thread::{Promise, Threads, map_vec, scope, scope_env};
 
 /// What a thread does with its argument. It may wait where the handle `R` may.
 pub(crate) trait Task<R, P, X> {
@@ -24,4 +25,55 @@ pub(crate) fn each_done<P: Send + Drop, X: Send + Drop, R: Threads + Sync, T: Ta
     ensures { IfOk result (λ v. AllZip T.gives arguments.items v.items) }
 {
     map_vec(rt, arguments, &|argument| task.done(rt, argument))
+}
+
+/// Work that is done beside another thread. It may wait where the handle `R` may.
+pub(crate) trait OwnWork<R, Y> {
+    /// It may be done.
+    ghost ready: { Self → Type 0 };
+
+    /// What it may give.
+    ghost gives: { Self → Y → Type 0 };
+
+    /// Does the work. `has_other` says whether the other thread could be made.
+    fn run(self, rt: &R, has_other: bool) -> Y
+        requires { ready self }
+        ensures { gives self result };
+}
+
+/// Runs `theirs` in a thread of its own while `ours` is done in this one, and returns what both gave. If that thread can't
+/// be made, `theirs` isn't run.
+pub(crate) fn beside<
+    X: Send + Drop,
+    Y,
+    R: Threads + Wait,
+    P: Promise<X> + Drop,
+    T: FnOnce() -> X + Send,
+    F: OwnWork<R, Y> + Drop,
+>(rt: &R, promise: P, theirs: T, ours: F) -> (Y, Option<X>)
+    requires theirs { T.pre theirs }
+    requires keeps { (given : X) → T.post theirs given → P.kept_by promise given }
+    requires ours { F.ready ours }
+    ensures ours { F.gives ours result.0 }
+    ensures theirs { IfSome result.1 (P.kept_by promise) }
+{
+    scope(
+        scope_env(),
+        rt,
+        |scope| -> (Y, Option<X>)
+            requires theirs { T.pre theirs }
+            requires keeps { (given : X) → T.post theirs given → P.kept_by promise given }
+            requires ours { F.ready ours }
+            ensures ours { F.gives ours result.0 }
+            ensures theirs { IfSome result.1 (P.kept_by promise) }
+        {
+            match scope.spawn_with(promise, theirs) {
+                Ok(thread) => {
+                    let given = ours.run(rt, true);
+                    (given, Some(thread.join(rt)))
+                }
+                Err(_) => (ours.run(rt, false), None),
+            }
+        },
+    )
 }

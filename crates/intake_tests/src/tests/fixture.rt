@@ -64,16 +64,10 @@ pub(crate) fn opened<N: StoreName, R: Wait + RandomSource>(
     requires queue { (1 ≤ capacity) × (capacity ≤ 4096) }
     ensures seats { IfOk result (λ f. All (IsNewSeat f.clerk.desk capacity) f.seats.items) }
 {
-    let (mut keeper, passes) = open::<N, _>(
-        rt,
-        alloc,
-        RandomState::new(rt)?,
-        name,
-        limits,
-        readers,
-    )?;
+    let keys = RandomState::new(rt)?;
+    let (mut keeper, passes) = open::<N, _>(rt, alloc, keys, name, limits, readers)?;
     let first = keeper.receipt();
-    match desk(alloc, first, capacity, 4) {
+    match desk(alloc, keys, first, capacity, 4) {
         Err(why) => {
             drop(passes);
             keeper.close(rt);

@@ -84,7 +84,7 @@ fn live_bytes<N: StoreName + Send + Sync, R: Threads + Wait + Abort + Sync>(
 {
     let (mut keeper, mut passes) = open::<N, _>(rt, alloc, keys, name, limits, 1)?;
     let first = keeper.receipt();
-    match desk(alloc, first, 1, 1) {
+    match desk(alloc, keys, first, 1, 1) {
         Err(why) => {
             keeper.close(rt);
             Err(Fail::from(why))

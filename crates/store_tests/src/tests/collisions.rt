@@ -18,8 +18,8 @@ const ROOM: u32 = 40;
 /// The places of a table that is full.
 const FULL: u64 = 81;
 
-/// The places of a table with eight rows, times those that it has before it spreads them.
-const EIGHT: u64 = 41 * 9;
+/// The places of a table with eight rows. Those that it has with fewer divide them.
+const EIGHT: u64 = 20;
 
 /// The walk to the id begins at the first of so many places.
 fn is_first(keys: &RandomState, id: TraceId, places: u64) -> bool {

@@ -187,7 +187,7 @@ fn first(
     alloc: Global,
     journal: &mut Journal,
 ) -> Result<(u64, u16, Result<Admission, Refusal>, bool), AllocError> {
-    let first = journal.hashed(entry_of(alloc, 0, 1, 1)?);
+    let first = journal.recorded(entry_of(alloc, 0, 1, 1)?);
     let copy = first.try_clone();
     let was_empty = journal.is_empty();
     let judged = journal.judge(&first);
@@ -206,7 +206,7 @@ fn first(
 
 /// What is judged of a second one.
 fn second(alloc: Global, journal: &Journal) -> Result<Result<Admission, Refusal>, AllocError> {
-    let second = journal.hashed(entry_of(alloc, 1, 1, 0)?);
+    let second = journal.recorded(entry_of(alloc, 1, 1, 0)?);
     let judged = journal.judge(&second);
     drop(second);
     Ok(judged)

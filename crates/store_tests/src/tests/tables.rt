@@ -32,3 +32,22 @@ fn each_id_has_its_row(rt: HostRuntime) -> Result<(), Fail> {
     }
     Ok(())
 }
+
+/// Each of the first ids has its row, and the one after them has none.
+fn are_found(table: &IdTable, used: u32) -> bool {
+    (0..used).all(|row| table.find(nth(row)) == Some(row)) && table.find(nth(used)).is_none()
+}
+
+/// A table grows three or four times, and each of these rooms ends with another one of its two tables of places.
+#[test]
+fn each_id_is_found_at_each_step_of_a_growth(rt: HostRuntime) -> Result<(), Fail> {
+    for room in [63, 300] {
+        let mut table = IdTable::with_room(rt.alloc(), RandomState::new(&rt)?, room)?;
+        for row in 0..room {
+            assert!(rt; table.has_room());
+            assert_eq!(rt; table.enter_near(row, nth(row)), Entered::Added(row));
+            assert!(rt; are_found(&table, row + 1));
+        }
+    }
+    Ok(())
+}

@@ -1,4 +1,4 @@
-use Rattle.std.proofs.Common.{◌∙◌, ap, take}
+use Rattle.std.proofs.Common.{◌∙◌, ap}
 use Rattle.std.proofs.lemmas.List.{take_all}
 use Rattle.arrival_journal.specs.Times.{times_of, times_with}
 use Rattle.arrival_journal.proofs.Widening.{widened}

@@ -1,4 +1,4 @@
-use Rattle.std.proofs.Common.{◌≡◌, ◌∙◌, ℤ, w64, rules, to_z, of_z}
+use Rattle.std.proofs.Common.{◌≡◌, w64, rules, to_z, of_z}
 use Rattle.std.specs.Int.{int_min, int_max}
 use Rattle.arrival_journal.proofs.times.Times.with.Goals as goal
 

@@ -13,7 +13,7 @@ use Rattle.arrival_names.specs.Kept.{IsKept as NamesKept}
 use Rattle.service_places.specs.Reported.{IsKept as PlacesKept}
 use Rattle.span_store.specs.Kept.{Follows, IsNamed, IsPlaced}
 use Rattle.span_store.proofs.Keeping.{Grows, arrivals_fit, kept_more, kept_room, kept_within, spans_fit}
-use Rattle.span_store.proofs.store.SpanStore.add.Goals as goal
+use Rattle.span_store.proofs.store.SpanStore.append.Goals as goal
 
 pub follow-requires-clause-within : goal.follow-requires-clause-within
 follow-requires-clause-within c =
@@ -40,7 +40,7 @@ pub invariant_of-self : goal.invariant_of-self
 invariant_of-self c =
     let was = c.self.inside in
     let e : Entry = c.args.entry in
-    let held : c.append_prepared.new.self.held ≡ followed_by was.journal.held e = c.append_prepared.ensures.appended in
+    let held : c.append.new.self.held ≡ followed_by was.journal.held e = c.append.ensures.appended in
     let place : c.len-place.result + 1 ≡ length was.journal.held.entries + 1 = ap (λ k. k + 1) c.len-place.ensures.length in
     let n = was.journal.held.limits.traces in
     let h = was.journal.held.entries in
@@ -62,12 +62,12 @@ invariant_of-self c =
       kept = subst (λ (h : List Entry). PlacesKept h c.add.new.self) list c.add.ensures.kept;
       batches = c.add.ensures.batches ∙ c.self.invariant.placed.batches;
     } in
-    kept_more was.journal.held c.append_prepared.new.self.held e was.shown after was.names c.add-2.new.self was.reported c.add.new.self c.self.invariant held grows follows names placed
+    kept_more was.journal.held c.append.new.self.held e was.shown after was.names c.add-2.new.self was.reported c.add.new.self c.self.invariant held grows follows names placed
 
 pub add-requires-2-clause-numbers : goal.add-requires-2-clause-numbers
 add-requires-2-clause-numbers c =
-    arrivals_fit c.self.inside.journal.held _ (c.args.entry) (map (arc_value {X = Entry} {Z = Global}) c.entries-entries.result.now) _ c.append_prepared.ensures.appended c.append_prepared.ensures.legal c.entries-entries.ensures c.self.invariant.named.numbers
+    arrivals_fit c.self.inside.journal.held _ (c.args.entry) (map (arc_value {X = Entry} {Z = Global}) c.entries-entries.result.now) _ c.append.ensures.appended c.append.ensures.legal c.entries-entries.ensures c.self.invariant.named.numbers
 
 pub add-requires-2-clause-index : goal.add-requires-2-clause-index
 add-requires-2-clause-index c =
-    arrivals_fit c.self.inside.journal.held _ (c.args.entry) (map (arc_value {X = Entry} {Z = Global}) c.entries-entries.result.now) _ c.append_prepared.ensures.appended c.append_prepared.ensures.legal c.entries-entries.ensures c.self.invariant.named.index
+    arrivals_fit c.self.inside.journal.held _ (c.args.entry) (map (arc_value {X = Entry} {Z = Global}) c.entries-entries.result.now) _ c.append.ensures.appended c.append.ensures.legal c.entries-entries.ensures c.self.invariant.named.index
