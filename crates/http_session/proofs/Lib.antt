@@ -6,3 +6,4 @@ pub mod Awaiting
 pub mod Turns
 pub mod Answering
 pub mod Points
+pub mod Piecewise

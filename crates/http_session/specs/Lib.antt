@@ -11,3 +11,4 @@ pub mod InOrder
 pub mod Underway
 pub mod Related
 pub mod Between
+pub mod Pieces

@@ -5,20 +5,19 @@ ghost use Rattle.http_session.specs.Replies.{response_of, closes, takes_no_memor
 ghost use Rattle.http_session.specs.Responses.{response_bytes};
 ghost use Rattle.http_session.specs.declared.exchanges.SessionErrorKind.TheVariants.{Writing, Memory};
 ghost use Rattle.http_session.specs.Sessions.{Step, Says, part_said, cause_by};
-ghost use Rattle.http_session.specs.InOrder.{line_of, EndsOver, FailsOver};
+ghost use Rattle.http_session.specs.InOrder.{line_of};
 ghost use Rattle.http_session.specs.Between.{store_of, devices_of, EndsBetween, FailsBetween, EndsServed, FailsServed};
 
-use crate::hearing::{Heard, hear};
+use crate::pieces::Session;
 use crate::reply::{Reply, Response};
 use crate::send::{send, send_parts};
 use crate::verdict::Verdict;
-use http_requests::{ReadBuffer, ReadError};
+use http_requests::ReadError;
 use matchit::Router;
 use query_http::{Endpoint, endpoints};
 use query_json::AnswerParts;
 use session_devices::{Connection, Input, Join, Output};
 use std::alloc::Global;
-use std::mem::drop;
 use store_backend::Backend;
 
 /// How a session ended.
@@ -58,7 +57,7 @@ pub(crate) struct Silence {
 }
 
 impl Silence {
-    fn after(self, answered: u64) -> SessionError
+    pub(crate) fn after(self, answered: u64) -> SessionError
         ensures { result ≡
             record { answered = answered; written = self.written; cause = self.cause } }
     {
@@ -70,7 +69,7 @@ impl Silence {
     }
 }
 
-fn cause_of(why: ReadError) -> SessionErrorKind
+pub(crate) fn cause_of(why: ReadError) -> SessionErrorKind
     ensures { result ≡ cause_by why }
 {
     match why {
@@ -80,7 +79,12 @@ fn cause_of(why: ReadError) -> SessionErrorKind
 }
 
 /// Asks the store where the request needs it.
-fn answer<T, B: Backend<T>>(rt: &T, alloc: Global, backend: &mut B, verdict: Verdict) -> Reply
+pub(crate) fn answer<T, B: Backend<T>>(
+    rt: &T,
+    alloc: Global,
+    backend: &mut B,
+    verdict: Verdict,
+) -> Reply
     ensures { Step B.submits B.reads backend.old verdict result backend.new }
 {
     match verdict {
@@ -97,7 +101,7 @@ fn answer<T, B: Backend<T>>(rt: &T, alloc: Global, backend: &mut B, verdict: Ver
 }
 
 /// Whether the session closes behind the reply to a request, which may ask for it.
-fn closes_behind(asked: bool, reply: &Reply) -> bool
+pub(crate) fn closes_behind(asked: bool, reply: &Reply) -> bool
     ensures { result ≡ (asked || closes reply.now) }
 {
     asked || reply.closes()
@@ -156,7 +160,12 @@ fn speak_whole<W: Output>(output: &mut W, response: Response<'_>) -> Result<(), 
 }
 
 /// Writes the response of a reply; it takes no memory where that is 202 or 500.
-fn say<W: Output>(alloc: Global, output: &mut W, reply: &Reply, close: bool) -> Result<(), Silence>
+pub(crate) fn say<W: Output>(
+    alloc: Global,
+    output: &mut W,
+    reply: &Reply,
+    close: bool,
+) -> Result<(), Silence>
     ensures says { Says (W.contents output.old) (W.contents output.new) (W.has_failed output.old)
         (W.has_failed output.new) (response_of reply.now close) result }
     ensures took { W.takes output.old (part_said (response_of reply.now close) result) output.new }
@@ -185,56 +194,21 @@ fn run_session<T, C: Connection, B: Backend<T>>(
     requires routes { router.now ≡ endpoint_rows }
     requires input_works { C.Input.has_failed connection.old ≡ false }
     requires output_works { C.Output.has_failed connection.old ≡ false }
-    ensures ended { IfOk result (EndsOver B.submits B.reads
+    ensures ended { IfOk result (EndsServed (store_of B.submits B.reads B.knows B.limits)
         (line_of C.remaining C.gives C.Input.has_failed C.contents C.takes C.Output.has_failed)
         connection.old connection.new backend.old backend.new) }
     ensures works { OnOk result ((C.Input.has_failed connection.new ≡ false)
         × (C.Output.has_failed connection.new ≡ false)) }
-    ensures error { IfErr result (FailsOver B.submits B.reads
+    ensures error { IfErr result (FailsServed (store_of B.submits B.reads B.knows B.limits)
         (line_of C.remaining C.gives C.Input.has_failed C.contents C.takes C.Output.has_failed)
         connection.old connection.new backend.old backend.new) }
 {
-    let mut received = ReadBuffer::new(alloc);
-    let mut answered = 0u64;
+    let mut session = Session::new(alloc);
     'requests: loop {
-        let (verdict, asked) = match hear(alloc, router, connection, &mut received) {
-            Err(why) => {
-                return Err(SessionError {
-                    answered,
-                    written: 0,
-                    cause: cause_of(why),
-                });
-            }
-            Ok(Heard::Clean) => {
-                return Ok(Ended {
-                    answered,
-                    clean: true,
-                });
-            }
-            Ok(Heard::Broken(breach)) => {
-                if let Err(silence) = say(alloc, connection, &Reply::Broken(breach), true) {
-                    return Err(silence.after(answered));
-                }
-                return Ok(Ended {
-                    answered: answered + 1,
-                    clean: false,
-                });
-            }
-            Ok(Heard::One(verdict, asked)) => (verdict, asked),
-        };
-        let reply = answer(rt, alloc, backend, verdict);
-        let close = closes_behind(asked, &reply);
-        let said = say(alloc, connection, &reply, close);
-        drop(reply);
-        if let Err(silence) = said {
-            return Err(silence.after(answered));
-        }
-        answered += 1;
-        if close {
-            return Ok(Ended {
-                answered,
-                clean: false,
-            });
+        match session.answer_next(rt, alloc, router, connection, backend) {
+            Ok(None) => {}
+            Ok(Some(ended)) => return Ok(ended),
+            Err(error) => return Err(error),
         }
     }
 }

@@ -11,17 +11,22 @@
 //! * `reply`: what is answered, and its response.
 //! * `fixed`: the responses 202 and 500, which take no memory.
 //! * `send`: writing all of a piece, or all parts of an answer.
+//! * `pieces`: a session that goes on request by request, with pauses in between.
 //! * `exchanges`: the session, one exchange after the other.
+//! * `laws`: facts about sessions that go on in pieces.
 #![tactic(auto)]
 
 mod exchanges;
 mod fixed;
 mod hearing;
+pub mod laws;
+mod pieces;
 mod question;
 mod reply;
 mod send;
 mod verdict;
 
 pub use exchanges::{Ended, SessionError, SessionErrorKind, serve_connection, session};
+pub use pieces::Session;
 pub use reply::{Reply, Response};
 pub use verdict::{Remark, Verdict};

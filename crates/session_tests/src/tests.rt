@@ -3,6 +3,7 @@
 mod chunked;
 mod devices;
 mod large;
+mod pieces;
 mod pipes;
 mod requests;
 mod turns;

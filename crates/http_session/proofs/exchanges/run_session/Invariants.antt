@@ -1,15 +1,20 @@
-use Rattle.std.proofs.Common.{◌≡◌, ◌+◌, ◌*◌, length, false}
+use Rattle.std.proofs.Common.{◌≡◌, ◌*◌, ◌-◌, false}
+use Rattle.http_requests.specs.declared.read_buffer.TheConstants.{MOST_READS}
 use Rattle.http_requests.specs.declared.room.TheConstants.{PIECE}
 use Rattle.http_session.specs.InOrder.{line_of}
-use Rattle.http_session.specs.Underway.{SoFar}
+use Rattle.http_session.specs.Between.{store_of}
+use Rattle.http_session.specs.Pieces.{Underway, CanContinue}
 use Rattle.http_session.proofs.exchanges.run_session.Given as goal
 
 abbrev pub invariant-requests : goal.invariant-requests
-invariant-requests g l = SoFar (g.B.Backend.submits) (g.B.Backend.reads)
+invariant-requests g l =
+    Underway (store_of g.B.Backend.submits g.B.Backend.reads g.B.Backend.knows g.B.Backend.limits)
     (line_of g.C.Input.remaining g.C.Input.gives g.C.Input.has_failed g.C.Output.contents g.C.Output.takes g.C.Output.has_failed)
-    l.initial.connection l.connection l.initial.backend l.backend l.received l.answered
+    l.initial.connection l.connection l.initial.backend l.backend l.session
     × (g.C.Input.has_failed l.connection ≡ false)
     × (g.C.Output.has_failed l.connection ≡ false)
+    × CanContinue (g.C.Input.remaining l.connection) l.session
 
+-- a response more is written by each piece, and there is a limit to them
 abbrev pub decreases-requests : goal.decreases-requests
-decreases-requests g l = PIECE * l.received.left + length l.received.held
+decreases-requests g l = PIECE * MOST_READS - l.session.answered

@@ -1,0 +1,230 @@
+-- One piece of a session: what it has come to, wherever it began, and also where others used the store since the piece before.
+use Rattle.std.proofs.Common.{◌≡◌, ◌≢◌, ℕ, ◌+◌, ◌||◌, Bool, true, false, List, take, Option, Some, None, Result, Ok, Err, refl, sym, ◌∙◌, subst, arith, inl, inr}
+use Rattle.std.specs.Io.KnownBytes.{Appends, IsAtEnd}
+use Rattle.jaeger_model.specs.declared.batch.Batch.{Batch}
+use Rattle.trace_model.specs.declared.limits.Limits.{Limits}
+use Rattle.trace_model.specs.declared.query.Query.{Query}
+use Rattle.trace_model.specs.declared.answer.Answer.{Answer}
+use Rattle.trace_model.specs.declared.refusal.Refusal.{Refusal}
+use Rattle.store_backend.specs.Knowing.{History, Keeps, SubmitKnows, ReadKnows}
+use Rattle.http_requests.specs.declared.read_buffer.ReadError.{ReadError}
+use Rattle.http_requests.specs.declared.asked.Breach.{Breach}
+use Rattle.http_requests.specs.Receiving.{ReadBuffer, SameUnlessReading, FindsBreach}
+use Rattle.http_session.specs.Hearing.{HearsOne, HearsEnd, HearsNothing}
+use Rattle.http_session.specs.Replies.{closes, takes_no_memory, response_of}
+use Rattle.http_session.specs.Sessions.{Submits, Reads, Step, Says, cause_by}
+use Rattle.http_session.specs.InOrder.{Line, IsTwoWay, EndsOver, FailsOver}
+use Rattle.http_session.specs.Between.{Store, store_of, EndsServed, FailsServed}
+use Rattle.http_session.specs.Pieces.{AsksOnce, AnswersSoFar, StaysUnderway, ForgetsNothing, SubmitsSome, ReadsSome, no_requests_yet, CanContinue, shared, Underway, ComesTo, UnderwayAmong, GoesOn}
+use Rattle.http_session.specs.declared.pieces.Session.{Session}
+use Rattle.http_session.specs.declared.verdict.Verdict.{Verdict}
+use Rattle.http_session.specs.declared.verdict.Verdict.TheVariants.{Submit, Ask, Say}
+use Rattle.http_session.specs.declared.reply.Reply.{Reply}
+use Rattle.http_session.specs.declared.reply.Reply.TheVariants.{Accepted, Answered, Refused, Said, Broken}
+use Rattle.http_session.specs.declared.exchanges.Ended.{Ended}
+use Rattle.http_session.specs.declared.exchanges.SessionError.{SessionError}
+use Rattle.http_session.specs.declared.exchanges.SessionErrorKind.TheVariants.{Memory}
+use Rattle.http_session.specs.declared.exchanges.Silence.{Silence}
+use Rattle.http_session.proofs.Points.{related_all}
+use Rattle.http_session.proofs.Turns.{begins, reads_on, ends_clean, ends_broken, fails_reading, fails_parting}
+use Rattle.http_session.proofs.Answering.{fewer_left, answered_open, answered_last, answered_not}
+
+-- ---- what a store promises, and that it promises it also where others use it
+
+pub record Promises {S : Type 0} (store : Store S) : Type 0 where
+  pub submit_knows : (s : S) (b : Batch) (r : Result ℕ Refusal) (t : S) → store.submits s b r t → SubmitKnows store.limits store.knows s b r t
+  pub read_knows : (s : S) (q : Query) (r : Result Answer Refusal) (t : S) → store.reads s q r t → ReadKnows store.limits store.knows s q r t
+
+pub promises_of : {S : Type 0} {submits : Submits S} {reads : Reads S} {knows : S → History → Type 0} {limits : S → Limits}
+    → ((s : S) (b : Batch) (r : Result ℕ Refusal) (t : S) → submits s b r t → SubmitKnows limits knows s b r t)
+    → ((s : S) (q : Query) (r : Result Answer Refusal) (t : S) → reads s q r t → ReadKnows limits knows s q r t)
+    → Promises (store_of submits reads knows limits)
+promises_of submit_knows read_knows = record { submit_knows = submit_knows; read_knows = read_knows }
+
+module _ {S : Type 0} (store : Store S) where
+  pub keeps_all : (s : S) → Keeps store.limits store.knows s s
+  keeps_all s = record { same_limits = refl; knowledge = λ h k. k }
+
+  pub keeps_on : (s m t : S) → Keeps store.limits store.knows s m → Keeps store.limits store.knows m t → Keeps store.limits store.knows s t
+  keeps_on s m t one two = record { same_limits = two.same_limits ∙ one.same_limits; knowledge = λ h k. two.knowledge h (one.knowledge h k) }
+
+  -- a step that comes later
+  stepped : (m t u : S) (v : Verdict) (reply : Reply) → Keeps store.limits store.knows m t → Step store.submits store.reads t v reply u
+      → (n : S) × Step (shared store).submits (shared store).reads m v reply n × Keeps store.limits store.knows n u
+  stepped m t u (Submit b) Accepted keeps step = (u, (step.0, (t, keeps, step.1)), keeps_all u)
+  stepped m t u (Submit b) (Refused r) keeps step = (u, (t, keeps, step), keeps_all u)
+  stepped m t u (Ask q) (Answered a) keeps step = (u, (t, keeps, step), keeps_all u)
+  stepped m t u (Ask q) (Refused r) keeps step = (u, (t, keeps, step), keeps_all u)
+  stepped m t u (Say remark) (Said said) keeps step = (m, (step.0, refl), subst (λ (x : S). Keeps store.limits store.knows m x) (sym step.1) keeps)
+  stepped m t u _ _ keeps step = absurd step
+
+  module _ (promises : Promises store) where
+    later_submit_knows : (s : S) (b : Batch) (r : Result ℕ Refusal) (t : S) → (shared store).submits s b r t → SubmitKnows store.limits store.knows s b r t
+    later_submit_knows s b (Ok place) t later =
+        let known = promises.submit_knows later.0 b (Ok place) t later.2 in
+        (keeps_on s later.0 t later.1 known.0, known.1)
+    later_submit_knows s b (Err why) t later = keeps_on s later.0 t later.1 (promises.submit_knows later.0 b (Err why) t later.2)
+
+    later_read_knows : (s : S) (q : Query) (r : Result Answer Refusal) (t : S) → (shared store).reads s q r t → ReadKnows store.limits store.knows s q r t
+    later_read_knows s q (Ok a) t later =
+        let known = promises.read_knows later.0 q (Ok a) t later.2 in
+        let at = known.1 in (
+          keeps_on s later.0 t later.1 known.0,
+          record { history = at.history; legal = at.legal; behind = λ h k. at.behind h (later.1.knowledge h k); answer_is = at.answer_is; known = at.known },
+        )
+    later_read_knows s q (Err why) t later = keeps_on s later.0 t later.1 (promises.read_knows later.0 q (Err why) t later.2)
+
+    pub shared_promises : Promises (shared store)
+    shared_promises = record { submit_knows = later_submit_knows; read_knows = later_read_knows }
+
+    -- its answers are those of one growing history
+    pub ends_served : {C : Type 0} (line : Line C) (c0 c1 : C) (s t : S) (ended : Ended) → EndsOver store.submits store.reads line c0 c1 s t ended → EndsServed store line c0 c1 s t ended
+    ends_served line c0 c1 s t ended over = (over, related_all store.limits store.knows store.submits store.reads promises.submit_knows promises.read_knows s t _ over.0.run)
+
+    pub fails_served : {C : Type 0} (line : Line C) (c0 c1 : C) (s t : S) (error : SessionError) → FailsOver store.submits store.reads line c0 c1 s t error → FailsServed store line c0 c1 s t error
+    fails_served line c0 c1 s t error over = (over, related_all store.limits store.knows store.submits store.reads promises.submit_knows promises.read_knows s t _ over.0.run)
+
+-- ---- what one piece does
+
+module _ {S C : Type 0} (store : Store S) (promises : Promises store) (line : Line C) (two : IsTwoWay line) (c1 : C) (t : S) (old new : Session) where
+  -- the store isn't asked
+  unasked : (c2 : C) (result : Result (Option Ended) SessionError)
+      → ((other : Store S) → Promises other → (c0 : C) (s m : S) → Underway other line c0 c1 s m old → ComesTo other line c0 c2 s m new result)
+      → GoesOn store line c1 c2 t t old new result
+  unasked c2 result each = record {
+    alone = λ c0 s so. each store promises c0 s t so;
+    among = λ c0 s under. (under.0, each (shared store) (shared_promises store promises) c0 s under.0 under.1, under.2);
+  }
+
+  -- the store makes a step
+  asked : (c2 : C) (u : S) (v : Verdict) (reply : Reply) (result : Result (Option Ended) SessionError) → Step store.submits store.reads t v reply u
+      → ((other : Store S) → Promises other → (c0 : C) (s m n : S) → Step other.submits other.reads m v reply n → Underway other line c0 c1 s m old → ComesTo other line c0 c2 s n new result)
+      → GoesOn store line c1 c2 t u old new result
+  asked c2 u v reply result step each = record {
+    alone = λ c0 s so. each store promises c0 s t u step so;
+    among = λ c0 s under.
+        let on = stepped store under.0 t u v reply under.2 step in
+        (on.0, each (shared store) (shared_promises store promises) c0 s under.0 on.0 on.1 under.1, on.2);
+  }
+
+  pub hears_nothing : (A : Type 0) (c2 : C) (before : Bool) (stop : ReadError)
+      → HearsNothing line.source c1 c2 (line.in_failed c2) old.received stop → SameUnlessReading {A = A} before (line.in_failed c2) (Err stop) → before ≡ false → line.out_failed c1 ≡ false
+      → GoesOn store line c1 c2 t t old new (Err (record { answered = old.answered; written = 0; cause = cause_by stop }))
+  hears_nothing A c2 before stop stops same was out =
+      unasked c2 (Err (record { answered = old.answered; written = 0; cause = cause_by stop }))
+      (λ other kept c0 s m so. fails_served other kept line c0 c2 s m _ (fails_reading other.submits other.reads line two A c0 c1 c2 s m old.received old.answered before stop so stops same was out))
+
+  pub hears_end : (c2 : C) (here : ReadBuffer) → HearsEnd line.source c1 c2 old.received here
+      → GoesOn store line c1 c2 t t old new (Ok (Some (record { answered = old.answered; clean = true })))
+  hears_end c2 here found =
+      unasked c2 (Ok (Some (record { answered = old.answered; clean = true })))
+      (λ other kept c0 s m so.
+      let here_so = reads_on other.submits other.reads line two c0 c1 c2 s m old.received here old.answered so found.reads in
+      ends_served other kept line c0 c2 s m _ (ends_clean other.submits other.reads line two c0 c2 s m here old.answered here_so (found.at_end, found.nothing)))
+
+  pub parts : (c2 c3 : C) (here : ReadBuffer) (b : Breach) → FindsBreach line.source c1 c2 old.received here b
+      → Appends (line.contents c2) (line.contents c3) (response_of (Broken b) true) → line.takes c2 (response_of (Broken b) true) c3
+      → GoesOn store line c1 c3 t t old new (Ok (Some (record { answered = old.answered + 1; clean = false })))
+  parts c2 c3 here b found wrote took =
+      unasked c3 (Ok (Some (record { answered = old.answered + 1; clean = false })))
+      (λ other kept c0 s m so.
+      let here_so = reads_on other.submits other.reads line two c0 c1 c2 s m old.received _ old.answered so found.reads in
+      ends_served other kept line c0 c3 s m _ (ends_broken other.submits other.reads line two c0 c2 c3 s m _ old.answered b here_so found.broken wrote took))
+
+  pub parts_not : (c2 c3 : C) (here : ReadBuffer) (b : Breach) (silence : Silence) → FindsBreach line.source c1 c2 old.received here b
+      → Says (line.contents c2) (line.contents c3) false (line.out_failed c3) (response_of (Broken b) true) (Err silence)
+      → line.takes c2 (take silence.written (response_of (Broken b) true)) c3 → line.in_failed c2 ≡ false
+      → GoesOn store line c1 c3 t t old new (Err (record { answered = old.answered; written = silence.written; cause = silence.cause }))
+  parts_not c2 c3 here b silence found said took works =
+      unasked c3 (Err (record { answered = old.answered; written = silence.written; cause = silence.cause }))
+      (λ other kept c0 s m so.
+      let here_so = reads_on other.submits other.reads line two c0 c1 c2 s m old.received _ old.answered so found.reads in
+      fails_served other kept line c0 c3 s m _ (fails_parting other.submits other.reads line two c0 c2 c3 s m _ old.answered b silence here_so found.broken said took works))
+
+  module _ (c2 c3 : C) (u : S) (here : ReadBuffer) (v : Verdict) (ask : Bool) (reply : Reply) (close : Bool) (found : HearsOne line.source c1 c2 old.received here v ask)
+      (step : Step store.submits store.reads t v reply u) (close_is : close ≡ (ask || closes reply)) where
+    pub answers_last : Appends (line.contents c2) (line.contents c3) (response_of reply close) → line.takes c2 (response_of reply close) c3 → close ≡ true
+        → GoesOn store line c1 c3 t u old new (Ok (Some (record { answered = old.answered + 1; clean = false })))
+    answers_last wrote took leaves =
+        asked c3 u v reply (Ok (Some (record { answered = old.answered + 1; clean = false }))) step
+        (λ other kept c0 s m n one so.
+        ends_served other kept line c0 c3 s n _
+        (answered_last other.submits other.reads line two c0 c1 c2 s m old.received here old.answered v ask so found c3 n reply close one close_is wrote took leaves))
+
+    pub answers_not : (silence : Silence) → Says (line.contents c2) (line.contents c3) false (line.out_failed c3) (response_of reply close) (Err silence)
+        → line.takes c2 (take silence.written (response_of reply close)) c3 → line.in_failed c2 ≡ false
+        → (takes_no_memory reply ≡ true → silence.cause ≢ Memory)
+        → GoesOn store line c1 c3 t u old new (Err (record { answered = old.answered; written = silence.written; cause = silence.cause }))
+    answers_not silence said took works spared =
+        asked c3 u v reply (Err (record { answered = old.answered; written = silence.written; cause = silence.cause })) step
+        (λ other kept c0 s m n one so.
+        fails_served other kept line c0 c3 s n _
+        (answered_not other.submits other.reads line two c0 c1 c2 s m old.received here old.answered v ask so found c3 n reply close one close_is silence said took works spared))
+
+-- a response was written, and the session stays open
+module _ {S C : Type 0} (store : Store S) (promises : Promises store) (line : Line C) (two : IsTwoWay line) (c1 c2 c3 : C) (t u : S) (old : Session) (here : ReadBuffer) (v : Verdict) (ask : Bool) (reply : Reply)
+    (close : Bool) (found : HearsOne line.source c1 c2 old.received here v ask) where
+  pub answers_open : Step store.submits store.reads t v reply u → close ≡ (ask || closes reply)
+      → Appends (line.contents c2) (line.contents c3) (response_of reply close) → line.takes c2 (response_of reply close) c3 → close ≡ false
+      → GoesOn store line c1 c3 t u old (record { received = here; answered = old.answered + 1 }) (Ok None)
+  answers_open step close_is wrote took stays =
+      asked store promises line two c1 t old (record { received = here; answered = old.answered + 1 }) c3 u v reply (Ok None) step
+      (λ other kept c0 s m n one so. answered_open other.submits other.reads line two c0 c1 c2 s m old.received here old.answered v ask so found c3 n reply close one close_is wrote took stays)
+
+-- and it can be gone on with
+pub still_continues : {C : Type 0} (line : Line C) (two : IsTwoWay line) (c1 c2 c3 : C) (old : Session) (here : ReadBuffer) (v : Verdict) (ask : Bool) (bytes : List ℕ)
+    → HearsOne line.source c1 c2 old.received here v ask → line.takes c2 bytes c3 → CanContinue (line.source.remaining c1) old
+    → CanContinue (line.source.remaining c3) (record { received = here; answered = old.answered + 1 })
+still_continues line two c1 c2 c3 old here v ask bytes found took can = record {
+  end = λ e. subst IsAtEnd (sym (two.writes_leave c2 c3 bytes took).0) (found.request.reads.on.end can.end e);
+  most = omega (arith, can.most, fewer_left line.source c1 c2 old.received here v ask found);
+}
+
+-- ---- before the first piece
+
+pub can_begin : (input : Option (List ℕ)) → CanContinue input no_requests_yet
+can_begin input = record { end = λ e. absurd (cc e); most = omega arith }
+
+module _ {S C : Type 0} (store : Store S) (line : Line C) (two : IsTwoWay line) (c : C) (s : S) where
+  pub begins_alone : Underway store line c c s s no_requests_yet
+  begins_alone = begins store.submits store.reads line two c s
+
+  pub begins_among : UnderwayAmong store line c c s s no_requests_yet
+  begins_among = (s, begins (shared store).submits (shared store).reads line two c s, keeps_all store s)
+
+-- ---- in a pause
+
+module _ {S C : Type 0} (store : Store S) (promises : Promises store) (line : Line C) where
+  pub others_forget_nothing : StaysUnderway store line (ForgetsNothing store)
+  others_forget_nothing c0 c1 s t u session under keeps = (under.0, under.1, keeps_on store under.0 t u under.2 keeps)
+
+  submit_keeps : (t u : S) (b : Batch) (r : Result ℕ Refusal) → store.submits t b r u → Keeps store.limits store.knows t u
+  submit_keeps t u b (Ok place) step = (promises.submit_knows t b (Ok place) u step).0
+  submit_keeps t u b (Err why) step = promises.submit_knows t b (Err why) u step
+
+  read_keeps : (t u : S) (q : Query) (r : Result Answer Refusal) → store.reads t q r u → Keeps store.limits store.knows t u
+  read_keeps t u q (Ok a) step = (promises.read_knows t q (Ok a) u step).0
+  read_keeps t u q (Err why) step = promises.read_knows t q (Err why) u step
+
+  pub others_submit : StaysUnderway store line (SubmitsSome store)
+  others_submit c0 c1 s t u session under does = others_forget_nothing c0 c1 s t u session under (submit_keeps t u does.0 does.1 does.2)
+
+  pub others_read : StaysUnderway store line (ReadsSome store)
+  others_read c0 c1 s t u session under does = others_forget_nothing c0 c1 s t u session under (read_keeps t u does.0 does.1 does.2)
+
+  step_keeps : (t u : S) (v : Verdict) (reply : Reply) → Step store.submits store.reads t v reply u → Keeps store.limits store.knows t u
+  step_keeps t u (Submit b) Accepted step = submit_keeps t u b (Ok step.0) step.1
+  step_keeps t u (Submit b) (Refused r) step = submit_keeps t u b (Err r) step
+  step_keeps t u (Ask q) (Answered a) step = read_keeps t u q (Ok a) step
+  step_keeps t u (Ask q) (Refused r) step = read_keeps t u q (Err r) step
+  step_keeps t u (Say remark) (Said said) step = subst (λ (x : S). Keeps store.limits store.knows t x) (sym step.1) (keeps_all store t)
+  step_keeps t u _ _ step = absurd step
+
+  pub others_go_on : StaysUnderway store line (AsksOnce store)
+  others_go_on c0 c1 s t u session under (inl same) = subst (λ (x : S). UnderwayAmong store line c0 c1 s x session) (sym same) under
+  others_go_on c0 c1 s t u session under (inr does) = others_forget_nothing c0 c1 s t u session under (step_keeps t u does.0 does.1 does.2)
+
+  pub answers_of_one_history : AnswersSoFar store line
+  answers_of_one_history c0 c1 s t session under =
+      let kept = shared_promises store promises in
+      related_all store.limits store.knows (shared store).submits (shared store).reads kept.submit_knows kept.read_knows s under.0 under.1.opens under.1.run

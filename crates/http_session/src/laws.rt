@@ -1,0 +1,49 @@
+//! Facts about sessions that go on in pieces. Each function does nothing, and its contract is the fact.
+
+ghost use Rattle.http_session.specs.InOrder.{line_of};
+ghost use Rattle.http_session.specs.Between.{store_of};
+ghost use Rattle.http_session.specs.Pieces.{no_requests_yet, CanContinue, Underway, UnderwayAmong, AnswersSoFar, StaysUnderway, SubmitsSome, ReadsSome, AsksOnce, ForgetsNothing};
+
+use session_devices::Connection;
+use store_backend::Backend;
+
+/// A session of which nothing was read is underway from wherever its connection and its store are.
+pub fn a_new_session_is_underway<T, C: Connection, B: Backend<T>>(connection: &C, backend: &B)
+    ensures ready { CanContinue (C.remaining connection.now) no_requests_yet }
+
+    ensures alone { Underway (store_of B.submits B.reads B.knows B.limits)
+        (line_of C.remaining C.gives C.Input.has_failed C.contents C.takes C.Output.has_failed)
+        connection.now connection.now backend.now backend.now no_requests_yet }
+
+    ensures among { UnderwayAmong (store_of B.submits B.reads B.knows B.limits)
+        (line_of C.remaining C.gives C.Input.has_failed C.contents C.takes C.Output.has_failed)
+        connection.now connection.now backend.now backend.now no_requests_yet }
+{}
+
+/// A session that pauses stays underway while others hand batches in or ask the store, while other sessions go on by a piece
+/// ([`Session::answer_next`](crate::Session::answer_next): `asks`), or after anything else by which the store forgets nothing.
+pub fn a_pause_keeps_a_session_underway<T, C: Connection, B: Backend<T>>()
+    ensures submits { StaysUnderway (store_of B.submits B.reads B.knows B.limits)
+        (line_of C.remaining C.gives C.Input.has_failed C.contents C.takes C.Output.has_failed)
+        (SubmitsSome (store_of B.submits B.reads B.knows B.limits)) }
+
+    ensures reads { StaysUnderway (store_of B.submits B.reads B.knows B.limits)
+        (line_of C.remaining C.gives C.Input.has_failed C.contents C.takes C.Output.has_failed)
+        (ReadsSome (store_of B.submits B.reads B.knows B.limits)) }
+
+    ensures pieces { StaysUnderway (store_of B.submits B.reads B.knows B.limits)
+        (line_of C.remaining C.gives C.Input.has_failed C.contents C.takes C.Output.has_failed)
+        (AsksOnce (store_of B.submits B.reads B.knows B.limits)) }
+
+    ensures others { StaysUnderway (store_of B.submits B.reads B.knows B.limits)
+        (line_of C.remaining C.gives C.Input.has_failed C.contents C.takes C.Output.has_failed)
+        (ForgetsNothing (store_of B.submits B.reads B.knows B.limits)) }
+{}
+
+/// The answers so far of a session that is underway are those of one growing history, though others use the store too: each
+/// answer is the plain store's at a point that is never before the point of an earlier answer of this session, nor before a
+/// batch that was accepted from it.
+pub fn answers_so_far_are_of_one_history<T, C: Connection, B: Backend<T>>()
+    ensures { AnswersSoFar (store_of B.submits B.reads B.knows B.limits)
+        (line_of C.remaining C.gives C.Input.has_failed C.contents C.takes C.Output.has_failed) }
+{}
