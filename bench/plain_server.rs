@@ -335,7 +335,7 @@ impl Server {
 
 fn main() {
     let words: Vec<String> = std::env::args().collect();
-    let idle = option(&words, "--idle", 10);
+    let idle = option(&words, "--idle", 300);
     let server = |listener| Server {
         listener,
         spans: Mutex::new(Vec::new()),

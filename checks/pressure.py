@@ -113,11 +113,10 @@ def short_of_files(server):
     """Brings a server of two workers that wait to its limit of open files and lifts it again; the share of a core that it took."""
     limit = resource.prlimit(server.run.pid, resource.RLIMIT_NOFILE)
     files = len(os.listdir(f"/proc/{server.run.pid}/fd"))
-    resource.prlimit(server.run.pid, resource.RLIMIT_NOFILE, (files, limit[1]))
-    with server.client() as one, server.client() as other:  # a worker that waits has the room for one more
+    resource.prlimit(server.run.pid, resource.RLIMIT_NOFILE, (files + 2, limit[1]))
+    with server.client() as one, server.client() as other, server.client() as late:
         one.ask(get("/api/services"), 200)
         other.ask(get("/api/services"), 200)
-    with server.client() as late:
         late.send(get("/api/services"))
         share = server.share(2)
         check(not select.select([late.socket], [], [], 0)[0], "it serves a connection beyond its limit")

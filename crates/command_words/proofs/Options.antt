@@ -43,18 +43,21 @@ limits_read rows b s t k (Some l) hb hs ht hk same = record {
 }
 
 -- the options of `serve` that have the numbers read
-pub serve_options_read : (rows : List Row) (l : Limits) (p w q s i : ℕ) (o : Option ServeOptions)
+pub serve_options_read : (rows : List Row) (l : Limits) (p w q s c i : ℕ) (o : Option ServeOptions)
     → HasLimits rows l → HasNumber (codes "port") rows p → HasNumber (codes "workers") rows w
-    → HasNumber (codes "queue") rows q → HasNumber (codes "sessions") rows s → HasNumber (codes "idle") rows i
+    → HasNumber (codes "queue") rows q → HasNumber (codes "sessions") rows s
+    → HasNumber (codes "connections") rows c → HasNumber (codes "idle") rows i
     → IfSome o (λ (v : ServeOptions). (v.limits ≡ l) × (v.port ≡ p)) → IfSome o (λ (v : ServeOptions). (v.workers ≡ w) × (v.queue ≡ q))
-    → IfSome o (λ (v : ServeOptions). (v.sessions ≡ s) × (v.idle ≡ i)) → IfSome o (HasServeOptions rows)
-serve_options_read rows l p w q s i None hl hp hw hq hs hi listens holds ends = tt
-serve_options_read rows l p w q s i (Some v) hl hp hw hq hs hi listens holds ends = record {
+    → IfSome o (λ (v : ServeOptions). v.connections ≡ c) → IfSome o (λ (v : ServeOptions). (v.sessions ≡ s) × (v.idle ≡ i))
+    → IfSome o (HasServeOptions rows)
+serve_options_read rows l p w q s c i None hl hp hw hq hs hc hi listens holds admits ends = tt
+serve_options_read rows l p w q s c i (Some v) hl hp hw hq hs hc hi listens holds admits ends = record {
   limits = subst (HasLimits rows) (sym listens.0) hl;
   port = subst (HasNumber (codes "port") rows) (sym listens.1) hp;
   workers = subst (HasNumber (codes "workers") rows) (sym holds.0) hw;
   queue = subst (HasNumber (codes "queue") rows) (sym holds.1) hq;
   sessions = subst (HasNumber (codes "sessions") rows) (sym ends.0) hs;
+  connections = subst (HasNumber (codes "connections") rows) (sym admits) hc;
   idle = subst (HasNumber (codes "idle") rows) (sym ends.1) hi;
 }
 

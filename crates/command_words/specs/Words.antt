@@ -46,8 +46,11 @@ queue_rule = number_rule (codes "queue") (parser.Signed (pos 1) (pos 4096)) (cod
 abbrev pub sessions_rule : Rule
 sessions_rule = number_rule (codes "sessions") (parser.Signed (pos 0) (pos 4294967295)) (codes "0")
 
+abbrev pub connections_rule : Rule
+connections_rule = number_rule (codes "connections") (parser.Signed (pos 1) (pos 65536)) (codes "1024")
+
 abbrev pub idle_rule : Rule
-idle_rule = number_rule (codes "idle") (parser.Signed (pos 0) (pos 86400)) (codes "10")
+idle_rule = number_rule (codes "idle") (parser.Signed (pos 0) (pos 86400)) (codes "300")
 
 -- the options that each subcommand has
 abbrev pub with_limits : App → App
@@ -65,8 +68,8 @@ play_app = with_limits (new_app (codes "play"))
 -- the options that only `serve` has
 abbrev pub with_serving : App → App
 with_serving app =
-    with_rule (with_rule (with_rule (with_rule (with_rule app port_rule) workers_rule) queue_rule) sessions_rule)
-    idle_rule
+    with_rule (with_rule (with_rule (with_rule (with_rule (with_rule app port_rule) workers_rule) queue_rule) sessions_rule)
+    connections_rule) idle_rule
 
 abbrev pub serve_app : App
 serve_app = with_limits (with_serving (new_app (codes "serve")))
@@ -87,6 +90,7 @@ pub record HasServeOptions (rows : List Row) (options : ServeOptions) : Type 0 w
   pub workers : HasNumber (codes "workers") rows options.workers
   pub queue : HasNumber (codes "queue") rows options.queue
   pub sessions : HasNumber (codes "sessions") rows options.sessions
+  pub connections : HasNumber (codes "connections") rows options.connections
   pub idle : HasNumber (codes "idle") rows options.idle
 
 abbrev pub HasTrace : List Row → TraceId → Type 0

@@ -3,7 +3,7 @@ ghost use Rattle.std.specs.Prelude.{◌≡◌, IfErr, IfOk, IfSome, IsSome, OnOk
 ghost use Rattle.clap.specs.Words.{app_of, found_of, rows_of, rule_of};
 ghost use Rattle.serve_options.specs.declared.options.ServeOptions.{ServeOptions as ServeOptionsValue};
 ghost use Rattle.command_words.specs.declared.words.Command.TheVariants.{Serve};
-ghost use Rattle.command_words.specs.Words.{HasServeOptions, IsFault, Makes, idle_rule, port_rule, queue_rule, serve_app, sessions_rule, with_serving as serving_on, workers_rule};
+ghost use Rattle.command_words.specs.Words.{HasServeOptions, IsFault, Makes, connections_rule, idle_rule, port_rule, queue_rule, serve_app, sessions_rule, with_serving as serving_on, workers_rule};
 ghost use Rattle.command_words.specs.Asked.{Reads, Takes};
 
 use crate::words::{limits_of, matches_of, number, with_limits};
@@ -28,7 +28,7 @@ fn workers_option<'a>(alloc: Global) -> Arg<'a>
     ensures own { result.global ≡ false }
 {
     let workers = value_parser!(u16).range(1..=64);
-    let help = "How many connections are served at a time, 1 to 64";
+    let help = "How many threads serve connections, 1 to 64";
     number(alloc, "workers", workers, "4", help)
 }
 
@@ -51,6 +51,16 @@ fn sessions_option<'a>(alloc: Global) -> Arg<'a>
     number(alloc, "sessions", value_parser!(u32), "0", help)
 }
 
+/// The option `--connections`.
+fn connections_option<'a>(alloc: Global) -> Arg<'a>
+    ensures rule { rule_of result ≡ connections_rule }
+    ensures own { result.global ≡ false }
+{
+    let connections = value_parser!(u32).range(1..=65_536);
+    let help = "How many connections may be open at a time, 1 to 65536";
+    number(alloc, "connections", connections, "1024", help)
+}
+
 /// The option `--idle`.
 fn idle_option<'a>(alloc: Global) -> Arg<'a>
     ensures rule { rule_of result ≡ idle_rule }
@@ -59,7 +69,7 @@ fn idle_option<'a>(alloc: Global) -> Arg<'a>
     let idle = value_parser!(u32).range(0..=86_400);
     let help =
         "After how many seconds without a byte a connection is closed, up to 86400; 0 for never";
-    number(alloc, "idle", idle, "10", help).value_name("SECONDS")
+    number(alloc, "idle", idle, "300", help).value_name("SECONDS")
 }
 
 /// The options that only `serve` has.
@@ -71,6 +81,7 @@ fn with_serving(alloc: Global, command: clap::Command<'_>) -> Result<clap::Comma
         .arg(workers_option(alloc))?
         .arg(queue_option(alloc))?
         .arg(sessions_option(alloc))?
+        .arg(connections_option(alloc))?
         .arg(idle_option(alloc))
 }
 
@@ -96,8 +107,9 @@ fn serve_options_of(matches: &ArgMatches<'_>) -> Option<ServeOptions>
     let workers = matches.get_one::<u16>("workers")?;
     let queue = matches.get_one::<u16>("queue")?;
     let sessions = matches.get_one::<u32>("sessions")?;
+    let connections = matches.get_one::<u32>("connections")?;
     let idle = matches.get_one::<u32>("idle")?;
-    ServeOptions::new(limits, port, workers, queue, sessions, idle)
+    ServeOptions::new(limits, port, workers, queue, sessions, connections, idle)
 }
 
 /// The options of `serve`, whose own name is the first of the words.

@@ -10,16 +10,18 @@ pub struct ServeOptions {
     pub limits: Limits,
     /// The port of 127.0.0.1 that it listens on; 0 for any free one.
     pub port: u16,
-    /// How many connections are served at a time, 1 to 64.
+    /// How many threads serve connections, 1 to 64.
     pub workers: u16,
     /// How many batches may wait to be accepted, 1 to 4,096.
     pub queue: u16,
     /// After how many connections it ends; 0 is never.
     pub sessions: u32,
+    /// How many connections may be open at a time, 1 to 65,536.
+    pub connections: u32,
     /// For how many seconds a connection may be silent before it is closed, or leave its response unread, up to
     /// 86,400; 0 is for ever.
     pub idle: u32,
-    ghost within: { IsWithin port workers queue sessions idle },
+    ghost within: { IsWithin port workers queue sessions connections idle },
 }
 
 impl ServeOptions {
@@ -30,14 +32,23 @@ impl ServeOptions {
         workers: u16,
         queue: u16,
         sessions: u32,
+        connections: u32,
         idle: u32,
     ) -> Option<ServeOptions>
-        ensures within { IsSome result ↔ IsWithin port workers queue sessions idle }
+        ensures within { IsSome result ↔ IsWithin port workers queue sessions connections idle }
         ensures listens { IfSome result (λ o. (o.limits ≡ limits) × (o.port ≡ port)) }
         ensures holds { IfSome result (λ o. (o.workers ≡ workers) × (o.queue ≡ queue)) }
+        ensures admits { IfSome result (λ o. o.connections ≡ connections) }
         ensures ends { IfSome result (λ o. (o.sessions ≡ sessions) × (o.idle ≡ idle)) }
     {
-        if workers < 1 || workers > 64 || queue < 1 || queue > 4_096 || idle > 86_400 {
+        if workers < 1
+            || workers > 64
+            || queue < 1
+            || queue > 4_096
+            || connections < 1
+            || connections > 65_536
+            || idle > 86_400
+        {
             return None;
         }
         Some(ServeOptions {
@@ -46,6 +57,7 @@ impl ServeOptions {
             workers,
             queue,
             sessions,
+            connections,
             idle,
         })
     }

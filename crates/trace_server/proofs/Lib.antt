@@ -1,3 +1,3 @@
 pub mod Endings
-pub mod Sessions
+pub mod SessionPieces
 pub mod Workers

@@ -1,2 +1,3 @@
 pub mod WorkerSeats
 pub mod Serving
+pub mod Underway

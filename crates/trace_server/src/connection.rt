@@ -1,79 +1,64 @@
-//! One connection, from its first byte to its last.
+//! What is done with a socket before and after its session.
 
-ghost use Rattle.live_store.specs.Sharing.{GoesOn};
-
-use crate::gate::Gate;
-use crate::gated::Gated;
-use http_session::serve_connection;
-use read_side::StoreName;
-use session_devices::{Join, Watched};
-use std::alloc::Global;
 use std::io;
-use std::io::Read;
+use std::io::{ErrorKind, Read};
 use std::net::{Shutdown, TcpStream};
-use std::sync::Wait;
-use std::time::{Clock, Duration};
+use std::time::Duration;
 
-/// For how many seconds the rest of a request is dropped behind a response that closes the connection.
-const PARTING_SECONDS: u64 = 2;
+/// For how many seconds the rest of a request is dropped after a response that closes the connection.
+pub(crate) const PARTING_SECONDS: u64 = 2;
 
-/// How many reads of such a rest are made at most.
-const PARTING_READS: u32 = 65_536;
+/// For how many seconds a client may be silent in the middle of a request, or not take its response, at most.
+const MAX_STALL_SECONDS: u32 = 10;
 
-/// How many seconds a connection may be silent; none is for ever.
-fn patience(idle: u32) -> Option<Duration> {
+/// How long a connection may be silent; none is for ever.
+pub(crate) fn patience(idle: u32) -> Option<Duration> {
     match idle {
         0 => None,
         seconds => Some(Duration::from_secs(seconds as u64)),
     }
 }
 
-/// Sends each response at once, and gives up a connection that is silent for too long.
-fn prepare(stream: &TcpStream, idle: u32) -> io::Result<()> {
+/// Sends each response at once, and gives up a connection that is silent for too long in the middle of a request or of a
+/// response: its worker waits for it meanwhile.
+pub(crate) fn prepare(stream: &TcpStream, idle: u32) -> io::Result<()> {
     stream.set_nodelay(true)?;
-    stream.set_read_timeout(patience(idle))?;
-    stream.set_write_timeout(patience(idle))
+    let patience = patience(idle.min(MAX_STALL_SECONDS));
+    stream.set_read_timeout(patience)?;
+    stream.set_write_timeout(patience)
 }
 
-/// Drops what still comes, for so long at most, so that the client has read the last response when the
-/// connection goes.
-fn shut_down<R: Clock>(rt: &R, stream: &TcpStream) -> io::Result<()> {
+/// Sends no more, so that the client learns that the last response was the last. What it still sends is dropped.
+pub(crate) fn part(stream: &TcpStream) -> io::Result<()> {
     stream.shutdown(Shutdown::Write)?;
-    let patience = Duration::from_secs(PARTING_SECONDS);
-    stream.set_read_timeout(Some(patience))?;
-    let end = rt.monotonic()?.saturating_add(patience);
-    let mut rest = stream;
-    let mut dropped = [0u8; 4096];
-    for _ in 0..PARTING_READS {
-        if rest.read(&mut dropped)? == 0 || rt.monotonic()? > end {
-            break;
-        }
-    }
-    Ok(())
+    stream.set_nonblocking(true)
 }
 
-/// Serves a connection. An error of it ends it, and nothing else: the store's seat stays, and knows what was
-/// handed in.
-pub(crate) fn attend<N: StoreName, G: Gate, R: Wait + Clock + Eprint>(
-    rt: &R,
-    alloc: Global,
-    stream: &TcpStream,
-    idle: u32,
-    store: &mut Gated<'_, N, G, R>,
-)
-    ensures { GoesOn store.old.seat store.new.seat }
-{
-    if prepare(stream, idle).is_err() {
-        return;
-    }
-    let mut input = Watched::new(stream);
-    let mut output = Watched::new(stream);
-    let mut connection = Join::new(&mut input, &mut output);
-    match serve_connection(rt, alloc, &mut connection, store) {
-        Ok(ended) if !ended.clean => {
-            let _shut_down = shut_down(rt, stream);
+/// What became of a connection of which some bytes were dropped.
+#[derive(Clone, Copy, Debug, PartialEq, Eq)]
+pub(crate) enum Dropped {
+    /// All that has come.
+    All,
+    /// Much, and more has come.
+    Much,
+    /// All that ever comes: the client has ended, or the connection failed.
+    Last,
+}
+
+/// How many reads are dropped at a time.
+const MAX_DROPPED_READS: u32 = 64;
+
+/// Drops what has come.
+pub(crate) fn drop_some(stream: &TcpStream) -> Dropped {
+    let mut rest = stream;
+    let mut bytes = [0u8; 4096];
+    for _ in 0..MAX_DROPPED_READS {
+        match rest.read(&mut bytes) {
+            Ok(0) => return Dropped::Last,
+            Ok(_) => {}
+            Err(error) if error.kind() == ErrorKind::WouldBlock => return Dropped::All,
+            Err(_) => return Dropped::Last,
         }
-        Ok(_) => {}
-        Err(_) => {}
     }
+    Dropped::Much
 }

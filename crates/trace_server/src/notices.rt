@@ -2,6 +2,8 @@
 
 ghost use Rattle.std.specs.Prelude.{◌≤◌};
 
+use libc::types::rlimit;
+use libc::{RLIMIT_NOFILE, getrlimit};
 use std::io;
 use std::sync::atomic::{AtomicBool, Ordering};
 use trace_model::Limits;
@@ -18,6 +20,7 @@ pub(crate) struct Notices {
     said_full: AtomicBool,
     /// The system's shortage was said, and no connection was accepted since.
     said_shortage: AtomicBool,
+    said_all_taken: AtomicBool,
 }
 
 impl Notices {
@@ -26,6 +29,7 @@ impl Notices {
         Notices {
             said_full: AtomicBool::new(false),
             said_shortage: AtomicBool::new(false),
+            said_all_taken: AtomicBool::new(false),
         }
     }
 
@@ -34,6 +38,15 @@ impl Notices {
         if !self.said_full.swap(true, Ordering::SeqCst) {
             let _lost = eprintln!(rt;
                 "the journal is full: a batch that doesn't fit is answered 503 from now on"
+            );
+        }
+    }
+
+    /// Says that as many connections are open as may be, unless it was said before.
+    pub(crate) fn say_all_taken<R: Eprint>(&self, rt: &R) {
+        if !self.said_all_taken.swap(true, Ordering::SeqCst) {
+            let _lost = eprintln!(rt;
+                "as many connections are open as --connections lets be: the next ones wait until one closes"
             );
         }
     }
@@ -81,6 +94,20 @@ pub(crate) fn say_limits<R: Eprint>(rt: &R, limits: &Limits) {
     let _lost = eprintln!(rt;
         "that may take {few} MB where a span has one tag, {many} MB where it has five, and more where tags are long"
     );
+}
+
+/// Says that the system lets fewer files be open than there may be connections, if it does.
+pub(crate) fn say_few_files<R: Eprint>(rt: &R, connections: u32) {
+    let mut limit = rlimit {
+        rlim_cur: 0,
+        rlim_max: 0,
+    };
+    if getrlimit(RLIMIT_NOFILE, &mut limit) == 0 && limit.rlim_cur < u64::from(connections) {
+        let files = limit.rlim_cur;
+        let _lost = eprintln!(rt;
+            "the system lets {files} files be open (ulimit -n), fewer than --connections {connections}"
+        );
+    }
 }
 
 /// Says why a worker accepts no more connections.

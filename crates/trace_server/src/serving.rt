@@ -11,8 +11,10 @@ ghost use Rattle.trace_server.specs.WorkerSeats.{AreNew, HasJudged};
 use crate::config::ServerConfig;
 use crate::ending::close_books;
 use crate::gate::Gate;
-use crate::notices::{Notices, say_limits};
+use crate::loads::Loads;
+use crate::notices::{Notices, say_few_files, say_limits};
 use crate::reporting::{report, report_unclosed, say_listening, together};
+use crate::sessions::Sessions;
 use crate::shared::SharedStore;
 use crate::threads::{OwnWork, beside, each_done};
 use crate::worker::{Server, WorkerOutcome};
@@ -22,10 +24,9 @@ use read_side::{Keeper, Opened, StoreName};
 use session_devices::Output;
 use std::alloc::{AllocError, Global};
 use std::marker::Brand;
-use std::net::TcpListener;
+use std::net::{Net, TcpListener, TcpStream};
 use std::snapshot::Snapshot;
 use std::sync::Wait;
-use std::sync::atomic::AtomicU64;
 use std::thread::{Promise, Threads, spawn};
 use std::time::Clock;
 use trace_model::Limits;
@@ -36,6 +37,7 @@ struct ServerSetup<'a, G> {
     listener: &'a TcpListener,
     config: &'a ServerConfig,
     gate: &'a G,
+    loads: &'a Loads,
 }
 
 /// What the workers did, each with its ends of the store.
@@ -45,11 +47,11 @@ type Outcomes<N> = Result<Vec<(WorkerOutcome, Live<N>)>, AllocError>;
 type Left<N> = (Books<N>, Outcomes<N>);
 
 /// Has each worker serve until all sessions are over, and closes the desk then.
-fn work_all<N: StoreName + Send + Sync, G: Gate + Sync, R: Threads + Wait + Clock + Eprint + Sync>(
-    rt: &R,
-    server: &Server<'_, N, G>,
-    lives: Vec<(u32, Live<N>)>,
-) -> Outcomes<N>
+fn work_all<
+    N: StoreName + Send + Sync,
+    G: Gate + Sync,
+    R: Threads + Wait + Clock + Eprint + Net<Stream = TcpStream, Listener = TcpListener> + Sync,
+>(rt: &R, server: &Server<'_, N, G>, lives: Vec<(u32, Live<N>)>) -> Outcomes<N>
     ensures { IfOk result (λ v. AllZip GoesOn (map (λ p. p.1.seat) lives.items)
         (map (λ w. w.1.seat) v.items)) }
 {
@@ -109,7 +111,7 @@ impl<'d, 's, N: StoreName, R: Wait> OwnWork<R, Books<N>> for ClerkWork<'d, 's, N
 fn serve_sessions<
     N: StoreName + Send + Sync,
     G: Gate + Sync,
-    R: Threads + Wait + Clock + Eprint + Sync,
+    R: Threads + Wait + Clock + Eprint + Net<Stream = TcpStream, Listener = TcpListener> + Sync,
 >(rt: &R, alloc: Global, shared: SharedStore<N>, setup: &ServerSetup<'_, G>) -> Left<N>
     requires keeper { shared.keeper ≡ no_entries }
     requires clerk { IsNewClerk shared.clerk }
@@ -126,15 +128,16 @@ fn serve_sessions<
         clerk,
         lives,
     } = shared;
-    let (claimed, notices) = (AtomicU64::new(0), Notices::new());
+    let sessions = Sessions::new(setup.config.options.sessions);
+    let notices = Notices::new();
     let server = Server {
         alloc,
         listener: setup.listener,
         desk: &desk,
         gate: setup.gate,
         notices: &notices,
-        sessions: setup.config.options.sessions,
-        claimed: &claimed,
+        loads: setup.loads,
+        sessions: &sessions,
         idle: setup.config.options.idle,
     };
     let mut slot = Some(keeper);
@@ -167,7 +170,7 @@ fn serve_store<
     N: StoreName + Send + Sync,
     G: Gate + Sync,
     W: Output,
-    R: Threads + Wait + Clock + Eprint + Sync,
+    R: Threads + Wait + Clock + Eprint + Net<Stream = TcpStream, Listener = TcpListener> + Sync,
 >(rt: &R, alloc: Global, shared: SharedStore<N>, setup: &ServerSetup<'_, G>, output: &mut W) -> u8
     requires keeper { shared.keeper ≡ no_entries }
     requires clerk { IsNewClerk shared.clerk }
@@ -207,7 +210,7 @@ fn serve_named<
     N: StoreName + Send + Sync,
     G: Gate + Sync,
     W: Output,
-    R: Threads + Wait + Clock + Eprint + Sync,
+    R: Threads + Wait + Clock + Eprint + Net<Stream = TcpStream, Listener = TcpListener> + Sync,
 >(
     rt: &R,
     alloc: Global,
@@ -233,6 +236,7 @@ fn serve_named<
         return error.status();
     }
     say_limits(rt, &setup.config.options.limits);
+    say_few_files(rt, setup.config.options.connections);
     serve_store(rt, alloc, shared, setup, output)
 }
 
@@ -243,12 +247,17 @@ fn serve_named<
 ///
 /// The output gets a line that says on which port it listens, once connections are accepted, and at the end
 /// one that says how many came and one that says what became of the batches that were handed in: how many
-/// were acknowledged, refused by the store, and left unanswered. A worker serves one connection at a time; an error of a connection ends it
-/// alone. Every call of the store stands between two calls of the gate.
+/// were acknowledged, refused by the store, and left unanswered. A worker serves many connections, a request of each in
+/// turn; an error of a connection ends it alone. Every call of the store stands between two calls of the gate. The listener
+/// doesn't block from then on.
 ///
 /// An operator is told on standard error how much the store holds at most, that it is full, and why no connection is
 /// accepted. Nothing of that is in the output.
-pub fn serve_with<G: Gate + Sync, W: Output, R: Threads + Wait + Clock + Eprint + Sync>(
+pub fn serve_with<
+    G: Gate + Sync,
+    W: Output,
+    R: Threads + Wait + Clock + Eprint + Net<Stream = TcpStream, Listener = TcpListener> + Sync,
+>(
     rt: &R,
     alloc: Global,
     listener: &TcpListener,
@@ -264,10 +273,14 @@ pub fn serve_with<G: Gate + Sync, W: Output, R: Threads + Wait + Clock + Eprint 
         return 5;
     }
     let (name, limits) = (Opened::new(), config.options.limits);
+    let Ok(loads) = Loads::new(alloc, config.options.workers, config.options.connections) else {
+        return 5;
+    };
     let setup = ServerSetup {
         listener,
         config,
         gate,
+        loads: &loads,
     };
     serve_named::<Brand, G, W, R>(rt, alloc, name, limits, &setup, output)
 }

@@ -18,7 +18,7 @@ Options:
 /// Words behind the program's name, and the pieces of what is said to them.
 type Row = (&'static [&'static str], &'static [&'static str]);
 
-const ROWS: [Row; 34] = [
+const ROWS: [Row; 36] = [
     (
         &[],
         &[
@@ -228,6 +228,20 @@ const ROWS: [Row; 34] = [
         &["serve", "--sessions", "4294967296"],
         &[
             "error: invalid value '4294967296' for '--sessions <N>': 4294967296 is not in 0..=4294967295",
+            MORE,
+        ],
+    ),
+    (
+        &["serve", "--connections", "0"],
+        &[
+            "error: invalid value '0' for '--connections <N>': 0 is not in 1..=65536",
+            MORE,
+        ],
+    ),
+    (
+        &["serve", "--connections", "65537"],
+        &[
+            "error: invalid value '65537' for '--connections <N>': 65537 is not in 1..=65536",
             MORE,
         ],
     ),

@@ -28,9 +28,9 @@ pub fn config<R: Abort + RandomSource>(
     batches: u32,
 ) -> ServerConfig {
     let limits = Limits::new(batches, 1000, 0, 0).expect(rt, "limits");
-    let options = ServeOptions::new(limits, 0, workers, 4, sessions, idle).expect(rt, "options");
+    let options = ServeOptions::new(limits, 0, workers, 4, sessions, 1024, idle);
     ServerConfig {
-        options,
+        options: options.expect(rt, "options"),
         keys: RandomState::new(rt).expect(rt, "keys"),
     }
 }
@@ -53,7 +53,10 @@ impl Outcome {
 }
 
 /// Serves until all sessions are over, and gives the status and what was written.
-fn serve<G: Gate + Sync, R: Threads + Wait + Clock + Eprint + Sync>(
+fn serve<
+    G: Gate + Sync,
+    R: Threads + Wait + Clock + Eprint + Net<Stream = TcpStream, Listener = TcpListener> + Sync,
+>(
     rt: &R,
     alloc: Global,
     listener: &TcpListener,

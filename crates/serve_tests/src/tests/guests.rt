@@ -36,6 +36,8 @@ pub enum Guests {
     Eight,
     /// One stalls in a head and another goes away in a body, beside one that is served.
     BadNeighbours,
+    /// Two hundred connections stay open, and each asks in its turn.
+    TwoHundred,
     /// One sends on behind a response that closes the connection, and reads the response, whole and alone.
     SendsOn,
 }
@@ -104,6 +106,7 @@ impl Guests {
             Guests::TwoAtOnce => two_at_once(rt, alloc, address, &LOOKS),
             Guests::Eight => eight(rt, alloc, address),
             Guests::BadNeighbours => bad_neighbours(rt, alloc, address),
+            Guests::TwoHundred => two_hundred(rt, alloc, address),
             Guests::SendsOn => sends_on(rt, alloc, address),
         }
     }
@@ -216,6 +219,28 @@ fn bad_neighbours<R: Net<Stream = TcpStream, Listener = TcpListener>>(
     let mut rest = Vec::new(alloc);
     let ended = stalled.read_to_end(&mut rest).is_ok() && rest.is_empty();
     Ok(served && ended)
+}
+
+fn two_hundred<R: Net<Stream = TcpStream, Listener = TcpListener>>(
+    rt: &R,
+    alloc: Global,
+    address: SocketAddr,
+) -> io::Result<bool> {
+    let mut streams = Vec::new(alloc);
+    for _ in 0..200 {
+        streams.push(TcpStream::connect(rt, address)?)?;
+    }
+    for stream in &mut streams {
+        if !ask_all(alloc, stream, &HANDS_IN_AND_LOOKS)? {
+            return Ok(false);
+        }
+    }
+    for stream in &mut streams {
+        if !ask(alloc, stream, SERVICES, ONE_SERVICE)? {
+            return Ok(false);
+        }
+    }
+    Ok(true)
 }
 
 fn sends_on<R: Net<Stream = TcpStream, Listener = TcpListener>>(

@@ -41,6 +41,14 @@ fn eight_clients_at_once(rt: HostRuntime) -> Result<(), Fail> {
 }
 
 #[test]
+fn two_hundred_connections_and_two_workers(rt: HostRuntime) -> Result<(), Fail> {
+    let config = config(&rt, 2, 200, 10, 300);
+    let outcome = visited(&rt, rt.alloc(), &config, &NoGate, Guests::TwoHundred)?;
+    assert!(rt; outcome.is_well(b"\nserved 200\nbooks 200 0 0\n"));
+    Ok(())
+}
+
+#[test]
 fn bad_neighbours_harm_nobody(rt: HostRuntime) -> Result<(), Fail> {
     let config = config(&rt, 2, 3, 1, 100);
     let outcome = visited(&rt, rt.alloc(), &config, &NoGate, Guests::BadNeighbours)?;

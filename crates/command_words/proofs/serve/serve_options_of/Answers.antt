@@ -6,14 +6,16 @@ use Rattle.command_words.proofs.serve.serve_options_of.Goals as goal
 pub returns-clause-given : goal.returns-clause-given
 returns-clause-given c =
     let f = found_of c.args.matches.now in
-    serve_options_read (rows_of f) c.in_ok-limits.limits c.in_ok-port.port c.in_ok-workers.workers c.in_ok-queue.queue c.in_ok-sessions.sessions c.in_ok-idle.idle c.new.result
+    serve_options_read (rows_of f) c.in_ok-limits.limits c.in_ok-port.port c.in_ok-workers.workers c.in_ok-queue.queue c.in_ok-sessions.sessions
+    c.in_ok-connections.connections c.in_ok-idle.idle c.new.result
     c.in_ok-limits.ensures.given
     (number_read f (codes "port") 65536 _ _ c.in_ok-port.ensures.none c.in_ok-port.ensures.value)
     (number_read f (codes "workers") 65536 _ _ c.in_ok-workers.ensures.none c.in_ok-workers.ensures.value)
     (number_read f (codes "queue") 65536 _ _ c.in_ok-queue.ensures.none c.in_ok-queue.ensures.value)
     (number_read f (codes "sessions") 4294967296 _ _ c.in_ok-sessions.ensures.none c.in_ok-sessions.ensures.value)
+    (number_read f (codes "connections") 4294967296 _ _ c.in_ok-connections.ensures.none c.in_ok-connections.ensures.value)
     (number_read f (codes "idle") 4294967296 _ _ c.in_ok-idle.ensures.none c.in_ok-idle.ensures.value)
-    c.new.ensures.listens c.new.ensures.holds c.new.ensures.ends
+    c.new.ensures.listens c.new.ensures.holds c.new.ensures.admits c.new.ensures.ends
 
 pub returns-in_err-limits-clause-found : goal.returns-in_err-limits-clause-found
 returns-in_err-limits-clause-found c options has =
@@ -39,6 +41,12 @@ returns-in_err-sessions-clause-found c options has =
     let below : options.sessions < 4294967296 = omega (arith, options.within) in
     absurd (number_there (found_of c.args.matches.now) (codes "sessions") 4294967296 options.sessions (λ t e. (c.in_err-sessions.ensures.value t e).1.0) has.sessions below)
 
+pub returns-in_err-connections-clause-found : goal.returns-in_err-connections-clause-found
+returns-in_err-connections-clause-found c options has =
+    let below : options.connections < 4294967296 = omega (arith, options.within) in
+    absurd (number_there (found_of c.args.matches.now) (codes "connections") 4294967296 options.connections
+    (λ t e. (c.in_err-connections.ensures.value t e).1.0) has.connections below)
+
 pub returns-in_err-idle-clause-found : goal.returns-in_err-idle-clause-found
 returns-in_err-idle-clause-found c options has =
     let below : options.idle < 4294967296 = omega (arith, options.within) in
@@ -51,5 +59,7 @@ returns-clause-found c options has =
     let workers = one_number (rows_of f) (codes "workers") _ _ (number_read f (codes "workers") 65536 _ _ c.in_ok-workers.ensures.none c.in_ok-workers.ensures.value) has.workers in
     let queue = one_number (rows_of f) (codes "queue") _ _ (number_read f (codes "queue") 65536 _ _ c.in_ok-queue.ensures.none c.in_ok-queue.ensures.value) has.queue in
     let sessions = one_number (rows_of f) (codes "sessions") _ _ (number_read f (codes "sessions") 4294967296 _ _ c.in_ok-sessions.ensures.none c.in_ok-sessions.ensures.value) has.sessions in
+    let connections = one_number (rows_of f) (codes "connections") _ _
+    (number_read f (codes "connections") 4294967296 _ _ c.in_ok-connections.ensures.none c.in_ok-connections.ensures.value) has.connections in
     let idle = one_number (rows_of f) (codes "idle") _ _ (number_read f (codes "idle") 4294967296 _ _ c.in_ok-idle.ensures.none c.in_ok-idle.ensures.value) has.idle in
-    c.new.ensures.within.1 (rw (port, workers, queue, sessions, idle) options.within)
+    c.new.ensures.within.1 (rw (port, workers, queue, sessions, connections, idle) options.within)

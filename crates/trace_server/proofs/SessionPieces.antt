@@ -1,15 +1,20 @@
--- What becomes of the seat in a session.
-use Rattle.std.proofs.Common.{◌≡◌, ℕ, List, [], ◌∷◌, ap, Result, Ok, Err}
+-- What becomes of the seat in a piece of a session.
+use Rattle.std.proofs.Common.{◌≡◌, ℕ, List, ap, refl, Result, Ok, Err, inl, inr}
+use mathlib.Core.List.{IsPrefix}
 use Rattle.trace_model.specs.declared.limits.Limits.{Limits}
-use Rattle.http_session.specs.Sessions.{Exchange, Step, Run}
+use Rattle.trace_model.proofs.Prefixes.{prefix_trans}
+use Rattle.store_backend.specs.Knowing.{Keeps}
+use Rattle.http_session.specs.Pieces.{AsksOnce}
+use Rattle.http_session.specs.Sessions.{Step}
 use Rattle.http_session.specs.declared.verdict.Verdict.{Verdict}
 use Rattle.http_session.specs.declared.verdict.Verdict.TheVariants.{Submit, Ask, Say}
 use Rattle.http_session.specs.declared.reply.Reply.{Reply}
 use Rattle.http_session.specs.declared.reply.Reply.TheVariants.{Accepted, Answered, Refused, Said, Broken}
-use Rattle.live_store.specs.Sharing.{LiveValue, GoesOn, LiveSubmits, LiveReads}
-use Rattle.live_store.proofs.Seats.{stays_same, goes_further, submit_goes_on, read_goes_on}
+use Rattle.live_store.specs.Sharing.{LiveValue, LiveKnows, GoesOn, LiveSubmits, LiveReads}
+use Rattle.live_store.proofs.Seats.{stays_same, submit_goes_on, read_goes_on}
+use Rattle.trace_server.specs.Underway.{live_store}
 
-pub step_goes_on : (limits : Limits) (s : LiveValue) (v : Verdict) (r : Reply) (t : LiveValue) → Step (LiveSubmits limits) (LiveReads limits) s v r t → GoesOn s.seat t.seat
+step_goes_on : (limits : Limits) (s : LiveValue) (v : Verdict) (r : Reply) (t : LiveValue) → Step (LiveSubmits limits) (LiveReads limits) s v r t → GoesOn s.seat t.seat
 step_goes_on limits s (Submit b) Accepted t d = submit_goes_on limits s b (Ok d.0) t d.1
 step_goes_on limits s (Submit b) (Refused why) t d = submit_goes_on limits s b (Err why) t d
 step_goes_on limits s (Submit b) (Answered a) t d = absurd d
@@ -26,6 +31,10 @@ step_goes_on limits s (Say m) (Answered a) t d = absurd d
 step_goes_on limits s (Say m) (Refused why) t d = absurd d
 step_goes_on limits s (Say m) (Broken b) t d = absurd d
 
-pub run_goes_on : (limits : Limits) (s : LiveValue) (xs : List Exchange) (t : LiveValue) → Run (LiveSubmits limits) (LiveReads limits) s xs t → GoesOn s.seat t.seat
-run_goes_on limits s [] t d = stays_same s.seat t.seat (ap (λ (z : LiveValue). z.seat) d)
-run_goes_on limits s (x ∷ xs) t d = goes_further s.seat d.0.seat t.seat (step_goes_on limits s x.verdict x.reply d.0 d.1) (run_goes_on limits d.0 xs t d.2)
+pub asking_goes_on : (limits : Limits) (s t : LiveValue) → AsksOnce (live_store limits) s t → GoesOn s.seat t.seat
+asking_goes_on limits s t (inl same) = stays_same s.seat t.seat (ap (λ (z : LiveValue). z.seat) same)
+asking_goes_on limits s t (inr does) = step_goes_on limits s does.0 does.1 t does.2
+
+-- what is learnt is known besides
+pub learning_keeps : (limits : Limits) (s t : LiveValue) → IsPrefix s.known t.known → Keeps (live_store limits).limits (live_store limits).knows s t
+learning_keeps limits s t more = record { same_limits = refl; knowledge = λ h k. prefix_trans h s.known t.known k more }

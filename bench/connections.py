@@ -1,0 +1,189 @@
+#!/usr/bin/env python3
+"""What open connections cost `jaeger_one serve`: senders that stay connected, silent clients, slow clients.
+
+    bench/connections.py [--bin PATH] [--senders 1000] [--silent 10000] [--slow 1000] [--seconds 10] [--only WORD]
+
+  senders       so many clients that stay connected and post a batch of 10 spans once a second each, with 4 workers: how many POSTs
+                were answered 202, and how long one took (p50, p99)
+  silent        so many clients that connect and send nothing: what memory they take, and processor time in ten seconds
+  parked        so many clients that each post one batch and stay: the same
+  slow senders  a trace by its id beside so many clients that send a body a byte a second, and alone (p50, p99)
+  slow readers  a trace by its id beside so many clients that ask for a large answer and don't read it, and alone (p50, p99)
+
+Times are those of a client in Python on the same machine, so they include its own work. A figure of one run.
+"""
+import resource
+import selectors
+import statistics
+import sys
+import time
+
+from decode import asked_of
+from servers import Client, Failed, Server, batch, check, get, head, post, post_body
+import wire
+
+ROOM = ["--batches", "1000000", "--spans", "10000000"]
+
+
+def started(program, connections, *more):
+    """A server of four workers that lets so many connections be open."""
+    return Server("--workers", 4, "--connections", connections, *ROOM, *more, binary=program)
+
+
+def ten_spans(trace):
+    return post_body(wire.batch("shop", [wire.span(trace, number, operation="op") for number in range(1, 11)]))
+
+
+def percentiles(times):
+    """p50 and p99, in milliseconds."""
+    ordered = sorted(times)
+    return 1000 * statistics.median(ordered), 1000 * ordered[min(len(ordered) - 1, len(ordered) * 99 // 100)]
+
+
+def said(times):
+    middle, late = percentiles(times)
+    return f"p50 {middle:.2f} ms, p99 {late:.2f} ms of {len(times)}"
+
+
+class Senders:
+    """Clients that post once a second each, spread over the second."""
+
+    def __init__(self, port, count):
+        self.clients = [Client(port) for _ in range(count)]
+        self.selector = selectors.DefaultSelector()
+        self.sent = {}
+        self.times = []
+        self.refused = 0
+        for number, client in enumerate(self.clients):
+            self.selector.register(client.socket, selectors.EVENT_READ, number)
+
+    def post(self, number, trace):
+        self.sent[number] = time.perf_counter()
+        self.clients[number].send(ten_spans(trace))
+
+    def hear(self, seconds):
+        """Takes in what is answered for so long."""
+        end = time.perf_counter() + seconds
+        while True:
+            for key, _ in self.selector.select(max(0, end - time.perf_counter())):
+                response = self.clients[key.data].response()
+                self.times.append(time.perf_counter() - self.sent.pop(key.data))
+                self.refused += response.status != 202
+            if time.perf_counter() >= end:
+                return
+
+    def run(self, seconds):
+        count, begin, trace = len(self.clients), time.perf_counter(), 0
+        while time.perf_counter() - begin < seconds:
+            self.post(trace % count, trace + 1)
+            trace += 1
+            self.hear(max(0, begin + trace / count - time.perf_counter()))
+        self.hear(1)
+
+    def close(self):
+        for client in self.clients:
+            client.socket.close()
+
+
+def senders(options):
+    with started(options.bin, options.senders) as server:
+        work = Senders(server.port, options.senders)
+        begin = server.processor()
+        work.run(options.seconds)
+        took = server.processor() - begin
+        work.close()
+        check(not work.sent and not work.refused, f"{len(work.sent)} POSTs were not answered, {work.refused} not by 202")
+        return f"{len(work.times)} POSTs answered 202; {said(work.times)}; {1e6 * took / len(work.times):.0f} us of a processor each"
+
+
+def resting(server, clients, before):
+    """What connections cost that do nothing."""
+    held = server.memory() - before
+    share = server.share(10)
+    return f"{held / 1000:.1f} MB for {len(clients)} connections, {1000 * held / len(clients):.0f} bytes each; {share * 10:.2f} s of a processor in ten"
+
+
+def silent(options):
+    with started(options.bin, options.silent) as server:
+        before = server.memory()
+        clients = [Client(server.port) for _ in range(options.silent)]
+        clients[-1].ask(get("/api/services"), 200)
+        return resting(server, clients, before)
+
+
+def parked(options):
+    with started(options.bin, options.senders) as server:
+        with server.client() as client:
+            for trace in range(1, 2 * options.senders):
+                client.ask(post(trace), 202)
+        before = server.memory()
+        clients = [Client(server.port) for _ in range(options.senders)]
+        for number, client in enumerate(clients):
+            client.ask(get("/api/services"), 200)
+        return resting(server, clients, before)
+
+
+def looks(server, count=2000):
+    """How long a trace by its id takes, again and again."""
+    times = []
+    with server.client() as client:
+        for _ in range(count):
+            begin = time.perf_counter()
+            client.ask(get("/api/traces/1"), 200)
+            times.append(time.perf_counter() - begin)
+    return times
+
+
+def beside(server, alone, slow, kind):
+    return f"beside {len(slow)} {kind} {said(looks(server))}; alone {said(alone)}"
+
+
+def slow_senders(options):
+    with started(options.bin, options.slow + 10, "--idle", 0) as server:
+        with server.client() as client:
+            client.ask(ten_spans(1), 202)
+        alone = looks(server)
+        body = batch(2)
+        slow = [Client(server.port) for _ in range(options.slow)]
+        for number, client in enumerate(slow):
+            client.send(head("POST /api/traces HTTP/1.1", "Content-Type: application/x-thrift", f"Content-Length: {len(body)}") + body[:number % 50])
+        for client in slow:
+            client.send(body[50:51])
+        return beside(server, alone, slow, "slow senders")
+
+
+def slow_readers(options):
+    with started(options.bin, options.slow + 10, "--idle", 0) as server:
+        with server.client() as client:
+            for trace in range(1, 3001):
+                client.ask(ten_spans(trace), 202)
+        alone = looks(server)
+        slow = [Client(server.port, room=4096) for _ in range(options.slow)]
+        for client in slow:
+            client.send(get("/api/traces?service=shop&limit=0"))
+        return beside(server, alone, slow, "slow readers")
+
+
+def main():
+    asked = asked_of(__doc__)
+    asked.add_argument("--senders", type=int, default=1000)
+    asked.add_argument("--silent", type=int, default=10000)
+    asked.add_argument("--slow", type=int, default=1000)
+    asked.add_argument("--seconds", type=float, default=10)
+    asked.add_argument("--only", default="", help="the parts whose name has this word")
+    options = asked.parse_args()
+    most = resource.getrlimit(resource.RLIMIT_NOFILE)[1]
+    resource.setrlimit(resource.RLIMIT_NOFILE, (most, most))
+    failed = False
+    for name, part in {"senders": senders, "silent": silent, "parked": parked, "slow senders": slow_senders, "slow readers": slow_readers}.items():
+        if options.only in name:
+            try:
+                print(f"{name}: {part(options)}", flush=True)
+            except (Failed, OSError) as fault:
+                failed = True
+                print(f"FAILED {name}: {fault}", flush=True)
+    sys.exit(failed)
+
+
+if __name__ == "__main__":
+    main()

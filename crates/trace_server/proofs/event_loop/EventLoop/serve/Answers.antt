@@ -1,0 +1,20 @@
+use Rattle.std.proofs.Common.{sym, subst}
+use Rattle.open_connections.specs.Open.{socket_line}
+use Rattle.open_connections.proofs.Keeping.{rest_is_open}
+use Rattle.trace_server.specs.Underway.{live_store, AllUnderway}
+use Rattle.trace_server.proofs.SessionPieces.{asking_goes_on}
+use Rattle.trace_server.proofs.event_loop.EventLoop.serve.Goals as goal
+
+pub returns-in-Open-clause-underway : goal.returns-in-Open-clause-underway
+returns-in-Open-clause-underway g c =
+    rest_is_open (live_store g.N.StoreName.limits) socket_line c.answer_next.new.backend c.answer_next.new.self c.keep.new.self.open c.answer_next.ensures.underway c.keep.ensures.rest
+
+pub returns-in-Open-clause-goes_on : goal.returns-in-Open-clause-goes_on
+returns-in-Open-clause-goes_on g c = asking_goes_on g.N.StoreName.limits c.args.store.now c.answer_next.new.backend c.answer_next.ensures.asks
+
+pub returns-in-Left-Closing-default-clause-underway : goal.returns-in-Left-Closing-default-clause-underway
+returns-in-Left-Closing-default-clause-underway g c =
+    subst (AllUnderway g.N.StoreName.limits c.answer_next.new.backend) (sym c.leave.ensures.open) c.answer_next.ensures.underway
+
+pub returns-in-Left-Closing-default-clause-goes_on : goal.returns-in-Left-Closing-default-clause-goes_on
+returns-in-Left-Closing-default-clause-goes_on g c = asking_goes_on g.N.StoreName.limits c.args.store.now c.answer_next.new.backend c.answer_next.ensures.asks

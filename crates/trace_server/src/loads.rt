@@ -1,0 +1,63 @@
+//! How many connections are open, in all and at each worker.
+
+use std::alloc::{AllocError, Global};
+use std::sync::atomic::{AtomicU32, Ordering};
+
+/// What a worker counts as if it can accept no connection.
+const ACCEPTS_NONE: u32 = u32::MAX;
+
+/// How many connections are open, in all and at each worker. Nothing rests on these counts but which worker accepts a
+/// connection, and when.
+#[derive(Drop)]
+pub(crate) struct Loads {
+    workers: Vec<AtomicU32>,
+    open: AtomicU32,
+    max_open: u32,
+}
+
+impl Loads {
+    /// No worker has a connection.
+    ///
+    /// # Errors
+    ///
+    /// Out of memory.
+    pub(crate) fn new(alloc: Global, workers: u16, max_open: u32) -> Result<Loads, AllocError> {
+        let mut loads = Vec::with_capacity(alloc, workers as usize)?;
+        for _ in 0..workers {
+            loads.push(AtomicU32::new(0))?;
+        }
+        Ok(Loads {
+            workers: loads,
+            open: AtomicU32::new(0),
+            max_open,
+        })
+    }
+
+    /// Takes a place for one more connection, if there is one.
+    pub(crate) fn take_place(&self) -> bool {
+        if self.open.fetch_add(1, Ordering::SeqCst) < self.max_open {
+            return true;
+        }
+        self.give_back_place();
+        false
+    }
+
+    /// Gives a place back.
+    pub(crate) fn give_back_place(&self) {
+        self.open.fetch_sub(1, Ordering::SeqCst);
+    }
+
+    /// Says how many connections a worker has, if it may accept more.
+    pub(crate) fn set(&self, worker: u32, connections: Option<u32>) {
+        if let Some(load) = self.workers.get(worker as usize) {
+            load.store(connections.unwrap_or(ACCEPTS_NONE), Ordering::SeqCst);
+        }
+    }
+
+    /// Returns whether no worker that may accept has fewer connections.
+    pub(crate) fn is_least(&self, connections: u32) -> bool {
+        self.workers
+            .iter()
+            .all(|load| load.load(Ordering::SeqCst) >= connections)
+    }
+}
