@@ -3,7 +3,9 @@ pub mod Cuts
 pub mod Readings
 pub mod Wholes
 pub mod Once
-pub mod Taking
+pub mod Chunking
+pub mod Parts
+pub mod PartByPart
 pub mod Ends
 pub mod Awaiting
 pub mod Rooms

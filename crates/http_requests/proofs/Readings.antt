@@ -123,3 +123,31 @@ seen_stays P bytes old new more are is p = subst P (sym (ap (take (length bytes)
 
 pub fits_still : (bytes old new more : List ℕ) → bytes ≡ old → new ≡ old ++ more → length bytes ≤ length new
 fits_still bytes old new more are is = omega (arith, ap length are, ap length is, length-append old more)
+
+module _ {R : Type 0} (source : Source R) where
+  -- one more read, where more was awaited of what is there
+  pub reads_more : (Awaits : List ℕ → Type 0) (s m t : R) (old here new : ReadBuffer) (bytes : List ℕ) → ReadsOnWhile source Awaits s m old here → bytes ≡ here.held
+      → Awaits bytes → ReadsOn (source.remaining m) (source.remaining t) here new → IsRead source.gives m t here new → ReadsOnWhile source Awaits s t old new
+  reads_more Awaits s m t old here new bytes so are awaits on read =
+      then_on source Awaits s m t old here new so (once source Awaits m t here new (subst Awaits are awaits) on read)
+
+  -- a text was taken from what is there
+  pub with_text : (Awaits : List ℕ → Type 0) (s t : R) (old here new : ReadBuffer) (front text : List ℕ) → ReadsOnWhile source Awaits s t old (put_back front here) → here ≡ put_back text new
+      → ReadsOnWhile source Awaits s t old (put_back (front ++ text) new)
+  with_text Awaits s t old here new front text reads cut =
+      let More : List ℕ → Type 0 = λ h. Awaits (front ++ h) in
+      beginnings_join source Awaits More s t t old here new front text (λ h awaits. awaits) reads
+      (subst (λ (b : ReadBuffer). ReadsOnWhile source More t t here b) cut (nothing_yet source More t here))
+
+  -- one more read, seen from the beginning of a text that was taken
+  pub read_behind : (Awaits : List ℕ → Type 0) (s m t : R) (old here new : ReadBuffer) (front : List ℕ) → ReadsOnWhile source Awaits s m old (put_back front here) → Awaits (front ++ here.held)
+      → ReadsOn (source.remaining m) (source.remaining t) here new → IsRead source.gives m t here new → ReadsOnWhile source Awaits s t old (put_back front new)
+  read_behind Awaits s m t old here new front reads awaits on read =
+      let More : List ℕ → Type 0 = λ h. Awaits (front ++ h) in
+      beginning_then source Awaits More s m t old here new front (λ h more. more) reads (once source More m t here new awaits on read)
+
+  -- and one that gave nothing
+  pub stops_reading : (Awaits : List ℕ → Type 0) (s m t : R) (failed : Bool) (old here : ReadBuffer) (front : List ℕ) (why : ReadError) → ReadsOnWhile source Awaits s m old (put_back front here)
+      → Awaits (front ++ here.held) → ReadFails source m t failed here why → StopsWhile source Awaits s t failed old why
+  stops_reading Awaits s m t failed old here front why reads awaits last =
+      stops_there source Awaits s m t failed old (put_back front here) (front ++ here.held) why reads refl awaits (fails_put_back source m t failed here front why last)

@@ -19,17 +19,6 @@ use Rattle.http_requests.specs.declared.asked.Breach.{Breach}
 abbrev pub Begins : (List ℕ → Type 0) → List ℕ → ℕ → Type 0
 Begins Is bytes count = Is (take count bytes) × (count ≤ length bytes)
 
--- a text of this kind was taken from the beginning
-pub record Takes {R : Type 0} (source : Source R) (Awaits : List ℕ → Type 0) (s t : R) (old new : ReadBuffer) (Is : List ℕ → Type 0) : Type 0 where
-  pub text : List ℕ
-  pub is : Is text
-  pub reads : ReadsOnWhile source Awaits s t old (put_back text new)
-
--- no text of this kind can be taken from the beginning
-pub record Misses {R : Type 0} (source : Source R) (Awaits : List ℕ → Type 0) (s t : R) (old new : ReadBuffer) (Is : List ℕ → Type 0) : Type 0 where
-  pub reads : ReadsOnWhile source Awaits s t old new
-  pub lacks : Lacks (IsAtEnd (source.remaining t)) Is new.held
-
 -- no size line stands at the beginning, and none has ended
 abbrev pub AwaitsLine : List ℕ → Type 0
 AwaitsLine bytes = HasNone IsSomeSizeLine bytes × EndsNoLine bytes
@@ -54,48 +43,6 @@ pub record AwaitsRest (Is : List ℕ → Type 0) (bytes : List ℕ) : Type 0 whe
   pub none : HasNone Is bytes
   pub more : List ℕ
   pub may : Is (bytes ++ more)
-
--- ---- bytes for the sink
-
--- Bytes were taken and put into the sink: so many, or all up to the end of the input.
-pub record Gathers {S R : Type 0} (takes : Takings S) (source : Source R) (s t : R) (old new : ReadBuffer) (before after : S) (size : ℕ) (all : Bool) : Type 0 where
-  pub content : List ℕ
-  pub reads : ReadsOnWhile source (IsShorter size) s t old (put_back content new)
-  pub put : takes before content after
-  pub whole : all ≡ true → length content ≡ size
-  pub short : all ≡ false → (length content < size) × (new.held ≡ []) × IsAtEnd (source.remaining t)
-
--- bytes gathered so far, where so many are left
-pub record Gathered {S R : Type 0} (takes : Takings S) (source : Source R) (s t : R) (old new : ReadBuffer) (before after : S) (size left : ℕ) : Type 0 where
-  pub content : List ℕ
-  pub reads : ReadsOnWhile source (IsShorter size) s t old (put_back content new)
-  pub put : takes before content after
-  pub sum : length content + left ≡ size
-
--- so many data were put into the sink, and they and CR LF were taken
-pub record TakesContent {S R : Type 0} (takes : Takings S) (source : Source R) (s t : R) (old new : ReadBuffer) (before after : S) (size : ℕ) : Type 0 where
-  pub content : List ℕ
-  pub reads : ReadsOnWhile source (AwaitsRest (IsContent size)) s t old (put_back (content ++ crlf_bytes) new)
-  pub put : takes before content after
-  pub size_is : length content ≡ size
-
--- a text was taken, and with what is left it begins with none of this kind
-pub record Fails {R : Type 0} (source : Source R) (s t : R) (old new : ReadBuffer) (Is : List ℕ → Type 0) : Type 0 where
-  pub text : List ℕ
-  pub reads : ReadsOnWhile source (AwaitsRest Is) s t old (put_back text new)
-  pub lacks : Lacks (IsAtEnd (source.remaining t)) Is (text ++ new.held)
-
-abbrev pub TakesContentOr : {S R : Type 0} → Takings S → Source R → R → R → ReadBuffer → ReadBuffer → S → S → ℕ → Bool → Type 0
-TakesContentOr takes source s t old new before after size true = TakesContent takes source s t old new before after size
-TakesContentOr takes source s t old new before after size false = Fails source s t old new (IsContent size)
-
--- chunks so far, and how many bytes of data may still come
-pub record ChunksSoFar {S R : Type 0} (takes : Takings S) (source : Source R) (s t : R) (old new : ReadBuffer) (before after : S) (left : ℕ) : Type 0 where
-  pub chunks : List Chunk
-  pub each : All IsChunk chunks
-  pub reads : ReadsOnWhile source (AwaitsBody Chunked) s t old (put_back (texts chunks) new)
-  pub put : takes before (contents chunks) after
-  pub sum : MOST_BODY_BYTES ≡ length (contents chunks) + left
 
 -- ---- bodies
 

@@ -9,5 +9,6 @@ pub mod Pieces
 pub mod Receiving
 pub mod Searching
 pub mod Bodies
+pub mod InParts
 pub mod LineEnds
 pub mod LineLaws

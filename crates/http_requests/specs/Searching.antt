@@ -9,9 +9,3 @@ abbrev pub LooksFor : {T : Type 0} → (List ℕ → Type 0) → (List ℕ → T
 LooksFor Awaits Finds NeverHas bytes (Whole found) = Finds bytes found
 LooksFor Awaits Finds NeverHas bytes More = Awaits bytes
 LooksFor Awaits Finds NeverHas bytes Never = NeverHas bytes
-
--- where more is awaited, the input has nothing left
-abbrev pub KnowsItEnded : {T : Type 0} → Option (List ℕ) → Look T → Type 0
-KnowsItEnded input (Whole found) = Unit {0}
-KnowsItEnded input More = IsAtEnd input
-KnowsItEnded input Never = Unit {0}

@@ -7,14 +7,18 @@
 //! put into a [`Sink`] as it comes ([`read_body`]). No body is held whole. The input is read only while the
 //! bytes received don't decide: no request stands at their beginning, and no reason why there can be none.
 //!
+//! Both are loops of a step and a read. The steps read nothing and keep what they have found between two reads
+//! ([`HeadWait`], [`BodyReader`]), so a caller that does not wait for a client can pause before each read.
+//!
 //! * `head`: looking for a head at the beginning of bytes.
 //! * `fields`: the fields of a head, by name.
 //! * `asked`: what a session asks of a head: method, target, how long the body is, whether it closes.
 //! * `bodies`: taking a body, by its length or in chunks.
+//! * `body_reader`: a body that is taken step by step.
 //! * `read_buffer`: the bytes that were read and are not taken yet.
 //! * `room`: the room that they lie in, which is used again.
 //! * `line_ends`: when a text that ends with a line is looked for.
-//! * `searching`: reading until what is sought stands at the beginning of the bytes, or can't come.
+//! * `searching`: looking for a text that ends with a line, once one may have come.
 //! * `reading`: the head of the next request of an input.
 //! * `sink`: what a body is put into.
 //! * `laws`: facts about what stands at the beginning of bytes.
@@ -22,6 +26,7 @@
 
 mod asked;
 mod bodies;
+mod body_reader;
 mod fields;
 mod head;
 pub mod laws;
@@ -34,7 +39,9 @@ mod sink;
 
 pub use asked::{BodyLength, Breach, Method, Request};
 pub use bodies::read_body;
+pub use body_reader::{BodyLook, BodyReader};
+pub use chunked_bodies::Look;
 pub use read_buffer::{MOST_READS, ReadBuffer, ReadError};
-pub use reading::{Next, next_head};
-pub use room::PIECE;
+pub use reading::{HeadWait, Next, next_head};
+pub use room::{PIECE, SpareRoom};
 pub use sink::Sink;

@@ -2,7 +2,7 @@ ghost use Rattle.std.specs.Prelude.{◌≡◌, ◌≤◌, ◌+◌, [], false, If
 ghost use Rattle.http_requests.specs.Waiting.{source_of};
 ghost use Rattle.http_requests.specs.Receiving.{ReadsOn, IsRead, ReadFails, SameUnlessReading};
 
-use crate::room::Room;
+use crate::room::{Room, SpareRoom};
 use session_devices::Input;
 use std::alloc::{AllocError, Global};
 use std::marker::Model;
@@ -81,8 +81,22 @@ impl ReadBuffer {
         self.room.take(count);
     }
 
+    /// Takes the spare room, if it has none of its own.
+    pub fn borrow_room(&mut self, spare: &mut SpareRoom)
+        ensures { self.new ≡ self.old }
+    {
+        self.room.borrow_from(spare);
+    }
+
+    /// Gives its room back, if no bytes are held. It keeps none then.
+    pub fn return_room(&mut self, spare: &mut SpareRoom)
+        ensures { self.new ≡ self.old }
+    {
+        self.room.return_to(spare);
+    }
+
     /// Makes one read, of an input that has not ended. Memory is taken before it: a read's bytes always find room.
-    pub(crate) fn read_on<R: Input>(&mut self, input: &mut R) -> Result<(), ReadError>
+    pub fn read_on<R: Input>(&mut self, input: &mut R) -> Result<(), ReadError>
         requires { self.old.ended ≡ false }
         ensures ok { OnOk result (ReadsOn (R.remaining input.old) (R.remaining input.new)
             self.old self.new) }

@@ -1,12 +1,15 @@
-ghost use Rattle.std.specs.Prelude.{IfOk, IfErr};
-ghost use Rattle.http_requests.specs.Heads.{AwaitsHead};
+ghost use Rattle.std.specs.Prelude.{◌≡◌, ◌≤◌, ℕ, List, length, take, IfOk, IfErr};
+ghost use Rattle.http_requests.specs.Framing.{Frames};
+ghost use Rattle.http_requests.specs.Heads.{AwaitsHead, NeverHasHead};
+ghost use Rattle.http_requests.specs.Searching.{LooksFor};
+ghost use Rattle.http_requests.specs.InParts.{HasSeen, SeesAll};
 ghost use Rattle.http_requests.specs.Waiting.{source_of};
 ghost use Rattle.http_requests.specs.Receiving.{KnowsItsEnd, StopsWhile, Finds, SameUnlessReading};
 
 use crate::asked::{BodyLength, Request, frame};
 use crate::head::HeadSearch;
 use crate::read_buffer::{ReadBuffer, ReadError};
-use crate::searching::read_until;
+use crate::searching::look_when_due;
 use chunked_bodies::Look;
 use session_devices::Input;
 
@@ -19,6 +22,43 @@ pub enum Next {
     Clean,
     /// No head, and none can come.
     Broken,
+}
+
+/// A head that is awaited: none stands in so many bytes received.
+#[derive(Clone, Copy, Debug)]
+pub struct HeadWait {
+    seen: usize,
+}
+
+impl HeadWait {
+    /// Before the first look.
+    pub fn new() -> Self
+        ensures { result ≡ record { seen = 0 } }
+    {
+        HeadWait { seen: 0 }
+    }
+
+    /// Looks for the head of a request at the beginning of the bytes received: the request, how many bytes its head has,
+    /// and how long the body is by it. Bytes that were looked at are not looked at again until a line ends behind them.
+    pub fn look(&mut self, bytes: &[u8]) -> Look<(Request, usize, BodyLength)>
+        requires seen { HasSeen self.old bytes.now }
+        ensures found { LooksFor AwaitsHead (λ bytes found. Frames bytes found.1 found.0 found.2)
+            NeverHasHead bytes.now result }
+        ensures seen { SeesAll self.new bytes.now result }
+    {
+        let mut search = HeadSearch::new();
+        match look_when_due(bytes, self.seen, &mut search) {
+            Look::Whole(spans) => {
+                let (request, size) = frame(bytes, &search.headers, spans);
+                Look::Whole((request, spans.len, size))
+            }
+            Look::More => {
+                self.seen = bytes.len();
+                Look::More
+            }
+            Look::Never => Look::Never,
+        }
+    }
 }
 
 /// Reads until the head of a request stands at the beginning of the bytes received, or there is none: the input
@@ -37,12 +77,13 @@ pub fn next_head<R: Input>(input: &mut R, received: &mut ReadBuffer) -> Result<N
         AwaitsHead input.old input.new (R.has_failed input.new) received.old why) }
     ensures same { SameUnlessReading (R.has_failed input.old) (R.has_failed input.new) result }
 {
-    let mut search = HeadSearch::new();
-    let spans = match read_until(input, received, &mut search)? {
-        Look::Whole(spans) => spans,
-        Look::More if received.as_slice().is_empty() => return Ok(Next::Clean),
-        Look::More | Look::Never => return Ok(Next::Broken),
-    };
-    let (request, size) = frame(received.as_slice(), &search.headers, spans);
-    Ok(Next::One(request, spans.len, size))
+    let mut wait = HeadWait::new();
+    'reads: loop {
+        match wait.look(received.as_slice()) {
+            Look::Whole((request, length, size)) => return Ok(Next::One(request, length, size)),
+            Look::More if !received.has_ended() => received.read_on(input)?,
+            Look::More if received.as_slice().is_empty() => return Ok(Next::Clean),
+            Look::More | Look::Never => return Ok(Next::Broken),
+        }
+    }
 }

@@ -5,9 +5,39 @@ ghost use Rattle.http_requests.specs.Pieces.{GetsPiece};
 
 use session_devices::{Failed, Input};
 use std::alloc::{AllocError, Global};
+use std::mem;
 
 /// How many bytes one read asks for.
 pub const PIECE: usize = 16_384;
+
+/// Room that holds nothing: the sessions of one thread use it one after the other.
+#[derive(Drop)]
+pub struct SpareRoom {
+    bytes: Vec<u8>,
+    alloc: Global,
+}
+
+impl SpareRoom {
+    /// No room.
+    pub fn new(alloc: Global) -> Self {
+        SpareRoom {
+            bytes: Vec::new(alloc),
+            alloc,
+        }
+    }
+
+    /// Hands the room out.
+    fn take(&mut self) -> Vec<u8> {
+        mem::replace(&mut self.bytes, Vec::new(self.alloc))
+    }
+
+    /// Keeps this room, unless there is some.
+    fn keep(&mut self, bytes: Vec<u8>) {
+        if self.bytes.is_empty() {
+            self.bytes = bytes;
+        }
+    }
+}
 
 /// Room for bytes, all of it initialised, and the bytes held in it: those from `start` to `end`.
 #[derive(Drop)]
@@ -58,6 +88,29 @@ impl Room {
             self.start = 0;
             self.end = end - start;
         }
+    }
+
+    /// Takes the spare room, if it has none of its own.
+    pub(crate) fn borrow_from(&mut self, spare: &mut SpareRoom)
+        ensures { held self.new ≡ held self.old }
+    {
+        if self.bytes.is_empty() {
+            self.bytes = spare.take();
+        }
+    }
+
+    /// Gives its room back, if no bytes are held.
+    pub(crate) fn return_to(&mut self, spare: &mut SpareRoom)
+        ensures same { held self.new ≡ held self.old }
+        ensures none { held self.old ≡ [] → vec_len self.new.bytes ≡ 0 }
+    {
+        if self.start < self.end {
+            return;
+        }
+        self.start = 0;
+        self.end = 0;
+        let bytes = mem::replace(&mut self.bytes, Vec::new(spare.alloc));
+        spare.keep(bytes);
     }
 
     /// Makes room for a piece behind the bytes held. Where it is short, they are moved to the beginning, and where it is

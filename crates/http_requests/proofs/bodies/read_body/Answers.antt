@@ -1,25 +1,35 @@
-use Rattle.http_requests.specs.Waiting.{source_of}
+use Rattle.std.proofs.Common.{◌∙◌, refl, sym}
 use Rattle.std.proofs.lemmas.Result.{err_from_is_err_and}
-use Rattle.http_requests.proofs.Taking.{body_whole, body_short, body_unreadable, body_too_large}
+use Rattle.http_requests.specs.Waiting.{source_of}
+use Rattle.http_requests.proofs.Parts.{has_looked}
+use Rattle.http_requests.proofs.PartByPart.{begins_body, more_body, broken_body, ended_body, body_read_on, body_stops_there}
 use Rattle.http_requests.proofs.bodies.read_body.Goals as goal
 
-pub returns-then-branch-clause-body : goal.returns-then-branch-clause-body
-returns-then-branch-clause-body g c =
-    let gathers = rw c.if-branch.true at c.in_ok-gather-in-Bytes.ensures.gathers in
-    rw c.in-Bytes.is (body_whole g.S.Sink.takes (source_of g.R.Input.remaining g.R.Input.gives) _ _ _ _ _ _ _ gathers)
+pub reads-init : goal.reads-init
+reads-init g c =
+    (begins_body g.S.Sink.takes (source_of g.R.Input.remaining g.R.Input.gives) g.met.S.Sink.takes_nothing _ _ _ _ _ c.new-reader.ensures.part, refl, c.new-reader.ensures.looked _)
 
-pub returns-else-branch-clause-body : goal.returns-else-branch-clause-body
-returns-else-branch-clause-body g c =
-    let gathers = rw c.if-branch.false at c.in_ok-gather-in-Bytes.ensures.gathers in
-    rw c.in-Bytes.is (body_short g.S.Sink.takes (source_of g.R.Input.remaining g.R.Input.gives) _ _ _ _ _ _ _ gathers)
+pub returns-in-Broken-clause-body : goal.returns-in-Broken-clause-body
+returns-in-Broken-clause-body g c =
+    broken_body g.S.Sink.takes (source_of g.R.Input.remaining g.R.Input.gives) g.met.S.Sink.takes_joined _ _ _ _ _ _ _ c.take_from.new.sink _ _ c.take_from.new.self c.reads.invariant.0 c.in-Broken.why c.in-Broken.ensures.took
 
-pub returns-in-Unreadable-clause-body : goal.returns-in-Unreadable-clause-body
-returns-in-Unreadable-clause-body g c = rw c.in-Unreadable.is (body_unreadable (source_of g.R.Input.remaining g.R.Input.gives) _ _)
+pub returns-in-More-clause-body : goal.returns-in-More-clause-body
+returns-in-More-clause-body g c =
+    let part = more_body g.S.Sink.takes (source_of g.R.Input.remaining g.R.Input.gives) g.met.S.Sink.takes_joined _ _ _ _ _ _ _ _ _ _ _ c.reads.invariant.0 c.in-More.ensures.took in
+    let at_end = part.reads.on.end c.requires.end (sym c.has_ended.ensures ∙ c.if-has_ended.true) in
+    ended_body g.S.Sink.takes (source_of g.R.Input.remaining g.R.Input.gives) _ _ c.reads.input _ _ c.take_from.new.received _ _ _ _ part c.in-More.ensures.leaves at_end
 
-pub returns-in-TooLarge-clause-body : goal.returns-in-TooLarge-clause-body
-returns-in-TooLarge-clause-body g c = rw c.in-TooLarge.is (body_too_large (source_of g.R.Input.remaining g.R.Input.gives) _ _)
+pub reads-preserved : goal.reads-preserved
+reads-preserved g c =
+    let part = more_body g.S.Sink.takes (source_of g.R.Input.remaining g.R.Input.gives) g.met.S.Sink.takes_joined _ _ _ _ _ _ _ _ _ _ _ c.reads.invariant.0 c.in-More-2.ensures.took in
+    let read = c.in_ok-read_on-in-More-2.ensures in (
+      body_read_on g.S.Sink.takes (source_of g.R.Input.remaining g.R.Input.gives) _ _ _ _ _ _ _ _ _ _ part c.in-More-2.ensures.leaves read.ok read.read,
+      read.same ∙ c.reads.invariant.1,
+      has_looked c.take_from.new.self c.take_from.new.received.held c.read_on.new.self.held read.read.0 read.read.2 c.in-More-2.ensures.leaves,
+    )
 
-pub returns-in_err-gather-in-Bytes-clause-err : goal.returns-in_err-gather-in-Bytes-clause-err
-returns-in_err-gather-in-Bytes-clause-err g c =
+pub returns-in_err-read_on-in-More-2-clause-err : goal.returns-in_err-read_on-in-More-2-clause-err
+returns-in_err-read_on-in-More-2-clause-err g c =
+    let part = more_body g.S.Sink.takes (source_of g.R.Input.remaining g.R.Input.gives) g.met.S.Sink.takes_joined _ _ _ _ _ _ _ _ _ _ _ c.reads.invariant.0 c.in-More-2.ensures.took in
     let p = err_from_is_err_and c.from_residual.result c.from_residual.ensures.1 in
-    rw (p.1, p.2, c.in-Bytes.is) c.in_err-gather-in-Bytes.ensures.err
+    rw (p.1, p.2) (body_stops_there g.S.Sink.takes (source_of g.R.Input.remaining g.R.Input.gives) _ _ _ _ _ c.take_from.new.received _ _ _ _ part c.in-More-2.ensures.leaves _ _ c.in_err-read_on-in-More-2.ensures.err)

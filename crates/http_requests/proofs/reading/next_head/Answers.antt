@@ -1,7 +1,31 @@
+use Rattle.std.proofs.Common.{◌∙◌, ℕ, ◌≤◌, length, take, refl, sym, subst, arith}
+use Rattle.http_requests.specs.Heads.{AwaitsHead}
+use Rattle.http_requests.specs.InParts.{HasSeen}
+use Rattle.http_requests.specs.LineLaws.{no_bytes_await}
 use Rattle.http_requests.specs.Waiting.{source_of}
+use Rattle.http_requests.specs.declared.reading.HeadWait.{HeadWait}
+use Rattle.http_requests.proofs.Readings.{nothing_yet, reads_more, seen_stays, fits_still}
 use Rattle.http_requests.proofs.Wholes.{finds_head}
 use Rattle.http_requests.proofs.reading.next_head.Goals as goal
 
-pub returns-clause-found : goal.returns-clause-found
-returns-clause-found g c =
-    finds_head (source_of g.R.Input.remaining g.R.Input.gives) _ _ _ _ _ _ c.frame-size.result.0 c.frame-size.result.1 c.in_ok-spans.ensures.reads c.frame-size.ensures c.as_slice-2.ensures
+pub reads-init : goal.reads-init
+reads-init g c =
+    (nothing_yet (source_of g.R.Input.remaining g.R.Input.gives) AwaitsHead _ _, refl, subst (λ (w : HeadWait). HasSeen w c.args.received.now.held) (sym c.new-wait.ensures) (omega arith, no_bytes_await))
+
+pub returns-in-Whole-clause-found : goal.returns-in-Whole-clause-found
+returns-in-Whole-clause-found g c =
+    finds_head (source_of g.R.Input.remaining g.R.Input.gives) _ _ _ _ _ _ _ _ c.reads.invariant.0 c.in-Whole.ensures.found c.as_slice.ensures
+
+pub reads-preserved : goal.reads-preserved
+reads-preserved g c =
+    let so = c.reads.invariant in
+    let read = c.in_ok-read_on-in-More.ensures.read in
+    let awaits = c.in-More.ensures.found in
+    let seen = c.in-More.ensures.seen in (
+      reads_more (source_of g.R.Input.remaining g.R.Input.gives) AwaitsHead _ _ _ _ _ _ _ so.0 c.as_slice.ensures awaits c.in_ok-read_on-in-More.ensures.ok read,
+      c.in_ok-read_on-in-More.ensures.same ∙ so.1,
+      (
+        subst (λ (n : ℕ). n ≤ length c.read_on.new.self.held) (sym seen) (fits_still _ _ _ read.0 c.as_slice.ensures read.2),
+        subst (λ (n : ℕ). AwaitsHead (take n c.read_on.new.self.held)) (sym seen) (seen_stays AwaitsHead _ _ _ read.0 c.as_slice.ensures read.2 awaits),
+      ),
+    )

@@ -1,0 +1,66 @@
+-- How a body is read, part by part.
+use Rattle.std.proofs.Common.{◌≡◌, ℕ, Bool, List, [], ◌++◌, refl, sym, subst, append_assoc}
+use Rattle.std.specs.Io.KnownBytes.{IsAtEnd}
+use Rattle.session_devices.specs.Takings.{Takings, TakesNothing, TakesJoined}
+use Rattle.http_requests.specs.Requests.{HasBody, BodyBreaks, AwaitsBody}
+use Rattle.http_requests.specs.Waiting.{Source}
+use Rattle.http_requests.specs.Receiving.{ReadBuffer, ReadsOn, ReadsOnWhile, IsRead, ReadFails, StopsWhile, put_back}
+use Rattle.http_requests.specs.Bodies.{TakesBody, BreaksBody}
+use Rattle.http_requests.specs.InParts.{IsPart, AwaitsMore, Comes, TakesOn, TakesPart}
+use Rattle.http_requests.specs.declared.asked.BodyLength.{BodyLength}
+use Rattle.http_requests.specs.declared.asked.Breach.{Breach}
+use Rattle.http_requests.specs.declared.asked.Breach.TheVariants as breach
+use Rattle.http_requests.specs.declared.body_reader.BodyReader.{BodyReader}
+use Rattle.http_requests.specs.declared.body_reader.BodyLook.TheVariants.{Whole, More, Broken}
+use Rattle.http_requests.specs.declared.read_buffer.ReadError.{ReadError}
+use Rattle.http_requests.proofs.Readings.{nothing_yet, with_text, read_behind, stops_reading}
+use Rattle.http_requests.proofs.Parts.{awaits_body, ended_breaks, breaks_anyway}
+
+module _ {S R : Type 0} (takes : Takings S) (source : Source R) where
+  pub begins_body : TakesNothing S takes → (s : R) (r : ReadBuffer) (before : S) (size : BodyLength) (reader : BodyReader) → IsPart size [] [] reader → TakesPart takes source s s r r before before size reader
+  begins_body nothing s r before size reader part = record { text = []; content = []; part = part; reads = nothing_yet source (AwaitsBody size) s r; put = nothing before }
+
+  module _ (joined : TakesJoined S takes) (s t : R) (old here new : ReadBuffer) (before now after : S) (size : BodyLength) (was is : BodyReader)
+      (so : TakesPart takes source s t old here before now size was) where
+    pub more_body : TakesOn takes here new now after was (λ of text content. Comes of text content new.held is More) → TakesPart takes source s t old new before after size is
+    more_body on = record {
+      text = so.text ++ on.text;
+      content = so.content ++ on.content;
+      part = on.come size so.text so.content so.part;
+      reads = with_text source (AwaitsBody size) s t old here new so.text on.text so.reads on.cut;
+      put = joined before now after so.content on.content so.put on.put;
+    }
+
+    pub whole_body : TakesOn takes here new now after was (λ of text content. Comes of text content new.held is Whole) → TakesBody takes source s t old new before after size
+    whole_body on = record {
+      text = so.text ++ on.text;
+      body = so.content ++ on.content;
+      body_is = on.come size so.text so.content so.part;
+      reads = with_text source (AwaitsBody size) s t old here new so.text on.text so.reads on.cut;
+      put = joined before now after so.content on.content so.put on.put;
+    }
+
+    pub broken_body : (why : Breach) → TakesOn takes here new now after was (λ of text content. Comes of text content new.held is (Broken why)) → BreaksBody source s t old new size why
+    broken_body why on = record {
+      text = so.text ++ on.text;
+      reads = with_text source (AwaitsBody size) s t old here new so.text on.text so.reads on.cut;
+      breaks = breaks_anyway (IsAtEnd (source.remaining t)) why size ((so.text ++ on.text) ++ new.held) (on.come size so.text so.content so.part);
+    }
+
+  module _ (s m t : R) (old here new : ReadBuffer) (before after : S) (size : BodyLength) (reader : BodyReader)
+      (so : TakesPart takes source s m old here before after size reader) (awaits : AwaitsMore reader here.held) where
+    pub ended_body : IsAtEnd (source.remaining m) → BreaksBody source s m old here size breach.Body
+    ended_body at_end = record { text = so.text; reads = so.reads; breaks = ended_breaks _ size (so.text ++ here.held) (awaits_body size so.text so.content here.held reader so.part awaits) at_end }
+
+    pub body_read_on : ReadsOn (source.remaining m) (source.remaining t) here new → IsRead source.gives m t here new → TakesPart takes source s t old new before after size reader
+    body_read_on on read = record {
+      text = so.text;
+      content = so.content;
+      part = so.part;
+      reads = read_behind source (AwaitsBody size) s m t old here new so.text so.reads (awaits_body size so.text so.content here.held reader so.part awaits) on read;
+      put = so.put;
+    }
+
+    pub body_stops_there : (failed : Bool) (why : ReadError) → ReadFails source m t failed here why → StopsWhile source (AwaitsBody size) s t failed old why
+    body_stops_there failed why last =
+        stops_reading source (AwaitsBody size) s m t failed old here so.text why so.reads (awaits_body size so.text so.content here.held reader so.part awaits) last

@@ -1,0 +1,14 @@
+use Rattle.std.proofs.Common.{◌≡◌}
+use Rattle.http_requests.specs.Heads.{AwaitsHead}
+use Rattle.http_requests.specs.InParts.{HasSeen}
+use Rattle.http_requests.specs.Waiting.{source_of}
+use Rattle.http_requests.specs.Receiving.{ReadsOnWhile}
+use Rattle.http_requests.proofs.reading.next_head.Given as goal
+
+abbrev pub invariant-reads : goal.invariant-reads
+invariant-reads g l = ReadsOnWhile (source_of g.R.Input.remaining g.R.Input.gives) AwaitsHead l.initial.input l.input l.initial.received l.received
+    × (g.R.Input.has_failed l.input ≡ g.R.Input.has_failed l.initial.input)
+    × HasSeen l.wait l.received.held
+
+abbrev pub decreases-reads : goal.decreases-reads
+decreases-reads g l = l.received.left

@@ -1,0 +1,279 @@
+//! A body that is taken as it comes: what is known of it between two reads.
+
+ghost use Rattle.std.specs.Prelude.{◌≡◌, ◌<◌, ℕ, List, [], length, take, drop, min, IfNone};
+ghost use Rattle.chunked_bodies.specs.Chunks.{IsTrailer, HasNone, NeverHas};
+ghost use Rattle.http_requests.specs.Searching.{LooksFor};
+ghost use Rattle.http_requests.specs.Bodies.{AwaitsRest, IsLineEnd, Begins, begins_line_end, may_begin_line_end};
+ghost use Rattle.http_requests.specs.InParts.{IsPart, HasLooked, Comes, ComesOr, Leaves, LeavesOr, TakesOn, TakesText};
+ghost use Rattle.http_requests.specs.declared.body_reader.Stage.TheVariants as stage;
+
+use crate::asked::{BodyLength, Breach, MOST_BODY_BYTES};
+use crate::read_buffer::ReadBuffer;
+use crate::searching::{Sought, look_when_due};
+use crate::sink::Sink;
+use chunked_bodies::{Look, MOST_TRAILER_BYTES, look_for_size, look_for_trailer};
+
+/// What the bytes received so far say of a body.
+#[derive(Clone, Copy, Debug, PartialEq, Eq)]
+pub enum BodyLook {
+    /// It was taken whole.
+    Whole,
+    /// Nothing yet: more of it is awaited.
+    More,
+    /// There is none, whatever follows.
+    Broken(Breach),
+}
+
+/// What comes next of a body.
+#[derive(Clone, Copy, Debug)]
+enum Stage {
+    /// So many bytes, as the head says.
+    Length(u64),
+    SizeLine,
+    /// So many data of a chunk, and CR LF.
+    Data(u64),
+    /// The trailer. None stands in so many bytes received.
+    Trailer(usize),
+    /// No body is read.
+    Refused(Breach),
+}
+
+/// A body of which a part was taken. It holds no byte of it.
+#[derive(Clone, Copy, Debug)]
+pub struct BodyReader {
+    stage: Stage,
+    /// How many data may still come in chunks.
+    left: u64,
+}
+
+/// A trailer.
+#[derive(Drop)]
+struct Trailer;
+
+impl Sought for Trailer {
+    ghost use Rattle.http_requests.specs.LineLaws.{no_trailer_yet, trailer_not_due};
+
+    type Found = usize;
+
+    const DUE: usize = MOST_TRAILER_BYTES;
+
+    ghost DUE = { 8192 };
+
+    ghost awaits = { HasNone IsTrailer };
+
+    ghost finds = { λ sought bytes count. Begins IsTrailer bytes count };
+
+    ghost never_has = { NeverHas IsTrailer };
+
+    ghost awaited_first = { no_trailer_yet };
+
+    ghost awaited_still = { trailer_not_due };
+
+    fn look(&mut self, bytes: &[u8]) -> Look<usize> {
+        look_for_trailer(bytes)
+    }
+}
+
+/// Whether the bytes begin with CR LF.
+fn begins_line_end(bytes: &[u8]) -> bool
+    ensures { result ≡ begins_line_end bytes.now }
+{
+    matches!(bytes, [b'\r', b'\n', ..])
+}
+
+/// Whether they may be the beginning of CR LF: CR alone, or nothing.
+fn may_begin_line_end(bytes: &[u8]) -> bool
+    ensures { result ≡ may_begin_line_end bytes.now }
+{
+    matches!(bytes, [] | [b'\r'])
+}
+
+/// Looks for CR LF at the beginning of the bytes.
+fn look_for_line_end(bytes: &[u8]) -> Look<usize>
+    ensures { LooksFor (AwaitsRest IsLineEnd) (Begins IsLineEnd) (NeverHas IsLineEnd)
+        bytes.now result }
+{
+    if begins_line_end(bytes) {
+        Look::Whole(2)
+    } else if may_begin_line_end(bytes) {
+        Look::More
+    } else {
+        Look::Never
+    }
+}
+
+/// Puts the first bytes into the sink, at most so many; how many there were.
+fn put_some<S: Sink>(received: &mut ReadBuffer, sink: &mut S, most: u64) -> u64
+    ensures count { result ≡ min (length received.old.held) most }
+    ensures put { S.takes sink.old (take result received.old.held) sink.new }
+    ensures rest { received.new ≡ record received.old { held = drop result received.old.held } }
+{
+    let bytes = received.as_slice();
+    let count = (bytes.len() as u64).min(most);
+    sink.put(&bytes[..count as usize]);
+    received.take(count as usize);
+    count
+}
+
+impl BodyReader {
+    /// Before the first byte of a body that is so long.
+    pub fn new(size: BodyLength) -> Self
+        ensures part { IsPart size [] [] result }
+        ensures looked { (held : List ℕ) → HasLooked result held }
+    {
+        let stage = match size {
+            BodyLength::Bytes(count) => Stage::Length(count),
+            BodyLength::Chunked => Stage::SizeLine,
+            BodyLength::Unreadable => Stage::Refused(Breach::Body),
+            BodyLength::TooLarge => Stage::Refused(Breach::TooLarge),
+        };
+        BodyReader {
+            stage,
+            left: MOST_BODY_BYTES,
+        }
+    }
+
+    /// Takes a size line.
+    fn take_size_line(&mut self, received: &mut ReadBuffer) -> Option<BodyLook>
+        requires stage { self.old.stage ≡ stage.SizeLine }
+        ensures took { TakesText received.old received.new self.old
+            (λ size text content. ComesOr size text content received.new.held self.new result) }
+        ensures leaves { LeavesOr self.new received.new.held result }
+        ensures fewer { IfNone result (length received.new.held < length received.old.held) }
+    {
+        match look_for_size(received.as_slice()) {
+            Look::Whole((length, size)) => {
+                received.take(length);
+                if size > self.left {
+                    return Some(BodyLook::Broken(Breach::TooLarge));
+                }
+                if size == 0 {
+                    self.stage = Stage::Trailer(0);
+                } else {
+                    self.stage = Stage::Data(size);
+                    self.left -= size;
+                }
+                None
+            }
+            Look::More => Some(BodyLook::More),
+            Look::Never => Some(BodyLook::Broken(Breach::Body)),
+        }
+    }
+
+    /// Takes the CR LF behind the data of a chunk.
+    fn take_line_end(&mut self, received: &mut ReadBuffer) -> Option<BodyLook>
+        requires stage { self.old.stage ≡ stage.Data 0 }
+        ensures took { TakesText received.old received.new self.old
+            (λ size text content. ComesOr size text content received.new.held self.new result) }
+        ensures leaves { LeavesOr self.new received.new.held result }
+        ensures fewer { IfNone result (length received.new.held < length received.old.held) }
+    {
+        match look_for_line_end(received.as_slice()) {
+            Look::Whole(length) => {
+                received.take(length);
+                self.stage = Stage::SizeLine;
+                None
+            }
+            Look::More => Some(BodyLook::More),
+            Look::Never => Some(BodyLook::Broken(Breach::Body)),
+        }
+    }
+
+    /// Takes the trailer, of which none stands in so many bytes received.
+    fn take_trailer(&mut self, received: &mut ReadBuffer, seen: usize) -> BodyLook
+        requires stage { self.old.stage ≡ stage.Trailer seen }
+        requires looked { HasLooked self.old received.old.held }
+        ensures took { TakesText received.old received.new self.old
+            (λ size text content. Comes size text content received.new.held self.new result) }
+        ensures leaves { Leaves self.new received.new.held result }
+    {
+        let bytes = received.as_slice();
+        match look_when_due(bytes, seen, &mut Trailer) {
+            Look::Whole(length) => {
+                received.take(length);
+                BodyLook::Whole
+            }
+            Look::More => {
+                self.stage = Stage::Trailer(bytes.len());
+                BodyLook::More
+            }
+            Look::Never => BodyLook::Broken(Breach::Body),
+        }
+    }
+
+    /// Takes so many bytes of a body by its length.
+    fn take_length<S: Sink>(
+        &mut self,
+        received: &mut ReadBuffer,
+        sink: &mut S,
+        count: u64,
+    ) -> BodyLook
+        requires stage { self.old.stage ≡ stage.Length count }
+        ensures took { TakesOn S.takes received.old received.new sink.old sink.new self.old
+            (λ size text content. Comes size text content received.new.held self.new result) }
+        ensures leaves { Leaves self.new received.new.held result }
+    {
+        let put = put_some(received, sink, count);
+        if put == count {
+            return BodyLook::Whole;
+        }
+        self.stage = Stage::Length(count - put);
+        BodyLook::More
+    }
+
+    /// Takes so many data of a chunk.
+    fn take_data<S: Sink>(
+        &mut self,
+        received: &mut ReadBuffer,
+        sink: &mut S,
+        count: u64,
+    ) -> Option<BodyLook>
+        requires stage { self.old.stage ≡ stage.Data count }
+        requires some { 0 < count }
+        ensures took { TakesOn S.takes received.old received.new sink.old sink.new self.old
+            (λ size text content. ComesOr size text content received.new.held self.new result) }
+        ensures leaves { LeavesOr self.new received.new.held result }
+        ensures fewer { IfNone result (length received.new.held < length received.old.held) }
+    {
+        let put = put_some(received, sink, count);
+        self.stage = Stage::Data(count - put);
+        if put == count {
+            None
+        } else {
+            Some(BodyLook::More)
+        }
+    }
+
+    /// Takes what comes next of the body, as far as it stands whole at the beginning of the bytes received.
+    fn step<S: Sink>(&mut self, received: &mut ReadBuffer, sink: &mut S) -> Option<BodyLook>
+        requires looked { HasLooked self.old received.old.held }
+        ensures took { TakesOn S.takes received.old received.new sink.old sink.new self.old
+            (λ size text content. ComesOr size text content received.new.held self.new result) }
+        ensures leaves { LeavesOr self.new received.new.held result }
+        ensures fewer { IfNone result (length received.new.held < length received.old.held) }
+    {
+        match self.stage {
+            Stage::Length(count) => Some(self.take_length(received, sink, count)),
+            Stage::SizeLine => self.take_size_line(received),
+            Stage::Data(0) => self.take_line_end(received),
+            Stage::Data(count) => self.take_data(received, sink, count),
+            Stage::Trailer(seen) => Some(self.take_trailer(received, seen)),
+            Stage::Refused(why) => Some(BodyLook::Broken(why)),
+        }
+    }
+
+    /// Takes what has come of the body, and puts its data into the sink. Nothing is read: where more is awaited, the
+    /// bytes received behind those that were taken are looked at again with what comes next.
+    pub fn take_from<S: Sink>(&mut self, received: &mut ReadBuffer, sink: &mut S) -> BodyLook
+        requires looked { HasLooked self.old received.old.held }
+        ensures took { TakesOn S.takes received.old received.new sink.old sink.new self.old
+            (λ size text content. Comes size text content received.new.held self.new result) }
+        ensures leaves { Leaves self.new received.new.held result }
+    {
+        'steps: loop {
+            if let Some(look) = self.step(received, sink) {
+                return look;
+            }
+        }
+    }
+}
