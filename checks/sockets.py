@@ -307,6 +307,19 @@ def pipelined():
             check(statuses == [202, 200, 404], f"the requests of trace {trace} were answered {statuses}")
 
 
+def pipelined_while_answered():
+    """A third request comes while the second one, which came with the first, is being answered."""
+    request = get("/api/services")
+    with Server("--port", 0, "--workers", 1) as server, server.client() as client:
+        for number in range(20_000):
+            client.send(request + request)
+            for _ in range(number % 200):
+                pass
+            client.send(request)
+            for _ in range(3):
+                check(client.response().status == 200, "not answered 200")
+
+
 def pipelined_in_pieces():
     with Server("--port", 0, "--workers", 1) as server, server.client() as client:
         requests = b"".join(post(trace) + get(f"/api/traces/{trace:x}") for trace in range(1, 4))
@@ -421,6 +434,7 @@ CASES = {
     "half-closed": half_closed,
     "pipelined": pipelined,
     "pipelined in pieces": pipelined_in_pieces,
+    "pipelined while another is answered": pipelined_while_answered,
     "large answers that are read late": large_answers_unread,
     "acknowledged here, found there": seen_elsewhere,
     "reset right after connecting": reset_at_once,

@@ -59,7 +59,7 @@ pub(crate) struct EventLoop {
     readiness: Readiness,
     open: ConnectionSet<Socket>,
     leaving: Leaving,
-    /// The keys of connections of which more has come than was answered, and whether their clients have ended.
+    /// The keys of connections of which more has come than was answered, and whether to watch their sockets again then.
     again: VecDeque<(usize, bool)>,
     at: Moment,
     /// When to look for connections that were silent for too long.
@@ -114,15 +114,15 @@ impl EventLoop {
 
 impl EventLoop {
     /// Has a connection that stays open served again when there is something to serve: at once if more has come than was
-    /// answered, or if nothing more will be reported. Returns whether that could be done.
-    fn remind(&mut self, key: usize, progress: Progress, has_ended: bool) -> bool
+    /// answered, or if its socket may hold what isn't reported again. Returns whether that could be done.
+    fn remind(&mut self, key: usize, progress: Progress, watch_again: bool) -> bool
         ensures open { self.new.open ≡ self.old.open }
     {
         if let Progress::HoldsMore = progress {
-            return self.again.push_back((key, has_ended)).is_ok();
+            return self.again.push_back((key, watch_again)).is_ok();
         }
         match self.open.get(key) {
-            Some(open) if has_ended || open.connection.may_hold_more() => self
+            Some(open) if watch_again || open.connection.may_hold_more() => self
                 .readiness
                 .watch_again(open.connection.raw_fd(), open_token(key))
                 .is_ok(),
@@ -131,10 +131,10 @@ impl EventLoop {
     }
 
     /// Keeps a connection that stays open, if it can be served again.
-    fn keep(&mut self, key: usize, progress: Progress, has_ended: bool)
+    fn keep(&mut self, key: usize, progress: Progress, watch_again: bool)
         ensures rest { IsRest self.old.open self.new.open }
     {
-        if !self.remind(key, progress, has_ended) {
+        if !self.remind(key, progress, watch_again) {
             self.open.remove(key);
         }
     }
@@ -180,13 +180,13 @@ impl EventLoop {
         }
     }
 
-    /// Answers one request of a connection.
+    /// Answers one request of a connection. `watch_again` says that its socket may hold what isn't reported again.
     fn serve<N: StoreName, G: Gate, R: Wait + Eprint>(
         &mut self,
         rt: &R,
         alloc: Global,
         key: usize,
-        has_ended: bool,
+        watch_again: bool,
         store: &mut Gated<'_, N, G, R>,
     )
         requires underway { AllUnderway N.limits store.old self.old.open }
@@ -194,9 +194,18 @@ impl EventLoop {
         ensures goes_on { GoesOn store.old.seat store.new.seat }
     {
         match self.open.answer_next(rt, alloc, key, self.at, store) {
-            Turn::Open(progress) => self.keep(key, progress, has_ended),
+            Turn::Open(progress) => self.keep(key, progress, watch_again),
             Turn::Left(Progress::Closing, socket) => self.leave(socket),
             Turn::Left(_, _) | Turn::Absent => {}
+        }
+    }
+
+    /// Returns whether a connection holds bytes of a request. It may then be answered without a read, and what was
+    /// reported stays in its socket.
+    fn holds_bytes(&self, key: usize) -> bool {
+        match self.open.get(key) {
+            Some(open) => open.session.holds_bytes(),
+            None => false,
         }
     }
 
@@ -216,7 +225,8 @@ impl EventLoop {
         if report.token & 1 == 1 {
             self.drop_rest(key);
         } else {
-            self.serve(rt, alloc, key, report.has_ended, store);
+            let watch_again = report.has_ended || self.holds_bytes(key);
+            self.serve(rt, alloc, key, watch_again, store);
         }
     }
 
@@ -253,7 +263,7 @@ impl EventLoop {
         ensures underway { AllUnderway N.limits store.new self.new.open }
         ensures goes_on { GoesOn store.old.seat store.new.seat }
     {
-        let Some((key, has_ended)) = self.again.pop_front() else {
+        let Some((key, watch_again)) = self.again.pop_front() else {
             return;
         };
         let due = match self.open.get(key) {
@@ -261,7 +271,7 @@ impl EventLoop {
             None => false,
         };
         if due {
-            self.serve(rt, alloc, key, has_ended, store);
+            self.serve(rt, alloc, key, watch_again, store);
         }
     }
 
