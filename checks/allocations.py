@@ -52,6 +52,7 @@ TESTS = [
     ("store_tests", "tests::stores::apply_without_memory", "tests::stores::a_store_is_opened"),
     ("web_tests", "tests::answers::memory_for_a_tree", None),
     ("web_tests", "tests::responses::memory_for_a_response", None),
+    ("web_tests", "tests::parts::memory_for_parts", "tests::parts::parts_are_made"),
     ("session_tests", "tests::pipes::memory_for_a_session", None),
     ("read_tests", "tests::rows::admit_all_or_nothing", None),
 ]

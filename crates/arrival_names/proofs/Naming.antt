@@ -15,7 +15,7 @@ use Rattle.jaeger_model.specs.Texts.{same_text, sorted_set}
 use Rattle.trace_model.specs.declared.entry.Entry.{Entry}
 use Rattle.trace_model.specs.declared.entry.Work.{Work}
 use Rattle.trace_model.specs.declared.entry.Work.TheVariants as brings
-use Rattle.trace_model.specs.Works.{spans_brought, placed_brought}
+use Rattle.trace_model.specs.Works.{spans_brought, placed_brought, service_brought}
 use Rattle.trace_model.specs.Histories.{arrivals}
 use Rattle.service_index.specs.Listing.{Listed, listed, listed_in, listed_cmp}
 use Rattle.service_index.specs.Naming.{Extends, IsGroupOf, service_alone}
@@ -25,7 +25,7 @@ use Rattle.service_index.proofs.Sets.{listed_exact}
 use Rattle.trace_model.proofs.Rising.{any_set}
 use Rattle.trace_model.proofs.NameLaws.{any_map, text_apart}
 use Rattle.trace_model.specs.Histories.{before_last}
-use Rattle.service_places.specs.Reported.{service_brought, reporters, service_at, group_in, group_of}
+use Rattle.service_places.specs.Reported.{reporters, service_at, group_in, group_of}
 use Rattle.trace_model.proofs.LastEntries.{last_of}
 use Rattle.service_places.proofs.Grouping.{as_many_reporters, group_known}
 use Rattle.arrival_names.specs.Numbers.{AreOf}

@@ -15,13 +15,13 @@ use Rattle.jaeger_model.specs.Texts.{same_text}
 use Rattle.trace_model.specs.declared.entry.Entry.{Entry}
 use Rattle.trace_model.specs.declared.entry.Work.{Work}
 use Rattle.trace_model.specs.declared.entry.Work.TheVariants as brings
-use Rattle.trace_model.specs.Works.{placed_brought}
+use Rattle.trace_model.specs.Works.{placed_brought, service_brought}
 use Rattle.trace_model.specs.Histories.{arrivals}
 use Rattle.trace_model.proofs.NameLaws.{any_map, same_where, text_is, text_self}
 use Rattle.service_index.specs.Listing.{Listed, listed}
 use Rattle.service_index.specs.Naming.{IsGrouped, service_alone}
 use Rattle.trace_model.proofs.Lists.{is_position}
-use Rattle.service_places.specs.Reported.{service_brought, reporters, service_at, group_in}
+use Rattle.service_places.specs.Reported.{reporters, service_at, group_in}
 use Rattle.arrival_names.specs.Kept.{reports, reported_at, names_of}
 
 -- ---- the service of an arrival is one of those of the entries

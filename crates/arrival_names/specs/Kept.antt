@@ -1,11 +1,14 @@
 -- What an index keeps of the arrivals of a list of entries.
-use Rattle.std.specs.Prelude.{◌≡◌, ℕ, Bool, ◌&&◌, List, [], map, length, get_or}
+use Rattle.std.specs.Prelude.{◌≡◌, ℕ, Bool, ◌&&◌, List, [], map, filter, length, get_or}
 use Rattle.std.specs.List.{list_any}
 use Rattle.jaeger_model.specs.declared.placed.Placed.{Placed}
-use Rattle.jaeger_model.specs.Texts.{same_text}
+use Rattle.jaeger_model.specs.Texts.{same_text, sorted_set}
 use Rattle.trace_model.specs.declared.entry.Entry.{Entry}
+use Rattle.trace_model.specs.declared.answer.Operation.{Operation}
 use Rattle.trace_model.specs.Histories.{arrivals}
+use Rattle.trace_model.specs.Names.{operation_names, operations, operation_cmp, is_asked_kind}
 use Rattle.service_index.specs.Listing.{Listed, listed, listed_in}
+use Rattle.service_index.specs.Listing.{names_of as names_in_order}
 use Rattle.service_index.specs.Naming.{Names, service_alone}
 use Rattle.service_index.specs.Indexes.{Index, IsIndexed, listing_by}
 use Rattle.service_places.specs.Reported.{group_in}
@@ -49,3 +52,8 @@ reports_service service ps = list_any (λ (p : Placed). same_text service p.proc
 -- an arrival is of the service and of this operation
 abbrev pub reports_operation : List ℕ → List ℕ → List Placed → Bool
 reports_operation service name ps = list_any (λ (p : Placed). same_text service p.process.service && same_text name p.span.operation) ps
+
+-- in order these are the operations of the service, of whatever kind, and their names
+pub record AreOperations (service : List ℕ) (ps : List Placed) (found : List Operation) : Type 0 where
+  pub names : names_in_order found ≡ operation_names service ps
+  pub operations : (kind : List ℕ) → filter (is_asked_kind kind) (sorted_set operation_cmp found) ≡ operations service kind ps

@@ -1,44 +1,44 @@
--- Services and calls that are looked at, each service with the number that stands for it.
-use Rattle.std.specs.Prelude.{◌≡◌, ℕ, List, map, flat_map, filter_map, find, Option, Some, None, option_map, if◌then◌else◌, ◌==◌, Vec}
-use Rattle.std.specs.Global.{Global}
+-- Services and calls of spans that were taken out, each service with the number that stands for it.
+use Rattle.std.specs.Prelude.{◌≡◌, ℕ, Bool, false, List, [], map, flat_map, filter_map, find, Option, Some, None, option_map, if◌then◌else◌, ◌==◌, IfSome}
 use Rattle.std.specs.List.{All, AllByRecursion}
+use denote.Ref.{Bor}
 use Rattle.jaeger_model.specs.declared.placed.Placed.{Placed}
 use Rattle.jaeger_model.specs.Parents.{parent}
 use Rattle.trace_model.specs.declared.answer.Link.{Link}
 use Rattle.trace_model.specs.Linking.{has_id, calls_of, counted}
-use Rattle.trace_model.specs.Seeing.{seen}
-use Rattle.call_links.specs.declared.calls.Service.{Service}
-use Rattle.call_links.specs.declared.numbered.NumberedSpan.{NumberedSpan}
+use Rattle.trace_model.specs.Taking.{Taken}
 
 -- a service: its number and its text
 abbrev pub NumberedService : Type 0
 NumberedService = ℕ × List ℕ
 
-abbrev pub numbered_service : Service → NumberedService
-numbered_service s = (s.number, s.text.now)
+-- the service of a span, where there is one
+abbrev pub text_in : Option Placed → List ℕ
+text_in None = []
+text_in (Some p) = p.process.service
 
-abbrev pub service_in : NumberedSpan → NumberedService
-service_in s = (s.service, s.seen.process.now.service)
+abbrev pub service_in : Taken → NumberedService
+service_in s = (s.number, text_in s.span)
 
--- the span is the one that is looked at
-abbrev pub span_of : NumberedSpan → Placed
-span_of s = seen s.seen
+abbrev pub service_seen : Bor Taken → NumberedService
+service_seen s = service_in s.now
 
 -- the service of the first span with the id
-abbrev pub service_of : ℕ → List NumberedSpan → Option NumberedService
-service_of id ss = option_map service_in (find (λ s. has_id (record { 0 = id }) (span_of s)) ss)
+abbrev pub has_number : ℕ → Option Placed → Bool
+has_number id None = false
+has_number id (Some p) = has_id (record { 0 = id }) p
+
+abbrev pub service_of : ℕ → List Taken → Option NumberedService
+service_of id ss = option_map service_in (find (λ s. has_number id s.span) ss)
 
 abbrev pub SeenCall : Type 0
-SeenCall = Service × Service
+SeenCall = Bor Taken × Bor Taken
 
 abbrev pub NumberedCall : Type 0
 NumberedCall = NumberedService × NumberedService
 
 abbrev pub numbered_call : SeenCall → NumberedCall
-numbered_call c = (numbered_service c.0, numbered_service c.1)
-
-abbrev pub numbered_calls : List SeenCall → List NumberedCall
-numbered_calls cs = map numbered_call cs
+numbered_call c = (service_seen c.0, service_seen c.1)
 
 -- services with one number do not call one another
 abbrev pub call_between : Option NumberedService → NumberedService → Option NumberedCall
@@ -46,26 +46,27 @@ call_between None callee = None
 call_between (Some caller) callee = if caller.0 == callee.0 then None else Some (caller, callee)
 
 -- the call that a span stands for, where a table has the services of the spans by their ids
-abbrev pub call_by : (ℕ → Option NumberedService) → NumberedSpan → Option NumberedCall
-call_by service s = if (parent (span_of s).span).0 == 0 then None else call_between (service (parent (span_of s).span).0) (service_in s)
+abbrev pub call_in : (ℕ → Option NumberedService) → ℕ → Option Placed → Option NumberedCall
+call_in service number None = None
+call_in service number (Some p) = if (parent p.span).0 == 0 then None else call_between (service (parent p.span).0) (number, p.process.service)
+
+abbrev pub call_by : (ℕ → Option NumberedService) → Taken → Option NumberedCall
+call_by service s = call_in service s.number s.span
 
 -- ---- the calls of a trace, and of traces
-abbrev pub calls_in_trace : List NumberedSpan → List NumberedCall
+abbrev pub calls_in_trace : List Taken → List NumberedCall
 calls_in_trace ss = filter_map (call_by (λ id. service_of id ss)) ss
 
-abbrev pub calls_in_traces : List (List NumberedSpan) → List NumberedCall
+abbrev pub calls_in_traces : List (List Taken) → List NumberedCall
 calls_in_traces ts = flat_map calls_in_trace ts
 
 -- how often each service of the traces called each other one
 abbrev pub links_in : List (List Placed) → List Link
 links_in ts = counted (flat_map calls_of ts)
 
--- ---- what is looked at
-abbrev pub seen_all : List NumberedSpan → List Placed
-seen_all ss = map span_of ss
-
-abbrev pub seen_traces : List (Vec NumberedSpan Global) → List (List Placed)
-seen_traces ts = map (λ (t : Vec NumberedSpan Global). seen_all t.items) ts
+-- the spans that were taken out
+abbrev pub placed_all : List Taken → List Placed
+placed_all ss = filter_map (λ s. s.span) ss
 
 -- ---- the texts and the numbers of a call
 abbrev pub texts_called : NumberedCall → List ℕ × List ℕ
@@ -82,9 +83,12 @@ StandsFor text number t = (t.0 ≡ number t.1) × (text t.0 ≡ t.1)
 abbrev pub AreCallsNumberedBy : (ℕ → List ℕ) → (List ℕ → ℕ) → List NumberedCall → Type 0
 AreCallsNumberedBy text number cs = AllByRecursion (λ (c : NumberedCall). StandsFor text number c.0 × StandsFor text number c.1) cs
 
-abbrev pub AreNumberedBy : (ℕ → List ℕ) → (List ℕ → ℕ) → List (Vec NumberedSpan Global) → Type 0
-AreNumberedBy text number ts = All (λ (t : Vec NumberedSpan Global). All (λ s. StandsFor text number (service_in s)) t.items) ts
+abbrev pub IsNumberedBy : (ℕ → List ℕ) → (List ℕ → ℕ) → Taken → Type 0
+IsNumberedBy text number s = IfSome s.span (λ (p : Placed). StandsFor text number (s.number, p.process.service))
+
+abbrev pub AreNumberedBy : (ℕ → List ℕ) → (List ℕ → ℕ) → List (List Taken) → Type 0
+AreNumberedBy text number ts = All (λ (t : List Taken). All (IsNumberedBy text number) t) ts
 
 -- each service of the spans has one number, and each number stands for one service
-abbrev pub AreNumbered : List (Vec NumberedSpan Global) → Type 0
+abbrev pub AreNumbered : List (List Taken) → Type 0
 AreNumbered ts = (text : ℕ → List ℕ) × ((number : List ℕ → ℕ) × AreNumberedBy text number ts)

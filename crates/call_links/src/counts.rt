@@ -1,106 +1,92 @@
-//! Pairs of services, each once with its number of calls.
+//! Calls counted trace by trace.
 
-ghost use Rattle.std.specs.Prelude.{◌≡◌, ℕ, List, IfOk, map, option_map, unwrap_or};
-ghost use Rattle.std.specs.BTreeMap.{get};
-ghost use Rattle.trace_model.specs.Linking.{counted};
-ghost use Rattle.call_links.specs.Seen.{numbered_call, numbered_calls, texts_called, numbers_called, AreCallsNumberedBy};
-ghost use Rattle.call_links.specs.Tallies.{number_cmp, calls_counted, services_met, tally_by_numbers, services_by_numbers};
-ghost use Rattle.call_links.specs.Tallies.{texts_seen, tallies_seen, entry_seen, inserted};
+ghost use Rattle.std.specs.Prelude.{◌≡◌, [], List, IfOk, OnOk, map};
+ghost use Rattle.trace_model.specs.Taking.{Taken};
+ghost use Rattle.call_links.specs.Seen.{numbered_call, placed_all, links_in, AreNumbered};
+ghost use Rattle.call_links.specs.Tallies.{with_call, with_trace, tallied};
 
-use crate::calls::Call;
-use jaeger_model::Text;
+use crate::calls::{Call, call_to, first_spans};
+use crate::order::{in_order, linked};
+use crate::tally::{Tally, numbers_of, one_more};
 use std::alloc::{AllocError, Global};
 use std::collections::BTreeMap;
-use trace_model::Link;
+use std::marker::Model;
+use trace_model::{Link, TakenSpan};
 
-/// The texts of a service and of another one that it calls.
-type CallTexts<'a> = (&'a Text, &'a Text);
-
-/// How often a call is made.
-#[derive(Clone, Copy)]
-pub(crate) struct Tally<'a> {
-    pub(crate) services: CallTexts<'a>,
-    pub(crate) calls: u64,
-}
-
-fn numbers_of(call: Call<'_>) -> (u32, u32)
-    ensures { result ≡ numbers_called (numbered_call call.entry) }
-{
-    let (caller, callee) = call;
-    (caller.number, callee.number)
-}
-
-fn texts_of(call: Call<'_>) -> CallTexts<'_>
-    ensures { texts_seen result ≡ texts_called (numbered_call call.entry) }
-{
-    let (caller, callee) = call;
-    (caller.text, callee.text)
-}
-
-/// How often the call between services of these numbers was counted.
-fn calls_so_far(tallies: &BTreeMap<(u32, u32), Tally<'_>>, numbers: (u32, u32)) -> u64
-    ensures { result ≡
-        unwrap_or (option_map (λ t. t.calls) (get number_cmp tallies.now numbers)) 0 }
-{
-    match tallies.get(&numbers) {
-        Some(tally) => tally.calls,
-        None => 0,
-    }
-}
-
-/// How often each call is made, by the numbers of its services. No text is looked at.
-fn tallied<'a>(
-    alloc: Global,
-    calls: &[Call<'a>],
-) -> Result<BTreeMap<(u32, u32), Tally<'a>>, AllocError>
-    ensures calls { IfOk result (λ m.
-        calls_counted m.entries ≡ tally_by_numbers (numbered_calls calls.now)) }
-    ensures services { (text : ℕ → List ℕ) (number : List ℕ → ℕ) →
-        AreCallsNumberedBy text number (numbered_calls calls.now) →
-        IfOk result (λ m.
-        services_met m.entries ≡ services_by_numbers text (numbered_calls calls.now)) }
-{
-    let mut tallies = BTreeMap::new(alloc);
-    for call in calls {
-        let numbers = numbers_of(*call);
-        let so_far = calls_so_far(&tallies, numbers);
-        let services = texts_of(*call);
-        let calls = so_far + 1;
-        tallies.insert(numbers, Tally { services, calls })?;
-    }
-    Ok(tallies)
-}
-
-/// The same by the texts of the services: each text is looked at for each pair that it stands in.
-fn in_order<'a>(
-    alloc: Global,
+/// How often services call one another, counted trace by trace. It keeps a span of the caller and one of
+/// the callee for each pair of services, and nothing for a call or for a trace. Contracts see each pair
+/// by its numbers, with its names and its number of calls.
+#[derive(Drop)]
+pub struct LinkCounts<'a> {
     tallies: BTreeMap<(u32, u32), Tally<'a>>,
-) -> Result<BTreeMap<CallTexts<'a>, u64>, AllocError>
-    ensures { IfOk result (λ m.
-        map entry_seen m.entries ≡ inserted (tallies_seen tallies.entry.entries)) }
-{
-    let mut numbers = BTreeMap::new(alloc);
-    for (_, tally) in tallies {
-        numbers.insert(tally.services, tally.calls)?;
-    }
-    Ok(numbers)
 }
 
-/// Each pair of services with its number of calls, in order.
-pub(crate) fn counted(alloc: Global, calls: &[Call<'_>]) -> Result<Vec<Link>, AllocError>
-    ensures { (text : ℕ → List ℕ) (number : List ℕ → ℕ) →
-        AreCallsNumberedBy text number (numbered_calls calls.now) →
-        IfOk result (λ v. v.items ≡ counted (map texts_called (numbered_calls calls.now))) }
-{
-    let tallies = tallied(alloc, calls)?;
-    let numbers = in_order(alloc, tallies)?;
-    let mut links = Vec::new(alloc);
-    for ((caller, callee), number) in numbers {
-        links.push(Link {
-            parent: caller.clone()?,
-            child: callee.clone()?,
-            calls: number,
-        })?;
+impl<'a> Model for LinkCounts<'a> {
+    ghost use Rattle.call_links.specs.Tallies.{Tallies, tallies_seen};
+
+    ghost Value = { Tallies };
+
+    ghost view = { λ c. tallies_seen c.tallies.entries };
+}
+
+impl<'a> LinkCounts<'a> {
+    /// No call yet.
+    pub fn new(alloc: Global) -> Self
+        ensures { result ≡ [] }
+    {
+        LinkCounts {
+            tallies: BTreeMap::new(alloc),
+        }
     }
-    Ok(links)
+
+    /// Counts one call. No text is looked at.
+    fn count(&mut self, call: Call<'a>) -> Result<(), AllocError>
+        ensures { OnOk result (self.new ≡ with_call self.old (numbered_call call.entry)) }
+    {
+        let numbers = numbers_of(call);
+        let calls = one_more(&self.tallies, numbers)?;
+        let (caller, callee) = call;
+        let tally = Tally {
+            caller,
+            callee,
+            calls,
+        };
+        self.tallies.insert(numbers, tally)?;
+        Ok(())
+    }
+
+    /// Adds the calls of one trace.
+    ///
+    /// Each span whose parent is a span of the trace adds one call, unless both are of one service. Of
+    /// spans with one id the first is the parent.
+    ///
+    /// # Errors
+    ///
+    /// Out of memory, and nothing else.
+    pub fn add(&mut self, alloc: Global, trace: &'a [TakenSpan]) -> Result<(), AllocError>
+        ensures { OnOk result (self.new ≡ with_trace self.old trace.now) }
+    {
+        let first = first_spans(alloc, trace)?;
+        for span in trace {
+            if let Some(call) = call_to(&first, span) {
+                self.count(call)?;
+            }
+        }
+        Ok(())
+    }
+
+    /// Each pair of services with its number of calls, in order of caller and then of callee, where
+    /// spans are of one service if their numbers are equal, and only then. The links share the names.
+    ///
+    /// # Errors
+    ///
+    /// Out of memory, and nothing else.
+    pub fn finish(self, alloc: Global) -> Result<Vec<Link>, AllocError>
+        ensures { (traces : List (List Taken)) → AreNumbered traces → self.entry ≡ tallied traces →
+            IfOk result (λ v. v.items ≡ links_in (map placed_all traces)) }
+    {
+        let ordered = in_order(alloc, self.tallies)?;
+        let links = linked(alloc, ordered)?;
+        Ok(links)
+    }
 }

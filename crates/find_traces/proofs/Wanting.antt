@@ -1,5 +1,5 @@
 -- Pairs that a search asks and that tags have.
-use Rattle.std.proofs.Common.{◌≡◌, ℕ, ◌+◌, ◌<◌, ◌≤◌, Bool, true, false, true≢false, ◌||◌, ◌&&◌, cond, List, [], ◌∷◌, ◌++◌, length, get_or, take, refl, sym, ap, ◌∙◌, inl, inr, arith, Some, None}
+use Rattle.std.proofs.Common.{◌≡◌, ℕ, ◌+◌, ◌*◌, ◌<◌, ◌≤◌, Bool, true, false, true≢false, ◌||◌, ◌&&◌, cond, List, [], ◌∷◌, ◌++◌, length, get_or, take, refl, sym, ap, ◌∙◌, inl, inr, arith, Some, None}
 use Rattle.std.specs.Prelude.{◌%◌, ◌^◌, not, flat_map, if◌then◌else◌, ◌==◌}
 use Rattle.std.specs.Int.{bit_at}
 use Rattle.std.specs.Int.Bits.{bit_or}
@@ -21,7 +21,7 @@ use Rattle.jaeger_model.specs.declared.placed.Placed.{Placed}
 use Rattle.jaeger_model.specs.declared.span.Log.{Log}
 use Rattle.jaeger_model.specs.declared.span.Span.{Span}
 use Rattle.jaeger_model.specs.declared.tag.Tag.{Tag}
-use Rattle.jaeger_model.specs.Tags.{tag_text}
+use Rattle.jaeger_model.specs.Tags.{tag_text, hex_text, flag_text}
 use Rattle.jaeger_model.specs.Texts.{text_cmp}
 use Rattle.trace_model.specs.declared.query.Find.{Find}
 use Rattle.trace_model.specs.Linking.{call_cmp as pair_cmp}
@@ -74,6 +74,15 @@ no_part p a apart (x ∷ xs) h =
 
 pub no_key : (xs : List (List ℕ × List ℕ)) (k t : List ℕ) → list_any (λ (a : List ℕ × List ℕ). eq_by_cmp text_cmp k a.0) xs ≡ false → list_any (same_pair (k, t)) xs ≡ false
 no_key xs k t = no_part (λ a. eq_by_cmp text_cmp k a.0) (k, t) (λ x e. then_eq (text_cmp k x.0) (text_cmp t x.1) ∙ and_left (is_eq (text_cmp k x.0)) (is_eq (text_cmp t x.1)) e) xs
+
+-- ---- the length of a value's text
+pub hex_length : (bytes : List ℕ) → 2 * length bytes ≡ length (hex_text bytes)
+hex_length [] = refl
+hex_length (b ∷ bytes) = let rest = hex_length bytes in omega (arith, rest)
+
+pub flag_length : (flag : Bool) → (if flag then 4 else 5) ≡ length (flag_text flag)
+flag_length true = refl
+flag_length false = refl
 
 -- ---- bits for the lengths of keys
 pub bits_put : (xs : List (List ℕ × List ℕ)) (i : ℕ) (x : List ℕ × List ℕ) → i < length xs → x ≡ get_or xs i x → with_key (key_bits (take i xs)) x ≡ key_bits (take (i + 1) xs)

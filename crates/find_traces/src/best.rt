@@ -36,16 +36,18 @@ fn is_full(limit: u64, count: usize) -> bool
 /// the limit is reached.
 fn judge_popped<T: Searched>(
     alloc: Global,
-    traces: &T,
+    traces: &mut T,
     mut keys: BinaryHeap<Key>,
 ) -> Result<Vec<usize>, AllocError>
     ghost ranking: { List Key }
     requires rises { IsStrictlySortedBy best_cmp ranking }
     requires permutation { IsPermutation ranking (heap_items keys) }
     requires heap { IsHeap key_cmp (heap_items keys) }
-    ensures { IfOk result (λ v. v.items ≡ map key_place
-        (cut (T.query traces.now).limit
-        (filter (key_judged (T.query traces.now) (T.traces traces.now)) ranking))) }
+    ensures places { IfOk result (λ v. v.items ≡ map key_place
+        (cut (T.query traces.old).limit
+        (filter (key_judged (T.query traces.old) (T.traces traces.old)) ranking))) }
+    ensures same_traces { T.traces traces.new ≡ T.traces traces.old }
+    ensures same_query { T.query traces.new ≡ T.query traces.old }
 {
     let mut places = Vec::new(alloc);
     while let Some(key) = keys.pop() {
@@ -60,9 +62,14 @@ fn judge_popped<T: Searched>(
 }
 
 /// The places of the best traces that match, in the order of the answer.
-pub(crate) fn find_best<T: Searched>(alloc: Global, traces: &T) -> Result<Vec<usize>, AllocError>
-    ensures { IfOk result (λ v. v.items ≡
-        places_found (T.query traces.now) (T.traces traces.now)) }
+pub(crate) fn find_best<T: Searched>(
+    alloc: Global,
+    traces: &mut T,
+) -> Result<Vec<usize>, AllocError>
+    ensures places { IfOk result (λ v. v.items ≡
+        places_found (T.query traces.old) (T.traces traces.old)) }
+    ensures same_traces { T.traces traces.new ≡ T.traces traces.old }
+    ensures same_query { T.query traces.new ≡ T.query traces.old }
 {
     let keys = all_keys(alloc, traces)?;
     judge_popped(alloc, traces, BinaryHeap::from(keys))

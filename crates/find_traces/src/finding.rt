@@ -15,11 +15,13 @@ use std::alloc::{AllocError, Global};
 /// # Errors
 ///
 /// Out of memory, and nothing else.
-pub fn find<T: Searched>(alloc: Global, traces: &T) -> Result<Vec<usize>, AllocError>
+pub fn find<T: Searched>(alloc: Global, traces: &mut T) -> Result<Vec<usize>, AllocError>
     ensures places { IfOk result (λ v. v.items ≡
-        places_found (T.query traces.now) (T.traces traces.now)) }
-    ensures traces { IfOk result (λ v. map (trace_at (T.traces traces.now)) v.items ≡
-        found_in (T.query traces.now) (T.traces traces.now)) }
+        places_found (T.query traces.old) (T.traces traces.old)) }
+    ensures traces { IfOk result (λ v. map (trace_at (T.traces traces.old)) v.items ≡
+        found_in (T.query traces.old) (T.traces traces.old)) }
+    ensures same_traces { T.traces traces.new ≡ T.traces traces.old }
+    ensures same_query { T.query traces.new ≡ T.query traces.old }
 {
     if traces.limit() == 0 {
         return find_all(alloc, traces);
@@ -32,9 +34,9 @@ pub fn find<T: Searched>(alloc: Global, traces: &T) -> Result<Vec<usize>, AllocE
 /// # Errors
 ///
 /// Out of memory, and nothing else.
-pub fn find_ids<T: Searched>(alloc: Global, traces: &T) -> Result<Vec<TraceId>, AllocError>
+pub fn find_ids<T: Searched>(alloc: Global, traces: &mut T) -> Result<Vec<TraceId>, AllocError>
     ensures { IfOk result (λ v. v.items ≡
-        ids_of (found_in (T.query traces.now) (T.traces traces.now))) }
+        ids_of (found_in (T.query traces.old) (T.traces traces.old))) }
 {
     let mut ids = Vec::new(alloc);
     let places = find(alloc, traces)?;

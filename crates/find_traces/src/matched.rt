@@ -10,9 +10,11 @@ use std::alloc::{AllocError, Global};
 use std::cmp::Reverse;
 
 /// A key for each trace that matches, the one opened longest ago first. The best trace's is the least.
-fn all_hits<T: Searched>(alloc: Global, traces: &T) -> Result<Vec<Reverse<Key>>, AllocError>
-    ensures { IfOk result (λ v. v.items ≡
-        map reverse_key_of (hits (T.query traces.now) (T.traces traces.now))) }
+fn all_hits<T: Searched>(alloc: Global, traces: &mut T) -> Result<Vec<Reverse<Key>>, AllocError>
+    ensures found { IfOk result (λ v. v.items ≡
+        map reverse_key_of (hits (T.query traces.old) (T.traces traces.old))) }
+    ensures same_traces { T.traces traces.new ≡ T.traces traces.old }
+    ensures same_query { T.query traces.new ≡ T.query traces.old }
 {
     let mut found = Vec::new(alloc);
     for place in 0..traces.count() {
@@ -34,10 +36,12 @@ fn places_of(alloc: Global, hits: &[Reverse<Key>]) -> Result<Vec<usize>, AllocEr
 }
 
 /// The places of all traces that match, in the order of the answer. Only those that match are sorted.
-pub(crate) fn find_all<T: Searched>(alloc: Global, traces: &T) -> Result<Vec<usize>, AllocError>
-    requires { (T.query traces.now).limit ≡ 0 }
-    ensures { IfOk result (λ v. v.items ≡
-        places_found (T.query traces.now) (T.traces traces.now)) }
+pub(crate) fn find_all<T: Searched>(alloc: Global, traces: &mut T) -> Result<Vec<usize>, AllocError>
+    requires { (T.query traces.old).limit ≡ 0 }
+    ensures places { IfOk result (λ v. v.items ≡
+        places_found (T.query traces.old) (T.traces traces.old)) }
+    ensures same_traces { T.traces traces.new ≡ T.traces traces.old }
+    ensures same_query { T.query traces.new ≡ T.query traces.old }
 {
     let mut found = all_hits(alloc, traces)?;
     found.sort_unstable();

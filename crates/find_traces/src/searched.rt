@@ -35,12 +35,15 @@ pub trait Searched {
     fn id_at(&self, place: usize) -> Option<TraceId>
         ensures { result ≡ id_at (traces self.now) place };
 
-    /// Whether one span of the trace meets every condition of the search.
+    /// Whether one span of the trace meets every condition of the search. What was judged may be kept for the traces
+    /// that are judged later.
     ///
     /// # Errors
     ///
     /// Out of memory, and nothing else.
-    fn is_found_at(&self, alloc: Global, place: usize) -> Result<bool, AllocError>
-        ensures { IfOk result (λ found. found ≡
-            list_any (matches (query self.now)) (trace_at (traces self.now) place)) };
+    fn is_found_at(&mut self, alloc: Global, place: usize) -> Result<bool, AllocError>
+        ensures found { IfOk result (λ found. found ≡
+            list_any (matches (query self.old)) (trace_at (traces self.old) place)) }
+        ensures same_traces { traces self.new ≡ traces self.old }
+        ensures same_query { query self.new ≡ query self.old };
 }

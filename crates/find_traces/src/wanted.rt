@@ -1,11 +1,11 @@
 //! Searches whose asked tags are put in order once.
 
-ghost use Rattle.std.specs.Prelude.{◌≡◌, ◌==◌, ◌%◌, ◌^◌, ℕ, List, [], IfOk, length, false};
+ghost use Rattle.std.specs.Prelude.{◌≡◌, ◌==◌, ◌%◌, ◌^◌, ℕ, List, [], IfOk, IfSome, length, false};
 ghost use Rattle.std.specs.Bool.{OnTrue, OnFalse};
 ghost use Rattle.std.specs.Int.{bit_at};
 ghost use Rattle.std.specs.List.{list_any};
 ghost use Rattle.std.specs.Ordering.{eq_by_cmp, nat_cmp};
-ghost use Rattle.jaeger_model.specs.Tags.{tag_text};
+ghost use Rattle.jaeger_model.specs.Tags.{hex_text, tag_text};
 ghost use Rattle.jaeger_model.specs.Texts.{text_cmp};
 ghost use Rattle.find_traces.specs.Wanting.{pair_of, same_pair, is_in, key_bits, asks, asked_count, if_asked};
 
@@ -109,6 +109,27 @@ fn pairs_of(alloc: Global, asked: &[(Text, Text)]) -> Result<BTreeSet<(Text, Tex
     Ok(pairs)
 }
 
+/// Returns how many hexadecimal digits these bytes have.
+#[tactic(auto, using(crate::proofs::Wanting::hex_length))]
+fn hex_length(bytes: &[u8]) -> usize
+    ensures { result ≡ length (hex_text bytes.now) }
+{
+    2 * bytes.len()
+}
+
+/// Returns how long the text of a value is, without making it; `None` for a number, whose text is short.
+fn text_length(value: &TagValue) -> Option<usize>
+    ensures { IfSome result (λ n. n ≡ length (tag_text value.now)) }
+{
+    match value.get() {
+        ValueRef::Text(text) => Some(text.len()),
+        ValueRef::Double(bytes) => Some(hex_length(bytes)),
+        ValueRef::Bool(flag) => Some(if flag { 4 } else { 5 }),
+        ValueRef::Long(_) => None,
+        ValueRef::Bytes(bytes) => Some(hex_length(bytes)),
+    }
+}
+
 /// The value as text.
 fn text_of(alloc: Global, value: &TagValue) -> Result<Text, AllocError>
     ensures { IfOk result (λ t. t ≡ tag_text value.now) }
@@ -169,13 +190,13 @@ impl<'q> Wanted<'q> {
         is_set(self.key_bits, key)
     }
 
-    /// Whether a value may have an asked text: one that is a text has the length of one of these.
+    /// Whether a value may have an asked text: its text has the length of one of these, if that length is known.
     fn may_ask(&self, value: &TagValue) -> bool
         ensures { OnFalse result ((k : List ℕ) → asks self.now (k, tag_text value.now) ≡ false) }
     {
-        match value.get() {
-            ValueRef::Text(text) => self.lengths.contains(&text.len()),
-            _ => true,
+        match text_length(value) {
+            Some(length) => self.lengths.contains(&length),
+            None => true,
         }
     }
 

@@ -33,7 +33,7 @@ fn bells(alloc: Global, count: u16) -> Result<Vec<CachePadded<Bell>>, AllocError
 
 /// Opens a desk of the store that the receipt is of, whose queue has room for 1 to 4,096 jobs, with 1 to
 /// 64 seats and a clerk. The seats have the numbers 0, 1 and so on. The keys are those that the store was opened with: with
-/// others each batch is hashed once more by the clerk.
+/// others the clerk hashes each batch again.
 ///
 /// # Errors
 ///

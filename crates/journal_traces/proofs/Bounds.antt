@@ -104,7 +104,3 @@ passed q (brings.TraceLimit n) none = refl
 pub passed_there : (q : Find) (e : Option Entry) (ol : Outline) → Some ol ≡ option_map outline_in e → may_meet q ol ≡ false → met_or_none q (option_and_then (λ (x : Entry). batch_brought x.work) e) ≡ []
 passed_there q None ol e none = absurd (cc e)
 passed_there q (Some x) ol e none = let same : ol ≡ outline_in x = cc e in passed q x.work (ap (may_meet q) (sym same) ∙ none)
-
-pub none_there : (q : Find) (e : Option Entry) → None ≡ option_map outline_in e → met_or_none q (option_and_then (λ (x : Entry). batch_brought x.work) e) ≡ []
-none_there q None e = refl
-none_there q (Some x) e = absurd (cc e)

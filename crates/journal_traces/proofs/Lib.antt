@@ -4,6 +4,11 @@ pub mod Marking
 pub mod Numbers
 pub mod Processes
 pub mod Spots
+pub mod Cuts
+pub mod TakingSpans
+pub mod TakenSpans
+pub mod Masks
+pub mod Near
 pub mod Bounds
 pub mod Windows
 pub mod Keeping

@@ -1,6 +1,6 @@
 -- The marks of the traces that a search by a service looks at.
-use Rattle.std.proofs.Common.{◌≡◌, ℕ, zero, suc, ◌+◌, ◌-◌, ◌<◌, ◌≤◌, Bool, true, false, ◌||◌, ◌&&◌, cond, List, [], ◌∷◌, ◌++◌, map, length, take, get_or, refl, sym, ap, ◌∙◌, arith, Some, None}
-use Rattle.std.specs.Prelude.{filter, slice_get, not, Option}
+use Rattle.std.proofs.Common.{◌≡◌, ℕ, zero, suc, ◌+◌, ◌<◌, ◌≤◌, Bool, true, false, ◌||◌, ◌&&◌, cond, List, [], ◌∷◌, ◌++◌, map, length, take, get_or, refl, sym, ap, ◌∙◌, arith, Some, None}
+use Rattle.std.specs.Prelude.{filter, flat_map, slice_get, not, Option}
 use Rattle.std.specs.List.{list_any, position}
 use Rattle.std.proofs.Math.ListN.{set}
 use Rattle.std.proofs.lemmas.Bool.{false≢true, or_parts}
@@ -15,15 +15,13 @@ use Rattle.jaeger_model.specs.declared.span.Span.{Span}
 use Rattle.jaeger_model.specs.declared.batch.Process.{Process}
 use Rattle.trace_model.specs.declared.query.Find.{Find}
 use Rattle.jaeger_model.specs.Parents.{same_trace}
-use Rattle.trace_model.specs.declared.entry.Entry.{Entry}
 use Rattle.trace_model.specs.Rings.{holds}
-use Rattle.trace_model.specs.Showing.{ring}
 use Rattle.trace_model.proofs.Admissions.{none_passes}
 use Rattle.trace_model.proofs.Traces.{same_is, same_self}
 use Rattle.trace_ring.specs.Windows.{NoneTwice}
 use Rattle.trace_assembly.specs.Rows.{is_of}
 use Rattle.trace_assembly.proofs.Written.{same_swap}
-use Rattle.journal_traces.specs.Picked.{reaches, meets, met, met_at, met_along, same_before}
+use Rattle.journal_traces.specs.Picked.{reaches, meets, met, same_before}
 
 -- ---- where a trace stands in the ring
 held : (r : List TraceId) (k : ℕ) (t : TraceId) → slice_get r k ≡ Some t → holds r t ≡ true
@@ -136,11 +134,11 @@ pub marked_all : (q : Find) (o : Process) (p : TraceId → Bool) (r : List Trace
 marked_all q o p r ss i le = ap (λ (l : List Span). map (λ u. p u || reaches (met q o l) u) r) (take_all i ss le)
 
 -- ---- one more of the places
-pub marked_place : (q : Find) (h : List Entry) (r : List TraceId) (done : List ℕ) (place : ℕ)
-    → map (λ u. reaches (met_along q h done) u || reaches (met_at q h place) u) r ≡ map (reaches (met_along q h (done ++ place ∷ []))) r
-marked_place q h r done place = λ j. map (λ u. sym (
-    ap (λ l. reaches l u) (sym (flat_map_more (met_at q h) [] done place))
-    ∙ list_any-append (is_of u) (met_along q h done) (met_at q h place)) j) r
+pub marked_place : (spans_at : ℕ → List Span) (r : List TraceId) (done : List ℕ) (place : ℕ)
+    → map (λ u. reaches (flat_map spans_at done) u || reaches (spans_at place) u) r ≡ map (reaches (flat_map spans_at (done ++ place ∷ []))) r
+marked_place spans_at r done place = λ j. map (λ u. sym (
+    ap (λ l. reaches l u) (sym (flat_map_more spans_at [] done place))
+    ∙ list_any-append (is_of u) (flat_map spans_at done) (spans_at place)) j) r
 
 -- ---- what was marked is picked
 pub mark_read : (p : TraceId → Bool) (r : List TraceId) (marks : List Bool) (i : ℕ) (d : TraceId) (b : Bool) → i < length r → marks ≡ map p r → get_or marks i b ≡ p (get_or r i d)

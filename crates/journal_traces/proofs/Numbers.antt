@@ -1,9 +1,7 @@
 -- The numbers of the services of spans, by the places of their entries.
-use Rattle.std.proofs.Common.{◌≡◌, ℕ, zero, suc, ◌-◌, ◌<◌, ◌≤◌, List, [], ◌∷◌, ◌++◌, length, get_or, sym, ap, ◌∙◌, arith}
-use Rattle.std.specs.Prelude.{Some, option_map, slice_get}
-use Rattle.std.specs.List.{All}
+use Rattle.std.proofs.Common.{◌≡◌, ℕ, zero, suc, ◌-◌, ◌<◌, ◌≤◌, List, [], ◌∷◌, length, get_or, sym, ap, ◌∙◌, arith}
+use Rattle.std.specs.Prelude.{Option, Some, None, IfSome, option_map, slice_get}
 use Rattle.std.specs.Option.{option_and_then}
-use Rattle.std.proofs.lemmas.List.Elements.{All-same, All-push}
 use Rattle.std.proofs.lemmas.List.Sums.{passes_at_first}
 use Rattle.jaeger_model.specs.declared.batch.Batch.{Batch}
 use Rattle.jaeger_model.specs.declared.batch.Process.{Process}
@@ -12,14 +10,15 @@ use Rattle.jaeger_model.specs.Texts.{same_text}
 use Rattle.trace_model.specs.declared.entry.Entry.{Entry}
 use Rattle.trace_model.specs.declared.entry.Work.{Work}
 use Rattle.trace_model.specs.declared.entry.Work.TheVariants as brings
-use Rattle.trace_model.specs.Works.{batch_brought}
+use Rattle.trace_model.specs.Works.{batch_brought, service_brought}
 use Rattle.trace_model.proofs.NameLaws.{text_is}
 use Rattle.trace_assembly.specs.declared.spot.Spot.{Spot}
 use Rattle.trace_assembly.specs.Located.{span_at}
-use Rattle.service_places.specs.Reported.{service_brought, reporters, service_at, group_in, AreGroups}
+use Rattle.service_places.specs.Reported.{reporters, service_at, group_in, AreGroups}
 use Rattle.service_places.proofs.Grouping.{group_within, as_many_reporters}
 use Rattle.call_links.specs.Seen.{StandsFor}
-use Rattle.journal_traces.specs.Standing.{process_at}
+use Rattle.trace_model.specs.Taking.{Taken}
+use Rattle.journal_traces.specs.Standing.{process_at, HasNumber}
 use Rattle.journal_traces.proofs.Processes.{process_there}
 
 of_work : (w : Work) (p : Process) → Some p ≡ option_map (λ (b : Batch). b.process) (batch_brought w) → p.service ≡ service_brought w
@@ -61,6 +60,14 @@ number_there h groups s q kept e =
     text_is q.process.service (service_at h (group_in h q.process.service)) (passes_at_first (same_text q.process.service) (reporters h) [] (omega (arith, within, first, many, below))) in
     (number, ap (service_at h) number ∙ sym known)
 
--- one more of a list
-pub all_more : {X : Type 0} (P : X → Type 0) (xs ys : List X) (x : X) → All P xs → ys ≡ xs ++ x ∷ [] → P x → All P ys
-all_more P xs ys x a put p = All-same P ys (xs ++ x ∷ []) put (All-push P xs x a p)
+-- the number of what is taken at a spot
+pub service_there : (h : List Entry) (groups : List ℕ) (s : Spot) (taken : Option Taken) (n : ℕ) → AreGroups h groups → n ≡ get_or groups (s.place - 1) 0 → option_and_then (λ (x : Taken). x.span) taken ≡ span_at h s → IfSome taken (λ (x : Taken). x.number ≡ n)
+    → IfSome taken (HasNumber h)
+service_there h groups s None n kept group at number = tt
+service_there h groups s (Some x) n kept group at number = by x.span at
+  where
+    by : (o : Option Placed) → o ≡ span_at h s → IfSome o (λ (p : Placed). StandsFor (service_at h) (group_in h) (x.number, p.process.service))
+    by None e = tt
+    by (Some p) e =
+        let stands = number_there h groups s p kept e in
+        (number ∙ group ∙ stands.0, ap (service_at h) (number ∙ group) ∙ stands.1)

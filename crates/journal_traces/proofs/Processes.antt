@@ -40,16 +40,18 @@ more_at h spans more places next q place at put put_place here =
     ap (map (λ (p : Placed). Some p.process)) put ∙ map_push (λ (p : Placed). Some p.process) spans q ∙ (λ i. at i ++ here i ∷ [])
     ∙ sym (ap (map (process_at h)) put_place ∙ map_push (process_at h) places place)
 
--- the process of one of them
-pub process_got : (h : List Entry) (spans : List Placed) (places : List ℕ) → AreAt h spans places → (k : ℕ) (d : Placed) → k < length places → Some (get_or spans k d).process ≡ process_at h (get_or places k 0)
-process_got h [] [] at k d l = absurd (omega arith)
-process_got h [] (x ∷ places) at k d l = absurd (cc at)
-process_got h (p ∷ spans) [] at k d l = absurd (omega arith)
-process_got h (p ∷ spans) (x ∷ places) at zero d l = cc at
-process_got h (p ∷ spans) (x ∷ places) at (suc k) d l = let rest : AreAt h spans places = cc at in process_got h spans places rest k d (omega arith)
+-- the processes of spans are those that the numbers beside them lead to
+module _ (f : ℕ → Option Process) where
+  -- the process of one of them
+  process_got : (spans : List Placed) (numbers : List ℕ) → map (λ (p : Placed). Some p.process) spans ≡ map f numbers → (k : ℕ) (d : Placed) → k < length numbers → Some (get_or spans k d).process ≡ f (get_or numbers k 0)
+  process_got [] [] at k d l = absurd (omega arith)
+  process_got [] (x ∷ numbers) at k d l = absurd (cc at)
+  process_got (p ∷ spans) [] at k d l = absurd (omega arith)
+  process_got (p ∷ spans) (x ∷ numbers) at zero d l = cc at
+  process_got (p ∷ spans) (x ∷ numbers) at (suc k) d l = let rest : map (λ (p : Placed). Some p.process) spans ≡ map f numbers = cc at in process_got spans numbers rest k d (omega arith)
 
--- spans of one place have one process
-pub one_process : (h : List Entry) (spans : List Placed) (places : List ℕ) → AreAt h spans places → (j k : ℕ) (d : Placed) → j < length places → k < length places → get_or places j 0 ≡ get_or places k 0 → (get_or spans j d).process ≡ (get_or spans k d).process
-one_process h spans places at j k d lj lk same =
-    let both : Some (get_or spans j d).process ≡ Some (get_or spans k d).process = process_got h spans places at j d lj ∙ ap (process_at h) same ∙ sym (process_got h spans places at k d lk) in
-    cc both
+  -- spans of one number have one process
+  pub one_process : (spans : List Placed) (numbers : List ℕ) → map (λ (p : Placed). Some p.process) spans ≡ map f numbers → (j k : ℕ) (d : Placed) → j < length numbers → k < length numbers → get_or numbers j 0 ≡ get_or numbers k 0 → (get_or spans j d).process ≡ (get_or spans k d).process
+  one_process spans numbers at j k d lj lk same =
+      let both : Some (get_or spans j d).process ≡ Some (get_or spans k d).process = process_got spans numbers at j d lj ∙ ap f same ∙ sym (process_got spans numbers at k d lk) in
+      cc both

@@ -5,3 +5,6 @@ pub mod Looked
 pub mod Pruned
 pub mod Lasting
 pub mod Reporting
+pub mod Cutting
+pub mod Taking
+pub mod TakenSearch

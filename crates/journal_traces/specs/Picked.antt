@@ -11,6 +11,10 @@ use Rattle.trace_model.specs.declared.query.Find.{Find}
 use Rattle.trace_model.specs.Searching.{matches}
 use Rattle.trace_model.specs.declared.entry.Entry.{Entry}
 use Rattle.trace_assembly.specs.Rows.{is_of}
+use Rattle.trace_model.specs.Places.{entry_at}
+use Rattle.trace_model.specs.Works.{batch_brought}
+use Rattle.arrival_journal.specs.Outlines.{outline_in}
+use Rattle.journal_traces.specs.Pruned.{may_meet}
 use Rattle.journal_traces.specs.Standing.{batch_at}
 
 -- the trace at this place of the ring, where it passes the test
@@ -40,6 +44,27 @@ met_at q h place = met_or_none q (batch_at h place)
 -- those of the entries at these places
 abbrev pub met_along : Find → List Entry → List ℕ → List Span
 met_along q h places = flat_map (met_at q h) places
+
+-- ---- the same without the tags of the search
+-- the search that asks for no tags, and is the same otherwise
+abbrev pub near : Find → Find
+near q = record q { tags = [] }
+
+-- those of the entry's spans that meet it; none where the entry is passed over by its outline
+abbrev pub near_in : Find → Entry → List Span
+near_in q e = if may_meet q (outline_in e) then met_or_none (near q) (batch_brought e.work) else []
+
+abbrev pub near_or_none : Find → Option Entry → List Span
+near_or_none q None = []
+near_or_none q (Some e) = near_in q e
+
+-- those of the entry at this place
+abbrev pub near_at : Find → List Entry → ℕ → List Span
+near_at q h place = near_or_none q (entry_at h place)
+
+-- those of the entries at these places
+abbrev pub near_along : Find → List Entry → List ℕ → List Span
+near_along q h places = flat_map (near_at q h) places
 
 -- the trace is the one before
 abbrev pub same_before : Option TraceId → TraceId → Bool

@@ -1,7 +1,8 @@
 -- Entries that a search passes over.
-use Rattle.std.specs.Prelude.{ℕ, ℤ, pos, ◌-ℤ◌, ◌*ℤ◌, ◌==◌, int_lt, Bool, ◌&&◌, List}
+use Rattle.std.specs.Prelude.{ℕ, ◌^◌, ℤ, pos, ◌-ℤ◌, ◌*ℤ◌, ◌==◌, int_lt, Bool, ◌&&◌, List}
 use Rattle.std.specs.Int.{bit_at}
-use Rattle.std.specs.List.{list_all}
+use Rattle.std.specs.Int.Bits.{bit_or}
+use Rattle.std.specs.List.{list_all, fold}
 use Rattle.trace_model.specs.declared.query.Find.{Find}
 use Rattle.trace_model.specs.Searching.{at_least, at_most, bound}
 use Rattle.arrival_journal.specs.declared.times.Times.{Times}
@@ -19,6 +20,14 @@ may_start q t = at_least q.start_min t.start_max && at_most q.start_max t.start_
 -- the bit of an asked tag is among these
 abbrev pub is_marked : ℕ → List ℕ × List ℕ → Bool
 is_marked bits asked = bit_at bits (tag_place asked.0 asked.1) == 1
+
+-- with the bit of one more asked tag
+abbrev pub with_asked : ℕ → List ℕ × List ℕ → ℕ
+with_asked bits asked = bit_or bits (2 ^ tag_place asked.0 asked.1)
+
+-- those of all asked tags
+abbrev pub asked_bits : List (List ℕ × List ℕ) → ℕ
+asked_bits asked = fold with_asked 0 asked
 
 -- that of each asked tag is
 abbrev pub may_match_tags : Find → ℕ → Bool

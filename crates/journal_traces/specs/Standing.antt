@@ -1,6 +1,5 @@
 -- Spans and traces where they stand in the entries.
 use Rattle.std.specs.Prelude.{◌≡◌, ℕ, List, map, filter_map, Option, Some, option_map}
-use Rattle.std.specs.List.{All}
 use Rattle.std.specs.Option.{option_and_then}
 use Rattle.jaeger_model.specs.declared.batch.Batch.{Batch}
 use Rattle.jaeger_model.specs.declared.batch.Process.{Process}
@@ -12,8 +11,8 @@ use Rattle.trace_model.specs.Works.{batch_brought}
 use Rattle.trace_assembly.specs.declared.spot.Spot.{Spot}
 use Rattle.trace_assembly.specs.Located.{span_at}
 use Rattle.service_places.specs.Reported.{service_at, group_in}
-use Rattle.call_links.specs.declared.numbered.NumberedSpan.{NumberedSpan}
-use Rattle.call_links.specs.Seen.{StandsFor, service_in}
+use Rattle.trace_model.specs.Taking.{Taken}
+use Rattle.call_links.specs.Seen.{IsNumberedBy, AreNumberedBy}
 
 -- the batch that the entry at the place brings; a limit brings none
 abbrev pub batch_at : List Entry → ℕ → Option Batch
@@ -39,9 +38,10 @@ process_at h place = option_map (λ (b : Batch). b.process) (batch_at h place)
 abbrev pub AreAt : List Entry → List Placed → List ℕ → Type 0
 AreAt h spans places = map (λ (p : Placed). Some p.process) spans ≡ map (process_at h) places
 
--- the spans have the numbers of their services among those of the entries
-abbrev pub HasNumber : List Entry → NumberedSpan → Type 0
-HasNumber h s = StandsFor (service_at h) (group_in h) (service_in s)
+-- the number of the span is that of its service among those of the entries
+abbrev pub HasNumber : List Entry → Taken → Type 0
+HasNumber h t = IsNumberedBy (service_at h) (group_in h) t
 
-abbrev pub HaveNumbers : List Entry → List NumberedSpan → Type 0
-HaveNumbers h ss = All (HasNumber h) ss
+-- so is that of each span of the traces
+abbrev pub AreNumberedByService : List Entry → List (List Taken) → Type 0
+AreNumberedByService h traces = AreNumberedBy (service_at h) (group_in h) traces

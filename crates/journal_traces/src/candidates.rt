@@ -45,7 +45,7 @@ impl<'a> Searched for Candidates<'a> {
         }
     }
 
-    fn is_found_at(&self, alloc: Global, place: usize) -> Result<bool, AllocError> {
+    fn is_found_at(&mut self, alloc: Global, place: usize) -> Result<bool, AllocError> {
         match self.spots.get(place) {
             Some(spots) => is_found(alloc, self.journal, spots.again(), self.wanted),
             None => Ok(false),

@@ -8,7 +8,11 @@
 //! * `reporting`: which traces a search by a service alone looks at, where many entries are of that service.
 //! * `judging`: spans judged one after the other.
 //! * `candidates`: these traces, as a search looks at them.
-//! * `seeing`: the spans of the traces in a window of time.
+//! * `seeing`: the traces in a window of time, taken with the numbers of their services.
+//! * `taken`: traces whose spans were taken out, to be read after the journal is left.
+//! * `taken_search`: a search over such traces, which judges each process once.
+//! * `taken_answer`: what such a search finds, as it is to be shown.
+//! * `taking`: takes traces out of the journal.
 #![tactic(auto)]
 
 mod candidates;
@@ -19,9 +23,17 @@ mod reporting;
 mod searching;
 mod seeing;
 mod standing;
+mod taken;
+mod taken_answer;
+mod taken_search;
+mod taking;
 
 pub use candidates::Candidates;
 pub use gathering::gather;
 pub use reporting::spots_reported;
 pub use searching::spots_along;
-pub use seeing::{ring_ids, see_within};
+pub use seeing::{ring_ids, take_within};
+pub use taken::TakenTraces;
+pub use taken_answer::{find_kept, find_kept_ids, keep_all};
+pub use taken_search::TakenSearch;
+pub use taking::{take_all, take_trace};

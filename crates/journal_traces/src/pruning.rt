@@ -1,11 +1,14 @@
 //! Entries that a search, or a look at a window of time, passes over by their outlines.
 
-ghost use Rattle.std.specs.Prelude.{◌≡◌};
-ghost use Rattle.journal_traces.specs.Pruned.{may_last, may_start, is_marked, may_match_tags, may_meet, may_reach};
+ghost use Rattle.std.specs.Prelude.{◌≡◌, ◌^◌, ℕ, List};
+ghost use Rattle.std.specs.List.{list_all};
+ghost use Rattle.arrival_journal.specs.Tagging.{tag_place};
+ghost use Rattle.journal_traces.specs.Pruned.{may_last, may_start, is_marked, asked_bits, may_meet, may_reach};
 
 use arrival_journal::{Outline, Times, tag_place};
 use jaeger_model::Text;
 use span_steps::{duration_bound, is_at_least, is_at_most, may_be_in_window};
+use std::marker::Model;
 use trace_model::Find;
 
 /// Whether spans with durations in these bounds may lie within those of the search.
@@ -23,32 +26,78 @@ fn may_start(times: Times, query: &Find) -> bool
     is_at_least(query.start_min, times.start_max) && is_at_most(query.start_max, times.start_min)
 }
 
-/// Whether the bit of an asked tag is among these.
-fn is_marked(bits: u128, asked: &(Text, Text)) -> bool
-    ensures { result ≡ is_marked bits asked.now }
+/// The bit of a requested tag.
+fn asked_bit(asked: &(Text, Text)) -> u128
+    ensures { result ≡ 2 ^ tag_place asked.now.0 asked.now.1 }
 {
-    (bits >> tag_place(asked.0.as_str(), asked.1.as_str())) & 1 == 1
+    1u128 << tag_place(asked.0.as_str(), asked.1.as_str())
 }
 
-/// Whether spans with these bits may have each of the asked tags.
-fn may_match_tags(bits: u128, query: &Find) -> bool
-    ensures { result ≡ may_match_tags query.now bits }
+/// The bits of the requested tags.
+fn asked_bits(asked: &[(Text, Text)]) -> u128
+    ensures { result ≡ asked_bits asked.now }
 {
-    query
-        .tags
-        .as_slice()
-        .iter()
-        .all(|asked| is_marked(bits, asked))
+    let mut bits = 0;
+    for pair in asked {
+        bits |= asked_bit(pair);
+    }
+    bits
 }
 
-/// Whether spans of an entry with this outline may meet the search. Where they may not, none of the spans
-/// has to be looked at.
-pub(crate) fn may_meet(outline: Outline, query: &Find) -> bool
-    ensures { result ≡ may_meet query.now outline }
+/// Whether spans with these bits may have each of the requested tags, whose bits are those of the mask.
+fn may_match_tags(bits: u128, mask: u128) -> bool
+    ensures { (asked : List (List ℕ × List ℕ)) → mask ≡ asked_bits asked →
+        result ≡ list_all (is_marked bits) asked }
 {
-    may_last(outline.times, query)
-        && may_start(outline.times, query)
-        && may_match_tags(outline.tags, query)
+    bits | mask == bits
+}
+
+/// A search, which passes over entries by their outlines. The bits of its requested tags are computed once. Contracts
+/// see the search.
+#[derive(Drop)]
+pub(crate) struct EntryFilter<'q> {
+    query: &'q Find,
+    /// The bits of the requested tags.
+    mask: u128,
+}
+
+impl<'q> Model for EntryFilter<'q> {
+    ghost use Rattle.std.specs.Prelude.{◌≡◌};
+    ghost use Rattle.trace_model.specs.declared.query.Find.{Find};
+    ghost use Rattle.journal_traces.specs.Pruned.{asked_bits as bits_of_asked};
+
+    ghost Value = { Find };
+
+    ghost view = { λ f. f.query.now };
+
+    ghost invariant = { λ f. f.mask ≡ bits_of_asked f.query.now.tags };
+}
+
+impl<'q> EntryFilter<'q> {
+    pub(crate) fn new(query: &'q Find) -> Self
+        ensures { result ≡ query.now }
+    {
+        EntryFilter {
+            query,
+            mask: asked_bits(query.tags.as_slice()),
+        }
+    }
+
+    /// The search.
+    pub(crate) fn query(&self) -> &Find
+        ensures { result.now ≡ self.now }
+    {
+        self.query
+    }
+
+    /// Whether spans of an entry with this outline may meet the search. If not, none of the spans has to be looked at.
+    pub(crate) fn may_meet(&self, outline: Outline) -> bool
+        ensures { result ≡ may_meet self.now outline }
+    {
+        may_last(outline.times, self.query)
+            && may_start(outline.times, self.query)
+            && may_match_tags(outline.tags, self.mask)
+    }
 }
 
 /// Whether spans with starts in these bounds may start strictly within the window. Where they may not, none

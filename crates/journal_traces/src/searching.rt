@@ -1,19 +1,21 @@
 //! The traces that a search by a service has to look at.
 
-ghost use Rattle.std.specs.Prelude.{◌≡◌, Bool, ◌||◌, ◌&&◌, not, [], IfOk, OnOk, map, filter, length};
-ghost use Rattle.std.specs.Bool.{OnTrue};
+ghost use Rattle.std.specs.Prelude.{◌≡◌, Bool, true, ◌||◌, ◌&&◌, not, [], IfOk, map, filter, length};
+ghost use Rattle.std.specs.Bool.{OnTrue, OnFalse};
 ghost use Rattle.jaeger_model.specs.Parents.{same_trace};
+ghost use Rattle.jaeger_model.specs.Texts.{same_text};
 ghost use Rattle.jaeger_model.specs.declared.ids.TraceId.{TraceId as TraceIdValue};
 ghost use Rattle.trace_assembly.specs.Rows.{spots_of};
 ghost use Rattle.trace_ring.specs.Windows.{NoneTwice};
-ghost use Rattle.journal_traces.specs.Picked.{reaches, meets, met, met_at, met_along, same_before};
+ghost use Rattle.journal_traces.specs.Picked.{reaches, meets, met, met_or_none, near, near_at, near_along, same_before};
+ghost use Rattle.journal_traces.specs.Standing.{batch_at};
 
-use crate::pruning::may_meet;
+use crate::pruning::EntryFilter;
 use crate::standing::batch_at;
 use arrival_journal::Journal;
-use find_traces::{JudgedProcess, Wanted};
-use jaeger_model::{Span, TraceId};
+use jaeger_model::{Process, Seen, Span, Text, TraceId};
 use service_places::Places;
+use span_steps::is_timed;
 use std::alloc::{AllocError, Global};
 use trace_assembly::{Assembly, Spots};
 use trace_model::Find;
@@ -57,81 +59,97 @@ fn is_again(before: Option<TraceId>, trace: TraceId) -> bool
     }
 }
 
-/// The span meets the search, and its trace is not the one before.
-fn is_news(
-    alloc: Global,
-    before: Option<TraceId>,
-    judged: &JudgedProcess<'_>,
-    span: &Span,
-) -> Result<bool, AllocError>
-    ensures { IfOk result (λ b. b ≡ (not (same_before before span.now.trace)
-        && meets judged.now.query judged.now.process span.now)) }
+/// Whether the operation is the requested one, if one is requested.
+fn is_asked(query: &Find, operation: &Text) -> bool
+    ensures { result ≡ (same_text query.now.operation []
+        || same_text query.now.operation operation.now) }
 {
-    Ok(!is_again(before, span.trace) && judged.is_match(alloc, span)?)
+    query.operation.as_str() == "" || query.operation == *operation
 }
 
-/// Marks the traces that stand in the ring and of which one of the spans meets the search.
+/// Whether a span of the requested service meets every condition of the search but those on tags.
+fn is_near(query: &Find, at: Seen<'_>) -> bool
+    requires { same_text query.now.service at.process.now.service ≡ true }
+    ensures { result ≡ meets (near query.now) at.entry.process.now at.entry.span.now }
+{
+    is_asked(query, &at.span.operation) && is_timed(at, query)
+}
+
+/// The span meets these conditions, and its trace is not the one before.
+fn is_news(before: Option<TraceId>, query: &Find, at: Seen<'_>) -> bool
+    requires { same_text query.now.service at.process.now.service ≡ true }
+    ensures { result ≡ (not (same_before before at.entry.span.now.trace)
+        && meets (near query.now) at.entry.process.now at.entry.span.now) }
+{
+    !is_again(before, at.span.trace) && is_near(query, at)
+}
+
+/// Marks the traces that stand in the ring and of which one of the spans of this process meets these conditions. The
+/// process is of the requested service, so its name is compared once for all its spans.
 fn mark_spans(
-    alloc: Global,
     marks: &mut [bool],
     ring: &Ring,
     rows: RowGuesses<'_>,
-    judged: &JudgedProcess<'_>,
+    query: &Find,
+    process: &Process,
     spans: &[Span],
-) -> Result<(), AllocError>
+)
     requires once { NoneTwice ring.now.ids }
     requires size { length marks.old ≡ length ring.now.ids }
-    ensures { OnOk result ((p : TraceIdValue → Bool) → marks.old ≡ map p ring.now.ids →
+    requires service { same_text query.now.service process.now.service ≡ true }
+    ensures { (p : TraceIdValue → Bool) → marks.old ≡ map p ring.now.ids →
         marks.new ≡ map (λ t. p t ||
-        reaches (met judged.now.query judged.now.process spans.now) t) ring.now.ids) }
+        reaches (met (near query.now) process.now spans.now) t) ring.now.ids }
 {
     let mut before = None;
     let mut index: u32 = 0;
     for span in spans {
-        let is_news = is_news(alloc, before, judged, span)?;
+        let is_news = is_news(before, query, Seen { process, span });
         if is_news {
             mark_trace(marks, ring, rows.at(index), span.trace);
             before = Some(span.trace);
         }
         index = index.wrapping_add(1);
     }
-    Ok(())
 }
 
-/// Whether no span of the entry at a place can meet the search, by its outline alone.
-fn is_passed(journal: &Journal, place: u64, query: &Find) -> bool
-    ensures { OnTrue result (met_at query.now journal.now.held.entries place ≡ []) }
+/// Whether the entry at a place is passed over, by its outline alone. None of its spans meets the search then.
+fn is_passed(journal: &Journal, place: u64, filter: &EntryFilter<'_>) -> bool
+    ensures passed { OnTrue result (near_at filter.now journal.now.held.entries place ≡ []) }
+    ensures looked_at { OnFalse result (near_at filter.now journal.now.held.entries place ≡
+        met_or_none (near filter.now) (batch_at journal.now.held.entries place)) }
 {
     match journal.outline(place) {
-        Some(outline) => !may_meet(outline, query),
+        Some(outline) => !filter.may_meet(outline),
         None => true,
     }
 }
 
-/// The same for the entry at a place, whose process is judged once for all its spans.
+/// Marks the traces of the spans of the entry at a place, unless it is passed over.
 fn mark_entry(
-    alloc: Global,
     marks: &mut [bool],
     ring: &Ring,
     rows: RowGuesses<'_>,
     journal: &Journal,
     place: u64,
-    wanted: &Wanted<'_>,
-) -> Result<(), AllocError>
+    filter: &EntryFilter<'_>,
+)
     requires once { NoneTwice ring.now.ids }
     requires size { length marks.old ≡ length ring.now.ids }
-    ensures { OnOk result ((p : TraceIdValue → Bool) → marks.old ≡ map p ring.now.ids →
-        marks.new ≡ map (λ t. p t || reaches (met_at wanted.now journal.now.held.entries place) t)
-        ring.now.ids) }
+    ensures { (p : TraceIdValue → Bool) → marks.old ≡ map p ring.now.ids →
+        marks.new ≡ map (λ t. p t || reaches (near_at filter.now journal.now.held.entries place) t)
+        ring.now.ids }
 {
-    if is_passed(journal, place, wanted.query()) {
-        return Ok(());
+    if is_passed(journal, place, filter) {
+        return;
     }
     if let Some(batch) = batch_at(journal, place) {
-        let judged = JudgedProcess::new(alloc, wanted, batch.process.get())?;
-        mark_spans(alloc, marks, ring, rows, &judged, batch.spans.as_slice())?;
+        let process = batch.process.get();
+        let query = filter.query();
+        if query.service == process.service {
+            mark_spans(marks, ring, rows, query, process, batch.spans.as_slice());
+        }
     }
-    Ok(())
 }
 
 /// How many spans stand before the entry at a place, counted from 1, by those before each.
@@ -140,27 +158,29 @@ fn spans_before(firsts: &[u32], place: u64) -> u32 {
     firsts.get(index).copied().unwrap_or(0)
 }
 
-/// For each trace of the ring whether the entries at these places have a span of it that meets the search.
+/// For each trace of the ring whether the entries at these places that aren't passed over have a span of it that meets
+/// every condition of the search but those on tags.
 fn marks_along(
     alloc: Global,
     assembly: &Assembly,
     firsts: &[u32],
     journal: &Journal,
     places: Places<'_>,
-    wanted: &Wanted<'_>,
+    query: &Find,
 ) -> Result<Vec<bool>, AllocError>
     ensures { IfOk result (λ v. v.items ≡
-        map (reaches (met_along wanted.now journal.now.held.entries places.entry))
+        map (reaches (near_along query.now journal.now.held.entries places.entry))
         assembly.now.newest.ids) }
 {
     let ring = assembly.ring();
+    let filter = EntryFilter::new(query);
     let mut marks = vec![in alloc; false; ring.len()]?;
     for place in places {
         let rows = RowGuesses {
             assembly,
             before: spans_before(firsts, place),
         };
-        mark_entry(alloc, &mut marks, ring, rows, journal, place, wanted)?;
+        mark_entry(&mut marks, ring, rows, journal, place, &filter);
     }
     Ok(marks)
 }
@@ -185,9 +205,10 @@ fn marked_spots<'a>(
     Ok(spots)
 }
 
-/// The spots of each trace of the ring of which the entries at these places have a span that meets the
-/// search, those of the one opened longest ago first. It looks at these entries and at no others. `firsts` says how many
-/// spans stand before each entry, a guess by which most traces are found in the ring without a look-up.
+/// The spots of each trace of the ring of which the entries at these places have a span that meets every condition of
+/// the search but those on tags, those of the one opened longest ago first. Entries whose outlines don't meet the
+/// search, with its tags, are passed over, and no tag is looked at. `firsts` says how many spans stand before each
+/// entry, a guess by which most traces are found in the ring without a look-up.
 ///
 /// # Errors
 ///
@@ -198,12 +219,12 @@ pub fn spots_along<'a>(
     firsts: &[u32],
     journal: &Journal,
     places: Places<'_>,
-    wanted: &Wanted<'_>,
+    query: &Find,
 ) -> Result<Vec<Spots<'a>>, AllocError>
     ensures { IfOk result (λ v. v.items ≡ map (spots_of assembly.now)
-        (filter (reaches (met_along wanted.now journal.now.held.entries places.entry))
+        (filter (reaches (near_along query.now journal.now.held.entries places.entry))
         assembly.now.newest.ids)) }
 {
-    let marks = marks_along(alloc, assembly, firsts, journal, places, wanted)?;
+    let marks = marks_along(alloc, assembly, firsts, journal, places, query)?;
     marked_spots(alloc, assembly, &marks)
 }

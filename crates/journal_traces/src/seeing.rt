@@ -1,62 +1,67 @@
-//! The spans of traces in a window of time, where they stand in the journal: none is copied.
+//! The traces in a window of time, taken out of the journal with the numbers of their services: no span is copied.
 
-ghost use Rattle.std.specs.Prelude.{◌≡◌, ◌<◌, ◌^◌, IfOk, IfSome, map, filter, length, option_map};
-ghost use Rattle.std.specs.List.{All, list_any};
+ghost use Rattle.std.specs.Prelude.{◌≡◌, ◌<◌, ◌^◌, ◌++◌, ◌∷◌, [], IfOk, IfSome, OnOk, map, filter, length};
+ghost use Rattle.std.specs.List.{list_any};
+ghost use Rattle.std.specs.Option.{option_and_then};
 ghost use Rattle.trace_model.specs.Linking.{in_window};
 ghost use Rattle.trace_assembly.specs.Located.{span_at};
 ghost use Rattle.trace_assembly.specs.Rows.{spots_of};
 ghost use Rattle.service_places.specs.Reported.{AreGroups};
-ghost use Rattle.journal_traces.specs.Given.{given_all, given_traces};
-ghost use Rattle.trace_model.specs.Seeing.{placed_by_its_entry};
-ghost use Rattle.journal_traces.specs.Standing.{spans_named, trace_named, HasNumber, HaveNumbers};
+ghost use Rattle.journal_traces.specs.Standing.{spans_named, trace_named, HasNumber, AreNumberedByService};
+ghost use Rattle.journal_traces.specs.Taking.{placed_taken};
 
-use crate::standing::{reaches_window, seen_at};
+use crate::standing::reaches_window;
+use crate::taken::TakenTraces;
 use arrival_journal::Journal;
-use call_links::NumberedSpan;
 use jaeger_model::TraceId;
 use service_places::ServicePlaces;
 use std::alloc::{AllocError, Global};
 use trace_assembly::{Assembly, Spot, Spots};
+use trace_model::TakenSpan;
 use trace_ring::Ring;
 
-/// The span that a spot names, with the number of its service.
-fn numbered_at<'a>(
-    journal: &'a Journal,
+/// Takes the span at a spot. Its number is that of its service.
+fn taken_at(
+    journal: &Journal,
     reported: &ServicePlaces,
     spot: Spot,
-) -> Option<NumberedSpan<'a>>
+) -> Result<Option<TakenSpan>, AllocError>
     requires few { length journal.now.held.entries < 2 ^ 32 }
     requires numbers { AreGroups journal.now.held.entries reported.now.groups }
-    ensures at_spot { option_map (λ s. placed_by_its_entry s.seen) result ≡
-        span_at journal.now.held.entries spot }
-    ensures numbered { IfSome result (HasNumber journal.now.held.entries) }
+    ensures span { IfOk result (λ t. option_and_then (λ s. s.span) t ≡
+        span_at journal.now.held.entries spot) }
+    ensures number { IfOk result (λ t. IfSome t (HasNumber journal.now.held.entries)) }
 {
-    let seen = seen_at(journal, spot)?;
+    let Some(entry) = journal.entry(spot.place) else {
+        return Ok(None);
+    };
     let before = spot.place - 1;
     let service = reported.group_at(before as u32);
-    Some(NumberedSpan { seen, service })
+    let taken = TakenSpan::new(entry, spot.index, service)?;
+    Ok(taken)
 }
 
-/// The spans that the spots name, in their order.
-fn see<'a>(
-    alloc: Global,
-    journal: &'a Journal,
+/// Adds the trace of the spans at these spots, in their order. The number of each span is that of its service.
+fn take_trace(
+    traces: &mut TakenTraces,
+    journal: &Journal,
     reported: &ServicePlaces,
     spots: Spots<'_>,
-) -> Result<Vec<NumberedSpan<'a>>, AllocError>
+) -> Result<(), AllocError>
     requires few { length journal.now.held.entries < 2 ^ 32 }
     requires numbers { AreGroups journal.now.held.entries reported.now.groups }
-    ensures at_spots { IfOk result (λ v. given_all v.items ≡
-        spans_named journal.now.held.entries spots.entry) }
-    ensures numbered { IfOk result (λ v. HaveNumbers journal.now.held.entries v.items) }
+    ensures spans { OnOk result (map placed_taken traces.new ≡ map placed_taken traces.old
+        ++ spans_named journal.now.held.entries spots.entry ∷ []) }
+    ensures numbered { OnOk result (AreNumberedByService journal.now.held.entries traces.old →
+        AreNumberedByService journal.now.held.entries traces.new) }
 {
-    let mut spans = Vec::new(alloc);
+    traces.begin()?;
     for spot in spots {
-        if let Some(span) = numbered_at(journal, reported, spot) {
-            spans.push(span)?;
+        if let Some(span) = taken_at(journal, reported, spot)? {
+            traces.push(span)?;
         }
     }
-    Ok(spans)
+    Ok(())
 }
 
 /// The traces of the ring, the one opened longest ago first.
@@ -74,35 +79,34 @@ pub fn ring_ids(alloc: Global, ring: &Ring) -> Result<Vec<TraceId>, AllocError>
     Ok(ids)
 }
 
-/// The spans of each of the traces that has one that starts strictly after `end_ms - lookback_ms` and
-/// strictly before `end_ms`, both in milliseconds since 1970, with the numbers of their services. Of the
-/// others only the starts of their spans are looked at.
+/// Takes the traces of the ring that have a span that starts strictly after `end_ms - lookback_ms` and
+/// strictly before `end_ms`, both in milliseconds since 1970; the one opened longest ago comes first. The
+/// number of each span is that of its service. Of the other traces only the starts of their spans are looked
+/// at.
 ///
 /// # Errors
 ///
 /// Out of memory, and nothing else.
-pub fn see_within<'a>(
+pub fn take_within(
     alloc: Global,
-    journal: &'a Journal,
+    journal: &Journal,
     assembly: &Assembly,
     reported: &ServicePlaces,
-    ids: &[TraceId],
     end_ms: i64,
     lookback_ms: i64,
-) -> Result<Vec<Vec<NumberedSpan<'a>>>, AllocError>
+) -> Result<TakenTraces, AllocError>
     requires few { length journal.now.held.entries < 2 ^ 32 }
     requires numbers { AreGroups journal.now.held.entries reported.now.groups }
-    ensures within { IfOk result (λ v. given_traces v.items ≡
+    ensures within { IfOk result (λ traces. map placed_taken traces ≡
         filter (list_any (in_window end_ms lookback_ms))
-        (map (trace_named journal.now.held.entries (spots_of assembly.now)) ids.now)) }
-    ensures numbered { IfOk result (λ v.
-        All (λ t. HaveNumbers journal.now.held.entries t.items) v.items) }
+        (map (trace_named journal.now.held.entries (spots_of assembly.now)) assembly.now.newest.ids)) }
+    ensures numbered { IfOk result (AreNumberedByService journal.now.held.entries) }
 {
-    let mut traces = Vec::new(alloc);
-    for id in ids {
-        let spots = assembly.spots(*id);
+    let mut traces = TakenTraces::new(alloc);
+    for place in 0..assembly.ring().len() {
+        let spots = assembly.spots_at(place);
         if reaches_window(journal, spots.again(), end_ms, lookback_ms) {
-            traces.push(see(alloc, journal, reported, spots)?)?;
+            take_trace(&mut traces, journal, reported, spots)?;
         }
     }
     Ok(traces)

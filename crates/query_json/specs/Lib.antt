@@ -10,6 +10,8 @@ pub mod Paging
 pub mod Parts
 pub mod Pieces
 pub mod Placing
+pub mod Runs
 pub mod Tags
+pub mod TracePieces
 pub mod Trees
 pub mod Writing

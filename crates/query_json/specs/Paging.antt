@@ -1,20 +1,30 @@
 -- What the parts of an answer say.
-use Rattle.std.specs.Prelude.{◌≡◌, ◌≤◌, ℕ, false, List, All, length, vec_capacity}
+use Rattle.std.specs.Prelude.{◌≡◌, ◌+◌, ◌≤◌, ◌⊎◌, ℕ, false, List, [], length, vec_capacity}
 use Rattle.query_json.specs.declared.paging.PagedAnswer.{PagedAnswer}
-use Rattle.query_json.specs.LentTraces.{IsNumbered}
-use Rattle.query_json.specs.Pieces.{piece_text, rest_pieces}
+use Rattle.query_json.specs.Pieces.{AreNumbered, runs_of}
+use Rattle.query_json.specs.Runs.{AllFit, left_at, text_of}
 
 -- the part that stands
 abbrev pub part_of : PagedAnswer → List ℕ
 part_of p = p.page.bytes.items
 
+-- the pieces behind it
+abbrev pub left_of : PagedAnswer → List (List (List ℕ))
+left_of p = left_at (runs_of p.items) p.next.run p.next.piece
+
 -- what comes behind it
 abbrev pub rest_of : PagedAnswer → List ℕ
-rest_of p = rest_pieces p.traces.items p.next
+rest_of p = text_of (left_of p)
+
+-- the page has room for a part of pieces that are no larger
+pub record HasRoom (p : PagedAnswer) : Type 0 where
+  pub most : ℕ
+  pub fit : AllFit most (left_of p)
+  pub room : 16384 + most ≤ vec_capacity p.page.bytes
 
 -- what comes can be made, and there is room for each part of it
 pub record IsReady (p : PagedAnswer) : Type 0 where
-  pub room : p.page.full ≡ false
-  pub numbered : All IsNumbered p.traces.items
-  pub fits : (k : ℕ) → p.next ≤ k → k ≤ length p.traces.items → length (piece_text p.traces.items k) ≤ vec_capacity p.page.bytes
+  pub open_page : p.page.full ≡ false
+  pub numbered : AreNumbered p.items
+  pub fits : (left_of p ≡ []) ⊎ HasRoom p
   pub left : p.left ≡ length (rest_of p)

@@ -1,45 +1,41 @@
--- The text of a list of traces, piece by piece.
-use Rattle.std.specs.Prelude.{ℕ, List, [], ◌∷◌, ◌++◌, length, drop, nat_lt, if◌then◌else◌}
-use Rattle.serde_json.specs.Data.{Data}
+-- The text of an answer's items, piece by piece.
+use Rattle.std.specs.Prelude.{ℕ, List, [], ◌∷◌, All, map}
+use Rattle.serde_json.specs.Data.{Data, string}
 use Rattle.serde_json.specs.Written.{compact_text}
-use Rattle.trace_model.specs.declared.answer.Shown.{Shown}
-use Rattle.query_json.specs.declared.writing.trace.LentTrace.{LentTrace}
-use Rattle.query_json.specs.Around.{head_text, tail_text}
-use Rattle.query_json.specs.Trees.{trace_tree}
+use Rattle.query_json.specs.declared.items.Items.{Items}
+use Rattle.query_json.specs.declared.items.Items.TheVariants.{Names, Operations, Ids, Links, Traces}
+use Rattle.query_json.specs.LentTraces.{IsNumbered}
+use Rattle.query_json.specs.Runs.{runs}
+use Rattle.query_json.specs.TracePieces.{lent_tree, trace_pieces}
+use Rattle.query_json.specs.Trees.{id_tree, link_tree, operation_tree}
 
-abbrev pub spans_lent : LentTrace → List Shown
-spans_lent t = t.spans
+abbrev pub item_trees : Items → List Data
+item_trees (Names names) = map string names.now
+item_trees (Operations operations) = map operation_tree operations.now
+item_trees (Ids ids) = map id_tree ids.now
+item_trees (Links links) = map link_tree links.now
+item_trees (Traces traces) = map lent_tree traces.items
 
-abbrev pub lent_tree : LentTrace → Data
-lent_tree t = trace_tree t.spans
+-- a tree whose text is one piece
+abbrev pub one_piece : Data → List (List ℕ)
+one_piece d = compact_text d ∷ []
 
-abbrev pub lent_text : LentTrace → List ℕ
-lent_text t = compact_text (lent_tree t)
+-- the pieces of each item
+abbrev pub item_pieces : Items → List (List (List ℕ))
+item_pieces (Names names) = map one_piece (map string names.now)
+item_pieces (Operations operations) = map one_piece (map operation_tree operations.now)
+item_pieces (Ids ids) = map one_piece (map id_tree ids.now)
+item_pieces (Links links) = map one_piece (map link_tree links.now)
+item_pieces (Traces traces) = map trace_pieces traces.items
 
--- what stands in front of the pieces: the first trace, if there is one, with all before it
-abbrev pub first_text : List LentTrace → List ℕ
-first_text [] = head_text ++ 91 ∷ []
-first_text (t ∷ ts) = (head_text ++ 91 ∷ []) ++ lent_text t
+-- what is known of the processes of each trace
+abbrev pub AreNumbered : Items → Type 0
+AreNumbered (Names names) = Unit {0}
+AreNumbered (Operations operations) = Unit {0}
+AreNumbered (Ids ids) = Unit {0}
+AreNumbered (Links links) = Unit {0}
+AreNumbered (Traces traces) = All IsNumbered traces.items
 
--- the number of the first piece
-abbrev pub first_piece : List LentTrace → ℕ
-first_piece [] = 0
-first_piece (t ∷ ts) = 1
-
--- the first piece of those that are left of so many traces: a trace with a comma, or what stands behind them all
-abbrev pub next_piece : ℕ → List LentTrace → List ℕ
-next_piece total [] = 93 ∷ tail_text total
-next_piece total (t ∷ ts) = 44 ∷ lent_text t
-
--- the piece with this number
-abbrev pub piece_text : List LentTrace → ℕ → List ℕ
-piece_text ts number = next_piece (length ts) (drop number ts)
-
--- all pieces that are left of so many traces
-abbrev pub pieces : ℕ → List LentTrace → List ℕ
-pieces total [] = 93 ∷ tail_text total
-pieces total (t ∷ ts) = (44 ∷ lent_text t) ++ pieces total ts
-
--- those from a number on
-abbrev pub rest_pieces : List LentTrace → ℕ → List ℕ
-rest_pieces ts number = if nat_lt (length ts) number then [] else pieces (length ts) (drop number ts)
+-- the pieces with what separates the items, and the end
+abbrev pub runs_of : Items → List (List (List ℕ))
+runs_of items = runs (item_pieces items)

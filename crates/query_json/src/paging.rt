@@ -1,100 +1,153 @@
-//! The text of an answer, made piece by piece on one page.
-ghost use Rattle.std.specs.Prelude.{◌≡◌, ◌+◌, ◌≤◌, ◌++◌, ℕ, [], false, All, IfOk, IfSome, IsTrue, OnOk, length, map, vec_capacity};
+//! The text of an answer, made part by part on one page.
+ghost use Rattle.std.specs.Prelude.{◌≡◌, ◌+◌, ◌^◌, ◌≤◌, ◌<◌, ◌⊎◌, ◌++◌, [], false, true, IfOk, OnOk, get_or, length, vec_capacity};
 ghost use Rattle.serde_json.specs.Written.{compact_text};
-ghost use Rattle.query_json.specs.LentTraces.{IsNumbered};
 ghost use Rattle.query_json.specs.Page.{Puts};
-ghost use Rattle.query_json.specs.Pieces.{first_text, first_piece, lent_tree, piece_text, rest_pieces, spans_lent};
+ghost use Rattle.query_json.specs.Pieces.{AreNumbered, item_trees, runs_of};
+ghost use Rattle.query_json.specs.Runs.{AllFit, Fills, PutsNext, end_text, front_text, left_at, text_of};
 ghost use Rattle.query_json.specs.Trees.{answer_tree, items_tree};
 
 use crate::answer::{ROOM, answer_bytes};
-use crate::writing::{LentTrace, Page, begin_items, end_items};
-use jaeger_model::Seq;
+use crate::items::Items;
+use crate::writing::{Page, begin_items, end_items, put_separator};
 use std::alloc::{AllocError, Global};
-use trace_model::{Answer, AnsweredTrace, TraceForm};
+use trace_model::Answer;
 
-/// The most bytes of a list of traces that are made whole, but for its last trace.
+/// The most bytes of an answer that is one part, but for its last piece.
 const WHOLE: usize = 1_048_576;
 
-/// The compact text of an answer's tree, given out in parts: the one that stands, and what comes behind it. Each is
-/// made where the one before it stood, and takes no memory.
+/// The bytes from which on a part takes no further piece.
+const FILLED: usize = 16_384;
+
+/// Which piece comes next. The pieces stand in runs: one run for each item, which has what separates it from the
+/// item before it in front, and one for what stands behind the items.
+#[derive(Clone, Copy)]
+pub(crate) struct Position {
+    run: usize,
+    piece: usize,
+}
+
+impl Position {
+    fn first() -> Position
+        ensures run { result.run ≡ 0 }
+        ensures piece { result.piece ≡ 0 }
+    {
+        Position { run: 0, piece: 0 }
+    }
+}
+
+/// The compact text of an answer's tree, given out in parts: the one that is on the page, and the pieces after it.
+/// Each part is made where the one before it was, and takes no memory.
 #[derive(Drop)]
 pub(crate) struct PagedAnswer<'a> {
     page: Page,
-    traces: Vec<LentTrace<'a>>,
-    /// The trace that comes next, or their number where what stands behind them does; above it nothing is left.
-    next: usize,
-    /// How many bytes come behind the part.
+    items: Items<'a>,
+    next: Position,
+    /// The number of bytes after the part.
     left: u64,
 }
 
-/// The piece with this number: a trace with a comma, or what stands behind them all.
-fn put_piece(page: &mut Page, traces: &[LentTrace], number: usize)
-    requires { All IsNumbered traces.now }
-    ensures { Puts page.old page.new (piece_text traces.now number) }
-{
-    if number < traces.len() {
-        page.put(",");
-        traces[number].write(page);
-        return;
-    }
-    page.put("]");
-    end_items(page, traces.len());
-}
-
-/// What stands in front of the pieces: the first trace, if there is one, with all before it.
-fn put_first(page: &mut Page, traces: &[LentTrace])
-    requires { All IsNumbered traces.now }
-    ensures { Puts page.old page.new (first_text traces.now) }
+/// What stands in front of the pieces.
+fn put_front(page: &mut Page)
+    ensures { Puts page.old page.new front_text }
 {
     begin_items(page);
     page.put("[");
-    let Some((first, _)) = traces.split_first() else {
-        return;
-    };
-    first.write(page);
 }
 
-/// The number of the first piece behind that.
-fn first_piece(traces: &[LentTrace]) -> usize
-    ensures piece { result ≡ first_piece traces.now }
-    ensures within { result ≤ length traces.now }
+/// The number of pieces of a run.
+fn piece_count(items: &Items, run: usize) -> usize
+    requires numbered { AreNumbered items.now }
+    requires run { run < length (runs_of items.now) }
+    ensures count { result ≡ length (get_or (runs_of items.now) run []) }
+    ensures bound { run < 2 ^ 63 }
 {
-    if traces.is_empty() { 0 } else { 1 }
-}
-
-/// Puts the whole text of these traces; false where it is too large, and then what was put is some of it.
-fn put_whole(page: &mut Page, traces: &[LentTrace]) -> bool
-    requires { All IsNumbered traces.now }
-    ensures { IsTrue result →
-        Puts page.old page.new (compact_text (items_tree (map lent_tree traces.now))) }
-{
-    put_first(page, traces);
-    let mut number = first_piece(traces);
-    while number <= traces.len() {
-        if page.len() > WHOLE {
-            return false;
-        }
-        put_piece(page, traces, number);
-        number += 1;
+    if run < items.count() {
+        items.piece_count(run) + 1
+    } else {
+        1
     }
-    true
 }
 
-/// How many bytes the pieces from this one on have. The page has room for each of them then.
-fn measure(page: &mut Page, traces: &[LentTrace], from: usize) -> Result<u64, AllocError>
-    requires numbered { All IsNumbered traces.now }
-    requires within { from ≤ length traces.now }
+/// Puts what stands behind this number of items.
+fn put_end(page: &mut Page, total: usize)
+    ensures { Puts page.old page.new (end_text total) }
+{
+    page.put("]");
+    end_items(page, total);
+}
+
+/// Puts a piece.
+fn put_piece(page: &mut Page, items: &Items, at: Position)
+    requires numbered { AreNumbered items.now }
+    requires run { at.run < length (runs_of items.now) }
+    requires piece { at.piece < length (get_or (runs_of items.now) at.run []) }
+    ensures { Puts page.old page.new (get_or (get_or (runs_of items.now) at.run []) at.piece []) }
+{
+    if at.run == items.count() {
+        put_end(page, at.run);
+    } else if at.piece == 0 {
+        put_separator(page, at.run);
+    } else {
+        items.put_piece(page, at.run, at.piece - 1);
+    }
+}
+
+/// Puts the piece at a position, unless the run has ended. Returns the position after it.
+fn put_next(page: &mut Page, items: &Items, at: Position) -> Position
+    requires numbered { AreNumbered items.now }
+    requires run { at.run < length (runs_of items.now) }
+    ensures { PutsNext page.old page.new (left_at (runs_of items.now) at.run at.piece)
+        (left_at (runs_of items.now) result.run result.piece) }
+{
+    if at.piece < piece_count(items, at.run) {
+        put_piece(page, items, at);
+        return Position {
+            run: at.run,
+            piece: at.piece + 1,
+        };
+    }
+    Position {
+        run: at.run + 1,
+        piece: 0,
+    }
+}
+
+/// Puts pieces until the page has this number of bytes, finds no room, or none is left. Returns the position after
+/// them.
+fn fill(page: &mut Page, items: &Items, from: Position, enough: usize) -> Position
+    requires { AreNumbered items.now }
+    ensures fills { Fills enough page.old page.new (left_at (runs_of items.now) from.run from.piece)
+        (left_at (runs_of items.now) result.run result.piece) }
+    ensures enough { page.new.full ≡ false → (enough ≤ length page.new.bytes.items)
+        ⊎ (length (runs_of items.now) ≤ result.run) }
+{
+    let mut at = from;
+    while at.run <= items.count() && page.len() < enough && !page.is_full() {
+        at = put_next(page, items, at);
+    }
+    at
+}
+
+fn larger(size: usize, other: usize) -> usize
+    ensures size { size ≤ result }
+    ensures other { other ≤ result }
+{
+    if size < other { other } else { size }
+}
+
+/// The number of bytes of the pieces, and that of the largest one.
+fn measure(page: &mut Page, items: &Items) -> Result<(u64, usize), AllocError>
+    requires numbered { AreNumbered items.now }
     requires room { page.old.full ≡ false }
-    ensures left { IfOk result (λ n. n ≡ length (rest_pieces traces.now from)) }
-    ensures room { OnOk result (page.new.full ≡ false) }
-    ensures fits { OnOk result ((k : ℕ) → from ≤ k → k ≤ length traces.now →
-        length (piece_text traces.now k) ≤ vec_capacity page.new.bytes) }
+    ensures left { IfOk result (λ r. r.0 ≡ length (text_of (runs_of items.now))) }
+    ensures fit { IfOk result (λ r. AllFit r.1 (runs_of items.now)) }
 {
     let mut left = 0u64;
-    let mut number = from;
-    while number <= traces.len() {
+    let mut largest = 0;
+    let mut at = Position::first();
+    while at.run <= items.count() {
         page.clear();
-        put_piece(page, traces, number);
+        at = put_next(page, items, at);
         if page.is_full() {
             return Err(AllocError);
         }
@@ -102,31 +155,26 @@ fn measure(page: &mut Page, traces: &[LentTrace], from: usize) -> Result<u64, Al
             return Err(AllocError);
         };
         left = more;
-        number += 1;
+        largest = larger(largest, page.len());
     }
-    Ok(left)
+    Ok((left, largest))
 }
 
-/// The traces, each lent by its entries; none where the spans of one are made.
-fn all_lent<'a>(
-    alloc: Global,
-    traces: &'a [AnsweredTrace],
-) -> Result<Option<Vec<LentTrace<'a>>>, AllocError>
-    ensures traces { IfOk result (λ o. IfSome o (λ v. map spans_lent v.items ≡ traces.now)) }
-    ensures numbered { IfOk result (λ o. IfSome o (λ v. All IsNumbered v.items)) }
+/// A page with room for a part of pieces that aren't larger than this.
+fn page_for(alloc: Global, largest: usize) -> Result<Page, AllocError>
+    ensures empty { IfOk result (λ p. p.bytes.items ≡ []) }
+    ensures open { IfOk result (λ p. p.full ≡ false) }
+    ensures room { IfOk result (λ p. 16384 + largest ≤ vec_capacity p.bytes) }
 {
-    let mut lent = Vec::with_capacity(alloc, traces.len())?;
-    for trace in traces {
-        let TraceForm::Kept(kept) = trace.form() else {
-            return Ok(None);
-        };
-        lent.push(LentTrace::new(alloc, kept)?)?;
-    }
-    Ok(Some(lent))
+    let Some(room) = largest.checked_add(FILLED) else {
+        return Err(AllocError);
+    };
+    Ok(Page::new(Vec::with_capacity(alloc, room)?))
 }
 
 impl<'a> PagedAnswer<'a> {
     ghost use Rattle.query_json.specs.Paging.{part_of, rest_of, IsReady};
+    ghost use Rattle.query_json.specs.Parts.{IsSome};
 
     /// A text that is made already, as one part.
     fn whole(alloc: Global, text: Vec<u8>) -> PagedAnswer<'a>
@@ -136,53 +184,65 @@ impl<'a> PagedAnswer<'a> {
     {
         PagedAnswer {
             page: Page::new(text),
-            traces: Vec::new(alloc),
-            next: 1,
+            items: Items::none(alloc),
+            next: Position { run: 1, piece: 0 },
             left: 0,
         }
     }
 
-    /// A part for each trace, and one for what stands behind them.
-    fn by_trace(mut page: Page, traces: Vec<LentTrace<'a>>) -> Result<PagedAnswer<'a>, AllocError>
-        requires { All IsNumbered traces.items }
+    /// The text in parts, each made of pieces.
+    fn in_parts(
+        alloc: Global,
+        mut scratch: Page,
+        items: Items<'a>,
+    ) -> Result<PagedAnswer<'a>, AllocError>
+        requires numbered { AreNumbered items }
+        requires room { scratch.full ≡ false }
         ensures ready { IfOk result IsReady }
         ensures text { IfOk result (λ p. part_of p ++ rest_of p
-            ≡ compact_text (items_tree (map lent_tree traces.entry.items))) }
+            ≡ compact_text (items_tree (item_trees items.entry))) }
+        ensures some { IfOk result (λ p. IsSome (part_of p) (rest_of p)) }
     {
+        let (left, largest) = measure(&mut scratch, &items)?;
+        drop(scratch);
+        let mut page = page_for(alloc, largest)?;
+        put_front(&mut page);
         if page.is_full() {
             return Err(AllocError);
         }
-        let next = first_piece(&traces);
-        let left = measure(&mut page, &traces, next)?;
-        page.clear();
-        put_first(&mut page, &traces);
-        if page.is_full() {
-            return Err(AllocError);
-        }
-        Ok(PagedAnswer {
+        let next = Position::first();
+        let mut paged = PagedAnswer {
             page,
-            traces,
+            items,
             next,
             left,
-        })
+        };
+        paged.extend();
+        Ok(paged)
     }
 
-    fn of_traces(alloc: Global, traces: Vec<LentTrace<'a>>) -> Result<PagedAnswer<'a>, AllocError>
-        requires { All IsNumbered traces.items }
+    fn of_items(alloc: Global, items: Items<'a>) -> Result<PagedAnswer<'a>, AllocError>
+        requires { AreNumbered items }
         ensures ready { IfOk result IsReady }
         ensures text { IfOk result (λ p. part_of p ++ rest_of p
-            ≡ compact_text (items_tree (map lent_tree traces.entry.items))) }
+            ≡ compact_text (items_tree (item_trees items.entry))) }
+        ensures some { IfOk result (λ p. IsSome (part_of p) (rest_of p)) }
     {
         let mut page = Page::new(Vec::with_capacity(alloc, ROOM)?);
-        if put_whole(&mut page, &traces) {
+        put_front(&mut page);
+        let end = fill(&mut page, &items, Position::first(), WHOLE);
+        if page.is_full() {
+            return Err(AllocError);
+        }
+        if end.run > items.count() {
             let text = page.finish()?;
             return Ok(PagedAnswer::whole(alloc, text));
         }
-        PagedAnswer::by_trace(page, traces)
+        PagedAnswer::in_parts(alloc, page, items)
     }
 
-    /// Takes all the memory that giving out the answer's text needs: for a list of traces of more than about 1 MB
-    /// what is made to show its traces, and room for the largest of them.
+    /// Takes all the memory that giving out the answer's text needs: for a text of more than about 1 MB what is made
+    /// to show its traces, and room for a part.
     ///
     /// # Errors
     ///
@@ -191,24 +251,23 @@ impl<'a> PagedAnswer<'a> {
         ensures ready { IfOk result IsReady }
         ensures text { IfOk result (λ p.
             part_of p ++ rest_of p ≡ compact_text (answer_tree answer.now)) }
+        ensures some { IfOk result (λ p. IsSome (part_of p) (rest_of p)) }
     {
-        if let Answer::Traces(traces) = answer {
-            if let Some(lent) = all_lent(alloc, traces.as_slice())? {
-                return PagedAnswer::of_traces(alloc, lent);
-            }
+        if let Some(items) = Items::of(alloc, answer)? {
+            return PagedAnswer::of_items(alloc, items);
         }
         let text = answer_bytes(alloc, answer)?;
         Ok(PagedAnswer::whole(alloc, text))
     }
 
-    /// The part that stands.
+    /// The part that is on the page.
     pub(crate) fn part(&self) -> &[u8]
         ensures { result.now ≡ part_of self.now }
     {
         self.page.as_slice()
     }
 
-    /// How many bytes come behind the part.
+    /// The number of bytes after the part.
     pub(crate) fn left(&self) -> u64
         requires { IsReady self.now }
         ensures { result ≡ length (rest_of self.now) }
@@ -216,19 +275,27 @@ impl<'a> PagedAnswer<'a> {
         self.left
     }
 
-    /// Makes the next part in place of the one that stands, and takes no memory. It is empty only where nothing is left.
+    /// Moves pieces from the rest to the part until that is large enough, and takes no memory.
+    fn extend(&mut self)
+        requires { IsReady self.old }
+        ensures ready { IsReady self.new }
+        ensures gives { part_of self.new ++ rest_of self.new ≡ part_of self.old ++ rest_of self.old }
+        ensures some { IsSome (part_of self.new) (rest_of self.new) }
+    {
+        let before = self.page.len();
+        self.next = fill(&mut self.page, &self.items, self.next, FILLED);
+        self.left -= (self.page.len() - before) as u64;
+    }
+
+    /// Makes the next part in place of the one that is there, and takes no memory. It is empty only if nothing is
+    /// left.
     pub(crate) fn advance(&mut self)
         requires { IsReady self.old }
         ensures ready { IsReady self.new }
         ensures gives { part_of self.new ++ rest_of self.new ≡ rest_of self.old }
-        ensures goes_on { part_of self.new ≡ [] → rest_of self.old ≡ [] }
+        ensures some { IsSome (part_of self.new) (rest_of self.new) }
     {
         self.page.clear();
-        if self.traces.len() < self.next {
-            return;
-        }
-        put_piece(&mut self.page, &self.traces, self.next);
-        self.left -= self.page.len() as u64;
-        self.next += 1;
+        self.extend();
     }
 }

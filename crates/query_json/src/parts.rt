@@ -43,23 +43,10 @@ fn total(part: usize, left: u64) -> Result<usize, AllocError>
     }
 }
 
-/// The pieces, with one that has bytes in front, if there is one.
-fn begun<'a>(paged: PagedAnswer<'a>) -> PagedAnswer<'a>
-    requires { IsReady paged }
-    ensures ready { IsReady result }
-    ensures same { part_of result ++ rest_of result ≡ part_of paged.entry ++ rest_of paged.entry }
-    ensures some { IsSome (part_of result) (rest_of result) }
-{
-    let mut paged = paged;
-    if paged.part().is_empty() {
-        paged.advance();
-    }
-    paged
-}
-
 impl<'a> AnswerParts<'a> {
-    /// Goes through the answer once, and takes all the memory that giving it out needs: for a list of traces of more
-    /// than about 1 MB what is made to show its traces, and room for the largest of them.
+    /// Goes through the answer once, and takes all the memory that giving it out needs. A text of at most about 1 MB
+    /// is one part. A part of a larger one has about 16 KB and at most one item more, where an item is a name, an
+    /// operation, an id, a link, or a span or a process of a trace.
     ///
     /// # Errors
     ///
@@ -67,7 +54,7 @@ impl<'a> AnswerParts<'a> {
     pub fn new(alloc: Global, answer: &'a Answer) -> Result<AnswerParts<'a>, AllocError>
         ensures { IfOk result (λ p. to_come p ≡ compact_text (answer_tree answer.now)) }
     {
-        let paged = begun(PagedAnswer::new(alloc, answer)?);
+        let paged = PagedAnswer::new(alloc, answer)?;
         let remaining = total(paged.part().len(), paged.left())?;
         Ok(AnswerParts { paged, remaining })
     }

@@ -12,6 +12,7 @@ ghost use Rattle.std.specs.Prelude.{◌≡◌, ◌<◌, List, get_or, length, ma
 ghost use Rattle.serde_json.specs.Data.{Data, null, string};
 ghost use Rattle.serde_json.specs.Written.{compact_text};
 ghost use Rattle.query_json.specs.Page.{Puts};
+ghost use Rattle.query_json.specs.Runs.{separator};
 ghost use Rattle.query_json.specs.Trees.{list};
 
 mod answer;
@@ -58,6 +59,15 @@ impl<T: WriteJson> WriteItems for &[T] {
 
     fn write_item(&self, out: &mut Page, index: usize) {
         self[index].write(out);
+    }
+}
+
+/// Puts what separates an item of a list from the one before it.
+pub(crate) fn put_separator(out: &mut Page, item: usize)
+    ensures { Puts out.old out.new (separator item) }
+{
+    if item > 0 {
+        out.put(",");
     }
 }
 

@@ -5,7 +5,7 @@ ghost use Rattle.trace_model.specs.Answers.{answer};
 ghost use Rattle.read_side.specs.Passes.{come_out};
 
 use crate::history::StoreName;
-use crate::pass::{Pass, Reading};
+use crate::pass::{Collection, Pass, Reading};
 use trace_model::{Query, Refusal};
 
 /// A pass that stays inside the list that it entered.
@@ -46,7 +46,22 @@ impl<'a, N: StoreName> Held<'a, N> {
             r.answer ≡ answer N.limits (list_of self.now) query.now) }
         ensures reason { IfErr result (λ why. why ≡ NoMemory) }
     {
-        self.pass.asked(query)
+        self.collect(query)?.reading()
+    }
+
+    /// Collects what an answer of the list that is held needs.
+    ///
+    /// # Errors
+    ///
+    /// [`Refusal::NoMemory`] alone.
+    pub(crate) fn collect<'q>(&self, query: &'q Query) -> Result<Collection<'q>, Refusal>
+        requires held { IsInside self.now }
+        ensures front { IfOk result (λ c. c.front ≡ length (list_of self.now)) }
+        ensures answer { IfOk result (λ c.
+            c.collected ≡ answer N.limits (list_of self.now) query.now) }
+        ensures reason { IfErr result (λ why. why ≡ NoMemory) }
+    {
+        self.pass.collect(query)
     }
 
     /// Comes out. The pass then knows the list that was held. It takes no memory.

@@ -12,6 +12,7 @@ use crate::held::Held;
 use crate::history::StoreName;
 use crate::receipt::Receipt;
 use crate::visitor::{Inside, Visitor};
+use span_store::Collected;
 use std::marker::Model;
 use std::mem;
 use trace_model::{Answer, Query, Refusal};
@@ -21,6 +22,30 @@ use trace_model::{Answer, Query, Refusal};
 pub struct Reading {
     pub front: u64,
     pub answer: Answer,
+}
+
+/// What was collected for an answer, and how many entries the list has whose answer it is.
+#[derive(Drop)]
+pub(crate) struct Collection<'q> {
+    front: u64,
+    collected: Collected<'q>,
+}
+
+impl<'q> Collection<'q> {
+    /// The answer. It needs the store no more.
+    ///
+    /// # Errors
+    ///
+    /// [`Refusal::NoMemory`] alone.
+    pub(crate) fn reading(self) -> Result<Reading, Refusal>
+        ensures front { IfOk result (λ r. r.front ≡ self.entry.front) }
+        ensures answer { IfOk result (λ r. r.answer ≡ self.entry.collected) }
+        ensures reason { IfErr result (λ why. why ≡ NoMemory) }
+    {
+        let Collection { front, collected } = self;
+        let answer = collected.answer()?;
+        Ok(Reading { front, answer })
+    }
 }
 
 /// One reader of the store. None of its calls takes a lock or waits.
@@ -116,7 +141,8 @@ impl<N: StoreName> Pass<N> {
         }
     }
 
-    /// Asks the published list, which begins with all that the pass knows, and knows it from then on.
+    /// Asks the published list, which begins with all that the pass knows, and knows it from then on. While it is
+    /// inside it only collects what the answer needs; no publish waits for the rest.
     ///
     /// # Errors
     ///
@@ -138,9 +164,9 @@ impl<N: StoreName> Pass<N> {
         let Ok(held) = self.hold() else {
             return Err(Refusal::Gone);
         };
-        let reading = held.read(query);
+        let collection = held.collect(query);
         held.leave();
-        reading
+        collection?.reading()
     }
 
     /// Learns a receipt, enters anew, and says whether the front that the pass had seen before the call is
@@ -211,11 +237,12 @@ impl<N: StoreName> Pass<N> {
         }
     }
 
-    /// Asks the list that it is inside.
-    pub(crate) fn asked(&self, query: &Query) -> Result<Reading, Refusal>
+    /// Collects what an answer of the list needs that it is inside.
+    pub(crate) fn collect<'q>(&self, query: &'q Query) -> Result<Collection<'q>, Refusal>
         requires inside { self.now.is_inside ≡ true }
-        ensures front { IfOk result (λ r. r.front ≡ length self.now.known) }
-        ensures answer { IfOk result (λ r. r.answer ≡ answer N.limits self.now.known query.now) }
+        ensures front { IfOk result (λ c. c.front ≡ length self.now.known) }
+        ensures answer { IfOk result (λ c.
+            c.collected ≡ answer N.limits self.now.known query.now) }
         ensures reason { IfErr result (λ why. why ≡ NoMemory) }
     {
         let Some(inside) = &self.inside else {
@@ -223,7 +250,7 @@ impl<N: StoreName> Pass<N> {
         };
         let side = inside.get();
         let front = side.len();
-        let answer = side.answer(query)?;
-        Ok(Reading { front, answer })
+        let collected = side.collect(query)?;
+        Ok(Collection { front, collected })
     }
 }

@@ -1,7 +1,7 @@
 ghost use Rattle.std.specs.Prelude.{◌≡◌, ℕ, ◌+◌, ◌<◌, ◌≤◌, ◌↔◌, List, [], length, Some, IfOk, IsTrue};
-ghost use Rattle.jaeger_model.specs.Texts.{sorted_set};
+ghost use Rattle.jaeger_model.specs.Texts.{text_cmp, sorted_set};
 ghost use Rattle.trace_model.specs.Names.{operation_cmp};
-ghost use Rattle.service_index.specs.Listing.{services_in, names_in, operations_in};
+ghost use Rattle.service_index.specs.Listing.{services_in};
 ghost use Rattle.service_index.specs.Naming.{Names, IsGroupOf, label_value, group_alone};
 ghost use Rattle.service_index.specs.Probes.{AreNumbers};
 ghost use Rattle.service_index.specs.Indexes.{listing_by, listing_with, service_row, has_service, has_operation, own_operations};
@@ -10,13 +10,12 @@ ghost use Rattle.service_index.specs.Indexes.{owners, AreFrom, IsChain, IsIndexe
 use crate::labels::Label;
 use crate::links::Links;
 use crate::name_table::NameTable;
-use crate::operation_sets::{names_alone, operations_in_order, texts_in_order};
 use crate::texts::{GroupLabels, OperationLabels, Texts};
 use jaeger_model::Text;
 use std::alloc::{AllocError, Global};
 use std::hash::RandomState;
 use std::marker::Model;
-use trace_model::{Operation, with_kind};
+use trace_model::Operation;
 
 /// The services that the spans of some numbers reported, each with its operations and their kinds, in
 /// room that is taken once.
@@ -147,54 +146,17 @@ impl ServiceIndex {
         (row as usize) < self.links.rows()
     }
 
-    /// The services, each once, in the order of their bytes.
+    /// The services, each once, in no order. [`texts_in_order`](crate::texts_in_order) puts them in order.
     ///
     /// # Errors
     ///
     /// Out of memory, and nothing else.
-    pub fn services_in<T: Texts>(&self, texts: &T) -> Result<Vec<Text>, AllocError>
+    pub fn known_services<T: Texts>(&self, texts: &T) -> Result<Vec<Text>, AllocError>
         requires { IsIndexed (T.names texts.now) self.now }
-        ensures { IfOk result (λ names. names.items ≡
+        ensures { IfOk result (λ names. sorted_set text_cmp names.items ≡
             services_in (listing_by (T.names texts.now) self.now)) }
     {
-        let names = services_along(self.alloc, texts, self.services.numbers())?;
-        texts_in_order(names)
-    }
-
-    /// The pairs of operation and kind of a service, each once, in order of operation and then of
-    /// kind. An empty kind asks for all.
-    ///
-    /// # Errors
-    ///
-    /// Out of memory, and nothing else.
-    pub fn operations_in<T: Texts>(
-        &self,
-        texts: &T,
-        service: &Text,
-        kind: &Text,
-    ) -> Result<Vec<Operation>, AllocError>
-        requires { IsIndexed (T.names texts.now) self.now }
-        ensures { IfOk result (λ found. found.items ≡
-            operations_in service.now kind.now (listing_by (T.names texts.now) self.now)) }
-    {
-        let operations = self.operations_of(texts, service.as_str())?;
-        let known = operations_in_order(operations)?;
-        Ok(with_kind(known, kind))
-    }
-
-    /// The operations of a service, each once, in the order of their bytes.
-    ///
-    /// # Errors
-    ///
-    /// Out of memory, and nothing else.
-    pub fn names_in<T: Texts>(&self, texts: &T, service: &Text) -> Result<Vec<Text>, AllocError>
-        requires { IsIndexed (T.names texts.now) self.now }
-        ensures { IfOk result (λ names. names.items ≡
-            names_in service.now (listing_by (T.names texts.now) self.now)) }
-    {
-        let operations = self.operations_of(texts, service.as_str())?;
-        let names = names_alone(self.alloc, operations)?;
-        texts_in_order(names)
+        services_along(self.alloc, texts, self.services.numbers())
     }
 
     /// The row of a service, or how many services there are where it is not known.
@@ -210,14 +172,19 @@ impl ServiceIndex {
         }
     }
 
-    /// The operations of a service, the newest first.
-    fn operations_of<T: Texts>(
+    /// The operations of a service with their kinds, in no order. [`operations_in_order`](crate::operations_in_order) and
+    /// [`names_in_order`](crate::names_in_order) put them, or their names, in order.
+    ///
+    /// # Errors
+    ///
+    /// Out of memory, and nothing else.
+    pub fn known_operations<T: Texts>(
         &self,
         texts: &T,
         service: &str,
     ) -> Result<Vec<Operation>, AllocError>
         requires { IsIndexed (T.names texts.now) self.now }
-        ensures { IfOk result (λ v. sorted_set operation_cmp v.items ≡
+        ensures { IfOk result (λ known. sorted_set operation_cmp known.items ≡
             own_operations service.now (listing_by (T.names texts.now) self.now)) }
     {
         let row = self.service_row(texts, service) as usize;

@@ -22,7 +22,7 @@
 //! * `guesses`: in which rows labels were found last.
 //! * `sought_label`: a label that is sought in the places of its row.
 //! * `links`: the rows of each service, from the newest on: the [`Links`].
-//! * `operation_sets`: the operations of one service, as a set in order.
+//! * `operation_sets`: services and operations as sets in order.
 //! * `laws`: facts about the definitions of `specs/`.
 #![tactic(auto)]
 
@@ -40,4 +40,5 @@ pub use index::ServiceIndex;
 pub use labels::{Label, Labels};
 pub use links::Links;
 pub use name_table::NameTable;
+pub use operation_sets::{names_in_order, operations_in_order, texts_in_order};
 pub use texts::Texts;

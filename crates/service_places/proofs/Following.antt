@@ -12,7 +12,8 @@ use Rattle.service_index.specs.Indexes.{IsNewest, IsLinked}
 use Rattle.service_index.proofs.Extending.{Grows, numbers_agree, named_extends}
 use Rattle.service_index.proofs.Linking.{FindsLabel, AreKeys, linked_more, row_by_key, row_within, number_known, number_new, service_own, service_new, none_of}
 use Rattle.trace_model.proofs.Lists.{is_position}
-use Rattle.service_places.specs.Reported.{Reported, service_brought, reporters, service_at, service_label, service_labels, group_in, group_of, AreGroups, IsKept}
+use Rattle.trace_model.specs.Works.{service_brought}
+use Rattle.service_places.specs.Reported.{Reported, reporters, service_at, service_label, service_labels, group_in, group_of, AreGroups, IsKept}
 use Rattle.service_places.proofs.Grouping.{reporters_push, as_many_reporters, service_old, service_last, group_old, group_new, groups_more}
 
 -- how many entries stand before the last one

@@ -7,7 +7,8 @@ use Rattle.std.proofs.lemmas.List.Sums.{position_or_len_is, fails_before_first, 
 use Rattle.jaeger_model.specs.Texts.{same_text}
 use Rattle.trace_model.specs.declared.entry.Entry.{Entry}
 use Rattle.trace_model.proofs.NameLaws.{text_self}
-use Rattle.service_places.specs.Reported.{service_brought, reporters, service_at, group_in, AreGroups}
+use Rattle.trace_model.specs.Works.{service_brought}
+use Rattle.service_places.specs.Reported.{reporters, service_at, group_in, AreGroups}
 
 -- ---- the first that passes
 -- it is no later than any that passes

@@ -3,16 +3,10 @@ use Rattle.std.specs.Prelude.{◌≡◌, ℕ, zero, suc, ◌-◌, ◌^◌, ◌<�
 use Rattle.std.specs.List.{position, position_or_len}
 use Rattle.jaeger_model.specs.Texts.{same_text}
 use Rattle.trace_model.specs.declared.entry.Entry.{Entry}
-use Rattle.trace_model.specs.declared.entry.Work.{Work}
-use Rattle.trace_model.specs.declared.entry.Work.TheVariants as brings
+use Rattle.trace_model.specs.Works.{service_brought}
 use Rattle.service_index.specs.Naming.{LabelValue, Labelling}
 use Rattle.service_index.specs.Probes.{Table, IsNamed}
 use Rattle.service_index.specs.Indexes.{IsLinked}
-
--- the service of the batch that it brings; a limit has none
-abbrev pub service_brought : Work → List ℕ
-service_brought (brings.Batch b) = b.process.service
-service_brought (brings.TraceLimit n) = []
 
 -- the services of entries
 abbrev pub reporters : List Entry → List (List ℕ)

@@ -1,20 +1,10 @@
 ghost use Rattle.std.specs.Prelude.{◌≡◌};
 ghost use Rattle.service_index.specs.Naming.{label_value};
-ghost use Rattle.service_places.specs.Reported.{service_brought, service_label};
+ghost use Rattle.service_places.specs.Reported.{service_label};
 
 use service_index::{Label, Labels};
 use std::sync::Arc;
-use trace_model::{Entry, Work};
-
-/// The service of the batch that it brings; a limit has none.
-fn service_brought(work: &Work) -> &str
-    ensures { result.now ≡ service_brought work.now }
-{
-    match work {
-        Work::Batch(batch) => batch.process.get().service.as_str(),
-        Work::TraceLimit(_) => "",
-    }
-}
+use trace_model::Entry;
 
 /// A service as a label: all services stand in one group.
 pub(crate) fn service_label(service: &str) -> Label<'_>
@@ -42,6 +32,6 @@ impl<'a> Labels for Reporters<'a> {
 
     fn label_at(&self, n: u32) -> Label<'_> {
         let entry = &self.entries[n as usize];
-        service_label(service_brought(&entry.work))
+        service_label(entry.work.service())
     }
 }

@@ -3,3 +3,4 @@ pub mod Leaving
 pub mod Keeping
 pub mod Picking
 pub mod Sharing
+pub mod Collecting

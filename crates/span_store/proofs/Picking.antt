@@ -19,7 +19,7 @@ use Rattle.trace_model.specs.declared.entry.Entry.{Entry}
 use Rattle.trace_model.specs.declared.query.Find.{Find}
 use Rattle.trace_model.specs.declared.entry.Work.{Work}
 use Rattle.trace_model.specs.declared.entry.Work.TheVariants as brings
-use Rattle.trace_model.specs.Works.{batch_brought, placed_brought}
+use Rattle.trace_model.specs.Works.{batch_brought, placed_brought, service_brought}
 use Rattle.trace_model.specs.Events.{Event, came, limited, without_limits}
 use Rattle.trace_model.specs.Histories.{arrivals, events}
 use Rattle.trace_model.proofs.Arriving.{came_of}
@@ -33,11 +33,12 @@ use Rattle.trace_assembly.specs.Located.{span_at}
 use Rattle.trace_assembly.specs.Rows.{is_of}
 use Rattle.arrival_names.proofs.Numbering.{arrivals_push}
 use Rattle.arrival_names.specs.Kept.{reports_service, reports_operation}
-use Rattle.service_places.specs.Reported.{service_brought, reporters, places_upto, places_of, group_in, group_of, AreGroups}
-use Rattle.journal_traces.specs.Picked.{reaches, meets, met, met_or_none, met_at, met_along}
+use Rattle.service_places.specs.Reported.{reporters, places_upto, places_of, group_in, group_of, AreGroups}
+use Rattle.journal_traces.specs.Picked.{reaches, meets, met, met_or_none, met_at, met_along, near_along}
 use Rattle.journal_traces.specs.Reporting.{is_reported, are_reported}
 use Rattle.journal_traces.specs.Standing.{spans_named}
 use Rattle.journal_traces.proofs.Adopting.{matches-adopted}
+use Rattle.journal_traces.proofs.Near.{near_covers}
 use Rattle.journal_traces.proofs.Numbers.{number_there}
 use Rattle.trace_model.proofs.Traces.{or_cases}
 
@@ -163,12 +164,11 @@ match_among q f p h (x ∷ xs) =
       ] refl
     ] refl
 
--- a search finds the same among the traces of the service as among all
-pub found_among : (q : Find) (n : ℕ) (h : List Entry) (service : List ℕ) (r : List TraceId) → q.service ≡ service
-    → found_in q (map (spans_of_trace n (events h)) (filter (reaches (met_along q h (places_of h service))) r)) ≡ found_in q (map (spans_of_trace n (events h)) r)
-found_among q n h service r same =
-    ap (λ s. found_in q (map (spans_of_trace n (events h)) (filter (reaches (met_along q h (places_of h s))) r))) (sym same)
-    ∙ ap (λ l. cut q.limit (ranked_by_start first_start l)) (match_among q (spans_of_trace n (events h)) (reaches (met_along q h (places_of h q.service))) (covered q n h) r)
+-- a search finds the same among the traces that are near as among all
+pub found_near : (q : Find) (n : ℕ) (h : List Entry) (r : List TraceId)
+    → found_in q (map (spans_of_trace n (events h)) (filter (reaches (near_along q h (places_of h q.service))) r)) ≡ found_in q (map (spans_of_trace n (events h)) r)
+found_near q n h r =
+    ap (λ l. cut q.limit (ranked_by_start first_start l)) (match_among q (spans_of_trace n (events h)) (reaches (near_along q h (places_of h q.service))) (λ t e. near_covers q h (places_of h q.service) t (covered q n h t e)) r)
 
 -- ---- the traces of a service by its number
 -- the number of a service is the one that is found

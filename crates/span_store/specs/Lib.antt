@@ -1,2 +1,4 @@
 pub mod Kept
 pub mod NextEntry
+pub mod Collecting
+pub mod Found

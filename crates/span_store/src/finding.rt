@@ -1,85 +1,68 @@
-//! Searches and calls over traces that are only looked at.
+//! Searches over traces that stand in the journal.
 
-ghost use Rattle.std.specs.Prelude.{◌≡◌, [], IfOk, map, slice_index_or};
-ghost use Rattle.trace_model.specs.Adjusting.{adjusted};
+ghost use Rattle.std.specs.Prelude.{◌≡◌, ◌<◌, ◌^◌, ◌++◌, ◌∷◌, [], IfOk, OnOk, length, map, slice_index_or};
 ghost use Rattle.trace_model.specs.Searching.{found_in, ids_of};
-ghost use Rattle.call_links.specs.Seen.{links_in, AreNumbered};
-ghost use Rattle.journal_traces.specs.Given.{given_traces};
 ghost use Rattle.journal_traces.specs.Looked.{traces_of, query_of};
+ghost use Rattle.journal_traces.specs.Taking.{placed_taken, AreNumberedByPlace};
 
-use call_links::NumberedSpan;
-use jaeger_model::{Seq, TraceId};
-use journal_traces::{Candidates, gather};
+use jaeger_model::TraceId;
+use journal_traces::{Candidates, TakenTraces, take_trace};
 use std::alloc::{AllocError, Global};
-use trace_model::{AnsweredTrace, Limits, Link, ShownTrace};
 
-/// The trace at a place as it is to be shown, without spans where there is none.
-fn kept_at(
-    alloc: Global,
-    traces: &Candidates<'_>,
-    place: usize,
-    limits: Limits,
-) -> Result<AnsweredTrace, AllocError>
-    ensures { IfOk result (λ s. s ≡ adjusted limits.max_skew
-        (slice_index_or (traces_of traces.now) place [])) }
+/// Takes the trace at a place; without spans where there is none.
+fn take_at(taken: &mut TakenTraces, traces: &Candidates<'_>, place: usize) -> Result<(), AllocError>
+    requires few { length traces.now.journal.now.held.entries < 2 ^ 32 }
+    ensures spans { OnOk result (map placed_taken taken.new ≡ map placed_taken taken.old
+        ++ slice_index_or (traces_of traces.now) place [] ∷ []) }
+    ensures numbers { OnOk result
+        (AreNumberedByPlace traces.now.journal.now.held.entries taken.old →
+        AreNumberedByPlace traces.now.journal.now.held.entries taken.new) }
 {
-    let Some(spots) = traces.spots.get(place) else {
-        let none = ShownTrace::of_unknown(alloc, Seq::new(alloc));
-        return Ok(AnsweredTrace::made(none));
-    };
-    let trace = gather(alloc, traces.journal, spots.again(), limits, false)?;
-    Ok(AnsweredTrace::kept(trace))
+    match traces.spots.get(place) {
+        Some(spots) => take_trace(taken, traces.journal, spots.again()),
+        None => taken.begin(),
+    }
 }
 
-/// The traces at the places as they are to be shown.
-#[tactic(auto, using(std::proofs::lemmas::List::map_more))]
-fn all_kept(
+/// Takes the traces at the places.
+fn take_places(
     alloc: Global,
     traces: &Candidates<'_>,
     places: &[usize],
-    limits: Limits,
-) -> Result<Vec<AnsweredTrace>, AllocError>
-    ensures { IfOk result (λ v. v.items ≡ map
-        (λ i. adjusted limits.max_skew (slice_index_or (traces_of traces.now) i [])) places.now) }
+) -> Result<TakenTraces, AllocError>
+    requires few { length traces.now.journal.now.held.entries < 2 ^ 32 }
+    ensures spans { IfOk result (λ t. map placed_taken t ≡
+        map (λ i. slice_index_or (traces_of traces.now) i []) places.now) }
+    ensures numbers { IfOk result (AreNumberedByPlace traces.now.journal.now.held.entries) }
 {
-    let mut kept = Vec::new(alloc);
+    let mut taken = TakenTraces::new(alloc);
     for place in places {
-        kept.push(kept_at(alloc, traces, *place, limits)?)?;
+        take_at(&mut taken, traces, *place)?;
     }
-    Ok(kept)
+    Ok(taken)
 }
 
-/// The traces that a search finds, as they are to be shown.
-pub(crate) fn find(
-    alloc: Global,
-    traces: &Candidates<'_>,
-    limits: Limits,
-) -> Result<Vec<AnsweredTrace>, AllocError>
-    ensures { IfOk result (λ v. v.items ≡
-        map (adjusted limits.max_skew) (found_in (query_of traces.now) (traces_of traces.now))) }
+/// Takes the traces that a search finds, in the order of its answer.
+pub(crate) fn take_found(alloc: Global, traces: Candidates<'_>) -> Result<TakenTraces, AllocError>
+    requires few { length traces.journal.now.held.entries < 2 ^ 32 }
+    ensures found { IfOk result (λ t. map placed_taken t ≡
+        found_in (query_of traces.entry) (traces_of traces.entry)) }
+    ensures numbers { IfOk result (AreNumberedByPlace traces.entry.journal.now.held.entries) }
 {
-    let places = find_traces::find(alloc, traces)?;
-    let kept = all_kept(alloc, traces, &places, limits)?;
-    Ok(kept)
+    let mut searched = traces;
+    let places = find_traces::find(alloc, &mut searched)?;
+    let taken = take_places(alloc, &traces, &places)?;
+    Ok(taken)
 }
 
 /// The ids of the traces that a search finds.
-pub(crate) fn find_ids(alloc: Global, traces: &Candidates<'_>) -> Result<Vec<TraceId>, AllocError>
+pub(crate) fn find_ids(
+    alloc: Global,
+    traces: &mut Candidates<'_>,
+) -> Result<Vec<TraceId>, AllocError>
     ensures { IfOk result (λ v. v.items ≡
-        ids_of (found_in (query_of traces.now) (traces_of traces.now))) }
+        ids_of (found_in (query_of traces.old) (traces_of traces.old))) }
 {
     let ids = find_traces::find_ids(alloc, traces)?;
     Ok(ids)
-}
-
-/// How often services call one another.
-pub(crate) fn links(
-    alloc: Global,
-    traces: &[Vec<NumberedSpan<'_>>],
-) -> Result<Vec<Link>, AllocError>
-    requires { AreNumbered traces.now }
-    ensures { IfOk result (λ v. v.items ≡ links_in (given_traces traces.now)) }
-{
-    let links = call_links::links(alloc, traces)?;
-    Ok(links)
 }

@@ -13,21 +13,27 @@ ghost use Rattle.trace_model.specs.Refusals.{followed_by, with_admitted};
 ghost use Rattle.arrival_journal.specs.Journals.{admission_by, place_by};
 ghost use Rattle.trace_assembly.specs.Located.{located_events, shown_spots};
 ghost use Rattle.call_links.specs.Seen.{links_in, AreNumbered};
-ghost use Rattle.journal_traces.specs.Given.{given_traces};
 ghost use Rattle.journal_traces.specs.Standing.{traces_named};
+ghost use Rattle.journal_traces.specs.Taking.{placed_taken};
 ghost use Rattle.service_places.specs.Reported.{group_of};
+ghost use Rattle.span_store.specs.Collecting.{form_answer};
 ghost use Rattle.span_store.specs.Kept.{IsNamed, IsPlaced};
 ghost use Rattle.span_store.specs.NextEntry.{next_entry};
 
 use crate::arrange::follow;
+use crate::collected::{Collected, Form};
 use crate::common::{COMMON, asks_service_alone};
 use crate::finding;
+use crate::found_traces::FoundTraces;
+use crate::tag_search::TagSearch;
+use crate::window_calls::WindowCalls;
 use arrival_journal::{Journal, Record};
 use arrival_names::ArrivalNames;
-use call_links::NumberedSpan;
 use find_traces::Wanted;
 use jaeger_model::{Batch, Seq, Text, TraceId};
-use journal_traces::{Candidates, gather, ring_ids, see_within, spots_along, spots_reported};
+use journal_traces::{
+    Candidates, TakenTraces, gather, ring_ids, spots_along, spots_reported, take_all, take_within,
+};
 use service_places::ServicePlaces;
 use std::alloc::{AllocError, Global};
 use std::hash::RandomState;
@@ -222,48 +228,65 @@ impl SpanStore {
         ensures answer { IfOk result (λ a. a ≡ answer self.now.limits self.now.entries query.now) }
         ensures reason { IfErr result (λ why. why ≡ NoMemory) }
     {
-        match query {
-            Query::Trace { id, raw } => Ok(self.trace(*id, *raw)?),
-            Query::Services => Ok(self.services()?),
-            Query::OperationNames { service } => Ok(self.operation_names(service)?),
-            Query::Operations { service, kind } => Ok(self.operations(service, kind)?),
-            Query::Find(find) => Ok(self.search(find, false)?),
-            Query::FindIds(find) => Ok(self.search(find, true)?),
+        self.collect(query)?.answer()
+    }
+
+    /// What this answer needs of the store. Whoever may not stay in the store for long collects here, and goes through
+    /// tags, logs and processes elsewhere.
+    ///
+    /// # Errors
+    ///
+    /// Out of memory, and nothing else.
+    pub fn collect<'q>(&self, query: &'q Query) -> Result<Collected<'q>, Refusal>
+        ensures answer { IfOk result (λ c. c ≡ answer self.now.limits self.now.entries query.now) }
+        ensures reason { IfErr result (λ why. why ≡ NoMemory) }
+    {
+        let form = match query {
+            Query::Trace { id, raw } => Form::Ready(self.trace(*id, *raw)?),
+            Query::Services => self.services()?,
+            Query::OperationNames { service } => self.operation_names(service)?,
+            Query::Operations { service, kind } => self.operations(service, kind)?,
+            Query::Find(find) => self.search(find, false)?,
+            Query::FindIds(find) => self.search(find, true)?,
             Query::Links {
                 end_ms,
                 lookback_ms,
-            } => Ok(self.links(*end_ms, *lookback_ms)?),
-        }
+            } => Form::Calls(self.links(*end_ms, *lookback_ms)?),
+        };
+        Ok(Collected::new(self.alloc, form))
     }
 
     /// The services of all arrivals.
-    fn services(&self) -> Result<Answer, AllocError>
-        ensures { IfOk result (λ a. a ≡ answer self.now.limits self.now.entries ask.Services) }
-    {
-        let names = self.names.services(self.journal.entries(), &self.reported)?;
-        Ok(Answer::Names(Seq::from_vec(names)))
-    }
-
-    /// The operations of a service, by name.
-    fn operation_names(&self, service: &Text) -> Result<Answer, AllocError>
-        ensures { IfOk result (λ a. a ≡ answer self.now.limits self.now.entries
-            (ask.OperationNames service.now)) }
+    fn services(&self) -> Result<Form<'static>, AllocError>
+        ensures { IfOk result (λ f. form_answer f ≡
+            answer self.now.limits self.now.entries ask.Services) }
     {
         let names = self
             .names
-            .operation_names(self.journal.entries(), &self.reported, service)?;
-        Ok(Answer::Names(Seq::from_vec(names)))
+            .known_services(self.journal.entries(), &self.reported)?;
+        Ok(Form::Services(names))
+    }
+
+    /// The operations of a service, by name.
+    fn operation_names(&self, service: &Text) -> Result<Form<'static>, AllocError>
+        ensures { IfOk result (λ f. form_answer f ≡ answer self.now.limits self.now.entries
+            (ask.OperationNames service.now)) }
+    {
+        let found = self
+            .names
+            .known_operations(self.journal.entries(), &self.reported, service)?;
+        Ok(Form::OperationNames(found))
     }
 
     /// The operations of a service, by name and kind.
-    fn operations(&self, service: &Text, kind: &Text) -> Result<Answer, AllocError>
-        ensures { IfOk result (λ a. a ≡ answer self.now.limits self.now.entries
+    fn operations<'q>(&self, service: &Text, kind: &'q Text) -> Result<Form<'q>, AllocError>
+        ensures { IfOk result (λ f. form_answer f ≡ answer self.now.limits self.now.entries
             (ask.Operations service.now kind.now)) }
     {
         let found = self
             .names
-            .operations(self.journal.entries(), &self.reported, service, kind)?;
-        Ok(Answer::Operations(Seq::from_vec(found)))
+            .known_operations(self.journal.entries(), &self.reported, service)?;
+        Ok(Form::Operations(found, kind))
     }
 
     /// Whether an arrival is of the service that a search asks for, and of the operation where it asks
@@ -315,13 +338,12 @@ impl SpanStore {
         Ok(spots)
     }
 
-    /// The spots of the shown traces of which entries of the search's service have a span that meets the
-    /// search.
-    fn candidates_met(&self, wanted: &Wanted<'_>) -> Result<Vec<Spots<'_>>, AllocError>
-        ensures { IfOk result (λ v. found_in wanted.now (traces_named self.now.entries v.items) ≡
-            found_in wanted.now (traces self.now.limits.traces (events self.now.entries))) }
+    /// The spots of the shown traces of which an entry of the search's service has a span that meets the search but for
+    /// its tags, unless the outline of the entry says that it has no span with these tags.
+    fn candidates_met(&self, query: &Find) -> Result<Vec<Spots<'_>>, AllocError>
+        ensures { IfOk result (λ v. found_in query.now (traces_named self.now.entries v.items) ≡
+            found_in query.now (traces self.now.limits.traces (events self.now.entries))) }
     {
-        let query = wanted.query();
         let places = self
             .reported
             .places_of(self.journal.entries(), query.service.as_str());
@@ -331,81 +353,113 @@ impl SpanStore {
             self.names.firsts(),
             &self.journal,
             places,
-            wanted,
+            query,
         )?;
         Ok(spots)
     }
 
     /// The spots of the shown traces that a search looks at, those of the one opened longest ago first: it finds the
-    /// same among these traces as among all.
-    fn candidates(&self, wanted: &Wanted<'_>) -> Result<Vec<Spots<'_>>, AllocError>
-        ensures { IfOk result (λ v. found_in wanted.now (traces_named self.now.entries v.items) ≡
-            found_in wanted.now (traces self.now.limits.traces (events self.now.entries))) }
+    /// same among these traces as among all. No tag is looked at.
+    fn candidates(&self, query: &Find) -> Result<Vec<Spots<'_>>, AllocError>
+        ensures { IfOk result (λ v. found_in query.now (traces_named self.now.entries v.items) ≡
+            found_in query.now (traces self.now.limits.traces (events self.now.entries))) }
     {
-        let query = wanted.query();
         if !self.may_find(query) {
             return Ok(Vec::new(self.alloc));
         }
         match self.common_service(query) {
             Some(service) => self.candidates_reported(query, service),
-            None => self.candidates_met(wanted),
+            None => self.candidates_met(query),
         }
     }
 
-    /// What a search finds: the traces as they are shown, or their ids alone.
-    fn search(&self, query: &Find, ids_alone: bool) -> Result<Answer, AllocError>
-        ensures { IfOk result (λ a. a ≡ answer self.now.limits self.now.entries
+    /// A search by tags, with its candidates taken out.
+    fn tag_search<'q>(&self, query: &'q Find, ids_alone: bool) -> Result<TagSearch<'q>, AllocError>
+        ensures { IfOk result (λ s. s ≡ answer self.now.limits self.now.entries
             (if ids_alone then ask.FindIds query.now else ask.Find query.now)) }
     {
+        let _legal = self.journal.len();
+        let spots = self.candidates(query)?;
+        let traces = take_all(self.alloc, &self.journal, &spots)?;
+        Ok(TagSearch::new(query, ids_alone, self.limits(), traces))
+    }
+
+    /// The ids of the traces that a search without tags finds.
+    fn found_ids(&self, query: &Find) -> Result<Answer, AllocError>
+        ensures { IfOk result (λ a. a ≡ answer self.now.limits self.now.entries
+            (ask.FindIds query.now)) }
+    {
         let wanted = Wanted::new(self.alloc, query)?;
-        let spots = self.candidates(&wanted)?;
-        let traces = Candidates {
+        let spots = self.candidates(query)?;
+        let mut traces = Candidates {
             journal: &self.journal,
             wanted: &wanted,
             spots: &spots,
         };
-        if ids_alone {
-            let ids = finding::find_ids(self.alloc, &traces)?;
-            return Ok(Answer::Ids(Seq::from_vec(ids)));
-        }
-        let found = finding::find(self.alloc, &traces, self.limits())?;
-        Ok(Answer::Traces(Seq::from_vec(found)))
+        let ids = finding::find_ids(self.alloc, &mut traces)?;
+        Ok(Answer::Ids(Seq::from_vec(ids)))
     }
 
-    /// The shown traces that have a span in a window of time, the one opened longest ago first: those
-    /// from whose calls services are seen to call one another there. Their spans have the numbers of
-    /// their services.
-    fn traces_within(
-        &self,
-        end_ms: i64,
-        lookback_ms: i64,
-    ) -> Result<Vec<Vec<NumberedSpan<'_>>>, AllocError>
-        ensures links { IfOk result (λ v. links_in (given_traces v.items) ≡
-            links end_ms lookback_ms (traces self.now.limits.traces (events self.now.entries))) }
-        ensures numbered { IfOk result (λ v. AreNumbered v.items) }
+    /// The traces that a search without tags finds, taken out in the order of the answer.
+    fn found_traces(&self, query: &Find) -> Result<FoundTraces, AllocError>
+        ensures { IfOk result (λ t. t ≡ answer self.now.limits self.now.entries
+            (ask.Find query.now)) }
     {
         let _legal = self.journal.len();
-        let ids = ring_ids(self.alloc, self.shown.ring())?;
-        let traces = see_within(
+        let wanted = Wanted::new(self.alloc, query)?;
+        let spots = self.candidates(query)?;
+        let candidates = Candidates {
+            journal: &self.journal,
+            wanted: &wanted,
+            spots: &spots,
+        };
+        let found = finding::take_found(self.alloc, candidates)?;
+        let traces = FoundTraces::new(self.limits(), found);
+        Ok(traces)
+    }
+
+    /// What a search finds: the traces as they are shown, or their ids alone. Numbers, and the names of operations,
+    /// decide where no tag is asked.
+    fn search<'q>(&self, query: &'q Find, ids_alone: bool) -> Result<Form<'q>, AllocError>
+        ensures { IfOk result (λ f. form_answer f ≡ answer self.now.limits self.now.entries
+            (if ids_alone then ask.FindIds query.now else ask.Find query.now)) }
+    {
+        if !query.tags.as_slice().is_empty() {
+            return Ok(Form::Tags(self.tag_search(query, ids_alone)?));
+        }
+        if ids_alone {
+            return Ok(Form::Ready(self.found_ids(query)?));
+        }
+        Ok(Form::Found(self.found_traces(query)?))
+    }
+
+    /// Takes the shown traces that have a span in a window of time, the one opened longest ago first: those
+    /// from whose calls services are seen to call one another there. Their spans have the numbers of
+    /// their services.
+    fn traces_within(&self, end_ms: i64, lookback_ms: i64) -> Result<TakenTraces, AllocError>
+        ensures links { IfOk result (λ taken. links_in (map placed_taken taken) ≡
+            links end_ms lookback_ms (traces self.now.limits.traces (events self.now.entries))) }
+        ensures numbered { IfOk result (λ taken. AreNumbered taken) }
+    {
+        let _legal = self.journal.len();
+        let taken = take_within(
             self.alloc,
             &self.journal,
             &self.shown,
             &self.reported,
-            &ids,
             end_ms,
             lookback_ms,
         )?;
-        Ok(traces)
+        Ok(taken)
     }
 
     /// How often services call one another in a window of time.
-    fn links(&self, end_ms: i64, lookback_ms: i64) -> Result<Answer, AllocError>
-        ensures { IfOk result (λ a. a ≡ answer self.now.limits self.now.entries
+    fn links(&self, end_ms: i64, lookback_ms: i64) -> Result<WindowCalls, AllocError>
+        ensures { IfOk result (λ c. c ≡ answer self.now.limits self.now.entries
             (ask.Links end_ms lookback_ms)) }
     {
-        let traces = self.traces_within(end_ms, lookback_ms)?;
-        let links = finding::links(self.alloc, &traces)?;
-        Ok(Answer::Links(Seq::from_vec(links)))
+        let taken = self.traces_within(end_ms, lookback_ms)?;
+        Ok(WindowCalls::new(taken))
     }
 
     /// A trace by its id.

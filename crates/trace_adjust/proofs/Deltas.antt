@@ -1,17 +1,17 @@
 -- Spans moved by deltas that are held.
-use Rattle.std.proofs.Common.{◌≡◌, ℕ, ℤ, pos, ◌+◌, ◌<◌, Bool, true, false, List, [], ◌∷◌, ◌++◌, map, take, length, length-append, get_or, refl, sym, ap, ◌∙◌, arith}
-use Rattle.std.specs.Prelude.{Option, not, nat_le, nat_abs, drop, if◌then◌else◌}
+use Rattle.std.proofs.Common.{◌≡◌, ℕ, zero, suc, ℤ, pos, ◌+◌, ◌<◌, Bool, true, List, [], ◌∷◌, ◌++◌, map, take, length, length-append, get_or, refl, sym, ap, ◌∙◌, arith}
+use Rattle.std.specs.Prelude.{Option, Some, not, nat_le, nat_abs, drop, slice_get, if◌then◌else◌}
 use Rattle.std.specs.List.{list_all}
 use Rattle.std.specs.Ordering.{int_eq}
-use Rattle.std.proofs.lemmas.Bool.{false≢true, and_parts}
+use Rattle.std.proofs.lemmas.Bool.{and_parts}
 use Rattle.std.proofs.lemmas.List.{take_more, length-take-le}
 use Rattle.jaeger_model.specs.declared.placed.Placed.{Placed}
+use Rattle.jaeger_model.specs.declared.placed.Seen.{Seen}
 use Rattle.trace_model.specs.declared.answer.Shown.{Shown}
 use Rattle.trace_model.specs.declared.clock.Clock.{Clock}
-use Rattle.trace_model.specs.declared.limits.Limits.{Limits}
-use Rattle.trace_model.specs.Adjusting.{shifted, unadjusted, skew_adjusted, shown_as, warned, past_limit, past_times, adjusted_by, all_fit, moved_placed}
-use Rattle.trace_model.specs.Keeping.{spans_there}
-use Rattle.trace_adjust.specs.Lending.{placed_as, shifted_all, lent_all}
+use Rattle.trace_model.specs.Adjusting.{shifted, unadjusted, skew_adjusted, warned, past_limit, past_times, adjusted_by, all_fit, moved_placed}
+use Rattle.trace_model.specs.Seeing.{placed_by_its_entry}
+use Rattle.trace_adjust.specs.Lending.{placed_as, reported_as, shifted_all}
 use Rattle.trace_adjust.specs.Settling.{first_at, delta_at, AreClocks}
 use Rattle.trace_adjust.proofs.Shifting.{lent_more}
 
@@ -60,17 +60,24 @@ none_moves m (d ∷ ds) (p ∷ ps) e =
     (λ j. still m d p zero_now.0 j ∷ none_moves m ds ps zero_now.1 j)
 
 -- ---- spans that are lent as they came
-pub lent_raw : (limits : Limits) (raw : Bool) (kept : List (Option Placed)) → raw ≡ true → lent_all raw limits.max_skew [] kept ≡ shown_as limits raw (spans_there kept)
-lent_raw limits true kept e = all_raw (spans_there kept)
-  where
-    all_raw : (ps : List Placed) → shifted_all limits.max_skew [] (map (placed_as true) ps) ≡ map unadjusted ps
-    all_raw [] = refl
-    all_raw (p ∷ ps) = ap (λ r. unadjusted p ∷ r) (all_raw ps)
-lent_raw limits false kept e = absurd (false≢true e)
+pub all_placed : (raw : Bool) (ss : List Seen) → map (reported_as raw) ss ≡ map (placed_as raw) (map placed_by_its_entry ss)
+all_placed raw [] = refl
+all_placed raw (s ∷ ss) = ap (λ ps. reported_as raw s ∷ ps) (all_placed raw ss)
 
--- the first span that is there, and those behind it
-pub lent_first : (raw : Bool) (m : ℕ) (ds left : List ℤ) (kept rest : List (Option Placed)) (p : Placed) (d : ℤ) (v : Shown) → spans_there kept ≡ p ∷ spans_there rest
-    → d ≡ get_or ds 0 (pos 0) → left ≡ drop 1 ds → v ≡ shifted m d (placed_as raw p) → lent_all raw m ds kept ≡ v ∷ lent_all raw m left rest
-lent_first raw m ds left kept rest p d v there first others shown =
-    ap (λ ps. shifted_all m ds (map (placed_as raw) ps)) there
-    ∙ (λ j. (ap (λ e. shifted m e (placed_as raw p)) (sym first) ∙ sym shown) j ∷ shifted_all m (sym others j) (map (placed_as raw) (spans_there rest)))
+pub lent_raw : (m : ℕ) (ps : List Placed) → shifted_all m [] (map (placed_as true) ps) ≡ map unadjusted ps
+lent_raw m [] = refl
+lent_raw m (p ∷ ps) = ap (λ r. unadjusted p ∷ r) (lent_raw m ps)
+
+-- ---- one of the spans
+pub length_shifted : (m : ℕ) (ds : List ℤ) (ps : List Placed) → length (shifted_all m ds ps) ≡ length ps
+length_shifted m ds [] = refl
+length_shifted m ds (p ∷ ps) = omega (arith, length_shifted m (drop 1 ds) ps)
+
+next_delta : (ds : List ℤ) (i : ℕ) → get_or (drop 1 ds) i (pos 0) ≡ get_or ds (suc i) (pos 0)
+next_delta [] i = refl
+next_delta (d ∷ ds) i = refl
+
+pub shifted_at : (m : ℕ) (ds : List ℤ) (ps : List Placed) (i : ℕ) (p : Placed) → i < length ps → p ≡ get_or ps i p → slice_get (shifted_all m ds ps) i ≡ Some (shifted m (get_or ds i (pos 0)) p)
+shifted_at m ds [] i p h is = absurd (omega (arith, h))
+shifted_at m ds (q ∷ ps) zero p h is = ap (λ r. Some (shifted m (get_or ds 0 (pos 0)) r)) (sym is)
+shifted_at m ds (q ∷ ps) (suc i) p h is = shifted_at m (drop 1 ds) ps i p (omega (arith, h)) is ∙ ap (λ d. Some (shifted m d p)) (next_delta ds i)

@@ -2,10 +2,11 @@
 use Rattle.std.specs.Prelude.{ℕ, ℤ, pos, ◌+ℤ◌, IsTrue, Bool, true, false, List, [], ◌∷◌, map, get_or, drop, Option, Some, None}
 use Rattle.std.specs.List.{list_all}
 use Rattle.jaeger_model.specs.declared.placed.Placed.{Placed}
+use Rattle.jaeger_model.specs.declared.placed.Seen.{Seen}
 use Rattle.jaeger_model.specs.declared.span.Log.{Log}
 use Rattle.trace_model.specs.declared.answer.Shown.{Shown}
 use Rattle.trace_model.specs.Adjusting.{fits, move_log, shifted, with_parent_first}
-use Rattle.trace_model.specs.Keeping.{spans_there}
+use Rattle.trace_model.specs.Seeing.{placed_by_its_entry}
 use Rattle.trace_adjust.specs.declared.lent_logs.LentLog.{LentLog}
 
 -- the logs, moved where there is a delta
@@ -25,11 +26,11 @@ abbrev pub placed_as : Bool → Placed → Placed
 placed_as true p = p
 placed_as false p = with_parent_first p
 
+-- the same of a span as it was reported
+abbrev pub reported_as : Bool → Seen → Placed
+reported_as raw s = placed_as raw (placed_by_its_entry s)
+
 -- the spans as they are shown, each moved by its delta, which is 0 for those behind the last delta
 abbrev pub shifted_all : ℕ → List ℤ → List Placed → List Shown
 shifted_all max_skew deltas [] = []
 shifted_all max_skew deltas (p ∷ ps) = shifted max_skew (get_or deltas 0 (pos 0)) p ∷ shifted_all max_skew (drop 1 deltas) ps
-
--- the same of spans that entries keep
-abbrev pub lent_all : Bool → ℕ → List ℤ → List (Option Placed) → List Shown
-lent_all raw max_skew deltas kept = shifted_all max_skew deltas (map (placed_as raw) (spans_there kept))

@@ -1,86 +1,39 @@
 //! The spans of a trace of an answer as they are shown, lent one by one by the entries that keep them.
 
-ghost use Rattle.std.specs.Prelude.{◌≡◌, ◌∷◌, [], pos, get_or, drop, IfNone, IfSome};
-ghost use Rattle.std.specs.Iterator.{YieldsFirst, item_count};
-ghost use Rattle.trace_model.specs.Keeping.{spans_there};
-ghost use Rattle.trace_model.specs.Seeing.{placed_by_its_entry};
-ghost use Rattle.trace_adjust.specs.Lending.{placed_as};
+ghost use Rattle.std.specs.Prelude.{◌≡◌, ◌<◌, pos, get_or, length, map, slice_get, Some};
+ghost use Rattle.trace_adjust.specs.Lending.{reported_as};
 
 use crate::lent_placed::LentPlaced;
 use crate::lent_span::LentSpan;
 use jaeger_model::Seen;
 use std::marker::Model;
-use trace_model::{KeptSpan, KeptTrace};
 
-/// The spans of a trace, lent by the entries that keep them. Of each span nothing is held but the delta of its clock:
-/// all else is found where the span is looked at. Contracts see the spans as they are shown.
+/// The spans of a trace, lent by the entries that keep them. Of each span it holds where it is and the delta of its
+/// clock; all else is found when the span is looked at. Contracts see the spans as they are shown.
 #[derive(Drop)]
 pub struct LentSpans<'a> {
-    pub(crate) trace: &'a KeptTrace,
-    /// Those of the spans that are there, in their order, in microseconds; 0 for the spans behind the last one.
+    pub(crate) reported: Vec<Seen<'a>>,
+    /// The deltas of the spans, in microseconds; 0 for the spans after the last delta.
     pub(crate) deltas: Vec<i128>,
+    pub(crate) max_skew: u64,
+    /// Whether the spans are shown as they came, and not adjusted.
+    pub(crate) raw: bool,
 }
 
 impl<'a> Model for LentSpans<'a> {
-    ghost use Rattle.std.specs.Prelude.{List};
+    ghost use Rattle.std.specs.Prelude.{List, map};
     ghost use Rattle.trace_model.specs.declared.answer.Shown.{Shown};
-    ghost use Rattle.trace_adjust.specs.Lending.{lent_all};
+    ghost use Rattle.trace_adjust.specs.Lending.{reported_as, shifted_all};
 
     ghost Value = { List Shown };
 
-    ghost view = { λ l. lent_all l.trace.now.raw l.trace.now.limits.max_skew
-        l.deltas.items l.trace.now.spans.items };
-}
-
-/// Those that come next, in their order. Contracts see them as they are shown.
-#[derive(Drop)]
-pub struct LentIter<'s, 'a> {
-    kept: &'a [KeptSpan],
-    deltas: &'s [i128],
-    raw: bool,
-    max_skew: u64,
-}
-
-impl<'s, 'a> Model for LentIter<'s, 'a> {
-    ghost use Rattle.std.specs.Prelude.{List};
-    ghost use Rattle.trace_model.specs.declared.answer.Shown.{Shown};
-    ghost use Rattle.trace_adjust.specs.Lending.{lent_all};
-
-    ghost Value = { List Shown };
-
-    ghost view = { λ l. lent_all l.raw l.max_skew l.deltas.now l.kept.now };
-}
-
-/// The first span that is there, and those behind it.
-fn first_there<'a>(kept: &'a [KeptSpan]) -> Option<(Seen<'a>, &'a [KeptSpan])>
-    ensures none { IfNone result (spans_there kept.now ≡ []) }
-    ensures first { IfSome result (λ r.
-        spans_there kept.now ≡ placed_by_its_entry r.0 ∷ spans_there r.1.now) }
-{
-    let mut left = kept;
-    while let Some((first, rest)) = left.split_first() {
-        if let Some(reported) = first.reported() {
-            return Some((reported, rest));
-        }
-        left = rest;
-    }
-    None
-}
-
-/// The first delta, 0 where there is none, and those behind it.
-fn first_delta<'s>(deltas: &'s [i128]) -> (i128, &'s [i128])
-    ensures first { result.0 ≡ get_or deltas.now 0 (pos 0) }
-    ensures rest { result.1.now ≡ drop 1 deltas.now }
-{
-    match deltas.split_first() {
-        Some((delta, rest)) => (*delta, rest),
-        None => (0, deltas),
-    }
+    ghost view = { λ l. shifted_all l.max_skew l.deltas.items
+        (map (reported_as l.raw) l.reported.items) };
 }
 
 /// A span that was reported so: as a store keeps it where `raw` is asked, else the reference to its parent in front.
 fn lent_as<'a>(raw: bool, reported: Seen<'a>) -> LentPlaced<'a>
-    ensures { result ≡ placed_as raw (placed_by_its_entry reported.entry) }
+    ensures { result ≡ reported_as raw reported.entry }
 {
     if raw {
         LentPlaced::with_parent(reported)
@@ -89,33 +42,36 @@ fn lent_as<'a>(raw: bool, reported: Seen<'a>) -> LentPlaced<'a>
     }
 }
 
-impl<'s, 'a> Iterator for LentIter<'s, 'a> {
-    type Item = LentSpan<'a>;
+/// The delta of the span at the index.
+fn delta_at(deltas: &[i128], index: usize) -> i128
+    ensures { result ≡ get_or deltas.now index (pos 0) }
+{
+    deltas.get(index).copied().unwrap_or(0)
+}
 
-    ghost next_gives = { YieldsFirst (λ spans. spans) };
-
-    ghost remaining = { item_count (λ spans. spans) };
-
-    fn next(&mut self) -> Option<LentSpan<'a>> {
-        let (reported, kept) = first_there(self.kept)?;
-        let (delta, deltas) = first_delta(self.deltas);
-        self.kept = kept;
-        self.deltas = deltas;
-        let placed = lent_as(self.raw, reported);
-        Some(LentSpan::shifted(placed, delta, self.max_skew))
-    }
+/// The span at the index, as it is lent.
+fn lent_at<'a>(raw: bool, reported: &[Seen<'a>], index: usize) -> LentPlaced<'a>
+    requires { index < length reported.now }
+    ensures { result ≡ get_or (map (reported_as raw) reported.now) index result }
+{
+    lent_as(raw, reported[index])
 }
 
 impl<'a> LentSpans<'a> {
-    /// The spans one by one, in their order. Takes no memory, and neither does the next one.
-    pub fn iter<'s>(&'s self) -> LentIter<'s, 'a>
-        ensures { result ≡ self.now }
+    /// The number of the spans.
+    pub fn len(&self) -> usize
+        ensures { result ≡ length self.now }
     {
-        LentIter {
-            kept: &self.trace.spans,
-            deltas: &self.deltas,
-            raw: self.trace.raw,
-            max_skew: self.trace.limits.max_skew,
-        }
+        self.reported.len()
+    }
+
+    /// The span at the index. Takes no memory.
+    pub fn at(&self, index: usize) -> LentSpan<'a>
+        requires { index < length self.now }
+        ensures { slice_get self.now index ≡ Some result }
+    {
+        let delta = delta_at(&self.deltas, index);
+        let placed = lent_at(self.raw, &self.reported, index);
+        LentSpan::shifted(placed, delta, self.max_skew)
     }
 }

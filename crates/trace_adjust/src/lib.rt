@@ -12,7 +12,7 @@
 //! * `showing`: traces of an answer, whose spans are copied from their entries.
 //! * `lent_span`, `lent_logs`: a span of an answer where its entry keeps it, with what is shown otherwise.
 //! * `lent_spans`: the spans of a trace of an answer, lent one by one.
-//! * `lending`: what is held for that: the deltas of their clocks.
+//! * `lending`: what is held for that: where they are, and the deltas of their clocks.
 #![tactic(auto)]
 
 mod clock;
@@ -30,7 +30,7 @@ mod skew;
 pub use lending::lend;
 pub use lent_logs::{LentLog, LentLogs};
 pub use lent_span::LentSpan;
-pub use lent_spans::{LentIter, LentSpans};
+pub use lent_spans::LentSpans;
 pub use showing::{show, shown};
 pub use skew::{adjust_skew, adjusted};
 pub use span_steps::parent_first;

@@ -1,8 +1,16 @@
 -- Spans that entries keep, one by one.
-use Rattle.std.proofs.Common.{◌≡◌, ℕ, ◌+◌, ◌<◌, List, [], ◌∷◌, ◌++◌, length, take, get_or, refl, sym, ap, ◌∙◌}
-use Rattle.std.specs.Prelude.{Option, Some, None}
+use Rattle.std.proofs.Common.{◌≡◌, ℕ, zero, suc, ◌+◌, ◌<◌, List, [], ◌∷◌, ◌++◌, map, length, take, get_or, refl, sym, ap, ◌∙◌, arith}
+use Rattle.std.specs.Prelude.{Option, Some, None, IsSome, is_some, slice_get, option_map}
+use Rattle.std.proofs.lemmas.Bool.{false≢true}
 use Rattle.std.proofs.lemmas.List.{take_more}
+use Rattle.std.proofs.lemmas.Option.{slice_get_past}
 use Rattle.jaeger_model.specs.declared.placed.Placed.{Placed}
+use Rattle.jaeger_model.specs.declared.batch.Batch.{Batch}
+use Rattle.jaeger_model.specs.declared.span.Span.{Span}
+use Rattle.jaeger_model.specs.Parents.{placed}
+use Rattle.trace_model.specs.declared.entry.Work.{Work}
+use Rattle.trace_model.specs.declared.entry.Work.TheVariants as brings
+use Rattle.trace_model.specs.Works.{placed_brought, service_brought}
 use Rattle.trace_model.specs.Keeping.{spans_there}
 
 there_last : (ks : List (Option Placed)) (p : Placed) → spans_there (ks ++ Some p ∷ []) ≡ spans_there ks ++ p ∷ []
@@ -25,3 +33,13 @@ some_next ks i k p le at is = sym (ap spans_there (take_more ks i k le) ∙ ap (
 
 pub none_next : (ks : List (Option Placed)) (i : ℕ) (k : Option Placed) → i < length ks → k ≡ get_or ks i k → k ≡ None → spans_there (take i ks) ≡ spans_there (take (i + 1) ks)
 none_next ks i k le at is = sym (ap spans_there (take_more ks i k le) ∙ ap (λ x. spans_there (take i ks ++ x ∷ [])) (sym at ∙ is) ∙ none_last (take i ks))
+
+-- a span that an entry has was reported by the entry's service
+names_there : (b : Batch) (ss : List Span) (i : ℕ) → IsSome (slice_get (map (placed b) ss) i) → Some b.process.service ≡ option_map (λ (p : Placed). p.process.service) (slice_get (map (placed b) ss) i)
+names_there b [] i some = absurd (false≢true (ap is_some (sym (slice_get_past {X = Placed} [] i (omega arith))) ∙ some))
+names_there b (s ∷ ss) zero some = refl
+names_there b (s ∷ ss) (suc i) some = names_there b ss i some
+
+pub name_there : (w : Work) (i : ℕ) → IsSome (slice_get (placed_brought w) i) → Some (service_brought w) ≡ option_map (λ (p : Placed). p.process.service) (slice_get (placed_brought w) i)
+name_there (brings.Batch b) i some = names_there b b.spans i some
+name_there (brings.TraceLimit n) i some = absurd (false≢true (ap is_some (sym (slice_get_past {X = Placed} [] i (omega arith))) ∙ some))

@@ -20,3 +20,5 @@ pub mod Places
 pub mod Seeing
 pub mod Sharing
 pub mod Keeping
+pub mod ServiceNames
+pub mod Taking

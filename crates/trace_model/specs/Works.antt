@@ -1,5 +1,5 @@
 -- What an entry brings to a store.
-use Rattle.std.specs.Prelude.{◌==◌, Bool, false, List, [], ◌∷◌, map, Option, Some, None}
+use Rattle.std.specs.Prelude.{ℕ, ◌==◌, Bool, false, List, [], ◌∷◌, map, Option, Some, None}
 use Rattle.jaeger_model.specs.declared.batch.Batch.{Batch}
 use Rattle.jaeger_model.specs.declared.span.Span.{Span}
 use Rattle.jaeger_model.specs.declared.placed.Placed.{Placed}
@@ -17,6 +17,11 @@ batch_brought (brings.TraceLimit n) = None
 abbrev pub spans_brought : Work → List Span
 spans_brought (brings.Batch b) = b.spans
 spans_brought (brings.TraceLimit n) = []
+
+-- the service of the batch that it brings; a limit has none
+abbrev pub service_brought : Work → List ℕ
+service_brought (brings.Batch b) = b.process.service
+service_brought (brings.TraceLimit n) = []
 
 -- the spans as they are kept, each with its process and its parent among its references
 abbrev pub placed_brought : Work → List Placed

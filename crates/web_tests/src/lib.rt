@@ -3,6 +3,7 @@
 //!
 //! * `targets`: the query that a target asks, or what is wrong with it.
 //! * `responses`: the bytes of responses.
+//! * `parts`: answers of more than 1 MB, given out in parts.
 //! * `answers`: the JSON of answers as text and as a tree, and of what no target asks.
 #![tactic(auto)]
 

@@ -1,5 +1,6 @@
 //! The tests, by their subject, and what they share.
 
 mod answers;
+mod parts;
 mod responses;
 mod targets;

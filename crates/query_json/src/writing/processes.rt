@@ -1,5 +1,5 @@
-ghost use Rattle.std.specs.Prelude.{◌≡◌, ◌∷◌, IfOk, decimal, length, map, string_bytes};
-ghost use Rattle.serde_json.specs.Data.{no_members, object, string};
+ghost use Rattle.std.specs.Prelude.{◌≡◌, ◌<◌, ◌∷◌, [], IfOk, decimal, get_or, length, map, string_bytes};
+ghost use Rattle.serde_json.specs.Data.{no_members, string};
 ghost use Rattle.serde_json.specs.Written.{compact_text};
 ghost use Rattle.query_json.specs.Page.{Puts};
 ghost use Rattle.query_json.specs.Trees.{named, process_tree};
@@ -97,19 +97,10 @@ fn write_named(out: &mut Page, named: &NamedProcess)
     named.process.write(out);
 }
 
-/// The processes under their names.
-pub(super) fn write_processes(out: &mut Page, order: &[NamedProcess])
-    ensures { Puts out.old out.new (compact_text (object (named_members order.now))) }
+/// The process at the index, under its name.
+pub(super) fn write_process(out: &mut Page, processes: &[NamedProcess], index: usize)
+    requires { index < length processes.now }
+    ensures { Puts out.old out.new (get_or (map named_text processes.now) index []) }
 {
-    let Some((first, rest)) = order.split_first() else {
-        out.put("{}");
-        return;
-    };
-    out.put("{");
-    write_named(out, first);
-    for process in rest {
-        out.put(",");
-        write_named(out, process);
-    }
-    out.put("}");
+    write_named(out, &processes[index]);
 }

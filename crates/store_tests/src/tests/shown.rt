@@ -1,7 +1,7 @@
 use jaeger_model::Seq;
 use std::alloc::{AllocError, Global};
 use std::mem::drop;
-use trace_model::{Answer, AnsweredTrace, ShownTrace};
+use trace_model::{Answer, AnsweredTrace, Link, ShownTrace};
 
 /// The spans of a trace, without what a store says beside them.
 fn spans_text(alloc: Global, trace: &ShownTrace) -> Result<String, AllocError> {
@@ -25,11 +25,24 @@ fn traces_text(alloc: Global, traces: Seq<AnsweredTrace>) -> Result<String, Allo
     Ok(text)
 }
 
+/// The same of links, whose names may be texts of their own or lie in entries.
+fn links_text(alloc: Global, links: &[Link]) -> Result<String, AllocError> {
+    let mut text = String::new(alloc);
+    for link in links {
+        let parent = link.parent.as_str();
+        let child = link.child.as_str();
+        let calls = link.calls;
+        text.push_str(format!(in alloc; "{parent:?} {child:?} {calls}\n")?.as_str())?;
+    }
+    Ok(text)
+}
+
 /// What an answer shows, as text.
 pub(crate) fn shown(alloc: Global, answer: Answer) -> Result<String, AllocError> {
     match answer {
         Answer::Trace(Some(trace)) => trace_text(alloc, trace),
         Answer::Traces(traces) => traces_text(alloc, traces),
+        Answer::Links(links) => links_text(alloc, links.as_slice()),
         other => Ok(format!(in alloc; "{other:?}")?),
     }
 }

@@ -56,6 +56,67 @@ fn links_in(answer: &Answer) -> &[Link] {
     }
 }
 
+/// What the store answers of the calls of these spans, at any time.
+fn calls_of(alloc: Global, keys: RandomState, trace: Vec<Placed>) -> Result<Answer, Fail> {
+    let query = Query::Links {
+        end_ms: 10,
+        lookback_ms: 86_400_000,
+    };
+    store_answer_to(alloc, keys, trace, query)
+}
+
+/// Three services, the last one by its name first: it calls the first one twice.
+const THREE_SERVICES: [Row; 5] = [
+    ("c", 1, 0, 1000),
+    ("a", 2, 1, 1000),
+    ("b", 3, 2, 1000),
+    ("c", 4, 3, 1000),
+    ("a", 5, 4, 1000),
+];
+
+#[test]
+fn calls_in_order_of_names(rt: HostRuntime) -> Result<(), Fail> {
+    let keys = RandomState::new(&rt)?;
+    let trace = trace_of(rt.alloc(), &THREE_SERVICES)?;
+    let answer = calls_of(rt.alloc(), keys, trace)?;
+    let wanted = [("a", "b", 1), ("b", "c", 1), ("c", "a", 2)];
+    let same = are_links(links_in(&answer), &wanted);
+    drop(answer);
+    assert!(rt; same);
+    Ok(())
+}
+
+/// The length of a name that two links share with its entry.
+const LONG: usize = 100_000;
+
+/// Two services whose names differ in their last letter alone call each other.
+fn long_trace(alloc: Global, a: &str, b: &str) -> Result<Vec<Placed>, AllocError> {
+    let mut trace = Vec::new(alloc);
+    for (service, id, parent) in [(b, 1, 3), (a, 2, 1), (b, 3, 2)] {
+        let span = span_of(alloc, [1, id, parent], [1000, 50])?;
+        trace.push(placed(alloc, service, span)?)?;
+    }
+    Ok(trace)
+}
+
+#[test]
+fn calls_of_long_names(rt: HostRuntime) -> Result<(), Fail> {
+    let keys = RandomState::new(&rt)?;
+    let mut a = "s".repeat(rt.alloc(), LONG)?;
+    let mut b = "s".repeat(rt.alloc(), LONG)?;
+    a.push('a')?;
+    b.push('b')?;
+    let trace = long_trace(rt.alloc(), a.as_str(), b.as_str())?;
+    let answer = calls_of(rt.alloc(), keys, trace)?;
+    let wanted = [(a.as_str(), b.as_str(), 1), (b.as_str(), a.as_str(), 1)];
+    let same = are_links(links_in(&answer), &wanted);
+    drop(answer);
+    drop(a);
+    drop(b);
+    assert!(rt; same);
+    Ok(())
+}
+
 /// A start in microseconds, the end and the lookback in milliseconds, and whether a call counts.
 const WINDOWS: [(i64, i64, i64, bool); 15] = [
     (1000, 2, 1, false),

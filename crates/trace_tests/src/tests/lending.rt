@@ -80,15 +80,11 @@ fn is_shown_so(alloc: Global, lent: &LentSpan, shown: &Shown) -> Result<bool, Al
 
 /// Each lent span is the one that is shown at its place.
 fn are_shown_so(alloc: Global, lent: &LentSpans, shown: &[Shown]) -> Result<bool, AllocError> {
-    let mut left = lent.iter();
-    let mut same = true;
-    for wanted in shown {
-        same = match left.next() {
-            Some(lent) => is_shown_so(alloc, &lent, wanted)? && same,
-            None => false,
-        };
+    let mut same = lent.len() == shown.len();
+    for (index, wanted) in shown.iter().enumerate() {
+        same = same && index < lent.len() && is_shown_so(alloc, &lent.at(index), wanted)?;
     }
-    Ok(same && left.next().is_none())
+    Ok(same)
 }
 
 /// The spans are lent as they are shown under this limit.

@@ -10,6 +10,6 @@ judge_popped-requires g c = λ κs h.
       (ranking_rises ts, (ranking_moved ts c.in_ok-keys.keys.items (heap_items c.from.result) c.in_ok-keys.ensures c.from.ensures.1, c.from.ensures.2)),
     )
 
-pub returns : goal.returns
-returns g c =
-    subst (λ (l : List ℕ). IfOk c.judge_popped.result (λ v. v.items ≡ l)) (ranking_found (g.T.Searched.query c.args.traces.now) (g.T.Searched.traces c.args.traces.now)) c.judge_popped.ensures
+pub returns-clause-places : goal.returns-clause-places
+returns-clause-places g c =
+    subst (λ (l : List ℕ). IfOk c.judge_popped.result (λ v. v.items ≡ l)) (ranking_found (g.T.Searched.query c.args.traces.now) (g.T.Searched.traces c.args.traces.now)) c.judge_popped.ensures.places

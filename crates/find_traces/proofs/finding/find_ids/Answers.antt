@@ -1,7 +1,8 @@
-use Rattle.std.proofs.Common.{◌≡◌, ◌≤◌, sym, ◌∙◌, ap, map, List, ◌++◌, ◌∷◌, [], take, length, arith}
+use Rattle.std.proofs.Common.{◌≡◌, ◌≤◌, sym, ◌∙◌, ap, map, List, ◌++◌, ◌∷◌, [], take, get_or, length, arith}
 use Rattle.std.specs.List.{filter_map}
 use Rattle.std.proofs.lemmas.List.{take_all}
 use Rattle.jaeger_model.specs.declared.ids.TraceId.{TraceId}
+use Rattle.jaeger_model.specs.declared.placed.Placed.{Placed}
 use Rattle.trace_model.proofs.Lists.{read_some, read_none}
 use Rattle.find_traces.specs.Places.{id_at, trace_at}
 use Rattle.find_traces.proofs.Found.{ids_found}
@@ -14,10 +15,10 @@ loop-place-preserved g c =
     elim c.match-id_at.branch [
       | in-Some+in_ok-push w ↦
           ap (λ v. v.items) w.ids-is ∙ w.in_ok-push.ensures.items ∙ ap (λ (l : List TraceId). l ++ w.in-Some.id ∷ []) before
-          ∙ sym (read_some (id_at (g.T.Searched.traces c.args.traces.now)) c.deref-place-items.result.now c.loop-place.place-index 0 w.in-Some.id c.loop-place-test.true (sym c.id_at.ensures ∙ w.in-Some.is))
+          ∙ sym (read_some (id_at (g.T.Searched.traces c.args.traces.now)) c.deref-place-items.result.now c.loop-place.place-index 0 w.in-Some.id c.loop-place-test.true (sym (c.id_at.ensures ∙ ap (λ (ts : List (List Placed)). id_at ts (get_or c.deref-place-items.result.now c.loop-place.place-index 0)) c.in_ok-places.ensures.same_traces) ∙ w.in-Some.is))
       | in_default w ↦
           ap (λ v. v.items) w.ids-is ∙ before
-          ∙ sym (read_none (id_at (g.T.Searched.traces c.args.traces.now)) c.deref-place-items.result.now c.loop-place.place-index 0 c.loop-place-test.true (sym c.id_at.ensures ∙ w.in_default.is))
+          ∙ sym (read_none (id_at (g.T.Searched.traces c.args.traces.now)) c.deref-place-items.result.now c.loop-place.place-index 0 c.loop-place-test.true (sym (c.id_at.ensures ∙ ap (λ (ts : List (List Placed)). id_at ts (get_or c.deref-place-items.result.now c.loop-place.place-index 0)) c.in_ok-places.ensures.same_traces) ∙ w.in_default.is))
     ]
 
 pub returns : goal.returns

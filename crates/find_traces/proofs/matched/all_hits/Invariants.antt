@@ -4,4 +4,8 @@ use Rattle.find_traces.specs.Keys.{reverse_key_of}
 use Rattle.find_traces.proofs.matched.all_hits.Given as goal
 
 abbrev pub invariant-loop-place : goal.invariant-loop-place
-invariant-loop-place g l = l.found.items ≡ map reverse_key_of (hits (g.T.Searched.query l.traces) (take l.place (g.T.Searched.traces l.traces)))
+invariant-loop-place g l = record {
+  found : l.found.items ≡ map reverse_key_of (hits (g.T.Searched.query l.fn.traces) (take l.place (g.T.Searched.traces l.fn.traces)));
+  same_traces : g.T.Searched.traces l.traces ≡ g.T.Searched.traces l.fn.traces;
+  same_query : g.T.Searched.query l.traces ≡ g.T.Searched.query l.fn.traces;
+}

@@ -1,5 +1,5 @@
 use Rattle.std.proofs.Common.{◌≡◌, ◌∙◌, ◌||◌, sym, take, get_or, true, Some}
-use Rattle.journal_traces.specs.Picked.{reaches, meets, met, same_before}
+use Rattle.journal_traces.specs.Picked.{reaches, meets, met, near, same_before}
 use Rattle.journal_traces.proofs.Marking.{marked_none, marked_more, marked_again, marked_all, reached_own, reached_still, news, no_news, before_is}
 use Rattle.journal_traces.proofs.searching.mark_spans.Goals as goal
 use Rattle.journal_traces.proofs.searching.mark_spans.Goals.{then-is_news, else-is_news}
@@ -12,8 +12,8 @@ loop-span-init c = record {
 
 pub loop-span-preserved : goal.loop-span-preserved
 loop-span-preserved c =
-    let q = c.args.judged.now.query in
-    let o = c.args.judged.now.process in
+    let q = near c.args.query.now in
+    let o = c.args.process.now in
     let ss = c.args.spans.now in
     let i = c.loop-span.span-index in
     let s = c.span-item.result in
@@ -23,14 +23,14 @@ loop-span-preserved c =
     let again = same_before c.loop-span.before s.trace in
     elim c.if-is_news.branch [
       | then-is_news w ↦
-          let meeting : meets q o s ≡ true = news again (meets q o s) (sym c.in_ok-is_news.ensures ∙ w.if-is_news.true) in
+          let meeting : meets q o s ≡ true = news again (meets q o s) (sym c.is_news-is_news.ensures ∙ w.if-is_news.true) in
           record {
             marks = λ p e. w.marks-is ∙ w.mark_trace.ensures (λ t. p t || reaches (met q o (take i ss)) t) (c.loop-span.invariant.marks p e) ∙ marked_more q o ss i s le is p r meeting;
             before = λ t e. let own : Some s.trace ≡ Some t = sym w.before-is ∙ e in reached_own q o ss i s le is t meeting (cc own);
           }
       | else-is_news w ↦
           let there : meets q o s ≡ true → reaches (met q o (take i ss)) s.trace ≡ true =
-          λ m. c.loop-span.invariant.before s.trace (before_is c.loop-span.before s.trace (no_news again (meets q o s) (sym c.in_ok-is_news.ensures ∙ w.if-is_news.false) m)) in
+          λ m. c.loop-span.invariant.before s.trace (before_is c.loop-span.before s.trace (no_news again (meets q o s) (sym c.is_news-is_news.ensures ∙ w.if-is_news.false) m)) in
           record {
             marks = λ p e. w.marks-is ∙ c.loop-span.invariant.marks p e ∙ marked_again q o ss i s le is p r there;
             before = λ t e. reached_still q o ss i s le is t there (c.loop-span.invariant.before t (sym w.before-is ∙ e));
@@ -38,4 +38,4 @@ loop-span-preserved c =
     ]
 
 pub returns : goal.returns
-returns c = λ p e. c.loop-span.invariant.marks p e ∙ marked_all c.args.judged.now.query c.args.judged.now.process p c.args.ring.now.ids c.args.spans.now c.loop-span.span-index c.loop-span-test.false
+returns c = λ p e. c.loop-span.invariant.marks p e ∙ marked_all (near c.args.query.now) c.args.process.now p c.args.ring.now.ids c.args.spans.now c.loop-span.span-index c.loop-span-test.false

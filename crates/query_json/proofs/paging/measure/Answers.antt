@@ -1,24 +1,38 @@
-use Rattle.std.proofs.Common.{◌≡◌, ◌≤◌, ◌+◌, false, length, length-append, ap, sym, arith}
-use Rattle.std.specs.Prelude.{vec_capacity}
-use Rattle.query_json.specs.Pieces.{piece_text, rest_pieces}
-use Rattle.query_json.proofs.Pieces.{fits_more, put_items, rest_step, within_capacity}
+use Rattle.std.proofs.Common.{◌≡◌, [], false, length, length-append, ap, sym, subst, arith}
+use Rattle.query_json.specs.Pieces.{item_pieces, runs_of}
+use Rattle.query_json.specs.Runs.{AllFit, left_at, text_of}
+use Rattle.query_json.proofs.Runs.{left_none, length_runs, put_items}
 use Rattle.query_json.proofs.paging.measure.Goals as goal
 
-pub loop-number-preserved : goal.loop-number-preserved
-loop-number-preserved c =
-    let ts = c.args.traces.now in
-    let l = c.loop-number in
-    let n = l.number in
-    let page = c.put_piece.new.page in
-    let room : page.full ≡ false = sym c.if-is_full.ensures in
-    let items : page.bytes.items ≡ piece_text ts n = put_items c.put_piece.ensures room c.clear.ensures.items in
-    let step = ap length (rest_step ts n c.loop-number-test.true) in
-    let both = length-append (piece_text ts n) (rest_pieces ts (n + 1)) in
-    let long = ap length items in
-    let grown : vec_capacity l.page.bytes ≤ vec_capacity page.bytes = omega (arith, c.clear.ensures.capacity, c.put_piece.ensures.adds.capacity) in
+pub put_next-at-requires-clause-run : goal.put_next-at-requires-clause-run
+put_next-at-requires-clause-run c = omega (arith, length_runs (item_pieces c.args.items.now), c.count.ensures.count, c.loop-at-test.true)
+
+pub loop-at-preserved : goal.loop-at-preserved
+loop-at-preserved c =
+    let l = c.loop-at in
+    let next = c.put_next-at.ensures in
+    let at = c.put_next-at.result in
+    let rs = runs_of c.args.items.now in
+    let room : c.put_next-at.new.page.full ≡ false = sym c.if-is_full.ensures in
+    let long = ap length (put_items next.puts room c.clear.ensures.items) in
+    let both = length-append next.piece (text_of (left_at rs at.run at.piece)) in
+    let larger = c.larger-largest.ensures in
     record {
-      bound = omega (arith, c.loop-number-test.true);
       room = room;
-      left = omega (arith, c.in-Some.ensures.1, c.len.ensures, long, step, both, l.invariant.left);
-      fits = fits_more ts c.args.from n (vec_capacity l.page.bytes) (vec_capacity page.bytes) grown l.invariant.fits (omega (arith, long, within_capacity page));
+      left = omega (arith, l.invariant.left, ap length next.text, both, long, c.len.ensures, c.in-Some.ensures);
+      bounds = λ most h fit. l.invariant.bounds most (omega (arith, h, larger.size)) (next.bounds most (omega (arith, h, larger.other, c.len-in-loop-at.ensures, long)) fit);
     }
+
+pub returns-clause-left : goal.returns-clause-left
+returns-clause-left c =
+    let l = c.loop-at in
+    let rs = runs_of c.args.items.now in
+    let none : left_at rs l.at.run l.at.piece ≡ [] = left_none rs l.at.run l.at.piece (omega (arith, length_runs (item_pieces c.args.items.now), c.count.ensures.count, c.loop-at-test.false)) in
+    omega (arith, l.invariant.left, ap (λ ls. length (text_of ls)) none)
+
+pub returns-clause-fit : goal.returns-clause-fit
+returns-clause-fit c =
+    let l = c.loop-at in
+    let rs = runs_of c.args.items.now in
+    let none : left_at rs l.at.run l.at.piece ≡ [] = left_none rs l.at.run l.at.piece (omega (arith, length_runs (item_pieces c.args.items.now), c.count.ensures.count, c.loop-at-test.false)) in
+    l.invariant.bounds l.largest (omega arith) (subst (AllFit l.largest) (sym none) tt)

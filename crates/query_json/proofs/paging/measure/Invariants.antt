@@ -1,15 +1,17 @@
-use Rattle.std.proofs.Common.{◌≡◌, ◌<◌, ◌≤◌, ◌+◌, ◌-◌, ℕ, false, length}
-use Rattle.std.specs.Prelude.{vec_capacity}
-use Rattle.query_json.specs.Pieces.{piece_text, rest_pieces}
+use Rattle.std.proofs.Common.{◌≡◌, ◌≤◌, ◌+◌, ℕ, false, length}
+use Rattle.query_json.specs.Pieces.{runs_of}
+use Rattle.query_json.specs.Runs.{AllFit, left_at, steps, text_of}
 use Rattle.query_json.proofs.paging.measure.Given as goal
 
-abbrev pub invariant-loop-number : goal.invariant-loop-number
-invariant-loop-number l = record {
-  bound : l.number ≤ length l.traces + 1;
-  room : l.page.full ≡ false;
-  left : l.left + length (rest_pieces l.traces l.number) ≡ length (rest_pieces l.traces l.from);
-  fits : (k : ℕ) → l.from ≤ k → k < l.number → length (piece_text l.traces k) ≤ vec_capacity l.page.bytes;
-}
+abbrev pub invariant-loop-at : goal.invariant-loop-at
+invariant-loop-at l =
+    let rs = runs_of l.items in
+    let now = left_at rs l.at.run l.at.piece in
+    record {
+      room : l.page.full ≡ false;
+      left : l.left + length (text_of now) ≡ length (text_of rs);
+      bounds : (most : ℕ) → l.largest ≤ most → AllFit most now → AllFit most rs;
+    }
 
-abbrev pub decreases-loop-number : goal.decreases-loop-number
-decreases-loop-number l = (length l.traces + 1) - l.number
+abbrev pub decreases-loop-at : goal.decreases-loop-at
+decreases-loop-at l = steps (left_at (runs_of l.items) l.at.run l.at.piece)

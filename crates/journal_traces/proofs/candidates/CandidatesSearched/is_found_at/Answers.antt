@@ -8,8 +8,8 @@ use Rattle.journal_traces.specs.Standing.{spans_named}
 use Rattle.journal_traces.proofs.Spots.{trace_there}
 use Rattle.journal_traces.proofs.candidates.CandidatesSearched.is_found_at.Goals as goal
 
-pub returns-in-Some : goal.returns-in-Some
-returns-in-Some c =
+pub returns-in-Some-clause-found : goal.returns-in-Some-clause-found
+returns-in-Some-clause-found c =
     let traces = c.args.self.now in
     let h = traces.journal.now.held.entries in
     let q = traces.wanted.now in

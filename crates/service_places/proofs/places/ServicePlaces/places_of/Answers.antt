@@ -7,7 +7,8 @@ use Rattle.trace_model.specs.declared.entry.Entry.{Entry}
 use Rattle.service_index.specs.Probes.{row_of}
 use Rattle.service_index.specs.Indexes.{IsNewest}
 use Rattle.service_places.specs.Along.{along}
-use Rattle.service_places.specs.Reported.{Reported, IsKept, service_brought, reporters, service_label, service_labels, places_upto}
+use Rattle.trace_model.specs.Works.{service_brought}
+use Rattle.service_places.specs.Reported.{Reported, IsKept, reporters, service_label, service_labels, places_upto}
 use Rattle.service_places.proofs.Walking.{walked}
 use Rattle.service_places.proofs.Following.{newest_own, newest_none, newest_rows}
 use Rattle.service_places.proofs.places.ServicePlaces.places_of.Goals as goal

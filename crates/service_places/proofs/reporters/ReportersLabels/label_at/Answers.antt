@@ -3,7 +3,8 @@ use Rattle.std.specs.Arc.{arc_value}
 use Rattle.std.specs.Global.{Global}
 use Rattle.std.proofs.lemmas.List.{length-map, get_or-map}
 use Rattle.trace_model.specs.declared.entry.Entry.{Entry}
-use Rattle.service_places.specs.Reported.{service_brought, service_label}
+use Rattle.trace_model.specs.Works.{service_brought}
+use Rattle.service_places.specs.Reported.{service_label}
 use Rattle.service_places.proofs.reporters.ReportersLabels.label_at.Goals as goal
 
 pub returns : goal.returns
@@ -15,5 +16,5 @@ returns c =
     let below : c.args.n < length entries = omega (arith, c.requires) in
     let within : c.args.n < length (map value entries) = omega arith in
     let service : Entry → List ℕ = λ e. service_brought e.work in
-    c.service_label.ensures ∙ ap service_label (c.service_brought.ensures ∙ ap service c.deref.ensures
+    c.service_label.ensures ∙ ap service_label (c.service.ensures ∙ ap service c.deref.ensures
     ∙ sym (get_or-map service (map value entries) c.args.n (value x) [] within ∙ ap service (get_or-map value entries c.args.n x (value x) below)))

@@ -1,4 +1,5 @@
 use Rattle.std.proofs.Common.{List, ◌≡◌, ◌∙◌, ap, sym, subst}
+use Rattle.jaeger_model.specs.Texts.{text_cmp, sorted_set}
 use Rattle.trace_model.specs.declared.entry.Entry.{Entry}
 use Rattle.trace_model.specs.Held.{Held}
 use Rattle.trace_model.specs.declared.query.Query.TheVariants.{Services}
@@ -13,5 +14,6 @@ use Rattle.span_store.proofs.store.SpanStore.services.Goals as goal
 pub returns : goal.returns
 returns c =
     let held = c.self.inside.journal.held in
-    let all : c.from_vec.result ≡ services (without_limits (events held.entries)) = c.from_vec.ensures ∙ c.in_ok-names.ensures ∙ ap (λ (h : List Entry). services (arrivals h)) c.entries.ensures ∙ ap (λ ps. services ps) (sym (came_of held.entries)) in
-    subst (λ (v : Held). Names c.from_vec.result ≡ answer v.limits v.entries Services) c.self.view_is (ap Names all)
+    let found = c.in_ok-names.names.items in
+    let all : sorted_set text_cmp found ≡ services (without_limits (events held.entries)) = c.in_ok-names.ensures ∙ ap (λ (h : List Entry). services (arrivals h)) c.entries.ensures ∙ ap (λ ps. services ps) (sym (came_of held.entries)) in
+    subst (λ (v : Held). Names (sorted_set text_cmp found) ≡ answer v.limits v.entries Services) c.self.view_is (ap Names all)

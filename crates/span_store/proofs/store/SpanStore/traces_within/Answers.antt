@@ -1,17 +1,15 @@
-use Rattle.std.proofs.Common.{◌≡◌, ◌∙◌, ap, arith, subst, map, filter, w64, List}
+use Rattle.std.proofs.Common.{◌≡◌, ◌∙◌, ap, arith, subst, map, filter, w64}
 use Rattle.std.proofs.lemmas.Int.{to_z-of_z}
 use Rattle.std.specs.List.{list_any}
-use Rattle.jaeger_model.specs.declared.ids.TraceId.{TraceId}
 use Rattle.trace_model.specs.Held.{Held}
 use Rattle.trace_model.specs.Histories.{events}
 use Rattle.trace_model.specs.Linking.{in_window, links}
 use Rattle.trace_model.specs.Searching.{traces}
-use Rattle.trace_ring.specs.Windows.{Window}
 use Rattle.trace_assembly.specs.Rows.{spots_of}
 use Rattle.service_places.specs.Reported.{service_at, group_in}
 use Rattle.call_links.specs.Seen.{links_in}
-use Rattle.journal_traces.specs.Given.{given_traces}
 use Rattle.journal_traces.specs.Standing.{trace_named}
+use Rattle.journal_traces.specs.Taking.{placed_taken}
 use Rattle.span_store.proofs.Following.{trace_stands}
 use Rattle.span_store.proofs.Keeping.{kept_spots, kept_traces}
 use Rattle.journal_traces.proofs.Spots.{links_chosen}
@@ -26,22 +24,21 @@ returns-clause-links c =
     let end_ms = c.args.end_ms in
     let lookback_ms = c.args.lookback_ms in
     let spots = spots_of was.shown in
+    let taken = c.in_ok-taken.taken in
     let stands = trace_stands h.limits.traces h.entries spots (kept_spots h was.shown was.names was.reported c.self.invariant) in
-    let ids : c.deref.result.now ≡ was.shown.newest.ids = c.deref.ensures.value ∙ c.in_ok-ids.ensures ∙ ap (λ (w : Window). w.ids) c.ring.ensures in
-    let seen : given_traces c.in_ok-traces.traces.items ≡ filter (list_any (in_window end_ms lookback_ms)) (map (trace_named h.entries spots) c.deref.result.now) = rw (e, l) at c.in_ok-traces.ensures.within in
-    let all : links_in (given_traces c.in_ok-traces.traces.items) ≡ links end_ms lookback_ms (traces h.limits.traces (events h.entries)) =
-    ap links_in seen ∙ links_chosen end_ms lookback_ms (map (trace_named h.entries spots) c.deref.result.now)
-    ∙ ap (λ (r : List TraceId). links end_ms lookback_ms (map (trace_named h.entries spots) r)) ids
+    let seen : map placed_taken taken ≡ filter (list_any (in_window end_ms lookback_ms)) (map (trace_named h.entries spots) was.shown.newest.ids) = rw (e, l) at c.in_ok-taken.ensures.within in
+    let all : links_in (map placed_taken taken) ≡ links end_ms lookback_ms (traces h.limits.traces (events h.entries)) =
+    ap links_in seen ∙ links_chosen end_ms lookback_ms (map (trace_named h.entries spots) was.shown.newest.ids)
     ∙ ap (links end_ms lookback_ms) ((λ i. map (λ t. stands t i) was.shown.newest.ids) ∙ kept_traces h was.shown was.names was.reported c.self.invariant) in
-    subst (λ (v : Held). links_in (given_traces c.in_ok-traces.traces.items) ≡ links end_ms lookback_ms (traces v.limits.traces (events v.entries))) c.self.view_is all
+    subst (λ (v : Held). links_in (map placed_taken taken) ≡ links end_ms lookback_ms (traces v.limits.traces (events v.entries))) c.self.view_is all
 
 pub returns-clause-numbered : goal.returns-clause-numbered
 returns-clause-numbered c =
     let h = c.self.inside.journal.held.entries in
-    (service_at h, (group_in h, c.in_ok-traces.ensures.numbered))
+    (service_at h, (group_in h, c.in_ok-taken.ensures.numbered))
 
-pub see_within-requires-clause-few : goal.see_within-requires-clause-few
-see_within-requires-clause-few c = omega (arith, c.self.invariant.placed.batches, c.self.invariant.placed.kept.fits, c.len-legal.ensures.legal.batches)
+pub take_within-requires-clause-few : goal.take_within-requires-clause-few
+take_within-requires-clause-few c = omega (arith, c.self.invariant.placed.batches, c.self.invariant.placed.kept.fits, c.len-legal.ensures.legal.batches)
 
-pub see_within-requires-clause-numbers : goal.see_within-requires-clause-numbers
-see_within-requires-clause-numbers c = c.self.invariant.placed.kept.grouped
+pub take_within-requires-clause-numbers : goal.take_within-requires-clause-numbers
+take_within-requires-clause-numbers c = c.self.invariant.placed.kept.grouped

@@ -6,5 +6,5 @@ use Rattle.trace_assembly.proofs.chains.Chains.rows.Goals as goal
 pub returns : goal.returns
 returns c =
     let t = c.self.inside in
-    let l = length_chains t.marks.items t.ends.items in
+    let l = length_chains t.links.marks.items t.ends.items in
     let seen = ap (λ (w : Lists). length w.chains) c.self.view_is in omega arith

@@ -7,4 +7,4 @@ pub returns : goal.returns
 unfolding escape_byte
 returns c =
     Puts-is (c.put.ensures ▸ c.count.ensures ▸ c.put-2.ensures ▸ c.string.ensures ▸ c.put-3.ensures ▸ c.string-2.ensures ▸ c.put-4.ensures)
-    (rw (c.as_str.ensures.value, c.as_str-2.ensures.value) (put_tree-text (link_tree c.args.self.now)))
+    (rw (c.as_str.ensures, c.as_str-2.ensures) (put_tree-text (link_tree c.args.self.now)))

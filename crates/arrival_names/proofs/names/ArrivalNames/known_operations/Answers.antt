@@ -1,0 +1,33 @@
+use Rattle.std.proofs.Common.{◌≡◌, ◌∙◌, ℕ, List, map, ap, sym}
+use Rattle.std.specs.Prelude.{Vec, filter}
+use Rattle.std.specs.Arc.{arc_value}
+use Rattle.std.specs.Global.{Global}
+use Rattle.std.proofs.lemmas.Result.{IfOk-weaker}
+use Rattle.jaeger_model.specs.Texts.{sorted_set}
+use Rattle.trace_model.specs.declared.entry.Entry.{Entry}
+use Rattle.trace_model.specs.declared.answer.Operation.{Operation}
+use Rattle.trace_model.specs.Histories.{arrivals}
+use Rattle.trace_model.specs.Names.{operation_cmp, is_asked_kind}
+use Rattle.service_index.specs.Listing.{Listed, listed_in, operations_of}
+use Rattle.service_index.specs.Listing.{names_of as names_in_order}
+use Rattle.service_index.specs.Indexes.{listing_by, own_operations}
+use Rattle.service_index.proofs.Arrivals.{names_listed, operations_listed}
+use Rattle.service_index.proofs.Linking.{names_are}
+use Rattle.arrival_names.specs.Kept.{Kept, names_of, AreOperations}
+use Rattle.arrival_names.proofs.names.ArrivalNames.known_operations.Goals as goal
+
+pub returns : goal.returns
+returns c =
+    let h : List Entry = map (arc_value {X = Entry} {Z = Global}) c.args.entries.now in
+    let s = c.args.service.now in
+    let found : List ℕ → List Listed → List Operation = own_operations in
+    let listing = listing_by (names_of c.arrivals.result) c.self.inside.index in
+    let all : found c.as_str.result.now listing ≡ found s (listed_in (arrivals h)) =
+    ap (λ t. found t listing) c.as_str.ensures.value
+    ∙ ap (λ (x : List Entry). found s (listing_by (names_of x) c.self.inside.index)) c.arrivals.ensures
+    ∙ ap (λ (v : Kept). found s (listing_by (names_of h) v.index)) c.self.view_is ∙ ap (found s) c.requires.kept.listed in
+    IfOk-weaker c.known_operations.result (λ (known : Vec Operation Global). sorted_set operation_cmp known.items ≡ found c.as_str.result.now listing) (λ (known : Vec Operation Global). AreOperations s (arrivals h) known.items)
+    (λ known is. record {
+      names = sym (names_are known.items) ∙ ap names_in_order (is ∙ all) ∙ names_are (operations_of s (listed_in (arrivals h))) ∙ names_listed s (arrivals h);
+      operations = λ kind. ap (filter (is_asked_kind kind)) (is ∙ all) ∙ operations_listed s kind (arrivals h);
+    }) c.known_operations.ensures

@@ -1,0 +1,144 @@
+//! Pairs of services in the order of their names.
+
+ghost use Rattle.std.specs.Prelude.{◌≡◌, ℕ, IfOk, map, unwrap_or};
+ghost use Rattle.std.specs.Ordering.{nat_cmp};
+ghost use Rattle.std.specs.BTreeMap.{get};
+ghost use Rattle.call_links.specs.Seen.{text_in};
+ghost use Rattle.call_links.specs.Tallies.{tally_seen, tallies_seen};
+ghost use Rattle.call_links.specs.Ranks.{service_entry, name_entry, rank_of, link_of};
+ghost use Rattle.call_links.specs.Ranks.{services_met, named, numbers_by_name, ranked};
+
+use crate::tally::Tally;
+use jaeger_model::Text;
+use std::alloc::{AllocError, Global};
+use std::collections::BTreeMap;
+use trace_model::{Link, TakenSpan};
+
+/// The name of the service of a span.
+#[tactic(auto, using(crate::proofs::Gathering::name_kept))]
+fn name_of(span: &TakenSpan) -> &Text
+    ensures { result.now ≡ text_in span.now.span }
+{
+    &span.seen().process.service
+}
+
+/// A span of each service of the tallies, by the number of the service.
+fn services_met<'a>(
+    alloc: Global,
+    tallies: &BTreeMap<(u32, u32), Tally<'a>>,
+) -> Result<BTreeMap<u32, &'a TakenSpan>, AllocError>
+    ensures { IfOk result (λ m.
+        map service_entry m.entries ≡ services_met (tallies_seen tallies.now.entries)) }
+{
+    let mut services = BTreeMap::new(alloc);
+    for (numbers, tally) in tallies {
+        services.insert(numbers.0, tally.caller)?;
+        services.insert(numbers.1, tally.callee)?;
+    }
+    Ok(services)
+}
+
+/// The numbers of the services by their names. No other function compares names.
+fn by_name<'a>(
+    alloc: Global,
+    services: BTreeMap<u32, &'a TakenSpan>,
+) -> Result<BTreeMap<&'a Text, u32>, AllocError>
+    ensures { IfOk result (λ m.
+        map name_entry m.entries ≡ named (map service_entry services.entry.entries)) }
+{
+    let mut names = BTreeMap::new(alloc);
+    for (number, span) in services {
+        names.insert(name_of(span), number)?;
+    }
+    Ok(names)
+}
+
+/// The numbers of the services in order of their names.
+fn numbers_by_name(
+    alloc: Global,
+    tallies: &BTreeMap<(u32, u32), Tally<'_>>,
+) -> Result<Vec<u32>, AllocError>
+    ensures { IfOk result (λ v. v.items ≡ numbers_by_name (tallies_seen tallies.now.entries)) }
+{
+    let services = services_met(alloc, tallies)?;
+    let names = by_name(alloc, services)?;
+    let mut numbers = Vec::new(alloc);
+    for (_, number) in names {
+        numbers.push(number)?;
+    }
+    Ok(numbers)
+}
+
+/// The place of each number in the list.
+fn ranks(alloc: Global, numbers: &[u32]) -> Result<BTreeMap<u32, usize>, AllocError>
+    ensures { IfOk result (λ m. (n : ℕ) → get nat_cmp m n ≡ rank_of numbers.now n) }
+{
+    let mut ranks = BTreeMap::new(alloc);
+    for (rank, number) in numbers.iter().enumerate() {
+        if !ranks.contains_key(number) {
+            ranks.insert(*number, rank)?;
+        }
+    }
+    Ok(ranks)
+}
+
+/// The rank of a number; 0 where it has none.
+fn rank(ranks: &BTreeMap<u32, usize>, number: u32) -> usize
+    ensures { result ≡ unwrap_or (get nat_cmp ranks.now number) 0 }
+{
+    match ranks.get(&number) {
+        Some(rank) => *rank,
+        None => 0,
+    }
+}
+
+/// The tallies in order of the ranks of their services.
+fn by_ranks<'a>(
+    alloc: Global,
+    tallies: BTreeMap<(u32, u32), Tally<'a>>,
+    ranks: &BTreeMap<u32, usize>,
+) -> Result<BTreeMap<(usize, usize), Tally<'a>>, AllocError>
+    ensures { IfOk result (λ m. map tally_seen m.entries ≡
+        ranked (λ n. unwrap_or (get nat_cmp ranks.now n) 0) (tallies_seen tallies.entry.entries)) }
+{
+    let mut ranked = BTreeMap::new(alloc);
+    for (numbers, tally) in tallies {
+        let key = (rank(ranks, numbers.0), rank(ranks, numbers.1));
+        ranked.insert(key, tally)?;
+    }
+    Ok(ranked)
+}
+
+/// The tallies in order of the names of their services: each name is compared to the others once, and
+/// pairs are put in order by numbers.
+pub(crate) fn in_order<'a>(
+    alloc: Global,
+    tallies: BTreeMap<(u32, u32), Tally<'a>>,
+) -> Result<BTreeMap<(usize, usize), Tally<'a>>, AllocError>
+    ensures { IfOk result (λ m. map tally_seen m.entries ≡
+        ranked (λ n. unwrap_or (rank_of (numbers_by_name (tallies_seen tallies.entry.entries)) n) 0)
+        (tallies_seen tallies.entry.entries)) }
+{
+    let numbers = numbers_by_name(alloc, &tallies)?;
+    let ranks = ranks(alloc, &numbers)?;
+    by_ranks(alloc, tallies, &ranks)
+}
+
+/// A link for each tally, in their order. The links share the names.
+pub(crate) fn linked(
+    alloc: Global,
+    ordered: BTreeMap<(usize, usize), Tally<'_>>,
+) -> Result<Vec<Link>, AllocError>
+    ensures { IfOk result (λ v.
+        v.items ≡ map (λ e. link_of e.1) (map tally_seen ordered.entry.entries)) }
+{
+    let mut links = Vec::new(alloc);
+    for (_, tally) in ordered {
+        links.push(Link {
+            parent: tally.caller.service()?,
+            child: tally.callee.service()?,
+            calls: tally.calls,
+        })?;
+    }
+    Ok(links)
+}

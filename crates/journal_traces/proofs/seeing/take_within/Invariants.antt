@@ -1,0 +1,14 @@
+use Rattle.std.proofs.Common.{◌≡◌, map, take}
+use Rattle.std.specs.Prelude.{filter}
+use Rattle.std.specs.List.{list_any}
+use Rattle.trace_model.specs.Linking.{in_window}
+use Rattle.trace_assembly.specs.Rows.{spots_of}
+use Rattle.journal_traces.specs.Standing.{trace_named, AreNumberedByService}
+use Rattle.journal_traces.specs.Taking.{placed_taken}
+use Rattle.journal_traces.proofs.seeing.take_within.Given as goal
+
+abbrev pub invariant-loop-place : goal.invariant-loop-place
+invariant-loop-place l = record {
+  within : map placed_taken l.traces ≡ filter (list_any (in_window l.end_ms l.lookback_ms)) (map (trace_named l.journal.held.entries (spots_of l.assembly)) (take l.place l.assembly.newest.ids));
+  numbered : AreNumberedByService l.journal.held.entries l.traces;
+}

@@ -1,0 +1,13 @@
+use Rattle.std.proofs.Common.{◌∙◌, ap}
+use Rattle.std.specs.Prelude.{slice_get}
+use Rattle.std.specs.Option.{option_and_then}
+use Rattle.trace_model.specs.declared.entry.Entry.{Entry}
+use Rattle.trace_model.specs.Works.{placed_brought}
+use Rattle.journal_traces.proofs.Numbers.{service_there}
+use Rattle.journal_traces.proofs.seeing.taken_at.Goals as goal
+
+pub returns-clause-number : goal.returns-clause-number
+returns-clause-number c =
+    let h = c.args.journal.now.held.entries in
+    let at = c.in_ok-taken.ensures.span ∙ ap (option_and_then (λ (e : Entry). slice_get (placed_brought e.work) c.args.spot.index)) c.in-Some.ensures in
+    service_there h c.args.reported.now.groups c.args.spot c.in_ok-taken.taken c.group_at-service.result c.requires.numbers c.group_at-service.ensures at c.in_ok-taken.ensures.number

@@ -1,0 +1,25 @@
+use Rattle.std.proofs.Common.{◌≡◌, ◌∙◌, ◌<◌, ◌≤◌, ◌++◌, ◌∷◌, [], List, map, take, length, sym, ap, arith}
+use Rattle.std.proofs.lemmas.List.{length-map, map_push, take_all, take_more}
+use Rattle.jaeger_model.specs.declared.placed.Placed.{Placed}
+use Rattle.trace_model.specs.Adjusting.{adjusted}
+use Rattle.trace_model.specs.declared.answer.Shown.{Shown}
+use Rattle.journal_traces.specs.Taking.{placed_taken}
+use Rattle.journal_traces.proofs.taken_answer.keep_all.Goals as goal
+
+pub loop-place-preserved : goal.loop-place-preserved
+loop-place-preserved c =
+    let xs : List (List Placed) = map placed_taken c.args.traces.now in
+    let f : List Placed → List Shown = adjusted c.args.limits.max_skew in
+    let i = c.loop-place.place in
+    let long = length-map c.args.traces.now placed_taken in
+    let within : i < length xs = omega (arith, c.loop-place-test.true, c.count-place-end.ensures) in
+    c.in_ok-push.ensures.items
+    ∙ (λ j. c.loop-place.invariant j ++ c.in_ok-kept_at.ensures j ∷ [])
+    ∙ sym (ap (map f) (take_more xs i [] within) ∙ map_push f (take i xs) _)
+
+pub returns : goal.returns
+returns c =
+    let xs : List (List Placed) = map placed_taken c.args.traces.now in
+    let long = length-map c.args.traces.now placed_taken in
+    let all : length xs ≤ c.loop-place.place = omega (arith, c.loop-place-test.false, c.count-place-end.ensures) in
+    c.loop-place.invariant ∙ ap (map (adjusted c.args.limits.max_skew)) (take_all c.loop-place.place xs all)

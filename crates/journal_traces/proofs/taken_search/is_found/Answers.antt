@@ -1,0 +1,32 @@
+use Rattle.std.proofs.Common.{◌∙◌, sym}
+use Rattle.trace_model.specs.Searching.{matches}
+use Rattle.journal_traces.proofs.TakenSpans.{process_seen, match_seen, has_process, none_more, one_here}
+use Rattle.journal_traces.proofs.taken_search.is_found.Goals as goal
+
+pub loop-span-preserved : goal.loop-span-preserved
+loop-span-preserved c =
+    let q = c.args.wanted.now in
+    let xs = c.args.spans.now in
+    let i = c.loop-span.span-index in
+    let x = c.span-item.result in
+    let le = c.loop-span-test.true in
+    record {
+      judged = λ process_of before all.
+          let there = process_seen process_of x c.seen.result c.number.result c.seen.ensures c.number.ensures (has_process xs i x le c.span-item.is process_of all) in
+          c.in_ok-is_match.ensures.judged process_of (c.loop-span.invariant.judged process_of before all) there;
+      none = λ process_of before all.
+          let there = process_seen process_of x c.seen.result c.number.result c.seen.ensures c.number.ensures (has_process xs i x le c.span-item.is process_of all) in
+          let met = c.in_ok-is_match.ensures.found process_of (c.loop-span.invariant.judged process_of before all) there ∙ match_seen q x c.seen.result c.seen.ensures in
+          none_more xs i x le c.span-item.is (matches q) (c.loop-span.invariant.none process_of before all) (sym met ∙ c.if-is_match.false);
+    }
+
+pub returns-then-is_match-clause-found : goal.returns-then-is_match-clause-found
+returns-then-is_match-clause-found c = λ process_of before all.
+    let q = c.args.wanted.now in
+    let xs = c.args.spans.now in
+    let i = c.loop-span.span-index in
+    let x = c.span-item.result in
+    let le = c.loop-span-test.true in
+    let there = process_seen process_of x c.seen.result c.number.result c.seen.ensures c.number.ensures (has_process xs i x le c.span-item.is process_of all) in
+    let met = c.in_ok-is_match.ensures.found process_of (c.loop-span.invariant.judged process_of before all) there ∙ match_seen q x c.seen.result c.seen.ensures in
+    sym (one_here xs i x le c.span-item.is (matches q) (sym met ∙ c.if-is_match.true))

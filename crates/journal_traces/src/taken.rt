@@ -1,0 +1,106 @@
+//! Traces whose spans were taken out of a store.
+
+ghost use Rattle.std.specs.Prelude.{◌≡◌, List, [], ◌∷◌, ◌++◌, ◌+◌, ◌<◌, ◌≤◌, OnOk, length, slice_index_or, slice_range};
+ghost use Rattle.trace_model.specs.Taking.{Taken};
+
+use std::alloc::{AllocError, Global};
+use std::marker::Model;
+use trace_model::TakenSpan;
+
+/// The spans of some traces, taken out of a store, so that they can be read after the store is left: their entries
+/// are shared. Contracts see the traces, each with its taken spans.
+#[derive(Drop)]
+pub struct TakenTraces {
+    /// Those of all traces, one trace after the other.
+    spans: Vec<TakenSpan>,
+    /// For each trace, how many spans precede its first one.
+    starts: Vec<usize>,
+}
+
+impl Model for TakenTraces {
+    ghost use Rattle.std.specs.Prelude.{List, length};
+    ghost use Rattle.trace_model.specs.Taking.{Taken};
+    ghost use Rattle.journal_traces.specs.Cutting.{cut_at, AreStarts};
+
+    ghost Value = { List (List Taken) };
+
+    ghost view = { λ t. cut_at t.spans.items t.starts.items };
+
+    ghost invariant = { λ t. AreStarts (length t.spans.items) t.starts.items };
+}
+
+/// Returns where the trace behind the one at a place begins, or the end.
+fn next_start(starts: &[usize], place: usize, end: usize) -> usize
+    requires { place < length starts.now }
+    ensures { result ≡ slice_index_or starts.now (place + 1) end }
+{
+    match starts.get(place + 1) {
+        Some(next) => *next,
+        None => end,
+    }
+}
+
+fn part(spans: &[TakenSpan], start: usize, end: usize) -> &[TakenSpan]
+    requires ordered { start ≤ end }
+    requires within { end ≤ length spans.now }
+    ensures { result.now ≡ slice_range spans.now start end }
+{
+    &spans[start..end]
+}
+
+impl TakenTraces {
+    /// No traces.
+    pub fn new(alloc: Global) -> TakenTraces
+        ensures { result ≡ [] }
+    {
+        TakenTraces {
+            spans: Vec::new(alloc),
+            starts: Vec::new(alloc),
+        }
+    }
+
+    /// Returns how many traces there are.
+    pub fn count(&self) -> usize
+        ensures { result ≡ length self.now }
+    {
+        self.starts.len()
+    }
+
+    /// Returns the spans of the trace at a place, the first one being 0; none if there is no such trace.
+    pub fn trace(&self, place: usize) -> &[TakenSpan]
+        ensures { result.now ≡ slice_index_or self.now place [] }
+    {
+        if place >= self.starts.len() {
+            return &[];
+        }
+        let start = self.starts[place];
+        let end = next_start(&self.starts, place, self.spans.len());
+        part(&self.spans, start, end)
+    }
+
+    /// Adds a trace with no spans at the end.
+    ///
+    /// # Errors
+    ///
+    /// Out of memory, and nothing else.
+    pub fn begin(&mut self) -> Result<(), AllocError>
+        ensures { OnOk result (self.new ≡ self.old ++ [] ∷ []) }
+    {
+        let start = self.spans.len();
+        self.starts.push(start)?;
+        Ok(())
+    }
+
+    /// Adds a span at the end of the last trace.
+    ///
+    /// # Errors
+    ///
+    /// Out of memory, and nothing else.
+    pub fn push(&mut self, span: TakenSpan) -> Result<(), AllocError>
+        ensures { OnOk result ((ts : List (List Taken)) (t : List Taken) →
+            self.old ≡ ts ++ t ∷ [] → self.new ≡ ts ++ (t ++ span ∷ []) ∷ []) }
+    {
+        self.spans.push(span)?;
+        Ok(())
+    }
+}

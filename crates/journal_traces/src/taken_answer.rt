@@ -1,0 +1,130 @@
+//! What a search finds among traces that were taken out of a store.
+
+ghost use Rattle.std.specs.Prelude.{◌≡◌, false, ℕ, Option, [], IfOk, map, slice_index_or};
+ghost use Rattle.jaeger_model.specs.declared.batch.Process.{Process as ProcessValue};
+ghost use Rattle.trace_model.specs.Adjusting.{adjusted};
+ghost use Rattle.trace_model.specs.Keeping.{spans_there};
+ghost use Rattle.trace_model.specs.Searching.{found_in, ids_of};
+ghost use Rattle.trace_model.specs.Sharing.{ShareProcesses};
+ghost use Rattle.journal_traces.specs.Taking.{placed_taken, HaveProcesses, ShareByNumber};
+ghost use Rattle.journal_traces.specs.TakenSearch.{traces_taken, query_taken};
+
+use crate::taken::TakenTraces;
+use crate::taken_search::TakenSearch;
+use jaeger_model::TraceId;
+use std::alloc::{AllocError, Global};
+use trace_model::{AnsweredTrace, KeptTrace, Limits, TakenSpan};
+
+/// The trace of these spans, which their entries keep, to be shown adjusted.
+fn kept_trace(alloc: Global, spans: &[TakenSpan], limits: Limits) -> Result<KeptTrace, AllocError>
+    ensures spans { IfOk result (λ t. spans_there t.spans.items ≡ placed_taken spans.now) }
+    ensures shared { (process_of : ℕ → Option ProcessValue) → HaveProcesses process_of spans.now →
+        IfOk result (λ t. ShareProcesses (spans_there t.spans.items) t.places.items) }
+    ensures form { IfOk result (λ t. (t.limits ≡ limits) × (t.raw ≡ false)) }
+{
+    let mut kept = Vec::with_capacity(alloc, spans.len())?;
+    let mut numbers = Vec::with_capacity(alloc, spans.len())?;
+    for span in spans {
+        let one = span.kept()?;
+        if one.is_there() {
+            kept.push(one)?;
+            numbers.push(u64::from(span.number()))?;
+        }
+    }
+    Ok(KeptTrace {
+        spans: kept,
+        places: numbers,
+        limits,
+        raw: false,
+    })
+}
+
+/// The trace at a place as it is to be shown, without spans where there is none.
+fn kept_at(
+    alloc: Global,
+    traces: &TakenTraces,
+    place: usize,
+    limits: Limits,
+) -> Result<AnsweredTrace, AllocError>
+    requires { ShareByNumber traces.now }
+    ensures { IfOk result (λ s. s ≡ adjusted limits.max_skew
+        (slice_index_or (map placed_taken traces.now) place [])) }
+{
+    let trace = kept_trace(alloc, traces.trace(place), limits)?;
+    Ok(AnsweredTrace::kept(trace))
+}
+
+/// The traces at the places as they are to be shown.
+#[tactic(auto, using(std::proofs::lemmas::List::map_more))]
+fn all_kept(
+    alloc: Global,
+    traces: &TakenTraces,
+    places: &[usize],
+    limits: Limits,
+) -> Result<Vec<AnsweredTrace>, AllocError>
+    requires { ShareByNumber traces.now }
+    ensures { IfOk result (λ v. v.items ≡ map (λ i. adjusted limits.max_skew
+        (slice_index_or (map placed_taken traces.now) i [])) places.now) }
+{
+    let mut kept = Vec::with_capacity(alloc, places.len())?;
+    for place in places {
+        kept.push(kept_at(alloc, traces, *place, limits)?)?;
+    }
+    Ok(kept)
+}
+
+/// The traces that a search finds, in the order of its answer, as they are to be shown. Their spans stay in the
+/// entries. None is judged once the limit of the search is reached.
+///
+/// # Errors
+///
+/// Out of memory, and nothing else.
+pub fn find_kept(
+    alloc: Global,
+    search: &mut TakenSearch<'_>,
+    limits: Limits,
+) -> Result<Vec<AnsweredTrace>, AllocError>
+    ensures { IfOk result (λ v. v.items ≡ map (adjusted limits.max_skew)
+        (found_in (query_taken search.old) (traces_taken search.old))) }
+{
+    let places = find_traces::find(alloc, search)?;
+    let kept = all_kept(alloc, search.traces(), &places, limits)?;
+    Ok(kept)
+}
+
+/// The ids of the traces that a search finds, in the order of its answer.
+///
+/// # Errors
+///
+/// Out of memory, and nothing else.
+pub fn find_kept_ids(
+    alloc: Global,
+    search: &mut TakenSearch<'_>,
+) -> Result<Vec<TraceId>, AllocError>
+    ensures { IfOk result (λ v. v.items ≡
+        ids_of (found_in (query_taken search.old) (traces_taken search.old))) }
+{
+    let ids = find_traces::find_ids(alloc, search)?;
+    Ok(ids)
+}
+
+/// All of the traces as they are to be shown, in their order. Their spans stay in the entries.
+///
+/// # Errors
+///
+/// Out of memory, and nothing else.
+pub fn keep_all(
+    alloc: Global,
+    traces: &TakenTraces,
+    limits: Limits,
+) -> Result<Vec<AnsweredTrace>, AllocError>
+    requires { ShareByNumber traces.now }
+    ensures { IfOk result (λ v. v.items ≡
+        map (adjusted limits.max_skew) (map placed_taken traces.now)) }
+{
+    let mut kept = Vec::with_capacity(alloc, traces.count())?;
+    for place in 0..traces.count() {
+        kept.push(kept_at(alloc, traces, place, limits)?)?;
+    }
+    Ok(kept)
+}

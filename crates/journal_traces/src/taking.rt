@@ -1,0 +1,75 @@
+//! Takes the spans of traces out of the journal: their entries are shared, and no span is copied.
+
+ghost use Rattle.std.specs.Prelude.{◌≡◌, ◌<◌, ◌^◌, ◌++◌, ◌∷◌, [], length, map, IfOk, IfSome, OnOk};
+ghost use Rattle.std.specs.Option.{option_and_then};
+ghost use Rattle.trace_assembly.specs.Located.{span_at};
+ghost use Rattle.journal_traces.specs.Standing.{process_at, spans_named, traces_named};
+ghost use Rattle.journal_traces.specs.Taking.{placed_taken, HasProcess, AreNumberedByPlace};
+
+use crate::taken::TakenTraces;
+use arrival_journal::Journal;
+use std::alloc::{AllocError, Global};
+use trace_assembly::{Spot, Spots};
+use trace_model::TakenSpan;
+
+/// Takes the span at a spot. Its number is the place of its entry.
+fn taken_at(journal: &Journal, spot: Spot) -> Result<Option<TakenSpan>, AllocError>
+    requires few { length journal.now.held.entries < 2 ^ 32 }
+    ensures span { IfOk result (λ t. option_and_then (λ s. s.span) t ≡
+        span_at journal.now.held.entries spot) }
+    ensures number { IfOk result (λ t. IfSome t
+        (HasProcess (process_at journal.now.held.entries))) }
+{
+    let Some(entry) = journal.entry(spot.place) else {
+        return Ok(None);
+    };
+    let taken = TakenSpan::new(entry, spot.index, spot.place as u32)?;
+    Ok(taken)
+}
+
+/// Adds the trace of the spans at these spots, in their order. The number of each span is the place of its entry.
+///
+/// # Errors
+///
+/// Out of memory, and nothing else. The last trace may then lack spans.
+pub fn take_trace(
+    traces: &mut TakenTraces,
+    journal: &Journal,
+    spots: Spots<'_>,
+) -> Result<(), AllocError>
+    requires few { length journal.now.held.entries < 2 ^ 32 }
+    ensures spans { OnOk result (map placed_taken traces.new ≡ map placed_taken traces.old
+        ++ spans_named journal.now.held.entries spots.entry ∷ []) }
+    ensures numbers { OnOk result (AreNumberedByPlace journal.now.held.entries traces.old →
+        AreNumberedByPlace journal.now.held.entries traces.new) }
+{
+    traces.begin()?;
+    for spot in spots {
+        if let Some(span) = taken_at(journal, spot)? {
+            traces.push(span)?;
+        }
+    }
+    Ok(())
+}
+
+/// Takes the trace of each of these lists of spots, in their order.
+///
+/// # Errors
+///
+/// Out of memory, and nothing else.
+pub fn take_all(
+    alloc: Global,
+    journal: &Journal,
+    spots: &[Spots<'_>],
+) -> Result<TakenTraces, AllocError>
+    requires few { length journal.now.held.entries < 2 ^ 32 }
+    ensures spans { IfOk result (λ traces. map placed_taken traces ≡
+        traces_named journal.now.held.entries spots.now) }
+    ensures numbers { IfOk result (AreNumberedByPlace journal.now.held.entries) }
+{
+    let mut traces = TakenTraces::new(alloc);
+    for trace in spots {
+        take_trace(&mut traces, journal, trace.again())?;
+    }
+    Ok(traces)
+}

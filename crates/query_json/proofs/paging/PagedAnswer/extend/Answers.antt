@@ -1,0 +1,69 @@
+use Rattle.std.proofs.Common.{◌≡◌, ◌+◌, ◌++◌, ◌∙◌, ℕ, List, false, length, length-append, ap, inl, inr, sym, append_assoc, arith}
+use Rattle.query_json.specs.declared.paging.PagedAnswer.{PagedAnswer}
+use Rattle.query_json.specs.declared.writing.page.Page.{Page}
+use Rattle.query_json.specs.Paging.{IsReady, left_of}
+use Rattle.query_json.specs.Pieces.{runs_of}
+use Rattle.query_json.specs.Runs.{Fills, left_at, text_of}
+use Rattle.query_json.proofs.Runs.{left_none, open_still}
+use Rattle.query_json.proofs.paging.PagedAnswer.extend.Goals as goal
+
+module _ (p : PagedAnswer) (new : Page) (to : List (List (List ℕ))) (ready : IsReady p) (f : Fills 16384 p.page new (left_of p) to) where
+  stays_open : new.full ≡ false
+  stays_open = elim ready.fits [
+    | inl none ↦
+        let empty : length f.bytes ≡ 0 = omega (arith, ap (λ rs. length (text_of rs)) none, ap length f.text, length-append f.bytes (text_of to)) in
+        open_still f.puts ready.open_page empty
+    | inr h ↦ f.room h.most h.fit h.room ready.open_page
+  ]
+
+  -- how many bytes were put
+  put_count : length new.bytes.items ≡ length p.page.bytes.items + length f.bytes
+  put_count = omega (arith, ap length (f.puts.adds.behind stays_open), length-append p.page.bytes.items f.bytes)
+
+  left_count : p.left ≡ length f.bytes + length (text_of to)
+  left_count = omega (arith, ready.left, ap length f.text, length-append f.bytes (text_of to))
+
+pub overflow_sub-self : goal.overflow_sub-self
+overflow_sub-self c =
+    let p = c.args.self.now in
+    let put = put_count p c.fill-self.new.page _ c.requires c.fill-self.ensures.fills in
+    omega (arith, put, c.len.ensures, c.len-before.ensures)
+
+pub overflow_sub-self-2 : goal.overflow_sub-self-2
+overflow_sub-self-2 c =
+    let p = c.args.self.now in
+    let put = put_count p c.fill-self.new.page _ c.requires c.fill-self.ensures.fills in
+    let left = left_count p c.fill-self.new.page _ c.requires c.fill-self.ensures.fills in
+    omega (arith, put, left, c.len.ensures, c.len-before.ensures)
+
+pub returns-clause-ready : goal.returns-clause-ready
+returns-clause-ready c =
+    let p = c.args.self.now in
+    let f = c.fill-self.ensures.fills in
+    let put = put_count p c.fill-self.new.page _ c.requires f in
+    let left = left_count p c.fill-self.new.page _ c.requires f in
+    record {
+      open_page = stays_open p c.fill-self.new.page _ c.requires f;
+      numbered = c.requires.numbered;
+      fits = elim c.requires.fits [
+        | inl none ↦ inl (f.ended none)
+        | inr h ↦ inr (record { most = h.most; fit = f.fits h.most h.fit; room = omega (arith, h.room, f.puts.adds.capacity) })
+      ];
+      left = omega (arith, put, left, c.len.ensures, c.len-before.ensures);
+    }
+
+pub returns-clause-gives : goal.returns-clause-gives
+returns-clause-gives c =
+    let p = c.args.self.now in
+    let f = c.fill-self.ensures.fills in
+    let rest = text_of (left_at (runs_of p.items) c.fill-self.result.run c.fill-self.result.piece) in
+    ap (λ l. l ++ rest) (f.puts.adds.behind (stays_open p c.fill-self.new.page _ c.requires f)) ∙ append_assoc p.page.bytes.items f.bytes rest
+    ∙ ap (λ l. p.page.bytes.items ++ l) (sym f.text)
+
+pub returns-clause-some : goal.returns-clause-some
+returns-clause-some c = λ empty.
+    let p = c.args.self.now in
+    elim (c.fill-self.ensures.enough (stays_open p c.fill-self.new.page _ c.requires c.fill-self.ensures.fills)) [
+      | inl long ↦ absurd (omega (arith, long, ap length empty))
+      | inr over ↦ ap text_of (left_none (runs_of p.items) c.fill-self.result.run c.fill-self.result.piece over)
+    ]

@@ -1,8 +1,0 @@
-use Rattle.std.proofs.Common.{◌≡◌, map, take, []}
-use Rattle.std.specs.Prelude.{slice_index_or}
-use Rattle.trace_model.specs.Adjusting.{adjusted}
-use Rattle.journal_traces.specs.Standing.{traces_named}
-use Rattle.span_store.proofs.finding.all_kept.Given as goal
-
-abbrev pub invariant-loop-place : goal.invariant-loop-place
-invariant-loop-place l = l.kept.items ≡ map (λ i. adjusted l.limits.max_skew (slice_index_or (traces_named l.traces.journal.now.held.entries l.traces.spots.now) i [])) (take l.place-index l.places)

@@ -1,0 +1,10 @@
+use Rattle.std.proofs.Common.{◌≡◌, map, take, []}
+use Rattle.std.specs.Prelude.{slice_index_or}
+use Rattle.journal_traces.specs.Standing.{traces_named}
+use Rattle.journal_traces.specs.Taking.{placed_taken, AreNumberedByPlace}
+use Rattle.span_store.proofs.finding.take_places.Given as goal
+
+abbrev pub invariant-loop-place : goal.invariant-loop-place
+invariant-loop-place l =
+    (map placed_taken l.taken ≡ map (λ i. slice_index_or (traces_named l.traces.journal.now.held.entries l.traces.spots.now) i []) (take l.place-index l.places))
+    × AreNumberedByPlace l.traces.journal.now.held.entries l.taken

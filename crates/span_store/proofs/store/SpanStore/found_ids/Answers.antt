@@ -1,0 +1,20 @@
+use Rattle.std.proofs.Common.{◌∙◌, List, ap}
+use Rattle.trace_assembly.specs.declared.spot.Spot.{Spot}
+use Rattle.trace_model.specs.declared.answer.Answer.TheVariants as say
+use Rattle.trace_model.specs.Held.{Held}
+use Rattle.trace_model.specs.Histories.{events}
+use Rattle.trace_model.specs.declared.query.Find.{Find}
+use Rattle.trace_model.specs.Searching.{found_in, ids_of}
+use Rattle.journal_traces.specs.Standing.{traces_named}
+use Rattle.span_store.proofs.store.SpanStore.found_ids.Goals as goal
+
+pub returns : goal.returns
+returns c =
+    let q : Find = c.args.query.now in
+    let held : Held = c.args.self.now in
+    ap say.Ids (
+    c.from_vec.ensures ∙ c.in_ok-ids.ensures
+    ∙ ap (λ (v : Held). ids_of (found_in c.in_ok-wanted.wanted (traces_named v.entries c.deref.result.now))) c.self.view_is
+    ∙ ap (λ (f : Find). ids_of (found_in f (traces_named held.entries c.deref.result.now))) c.in_ok-wanted.ensures
+    ∙ ap (λ (ss : List (List Spot)). ids_of (found_in q (traces_named held.entries ss))) c.deref.ensures.value
+    ∙ ap ids_of c.in_ok-spots.ensures)

@@ -1,0 +1,105 @@
+//! What a query needs of a store once the store is left.
+ghost use Rattle.std.specs.Prelude.{◌≡◌, IfOk, IfErr, filter};
+ghost use Rattle.jaeger_model.specs.Texts.{sorted_set};
+ghost use Rattle.trace_model.specs.Names.{operation_cmp, is_asked_kind};
+ghost use Rattle.trace_model.specs.declared.answer.Answer.TheVariants as say;
+ghost use Rattle.trace_model.specs.declared.refusal.Refusal.TheVariants.{NoMemory};
+ghost use Rattle.span_store.specs.declared.collected.Form.TheVariants as collected;
+ghost use Rattle.span_store.specs.Collecting.{form_answer};
+
+use crate::found_traces::FoundTraces;
+use crate::tag_search::TagSearch;
+use crate::window_calls::WindowCalls;
+use jaeger_model::{Seq, Text};
+use service_index::{names_in_order, operations_in_order, texts_in_order};
+use std::alloc::{AllocError, Global};
+use std::marker::Model;
+use trace_model::{Answer, Operation, Refusal, with_kind};
+
+/// What was collected, by the kind of query.
+#[derive(Drop)]
+pub(crate) enum Form<'q> {
+    /// The answer, which the store's numbers decided.
+    Ready(Answer),
+    /// The services, in no order.
+    Services(Vec<Text>),
+    /// The operations of a service, in no order. Their names are asked.
+    OperationNames(Vec<Operation>),
+    /// The operations of a service, in no order. Those of this kind are asked.
+    Operations(Vec<Operation>, &'q Text),
+    /// A search by tags.
+    Tags(TagSearch<'q>),
+    /// The traces that a search without tags found.
+    Found(FoundTraces),
+    /// The traces of a window whose calls are asked.
+    Calls(WindowCalls),
+}
+
+/// What a query needs of a store to be answered: numbers, names, and entries that are shared. What takes long is done
+/// of it once the store is left. Contracts see the answer.
+#[derive(Drop)]
+pub struct Collected<'q> {
+    alloc: Global,
+    form: Form<'q>,
+}
+
+impl<'q> Model for Collected<'q> {
+    ghost use Rattle.trace_model.specs.declared.answer.Answer.{Answer};
+    ghost use Rattle.span_store.specs.Collecting.{form_answer};
+
+    ghost Value = { Answer };
+
+    ghost view = { λ c. form_answer c.form };
+}
+
+/// The services, as an answer has them.
+fn answer_services(services: Vec<Text>) -> Result<Answer, AllocError>
+    ensures { IfOk result (λ a. a ≡ form_answer (collected.Services services)) }
+{
+    Ok(Answer::Names(Seq::from_vec(texts_in_order(services)?)))
+}
+
+/// The names of the operations, as an answer has them.
+fn answer_names(alloc: Global, operations: Vec<Operation>) -> Result<Answer, AllocError>
+    ensures { IfOk result (λ a. a ≡ form_answer (collected.OperationNames operations)) }
+{
+    Ok(Answer::Names(Seq::from_vec(names_in_order(alloc, operations)?)))
+}
+
+/// The operations of the asked kind, as an answer has them.
+fn answer_operations(operations: Vec<Operation>, kind: &Text) -> Result<Answer, AllocError>
+    ensures { IfOk result (λ a. a ≡ say.Operations
+        (filter (is_asked_kind kind.now) (sorted_set operation_cmp operations.items))) }
+{
+    let known = operations_in_order(operations)?;
+    Ok(Answer::Operations(Seq::from_vec(with_kind(known, kind))))
+}
+
+impl<'q> Collected<'q> {
+    pub(crate) fn new(alloc: Global, form: Form<'q>) -> Collected<'q>
+        ensures { result ≡ form_answer form.entry }
+    {
+        Collected { alloc, form }
+    }
+
+    /// The answer.
+    ///
+    /// # Errors
+    ///
+    /// Out of memory, and nothing else.
+    pub fn answer(self) -> Result<Answer, Refusal>
+        ensures answer { IfOk result (λ a. a ≡ self.entry) }
+        ensures reason { IfErr result (λ why. why ≡ NoMemory) }
+    {
+        let Collected { alloc, form } = self;
+        match form {
+            Form::Ready(answer) => Ok(answer),
+            Form::Services(services) => Ok(answer_services(services)?),
+            Form::OperationNames(operations) => Ok(answer_names(alloc, operations)?),
+            Form::Operations(operations, kind) => Ok(answer_operations(operations, kind)?),
+            Form::Tags(search) => Ok(search.answer(alloc)?),
+            Form::Found(traces) => Ok(traces.answer(alloc)?),
+            Form::Calls(calls) => Ok(calls.answer(alloc)?),
+        }
+    }
+}

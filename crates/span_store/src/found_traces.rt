@@ -1,0 +1,51 @@
+//! The traces that a search found, once they were taken out of the store.
+ghost use Rattle.std.specs.Prelude.{◌≡◌, IfOk, map};
+ghost use Rattle.trace_model.specs.Adjusting.{adjusted};
+ghost use Rattle.trace_model.specs.declared.answer.Answer.TheVariants as say;
+ghost use Rattle.journal_traces.specs.Taking.{placed_taken, ShareByNumber};
+
+use jaeger_model::Seq;
+use journal_traces::{TakenTraces, keep_all};
+use std::alloc::{AllocError, Global};
+use std::marker::Model;
+use trace_model::{Answer, Limits};
+
+/// Traces that were found, in the order of the answer. Contracts see the answer.
+#[derive(Drop)]
+pub(crate) struct FoundTraces {
+    /// Those of the store.
+    limits: Limits,
+    traces: TakenTraces,
+}
+
+impl Model for FoundTraces {
+    ghost use Rattle.std.specs.Prelude.{map};
+    ghost use Rattle.trace_model.specs.Adjusting.{adjusted};
+    ghost use Rattle.trace_model.specs.declared.answer.Answer.{Answer};
+    ghost use Rattle.trace_model.specs.declared.answer.Answer.TheVariants as say;
+    ghost use Rattle.journal_traces.specs.Taking.{placed_taken, ShareByNumber};
+
+    ghost Value = { Answer };
+
+    ghost view = { λ f. say.Traces (map (adjusted f.limits.max_skew) (map placed_taken f.traces)) };
+
+    ghost invariant = { λ f. ShareByNumber f.traces };
+}
+
+impl FoundTraces {
+    pub(crate) fn new(limits: Limits, traces: TakenTraces) -> FoundTraces
+        requires { ShareByNumber traces }
+        ensures { result ≡
+            say.Traces (map (adjusted limits.max_skew) (map placed_taken traces)) }
+    {
+        FoundTraces { limits, traces }
+    }
+
+    /// The traces as they are to be shown.
+    pub(crate) fn answer(self, alloc: Global) -> Result<Answer, AllocError>
+        ensures { IfOk result (λ a. a ≡ self) }
+    {
+        let kept = keep_all(alloc, &self.traces, self.limits)?;
+        Ok(Answer::Traces(Seq::from_vec(kept)))
+    }
+}

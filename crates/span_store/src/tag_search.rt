@@ -1,0 +1,69 @@
+//! A search by tags, once its candidates were taken out of the store.
+ghost use Rattle.std.specs.Prelude.{◌≡◌, IfOk, map};
+ghost use Rattle.journal_traces.specs.Taking.{placed_taken, ShareByNumber};
+ghost use Rattle.span_store.specs.Found.{found_answer};
+
+use find_traces::Wanted;
+use jaeger_model::Seq;
+use journal_traces::{TakenSearch, TakenTraces, find_kept, find_kept_ids};
+use std::alloc::{AllocError, Global};
+use std::marker::Model;
+use trace_model::{Answer, Find, Limits};
+
+/// A search, and the traces among which it finds what it finds among all. Contracts see its answer.
+#[derive(Drop)]
+pub(crate) struct TagSearch<'q> {
+    query: &'q Find,
+    /// Whether only the ids of the traces are asked.
+    ids_alone: bool,
+    /// Those of the store.
+    limits: Limits,
+    traces: TakenTraces,
+}
+
+impl<'q> Model for TagSearch<'q> {
+    ghost use Rattle.std.specs.Prelude.{map};
+    ghost use Rattle.trace_model.specs.declared.answer.Answer.{Answer};
+    ghost use Rattle.journal_traces.specs.Taking.{placed_taken, ShareByNumber};
+    ghost use Rattle.span_store.specs.Found.{found_answer};
+
+    ghost Value = { Answer };
+
+    ghost view = { λ s. found_answer s.limits s.query.now s.ids_alone (map placed_taken s.traces) };
+
+    ghost invariant = { λ s. ShareByNumber s.traces };
+}
+
+impl<'q> TagSearch<'q> {
+    pub(crate) fn new(
+        query: &'q Find,
+        ids_alone: bool,
+        limits: Limits,
+        traces: TakenTraces,
+    ) -> TagSearch<'q>
+        requires { ShareByNumber traces }
+        ensures { result ≡
+            found_answer limits query.now ids_alone (map placed_taken traces) }
+    {
+        TagSearch {
+            query,
+            ids_alone,
+            limits,
+            traces,
+        }
+    }
+
+    /// What it finds.
+    pub(crate) fn answer(self, alloc: Global) -> Result<Answer, AllocError>
+        ensures { IfOk result (λ a. a ≡ self.entry) }
+    {
+        let wanted = Wanted::new(alloc, self.query)?;
+        let mut search = TakenSearch::new(alloc, &self.traces, &wanted);
+        if self.ids_alone {
+            let ids = find_kept_ids(alloc, &mut search)?;
+            return Ok(Answer::Ids(Seq::from_vec(ids)));
+        }
+        let found = find_kept(alloc, &mut search, self.limits)?;
+        Ok(Answer::Traces(Seq::from_vec(found)))
+    }
+}

@@ -1,0 +1,103 @@
+//! A span of a trace that was taken out of a store.
+ghost use Rattle.std.specs.Prelude.{◌≡◌, Some, slice_get, IfOk, IfSome, option_map};
+ghost use Rattle.std.specs.Option.{option_and_then};
+ghost use Rattle.std.specs.Arc.{arc_value};
+ghost use Rattle.trace_model.specs.Works.{placed_brought};
+ghost use Rattle.trace_model.specs.Seeing.{placed_by_its_entry};
+
+use crate::answered_trace::{KeptSpan, reported_in};
+use crate::entry::Entry;
+use crate::service_name::ServiceName;
+use jaeger_model::Seen;
+use std::alloc::AllocError;
+use std::marker::Model;
+use std::sync::Arc;
+
+/// A span where its entry keeps it, with a number that its owner gives it. The entry is shared and nothing of it is
+/// copied, so that the span can be looked at once the store is left that it was taken out of. Contracts see the span
+/// with its process and its parent among its references, and the number.
+#[derive(Debug, Drop)]
+pub struct TakenSpan {
+    entry: Arc<Entry>,
+    index: u32,
+    number: u32,
+}
+
+impl Model for TakenSpan {
+    ghost use Rattle.std.specs.Prelude.{slice_get, IsSome};
+    ghost use Rattle.std.specs.Arc.{arc_value};
+    ghost use Rattle.trace_model.specs.Works.{placed_brought};
+    ghost use Rattle.trace_model.specs.Taking.{Taken};
+
+    ghost Value = { Taken };
+
+    ghost view = { λ s. record { span = slice_get (placed_brought (arc_value s.entry).work) s.index; number = s.number } };
+
+    ghost invariant = { λ s. IsSome (slice_get (placed_brought (arc_value s.entry).work) s.index) };
+}
+
+impl TakenSpan {
+    /// The span of the entry at an index, the first being 0, with this number; `None` where the entry has no such span.
+    ///
+    /// # Errors
+    ///
+    /// Out of memory, and nothing else.
+    pub fn new(entry: &Arc<Entry>, index: u32, number: u32) -> Result<Option<TakenSpan>, AllocError>
+        ensures span { IfOk result (λ t. option_and_then (λ s. s.span) t ≡
+            slice_get (placed_brought (arc_value entry.now).work) index) }
+        ensures number { IfOk result (λ t. IfSome t (λ s. s.number ≡ number)) }
+    {
+        if (index as usize) < entry.work.spans().len() {
+            let entry = Arc::try_clone(entry)?;
+            return Ok(Some(TakenSpan {
+                entry,
+                index,
+                number,
+            }));
+        }
+        Ok(None)
+    }
+
+    /// Its number.
+    pub fn number(&self) -> u32
+        ensures { result ≡ self.now.number }
+    {
+        self.number
+    }
+
+    /// The span as it was reported: its parent need not be among its references. Takes no memory.
+    pub fn seen(&self) -> Seen<'_>
+        ensures { Some (placed_by_its_entry result) ≡ self.now.span }
+    {
+        let Some(batch) = self.entry.work.batch() else {
+            unreachable!();
+        };
+        let Some(seen) = reported_in(batch, self.index) else {
+            unreachable!();
+        };
+        seen
+    }
+
+    /// The span for a trace of an answer.
+    ///
+    /// # Errors
+    ///
+    /// Out of memory, and nothing else.
+    pub fn kept(&self) -> Result<KeptSpan, AllocError>
+        ensures { IfOk result (λ k. k ≡ self.now.span) }
+    {
+        KeptSpan::new(&self.entry, self.index)
+    }
+
+    /// The name of the service that reported it.
+    ///
+    /// # Errors
+    ///
+    /// Out of memory, and nothing else.
+    #[tactic(auto, using(crate::proofs::KeptSpans::name_there))]
+    pub fn service(&self) -> Result<ServiceName, AllocError>
+        ensures { IfOk result (λ n. Some n ≡ option_map (λ p. p.process.service) self.now.span) }
+    {
+        ServiceName::kept(&self.entry)
+    }
+}

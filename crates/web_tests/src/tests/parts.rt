@@ -1,0 +1,229 @@
+//! Answers of more than 1 MB, given out in parts.
+
+use jaeger_model::{Batch, Seq, SharedProcess, Text, TraceId};
+use query_json::{AnswerParts, answer_bytes};
+use std::alloc::{AllocError, Global};
+use std::sync::Arc;
+use std::test::*;
+use trace_model::{
+    Answer, AnsweredTrace, Entry, KeptSpan, KeptTrace, Limits, Link, Operation, ServiceName, Work,
+};
+use trace_samples::{again, handed_in, kept, process, span};
+
+/// The bytes of a long name, and how many of them make an answer of more than 1 MB.
+const LETTERS: usize = 2_000;
+
+const MANY: u32 = 600;
+
+/// The bytes of a name of which two make an answer of more than 1 MB.
+const VERY_MANY: usize = 600_000;
+
+/// The most bytes of a part: those from which on it takes no further item, and the largest item.
+const MOST: usize = 16_384 + 5_000;
+
+fn long_name(alloc: Global, letters: usize) -> Result<Text, AllocError> {
+    let letters = "n".repeat(alloc, letters)?;
+    Text::from_str(alloc, letters.as_str())
+}
+
+fn names(alloc: Global) -> Result<Answer, AllocError> {
+    let mut names = Vec::new(alloc);
+    for _ in 0..MANY {
+        names.push(long_name(alloc, LETTERS)?)?;
+    }
+    Ok(Answer::Names(Seq::from_vec(names)))
+}
+
+fn operations(alloc: Global) -> Result<Answer, AllocError> {
+    let mut operations = Vec::new(alloc);
+    for _ in 0..MANY {
+        let name = long_name(alloc, LETTERS)?;
+        let kind = Text::from_str(alloc, "client")?;
+        operations.push(Operation { name, kind })?;
+    }
+    Ok(Answer::Operations(Seq::from_vec(operations)))
+}
+
+fn ids(alloc: Global) -> Result<Answer, AllocError> {
+    let mut ids = Vec::new(alloc);
+    for low in 0..60_000u64 {
+        ids.push(TraceId { high: 0, low })?;
+    }
+    Ok(Answer::Ids(Seq::from_vec(ids)))
+}
+
+fn links(alloc: Global) -> Result<Answer, AllocError> {
+    let mut links = Vec::new(alloc);
+    for calls in 0..MANY {
+        let parent = ServiceName::own(long_name(alloc, LETTERS)?);
+        let child = ServiceName::own(long_name(alloc, LETTERS)?);
+        let calls = u64::from(calls);
+        links.push(Link {
+            parent,
+            child,
+            calls,
+        })?;
+    }
+    Ok(Answer::Links(Seq::from_vec(links)))
+}
+
+/// An entry of a process of its own with one span, whose operation has a long name.
+fn entry(alloc: Global, number: u32, letters: usize) -> Result<Arc<Entry>, AllocError> {
+    let mut span = span(alloc, 1, u64::from(number) + 1)?;
+    span.operation = long_name(alloc, letters)?;
+    let mut process = process(alloc, "a")?;
+    process.service = Text::from_str(alloc, format!(in alloc; "s{number}")?.as_str())?;
+    let mut spans = Vec::new(alloc);
+    let added = spans.push(span);
+    let spans = Seq::from_vec(kept(spans, added)?);
+    let batch = Batch {
+        process: SharedProcess::new(alloc, process)?,
+        spans,
+        seq_no: None,
+    };
+    handed_in(alloc, 0, u64::from(number), Work::Batch(batch))
+}
+
+/// Adds that many spans, each of an entry of its own, and one that its entry doesn't have.
+fn add_spans(
+    alloc: Global,
+    spans: &mut Vec<KeptSpan>,
+    count: u32,
+    letters: usize,
+) -> Result<(), AllocError> {
+    for number in 0..count {
+        let entry = entry(alloc, number, letters)?;
+        spans.push(KeptSpan::new(&entry, 0)?)?;
+    }
+    let entry = entry(alloc, count, LETTERS)?;
+    spans.push(KeptSpan::new(&entry, 1)?)?;
+    Ok(())
+}
+
+/// A trace of that many spans, as a store keeps it.
+fn trace(
+    alloc: Global,
+    limits: Limits,
+    count: u32,
+    letters: usize,
+) -> Result<AnsweredTrace, AllocError> {
+    let mut spans = Vec::new(alloc);
+    let added = add_spans(alloc, &mut spans, count, letters);
+    let spans = kept(spans, added)?;
+    Ok(AnsweredTrace::kept(KeptTrace {
+        spans,
+        places: Vec::new(alloc),
+        limits,
+        raw: false,
+    }))
+}
+
+fn one_trace(alloc: Global, limits: Limits) -> Result<Answer, AllocError> {
+    Ok(Answer::Trace(Some(trace(alloc, limits, MANY, LETTERS)?)))
+}
+
+/// Traces with spans and without.
+fn traces(alloc: Global, limits: Limits) -> Result<Answer, AllocError> {
+    let mut traces = Vec::new(alloc);
+    for count in [0, 1, 300, 0, 2, 300] {
+        traces.push(trace(alloc, limits, count, LETTERS)?)?;
+    }
+    Ok(Answer::Traces(Seq::from_vec(traces)))
+}
+
+/// What is left of the text when the parts, each of at most [`MOST`] bytes, have been taken from its front; None if
+/// one of them is larger or something else. And the number of the parts.
+fn taken_from<'t>(text: &'t [u8], mut parts: AnswerParts<'_>) -> (Option<&'t [u8]>, usize) {
+    let mut left = text;
+    for number in 0..1_000usize {
+        let part = parts.part();
+        if part.is_empty() {
+            return (Some(left), number);
+        }
+        if part.len() > MOST || !left.starts_with(part) {
+            return (None, number);
+        }
+        left = left.get(part.len()..).unwrap_or(&[]);
+        parts.advance();
+    }
+    (None, 1_000)
+}
+
+/// Whether the answer is given out in parts that make up its text.
+fn is_parted(alloc: Global, answer: &Answer) -> Result<bool, AllocError> {
+    let text = again(AllocError, || answer_bytes(alloc, answer))?;
+    let parts = again(AllocError, || AnswerParts::new(alloc, answer))?;
+    let whole = parts.remaining() == text.len();
+    let (left, count) = taken_from(text.as_slice(), parts);
+    Ok(whole && left.is_some_and(|left| left.is_empty()) && count > 40)
+}
+
+#[test]
+fn names_are_parted(rt: HostRuntime) -> Result<(), Fail> {
+    assert!(rt; is_parted(rt.alloc(), &names(rt.alloc())?)?);
+    Ok(())
+}
+
+#[test]
+fn operations_are_parted(rt: HostRuntime) -> Result<(), Fail> {
+    assert!(rt; is_parted(rt.alloc(), &operations(rt.alloc())?)?);
+    Ok(())
+}
+
+#[test]
+fn ids_are_parted(rt: HostRuntime) -> Result<(), Fail> {
+    assert!(rt; is_parted(rt.alloc(), &ids(rt.alloc())?)?);
+    Ok(())
+}
+
+#[test]
+fn links_are_parted(rt: HostRuntime) -> Result<(), Fail> {
+    assert!(rt; is_parted(rt.alloc(), &links(rt.alloc())?)?);
+    Ok(())
+}
+
+#[test]
+fn a_trace_is_parted(rt: HostRuntime) -> Result<(), Fail> {
+    let limits = Limits::new(1, 1, 0, 200).ok_or("limits")?;
+    assert!(rt; is_parted(rt.alloc(), &one_trace(rt.alloc(), limits)?)?);
+    Ok(())
+}
+
+#[test]
+fn traces_are_parted(rt: HostRuntime) -> Result<(), Fail> {
+    let limits = Limits::new(1, 1, 0, 200).ok_or("limits")?;
+    assert!(rt; is_parted(rt.alloc(), &traces(rt.alloc(), limits)?)?);
+    Ok(())
+}
+
+/// Whether the parts of a trace of two large spans are as long as its text and, where they are taken, make it up.
+fn are_made(alloc: Global, limits: Limits, taken: bool) -> Result<bool, AllocError> {
+    let answer = Answer::Trace(Some(trace(alloc, limits, 2, VERY_MANY)?));
+    let text = again(AllocError, || answer_bytes(alloc, &answer))?;
+    let mut parts = again(AllocError, || AnswerParts::new(alloc, &answer))?;
+    let mut same = parts.remaining() == text.len();
+    let mut left = text.as_slice();
+    for _ in 0..3u8 {
+        if taken {
+            same = same && left.starts_with(parts.part());
+            left = left.get(parts.part().len()..).unwrap_or(&[]);
+            parts.advance();
+        }
+    }
+    Ok(same && left.is_empty() == taken)
+}
+
+#[test]
+fn parts_are_made(rt: HostRuntime) -> Result<(), Fail> {
+    let limits = Limits::new(1, 1, 0, 200).ok_or("limits")?;
+    assert!(rt; are_made(rt.alloc(), limits, false)?);
+    Ok(())
+}
+
+/// The same with each part given out, which takes no memory: the check of allocations counts both.
+#[test]
+fn memory_for_parts(rt: HostRuntime) -> Result<(), Fail> {
+    let limits = Limits::new(1, 1, 0, 200).ok_or("limits")?;
+    assert!(rt; are_made(rt.alloc(), limits, true)?);
+    Ok(())
+}
