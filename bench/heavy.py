@@ -61,6 +61,27 @@ THE_TRACE = get(f"/api/traces/{TRACE:x}")
 DEPENDENCIES = get("/api/dependencies?endTs=1700000000000&lookback=1700000000000")
 
 
+def finds(more):
+    """A search by service `a`."""
+    return get(f"/api/traces?service=a&start=1&end={1 << 60}{more}")
+
+
+def binary_tag(key, data):
+    return wire.field(wire.TEXT, 1) + wire.text(key) + integer(2, 4) + wire.field(wire.TEXT, 7) + wire.binary(data) + b"\0"
+
+
+def a_trace_each(count):
+    return [span(k, trace=k + 1) for k in range(count)]
+
+
+def pairs_of_services(count, size):
+    """Services with names of so many bytes, each of which calls each other one in one trace."""
+    names = [f"{k:04}" + "s" * size for k in range(count)]
+    roots = [post(batch(name, [], [span(1 + k)])) for k, name in enumerate(names)]
+    calls = [post(batch(name, [], [span(1000 + k * count + j, 1 + j) for j in range(count)])) for k, name in enumerate(names)]
+    return roots + calls
+
+
 def by_turns(count, name):
     """Two batches of two services whose spans call one another."""
     one = [span(n, n - 1) for n in range(1, count, 2)]
@@ -110,7 +131,21 @@ SHAPES = {
     "an operation each; the operations":
         lambda n: [post(batch("a", [], [span(k, operation=f"op{k}") for k in range(20 * n)])), get("/api/operations?service=a")],
     "a trace each; a search by a tag":
-        lambda n: [post(batch("a", tags(4 * n), [span(k, trace=k + 1) for k in range(8 * n)])), asked(1)],
+        lambda n: [post(batch("a", tags(4 * n), a_trace_each(8 * n))), asked(1)],
+    "process tags, a trace each; a search that finds one":
+        lambda n: [post(batch("a", tags(4 * n) + [text_tag("k", "v")], a_trace_each(8 * n))), finds("&tag=k:v&limit=1")],
+    "a binary process tag, a trace each; a search by its key":
+        lambda n: [post(batch("a", [binary_tag("b", bytes(200 * n))], a_trace_each(8 * n))), finds("&tag=b:x&limit=0")],
+    "asked pairs, entries; a search":
+        lambda n: [post(batch("a", [text_tag("", "")], [span(k)])) for k in range(1, 4 * n)] + [finds("&tag=:" * (n * 13 // 10) + "&tag=x:y")],
+    "equal processes, a trace each; a search for 20":
+        lambda n: [post(batch("a", tags(n), a_trace_each(n))) for _ in range(10)] + [finds("&limit=20")],
+    "a trace each; a search for one":
+        lambda n: [post(batch("a", [], a_trace_each(40 * n))), finds("&limit=1")],
+    "a trace each; dependencies":
+        lambda n: [post(batch("a", [], a_trace_each(40 * n))), DEPENDENCIES],
+    "pairs of long services; dependencies":
+        lambda n: pairs_of_services(max(2, n // 10), 10 * n) + [DEPENDENCIES],
 }
 
 

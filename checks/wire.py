@@ -10,7 +10,10 @@ def field(code, number):
 
 
 def text(value):
-    data = value.encode()
+    return binary(value.encode())
+
+
+def binary(data):
     return struct.pack(">i", len(data)) + data
 
 
