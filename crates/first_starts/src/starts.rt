@@ -1,0 +1,105 @@
+ghost use Rattle.std.specs.Prelude.{◌≡◌, ◌+◌, ◌<◌, ◌∷◌, ◌++◌, [], length, drop, IfOk};
+ghost use Rattle.first_starts.specs.Starting.{places_after};
+
+use crate::bounds::{BLOCK, is_later, raise};
+use std::alloc::{AllocError, Global};
+use std::marker::Model;
+
+/// The first starts of the newest traces, that of the trace opened longest ago first.
+#[derive(Drop)]
+pub struct FirstStarts {
+    pub(crate) room: u32,
+    /// The start of each trace that was opened, those of traces that left too.
+    pub(crate) opened: Vec<i64>,
+    /// How many of them left.
+    pub(crate) left: usize,
+    /// For each block of them an upper bound.
+    pub(crate) bounds: Vec<i64>,
+}
+
+impl Model for FirstStarts {
+    ghost use Rattle.std.specs.Prelude.{◌≡◌, ◌≤◌, ◌+◌, ◌/◌, length, drop, vec_capacity};
+    ghost use Rattle.first_starts.specs.Starting.{Starts, IsBounded};
+
+    ghost Value = { Starts };
+
+    ghost view = { λ s. record { starts = drop s.left s.opened.items; used = length s.opened.items; room = s.room } };
+
+    ghost invariant = { λ s. (s.room ≤ vec_capacity s.opened) × (s.room / 256 + 2 ≤ vec_capacity s.bounds)
+        × IsBounded s.room s.left s.opened.items s.bounds.items };
+}
+
+impl FirstStarts {
+    /// No start, and room for so many in all, those of traces that left too.
+    ///
+    /// # Errors
+    ///
+    /// Out of memory, and nothing else.
+    pub fn with_room(alloc: Global, room: u32) -> Result<Self, AllocError>
+        ensures starts { IfOk result (λ s. s.starts ≡ []) }
+        ensures used { IfOk result (λ s. s.used ≡ 0) }
+        ensures room { IfOk result (λ s. s.room ≡ room) }
+    {
+        let opened = Vec::with_capacity(alloc, room as usize)?;
+        let bounds = Vec::with_capacity(alloc, room as usize / BLOCK + 2)?;
+        Ok(FirstStarts {
+            room,
+            opened,
+            left: 0,
+            bounds,
+        })
+    }
+
+    /// How many starts there are.
+    pub fn len(&self) -> usize
+        ensures { result ≡ length self.now.starts }
+    {
+        self.opened.len() - self.left
+    }
+
+    /// Adds the start of a trace that was opened. It takes no memory.
+    pub fn push(&mut self, start: i64)
+        requires { self.old.used < self.old.room }
+        ensures starts { self.new.starts ≡ self.old.starts ++ start ∷ [] }
+        ensures used { self.new.used ≡ self.old.used + 1 }
+        ensures room { self.new.room ≡ self.old.room }
+    {
+        raise(&mut self.bounds, self.opened.len() / BLOCK, start);
+        self.opened.push_reserved(start);
+    }
+
+    /// The trace opened longest ago leaves.
+    pub fn drop_oldest(&mut self)
+        ensures starts { self.new.starts ≡ drop 1 self.old.starts }
+        ensures used { self.new.used ≡ self.old.used }
+        ensures room { self.new.room ≡ self.old.room }
+    {
+        if self.left < self.opened.len() {
+            self.left += 1;
+        }
+    }
+
+    /// The places of the traces that start after this time, the oldest trace at 0. A block whose bound isn't later
+    /// is skipped.
+    ///
+    /// # Errors
+    ///
+    /// Out of memory, and nothing else.
+    pub fn places_after(&self, alloc: Global, time: i64) -> Result<Vec<usize>, AllocError>
+        ensures { IfOk result (λ v. v.items ≡ places_after time self.now.starts) }
+    {
+        let mut places = Vec::new(alloc);
+        let mut at = self.left;
+        while at < self.opened.len() {
+            if !is_later(&self.bounds, at / BLOCK, time) {
+                at = (at / BLOCK + 1) * BLOCK;
+                continue;
+            }
+            if is_later(&self.opened, at, time) {
+                places.push(at - self.left)?;
+            }
+            at += 1;
+        }
+        Ok(places)
+    }
+}
