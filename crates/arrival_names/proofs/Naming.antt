@@ -1,17 +1,19 @@
 -- What the arrivals report, by their numbers.
 use Rattle.std.proofs.Common.{◌≡◌, ℕ, zero, suc, ◌-◌, ◌<◌, true, false, List, [], ◌∷◌, ◌++◌, map, length, get_or, take, refl, sym, ap, subst, ◌∙◌, arith, length-append}
-use Rattle.std.specs.Prelude.{if◌then◌else◌, cond, nat_lt, Some, None}
+use Rattle.std.specs.Prelude.{if◌then◌else◌, cond, nat_lt, Some, None, Result, IfOk, slice_get, option_map, unwrap_or}
 use Rattle.std.specs.Arc.{arc_value}
 use Rattle.std.specs.declared.sync.Arc.{Arc}
 use Rattle.std.specs.Global.{Global}
 use Rattle.std.proofs.lemmas.Bool.{false≢true, ltb-true, lt-ltb}
 use Rattle.std.proofs.lemmas.List.{length-map, get_or-map, map-append, take_at, get_or_append_left, get_or_default}
+use Rattle.std.proofs.lemmas.Result.{IfOk-weaker}
 use Rattle.jaeger_model.specs.declared.placed.Placed.{Placed}
 use Rattle.jaeger_model.specs.declared.batch.Batch.{Batch}
 use Rattle.jaeger_model.specs.declared.span.Span.{Span}
 use Rattle.jaeger_model.specs.Parents.{placed, needs_no_reference, parent_reference}
 use Rattle.jaeger_model.specs.Tags.{kind_of}
 use Rattle.jaeger_model.specs.Texts.{same_text, sorted_set}
+use Rattle.trace_model.specs.declared.answer.Operation.{Operation}
 use Rattle.trace_model.specs.declared.entry.Entry.{Entry}
 use Rattle.trace_model.specs.declared.entry.Work.{Work}
 use Rattle.trace_model.specs.declared.entry.Work.TheVariants as brings
@@ -29,6 +31,7 @@ use Rattle.service_places.specs.Reported.{reporters, service_at, group_in, group
 use Rattle.trace_model.proofs.LastEntries.{last_of}
 use Rattle.service_places.proofs.Grouping.{as_many_reporters, group_known}
 use Rattle.arrival_names.specs.Numbers.{AreOf}
+use Rattle.arrival_names.specs.Taking.{name_brought}
 use Rattle.arrival_names.specs.Kept.{reports, reported_at, names_of, reports_service}
 use Rattle.arrival_names.specs.Grouping.{arrival_number, numbers_keyed}
 use Rattle.arrival_names.proofs.Numbering.{arrivals_push}
@@ -99,6 +102,15 @@ service_came : (w : Work) (i : ℕ) (d : Placed) → i < length (spans_brought w
 service_came (brings.Batch b) i d below = service_placed b b.spans i d below
 service_came (brings.TraceLimit n) i d below = absurd (omega arith)
 
+name_placed : (b : Batch) (ss : List Span) (i : ℕ) (d : Placed) → i < length ss → (listed (get_or (map (placed b) ss) i d)).operation.name ≡ unwrap_or (option_map (λ (s : Span). s.operation) (slice_get ss i)) []
+name_placed b [] i d below = absurd (omega arith)
+name_placed b (s ∷ ss) zero d below = ap (λ (l : Listed). l.operation.name) (listed-placed b s)
+name_placed b (s ∷ ss) (suc i) d below = name_placed b ss i d (omega arith)
+
+name_came : (w : Work) (i : ℕ) (d : Placed) → i < length (spans_brought w) → (listed (get_or (placed_brought w) i d)).operation.name ≡ name_brought w i
+name_came (brings.Batch b) i d below = name_placed b b.spans i d below
+name_came (brings.TraceLimit n) i d below = absurd (omega arith)
+
 some_of : {X : Type 0} (xs : List X) (n : ℕ) → n < length xs → X
 some_of [] n below = absurd (omega arith)
 some_of (x ∷ xs) n below = x
@@ -114,6 +126,28 @@ service_reported h entry_of firsts n a below =
     let d = some_of (arrivals h) n (omega arith) in
     ap (λ (l : Listed). l.service) (get_or-map listed (arrivals h) n d (service_alone []) (omega arith)) ∙ ap (λ (p : Placed). p.process.service) (at.is e there d)
     ∙ service_came e.work i d (at.within e there) ∙ ap (λ (x : Entry). service_brought x.work) there ∙ sym (get_or-map (λ (x : Entry). service_brought x.work) h k e [] at.entry)
+
+-- ---- what an entry says of the arrival that came in it
+module _ (h : List Entry) (entry_of firsts : List ℕ) (n : ℕ) (a : AreOf h entry_of firsts) (below : n < length entry_of) (e : Entry) (there : e ≡ get_or h (get_or entry_of n 0) e) where
+  abbrev index : ℕ
+  index = n - get_or firsts (get_or entry_of n 0) 0
+
+  abbrev arrival : Placed
+  arrival = some_of (arrivals h) n (let many = a.as_many in omega arith)
+
+  reported_is : reported_at h n ≡ listed (get_or (placed_brought e.work) index arrival)
+  reported_is = let many = a.as_many in get_or-map listed (arrivals h) n arrival (service_alone []) (omega arith) ∙ ap listed ((a.at n below).is e there arrival)
+
+  pub service_named : (reported_at h n).service ≡ service_brought e.work
+  service_named = ap (λ (l : Listed). l.service) reported_is ∙ service_came e.work index arrival ((a.at n below).within e there)
+
+  pub name_named : (reported_at h n).operation.name ≡ name_brought e.work index
+  name_named = ap (λ (l : Listed). l.operation.name) reported_is ∙ name_came e.work index arrival ((a.at n below).within e there)
+
+-- an operation by its parts
+pub operation_is : {E : Type 0} (r : Result Operation E) (name kind same_name same_kind : List ℕ) → IfOk r (λ o. o ≡ record { name = name; kind = kind }) → name ≡ same_name → kind ≡ same_kind
+    → IfOk r (λ o. o ≡ record { name = same_name; kind = same_kind })
+operation_is r name kind same_name same_kind is n k = IfOk-weaker r (λ o. o ≡ record { name = name; kind = kind }) (λ o. o ≡ record { name = same_name; kind = same_kind }) (λ o e. e ∙ (λ i. record { name = n i; kind = k i })) is
 
 -- ---- a list and its last entry
 pub extends_last : (h : List Entry) → 0 < length h → Extends (names_of (before_last h)) (names_of h)

@@ -11,12 +11,15 @@
 //!
 //! * `numbers`: which span has which arrival number.
 //! * `names`: the services and operations.
+//! * `taken_operation`: an operation whose name is read where an entry keeps it: the [`TakenOperation`].
 //! * `laws`: facts about the definitions of `specs/`.
 #![tactic(auto)]
 
 pub mod laws;
 mod names;
 mod numbers;
+mod taken_operation;
 
 pub use names::ArrivalNames;
 pub use numbers::{ArrivalNumbers, Arrivals};
+pub use taken_operation::TakenOperation;

@@ -8,8 +8,9 @@ ghost use Rattle.jaeger_model.specs.Tags.{kind_of};
 ghost use Rattle.service_places.specs.Reported.{IsKept as PlacesKept};
 ghost use Rattle.arrival_names.specs.Numbers.{AreOf, IsAt};
 ghost use Rattle.arrival_journal.specs.Kinds.{kind_text, first_kinds, kinds_in};
-ghost use Rattle.arrival_names.specs.Kept.{AreKinds};
+ghost use Rattle.arrival_names.specs.Kept.{AreKinds, reported_at};
 
+use crate::taken_operation::TakenOperation;
 use arrival_journal::{Kind, SpanKinds};
 use jaeger_model::Span;
 use service_index::Texts;
@@ -17,7 +18,7 @@ use service_places::ServicePlaces;
 use std::alloc::{AllocError, Global};
 use std::marker::Model;
 use std::sync::Arc;
-use trace_model::{Entry, Work};
+use trace_model::{Entry, ServiceName, Work};
 
 /// Which span has which arrival number.
 #[derive(Drop)]
@@ -105,6 +106,36 @@ impl<'a> Texts for Arrivals<'a> {
     }
 
     ghost grouped = { names_grouped };
+}
+
+impl<'a> Arrivals<'a> {
+    /// The service of the arrival with this number, named by its entry.
+    ///
+    /// # Errors
+    ///
+    /// Out of memory, and nothing else.
+    pub(crate) fn service_at(&self, n: u32) -> Result<ServiceName, AllocError>
+        requires { n < length (arrivals self.now) }
+        ensures { IfOk result (λ s. s ≡ (reported_at self.now n).service) }
+    {
+        let before = self.entry_of[n as usize];
+        ServiceName::kept(&self.entries[before as usize])
+    }
+
+    /// The operation of the arrival with this number, named by its entry.
+    ///
+    /// # Errors
+    ///
+    /// Out of memory, and nothing else.
+    pub(crate) fn operation_at(&self, n: u32) -> Result<TakenOperation, AllocError>
+        requires { n < length (arrivals self.now) }
+        ensures { IfOk result (λ o. o ≡ (reported_at self.now n).operation) }
+    {
+        let before = self.entry_of[n as usize];
+        let first = self.firsts[before as usize];
+        let kind = self.kinds[n as usize];
+        TakenOperation::new(&self.entries[before as usize], n - first, kind)
+    }
 }
 
 impl ArrivalNumbers {

@@ -151,7 +151,11 @@ impl<'a> JudgedProcess<'a> {
     }
 
     /// Whether a span of the process has each of the asked tags, itself or in its process or its logs.
-    fn has_all_tags(&self, alloc: Global, span: &Span) -> Result<bool, AllocError>
+    ///
+    /// # Errors
+    ///
+    /// Out of memory, and nothing else.
+    pub fn has_all_tags(&self, alloc: Global, span: &Span) -> Result<bool, AllocError>
         ensures { IfOk result (λ b. b ≡ list_all
             (has_tag (record { process = self.now.process; span = span.now }))
             self.now.query.tags) }

@@ -1,9 +1,9 @@
 -- What a search and a window say does not depend on whether a span has its parent among its references.
-use Rattle.std.proofs.Common.{◌≡◌, ℤ, Bool, true, false, [], ◌∷◌, refl}
+use Rattle.std.proofs.Common.{◌≡◌, ℤ, Bool, true, false, ◌∷◌, refl}
 use Rattle.std.specs.Prelude.{if◌then◌else◌}
 use Rattle.jaeger_model.specs.declared.span.Span.{Span}
 use Rattle.jaeger_model.specs.declared.placed.Placed.{Placed}
-use Rattle.jaeger_model.specs.Parents.{needs_no_reference, parent_reference, parent}
+use Rattle.jaeger_model.specs.Parents.{needs_no_reference, parent_reference}
 use Rattle.trace_model.specs.declared.query.Find.{Find}
 use Rattle.trace_model.specs.Searching.{matches}
 use Rattle.trace_model.specs.Linking.{in_window}

@@ -2,6 +2,7 @@ pub mod Adopting
 pub mod Asked
 pub mod Marking
 pub mod Numbers
+pub mod Placing
 pub mod Processes
 pub mod Spots
 pub mod Cuts

@@ -93,4 +93,4 @@ module _ (xs : List Taken) (i : ℕ) (x : Taken) (le : i < length xs) (is : x �
       }
 
 pub kept_share : (spans : List Placed) (numbers : List ℕ) (process_of : ℕ → Option Process) → map (λ (p : Placed). Some p.process) spans ≡ map process_of numbers → ShareProcesses spans numbers
-kept_share spans numbers process_of at k d l same = one_process process_of spans numbers at k (k + 1) d (omega (arith, l)) l same
+kept_share spans numbers process_of at j k d one = one_process process_of spans numbers at j k d one.0 one.1 one.2

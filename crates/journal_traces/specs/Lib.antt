@@ -8,3 +8,4 @@ pub mod Reporting
 pub mod Cutting
 pub mod Taking
 pub mod TakenSearch
+pub mod Meeting

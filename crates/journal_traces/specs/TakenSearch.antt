@@ -1,5 +1,5 @@
 -- A search over traces that were taken out of a store, and the processes that it judged.
-use Rattle.std.specs.Prelude.{◌≡◌, ℕ, List, map, Option, Some, IfSome}
+use Rattle.std.specs.Prelude.{ℕ, List, map, Option, IfSome}
 use Rattle.std.specs.BTreeMap.{BTreeMap, get}
 use Rattle.std.specs.List.{All}
 use Rattle.std.specs.Ordering.{nat_cmp}
@@ -8,17 +8,18 @@ use Rattle.jaeger_model.specs.declared.placed.Placed.{Placed}
 use Rattle.trace_model.specs.declared.query.Find.{Find}
 use Rattle.trace_model.specs.Taking.{Taken}
 use Rattle.find_traces.specs.Wanting.{Beside}
+use Rattle.journal_traces.specs.Meeting.{IsJudgedAs}
 use Rattle.journal_traces.specs.Taking.{placed_taken, HaveProcesses}
 
--- the search and the process that the number leads to
-abbrev pub IsOfNumber : Find → (ℕ → Option Process) → ℕ → Beside → Type 0
-IsOfNumber q process_of n j = (j.query ≡ q) × (Some j.process ≡ process_of n)
+-- the process that the number leads to was judged so
+abbrev pub IsOfNumber : Find → (ℕ → Option Process) → ℕ → Option Beside → Type 0
+IsOfNumber q process_of n judged = IfSome (process_of n) (λ (p : Process). IsJudgedAs q p judged)
 
-abbrev pub AreJudged : Find → (ℕ → Option Process) → BTreeMap ℕ Beside → Type 0
+abbrev pub AreJudged : Find → (ℕ → Option Process) → BTreeMap ℕ (Option Beside) → Type 0
 AreJudged q process_of m = (n : ℕ) → IfSome (get nat_cmp m n) (IsOfNumber q process_of n)
 
 -- the numbers of the spans lead to their processes, and to those that were judged
-pub record IsSearching (q : Find) (traces : List (List Taken)) (m : BTreeMap ℕ Beside) : Type 0 where
+pub record IsSearching (q : Find) (traces : List (List Taken)) (m : BTreeMap ℕ (Option Beside)) : Type 0 where
   pub process_of : ℕ → Option Process
   pub each : All (HaveProcesses process_of) traces
   pub judged : AreJudged q process_of m

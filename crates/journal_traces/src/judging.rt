@@ -4,18 +4,19 @@ ghost use Rattle.std.specs.Prelude.{◌≡◌, Some, [], ◌∷◌, IfOk};
 ghost use Rattle.std.specs.List.{list_any};
 ghost use Rattle.trace_model.specs.Searching.{matches};
 ghost use Rattle.trace_model.specs.Seeing.{seen};
+ghost use Rattle.journal_traces.specs.Meeting.{IsJudgedAs};
 ghost use Rattle.journal_traces.specs.Standing.{process_at, spans_named};
 
+use crate::meeting::{has_tags, is_met_alone, judge};
 use crate::standing::seen_at;
 use arrival_journal::Journal;
 use find_traces::{JudgedProcess, Wanted};
 use jaeger_model::{Process, Seen};
-use span_steps::{is_named, is_timed};
 use std::alloc::{AllocError, Global};
 use std::marker::Model;
 use trace_assembly::Spot;
 
-/// The process that was judged last, and the place of its entry.
+/// The process of the asked service that was judged last, and the place of its entry.
 #[derive(Drop)]
 struct LastJudged<'a> {
     place: u64,
@@ -55,40 +56,42 @@ impl<'a> Judging<'a> {
         }
     }
 
-    /// The process of the entry at a place, judged anew unless it was the last that was judged.
+    /// The process of the entry at a place, judged anew unless it was the last that was judged; `None` if it is of
+    /// another service than the search asks for.
     fn judged_at(
         &mut self,
         alloc: Global,
         place: u64,
         process: &'a Process,
-    ) -> Result<JudgedProcess<'a>, AllocError>
+    ) -> Result<Option<JudgedProcess<'a>>, AllocError>
         requires { Some process.now ≡ process_at self.old.1 place }
-        ensures process { IfOk result (λ j. j ≡
-            record { query = self.old.0; process = process.now }) }
+        ensures process { IfOk result (IsJudgedAs self.old.0 process.now) }
         ensures same { self.new ≡ self.old }
     {
         if let Some(last) = self.last.take() {
             if last.place == place {
-                return Ok(last.process);
+                return Ok(Some(last.process));
             }
+            self.last = Some(last);
         }
-        JudgedProcess::new(alloc, self.wanted, process)
+        judge(alloc, self.wanted, process)
     }
 
     /// Whether a span of the entry at a place meets every condition of the search. The process is judged where the
-    /// span has the asked names, duration and start.
+    /// span has the asked operation, duration and start.
     fn is_match(&mut self, alloc: Global, place: u64, at: Seen<'a>) -> Result<bool, AllocError>
         requires { Some at.process.now ≡ process_at self.old.1 place }
         ensures found { IfOk result (λ b. b ≡ matches self.old.0 (seen at.entry)) }
         ensures same { self.new ≡ self.old }
     {
-        let query = self.wanted.query();
-        if !is_named(at, query) || !is_timed(at, query) {
+        if !is_met_alone(at, self.wanted.query()) {
             return Ok(false);
         }
         let process = self.judged_at(alloc, place, at.process)?;
-        let is_match = process.is_match(alloc, at.span)?;
-        self.last = Some(LastJudged { place, process });
+        let is_match = has_tags(alloc, &process, at.span)?;
+        if let Some(process) = process {
+            self.last = Some(LastJudged { place, process });
+        }
         Ok(is_match)
     }
 

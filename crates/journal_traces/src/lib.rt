@@ -6,6 +6,8 @@
 //! * `pruning`: entries that a search passes over by their outlines.
 //! * `searching`: which traces a search by a service looks at.
 //! * `reporting`: which traces a search by a service alone looks at, where many entries are of that service.
+//! * `latest`: the traces that start after some time.
+//! * `meeting`: the conditions of a search, one after the other.
 //! * `judging`: spans judged one after the other.
 //! * `candidates`: these traces, as a search looks at them.
 //! * `seeing`: the traces in a window of time, taken with the numbers of their services.
@@ -18,6 +20,8 @@
 mod candidates;
 mod gathering;
 mod judging;
+mod latest;
+mod meeting;
 mod pruning;
 mod reporting;
 mod searching;
@@ -30,6 +34,7 @@ mod taking;
 
 pub use candidates::Candidates;
 pub use gathering::gather;
+pub use latest::spots_after;
 pub use reporting::spots_reported;
 pub use searching::spots_along;
 pub use seeing::{ring_ids, take_within};

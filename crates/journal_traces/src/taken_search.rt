@@ -8,20 +8,20 @@ ghost use Rattle.trace_model.specs.Seeing.{seen};
 ghost use Rattle.journal_traces.specs.Taking.{placed_taken, HasProcess, HaveProcesses, ShareByNumber};
 ghost use Rattle.journal_traces.specs.TakenSearch.{AreJudged, traces_taken, query_taken};
 
+use crate::meeting::{has_tags, is_met_alone, judge};
 use crate::taken::TakenTraces;
 use find_traces::{JudgedProcess, Searched, Wanted};
 use jaeger_model::{Seen, TraceId};
-use span_steps::{is_named, is_timed};
 use std::alloc::{AllocError, Global};
 use std::collections::BTreeMap;
 use std::marker::Model;
 use trace_model::TakenSpan;
 
-/// Judged processes by the numbers of their spans.
-type JudgedByNumber<'a> = BTreeMap<u32, JudgedProcess<'a>>;
+/// Judged processes by the numbers of their spans; `None` for one of another service than the search asks for.
+type JudgedByNumber<'a> = BTreeMap<u32, Option<JudgedProcess<'a>>>;
 
-/// A search over taken traces. It judges the process of each number at most once. Contracts see the search and the
-/// traces, each with its taken spans.
+/// A search over taken traces. It judges the process of each number at most once, and compares its service then alone.
+/// Contracts see the search and the traces, each with its taken spans.
 #[derive(Drop)]
 pub struct TakenSearch<'a> {
     traces: &'a TakenTraces,
@@ -43,7 +43,7 @@ impl<'a> Model for TakenSearch<'a> {
 }
 
 /// Whether a span whose process has this number meets every condition of the search. Its process is judged unless it
-/// was before, and only if the span has the requested names, duration and start.
+/// was before, and only if the span has the requested operation, duration and start.
 fn is_match<'a>(
     alloc: Global,
     wanted: &'a Wanted<'a>,
@@ -58,15 +58,14 @@ fn is_match<'a>(
         AreJudged wanted.now process_of judged.old → Some at.entry.process.now ≡ process_of number →
         AreJudged wanted.now process_of judged.new }
 {
-    let query = wanted.query();
-    if !is_named(at, query) || !is_timed(at, query) {
+    if !is_met_alone(at, wanted.query()) {
         return Ok(false);
     }
     if let Some(process) = judged.get(&number) {
-        return process.is_match(alloc, at.span);
+        return has_tags(alloc, process, at.span);
     }
-    let process = JudgedProcess::new(alloc, wanted, at.process)?;
-    let is_match = process.is_match(alloc, at.span)?;
+    let process = judge(alloc, wanted, at.process)?;
+    let is_match = has_tags(alloc, &process, at.span)?;
     judged.insert(number, process)?;
     Ok(is_match)
 }

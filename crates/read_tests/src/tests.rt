@@ -1,5 +1,6 @@
 //! The tests, by their subject, and what they share.
 
+mod along;
 mod entries;
 mod fixture;
 mod holding;

@@ -21,7 +21,7 @@ use Rattle.service_index.specs.Listing.{Listed, listed_cmp, same_listed, service
 use Rattle.service_index.specs.Naming.{Names, IsGrouped, IsGroupOf, service_alone, LabelValue, same_label, Labelling, group_alone, operation_labels, group_labels}
 use Rattle.service_index.specs.Probes.{Table, no_label, label_at, AreNumbers, IsNamed, row_of, with_number}
 use Rattle.service_index.specs.LinkedRows.{newest_with}
-use Rattle.service_index.specs.Indexes.{Index, listing_by, service_row, has_service, owners, IsNewest, IsChain, IsLinked, IsIndexed}
+use Rattle.service_index.specs.Indexes.{Index, listing_by, service_row, has_service, owners, IsNewest, IsChain, LeadsBack, IsLinked, IsIndexed}
 use Rattle.service_index.proofs.Known.{known_again}
 use Rattle.service_index.proofs.Sets.{same_set, set_more, listed_total, listed_exact}
 use Rattle.service_index.proofs.Probing.{same_is, label_of}
@@ -345,6 +345,11 @@ names_are os =
     any_map p name (sorted_set operation_cmp os) ∙ any_set operation_exact (λ o. p (name o)) os ∙ sym (any_map p name os))
 
 -- ---- along a chain
+pub leads_back : (names : Names) (numbers earlier : List ℕ) → IsChain (owners names numbers) earlier → LeadsBack (length numbers) earlier
+leads_back names numbers earlier h =
+    let l = length-map numbers (λ n. (names.at n).service) in
+    record { as_many = h.as_many ∙ l; before = λ k below. (h.before k (omega arith)).within }
+
 pub newest_of : (names : Names) (index : Index) (s : List ℕ) (r at : ℕ) (numbers : List ℕ) → IsIndexed names index → r ≡ service_row names index s → r < length index.services.numbers
     → numbers ≡ index.operations.numbers → at ≡ get_or index.newest r 0 → IsNewest (owners names numbers) s at (length numbers)
 newest_of names index s r at numbers h is below same e =

@@ -103,9 +103,12 @@ named_empty labels keys room slots fits leads = record {
   leads = leads;
 }
 
--- one more number
-numbers_more : (labels : Labelling) (numbers : List ℕ) (n : ℕ) → AreNumbers labels.count numbers → n < labels.count → AreNumbers labels.count (numbers ++ n ∷ [])
-numbers_more labels numbers n h held = record {
+-- no number, and one more
+pub no_numbers : (count : ℕ) → AreNumbers count []
+no_numbers count = record { held = λ r below. absurd (omega arith) }
+
+pub numbers_more : (count : ℕ) (numbers : List ℕ) (n : ℕ) → AreNumbers count numbers → n < count → AreNumbers count (numbers ++ n ∷ [])
+numbers_more count numbers n h held = record {
   held = λ r below. elim (cases_lt r (length numbers)) [
     | inl old ↦ let e = get_or_append_left numbers (n ∷ []) 0 r old in let b = h.held r old in omega arith
     | inr new ↦ let l = length-append numbers (n ∷ []) in let e = get_or_push numbers n 0 r (omega arith) in omega arith
@@ -121,7 +124,7 @@ named_more labels t n slots h held more f leads =
     record {
       fits = h.fits;
       within = omega arith;
-      numbers = numbers_more labels t.numbers n h.numbers held;
+      numbers = numbers_more labels.count t.numbers n h.numbers held;
       once = subst (AreOnce no_label) pushed (once_more no_label known (labels.at n) h.once (nowhere_of labels t.numbers (labels.at n) f));
       leads = subst (λ (xs : List LabelValue). LeadsTo (hashes_of t.keys xs) slots) pushed (subst (λ (hs : List ℕ). LeadsTo hs slots) (sym (map_push (hash_of t.keys) known (labels.at n))) leads);
     }

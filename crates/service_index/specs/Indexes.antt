@@ -45,6 +45,10 @@ own_operations service ls = sorted_set operation_cmp (operations_of service ls)
 abbrev pub owners : Names → List ℕ → List (List ℕ)
 owners names numbers = map (λ n. (names.at n).service) numbers
 
+-- the operations of numbers
+abbrev pub operations_at : Names → List ℕ → List Operation
+operations_at names numbers = map (λ n. (names.at n).operation) numbers
+
 -- the row of a service, or how many rows there are
 abbrev pub service_row : Names → Index → List ℕ → ℕ
 service_row names index service = position_or_len (same_text service) (owners names index.services.numbers)
@@ -59,6 +63,11 @@ pub record IsNewest (rows : List (List ℕ)) (service : List ℕ) (at below : �
 pub record IsChain (rows : List (List ℕ)) (earlier : List ℕ) : Type 0 where
   pub as_many : length earlier ≡ length rows
   pub before : (k : ℕ) → k < length rows → IsNewest rows (get_or rows k []) (get_or earlier k 0) k
+
+-- each of so many rows leads to an earlier one, given with one more, or to none
+pub record LeadsBack (rows : ℕ) (earlier : List ℕ) : Type 0 where
+  pub as_many : length earlier ≡ rows
+  pub before : (k : ℕ) → k < rows → get_or earlier k 0 ≤ k
 
 -- these are the operations of each service whose newest row this is
 abbrev pub AreFrom : Names → List ℕ → ℕ → List Operation → Type 0

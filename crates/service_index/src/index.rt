@@ -4,18 +4,16 @@ ghost use Rattle.trace_model.specs.Names.{operation_cmp};
 ghost use Rattle.service_index.specs.Listing.{services_in};
 ghost use Rattle.service_index.specs.Naming.{Names, IsGroupOf, label_value, group_alone};
 ghost use Rattle.service_index.specs.Probes.{AreNumbers};
-ghost use Rattle.service_index.specs.Indexes.{listing_by, listing_with, service_row, has_service, has_operation, own_operations};
-ghost use Rattle.service_index.specs.Indexes.{owners, AreFrom, IsChain, IsIndexed};
+ghost use Rattle.service_index.specs.Indexes.{listing_by, listing_with, service_row, has_service, has_operation, own_operations, operations_at};
+ghost use Rattle.service_index.specs.Indexes.{owners, AreFrom, IsChain, IsIndexed, LeadsBack};
 
 use crate::labels::Label;
 use crate::links::Links;
 use crate::name_table::NameTable;
 use crate::texts::{GroupLabels, OperationLabels, Texts};
-use jaeger_model::Text;
 use std::alloc::{AllocError, Global};
 use std::hash::RandomState;
 use std::marker::Model;
-use trace_model::Operation;
 
 /// The services that the spans of some numbers reported, each with its operations and their kinds, in
 /// room that is taken once.
@@ -146,17 +144,15 @@ impl ServiceIndex {
         (row as usize) < self.links.rows()
     }
 
-    /// The services, each once, in no order. [`texts_in_order`](crate::texts_in_order) puts them in order.
-    ///
-    /// # Errors
-    ///
-    /// Out of memory, and nothing else.
-    pub fn known_services<T: Texts>(&self, texts: &T) -> Result<Vec<Text>, AllocError>
-        requires { IsIndexed (T.names texts.now) self.now }
-        ensures { IfOk result (λ names. sorted_set text_cmp names.items ≡
-            services_in (listing_by (T.names texts.now) self.now)) }
+    /// The number of one span of each service, in no order. [`texts_in_order`](crate::texts_in_order) puts the services in
+    /// order.
+    pub fn service_numbers(&self) -> &[u32]
+        ensures held { (names : Names) → IsIndexed names self.now →
+            AreNumbers names.count result.now }
+        ensures services { (names : Names) → IsIndexed names self.now →
+            sorted_set text_cmp (owners names result.now) ≡ services_in (listing_by names self.now) }
     {
-        services_along(self.alloc, texts, self.services.numbers())
+        self.services.numbers()
     }
 
     /// The row of a service, or how many services there are where it is not known.
@@ -172,30 +168,31 @@ impl ServiceIndex {
         }
     }
 
-    /// The operations of a service with their kinds, in no order. [`operations_in_order`](crate::operations_in_order) and
-    /// [`names_in_order`](crate::names_in_order) put them, or their names, in order.
+    /// The number of one span of each operation of a service with its kind, in no order.
+    /// [`operations_in_order`](crate::operations_in_order) and [`names_in_order`](crate::names_in_order) put the operations,
+    /// or their names, in order.
     ///
     /// # Errors
     ///
     /// Out of memory, and nothing else.
-    pub fn known_operations<T: Texts>(
+    pub fn operation_numbers<T: Texts>(
         &self,
         texts: &T,
         service: &str,
-    ) -> Result<Vec<Operation>, AllocError>
+    ) -> Result<Vec<u32>, AllocError>
         requires { IsIndexed (T.names texts.now) self.now }
-        ensures { IfOk result (λ known. sorted_set operation_cmp known.items ≡
+        ensures held { IfOk result (λ v. AreNumbers (T.names texts.now).count v.items) }
+        ensures operations { IfOk result (λ v.
+            sorted_set operation_cmp (operations_at (T.names texts.now) v.items) ≡
             own_operations service.now (listing_by (T.names texts.now) self.now)) }
     {
         let row = self.service_row(texts, service) as usize;
         if row >= self.links.services() {
             return Ok(Vec::new(self.alloc));
         }
-        let numbers = self.operations.numbers();
-        operations_along(
+        numbers_along(
             self.alloc,
-            texts,
-            numbers,
+            self.operations.numbers(),
             self.links.earlier_rows(),
             self.links.newest_row(row),
         )
@@ -213,55 +210,28 @@ fn group_label(group: u32) -> Label<'static>
     }
 }
 
-/// The services of some numbers.
-fn services_along<T: Texts>(
-    alloc: Global,
-    texts: &T,
-    numbers: &[u32],
-) -> Result<Vec<Text>, AllocError>
-    requires { AreNumbers (T.names texts.now).count numbers.now }
-    ensures { IfOk result (λ names. names.items ≡ owners (T.names texts.now) numbers.now) }
-{
-    let mut names = Vec::new(alloc);
-    for n in numbers {
-        let (service, _, _) = texts.name_at(*n);
-        names.push(Text::from_str(alloc, service)?)?;
-    }
-    Ok(names)
-}
-
-/// The operation of a number, with its kind.
-fn operation_at<T: Texts>(alloc: Global, texts: &T, n: u32) -> Result<Operation, AllocError>
-    requires { n < (T.names texts.now).count }
-    ensures { IfOk result (λ operation. operation ≡ ((T.names texts.now).at n).operation) }
-{
-    let (_, operation, kind) = texts.name_at(n);
-    Ok(Operation {
-        name: Text::from_str(alloc, operation)?,
-        kind: Text::from_str(alloc, kind)?,
-    })
-}
-
-/// The operations of a service: that of its newest row, which is given with one more, and of those
+/// The numbers of a service's operations: that of its newest row, which is given with one more, and those of the rows
 /// before it.
-fn operations_along<T: Texts>(
+fn numbers_along(
     alloc: Global,
-    texts: &T,
     numbers: &[u32],
     earlier: &[u32],
     newest: u32,
-) -> Result<Vec<Operation>, AllocError>
-    requires numbers { AreNumbers (T.names texts.now).count numbers.now }
-    requires chain { IsChain (owners (T.names texts.now) numbers.now) earlier.now }
+) -> Result<Vec<u32>, AllocError>
+    requires falls { LeadsBack (length numbers.now) earlier.now }
     requires within { newest ≤ length numbers.now }
-    ensures { IfOk result (λ known. AreFrom (T.names texts.now) numbers.now newest known.items) }
+    ensures held { IfOk result (λ v. (count : ℕ) → AreNumbers count numbers.now →
+        AreNumbers count v.items) }
+    ensures along { IfOk result (λ v. (names : Names) →
+        IsChain (owners names numbers.now) earlier.now →
+        AreFrom names numbers.now newest (operations_at names v.items)) }
 {
-    let mut known = Vec::new(alloc);
+    let mut along = Vec::new(alloc);
     let mut at = newest;
     while at > 0 {
         let row = (at - 1) as usize;
-        known.push(operation_at(alloc, texts, numbers[row])?)?;
+        along.push(numbers[row])?;
         at = earlier[row];
     }
-    Ok(known)
+    Ok(along)
 }

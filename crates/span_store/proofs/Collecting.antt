@@ -1,5 +1,5 @@
 -- What a search finds among its candidates is the answer.
-use Rattle.std.proofs.Common.{◌≡◌, Bool, true, false, List, map, ap, refl}
+use Rattle.std.proofs.Common.{◌≡◌, Bool, true, false, List, map, ap}
 use Rattle.std.specs.Prelude.{if◌then◌else◌}
 use Rattle.jaeger_model.specs.declared.placed.Placed.{Placed}
 use Rattle.trace_model.specs.Held.{Held}

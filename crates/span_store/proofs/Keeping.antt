@@ -22,6 +22,8 @@ use Rattle.arrival_names.specs.Kept.{Kept as Names}
 use Rattle.arrival_names.proofs.Numbering.{length-arrivals}
 use Rattle.service_places.specs.Reported.{Reported}
 use Rattle.journal_traces.specs.Standing.{spans_named, traces_named}
+use Rattle.first_starts.specs.Starting.{Starts}
+use Rattle.span_store.specs.Opening.{AreFirst, IsCounted}
 use Rattle.span_store.specs.Kept.{Follows, IsWithin, IsKept, IsNamed, IsPlaced}
 use Rattle.span_store.proofs.Following.{follows_within, trace_stands}
 
@@ -31,17 +33,20 @@ pub record Grows (shown shown' : Assembled) (more : ℕ) : Type 0 where
   pub used : shown'.used ≡ shown.used + more
 
 -- one more entry
-pub kept_more : (old held : Held) (e : Entry) (shown shown' : Assembled) (index index' : Names) (reported reported' : Reported)
-    → IsKept old shown index reported → held ≡ followed_by old e → Grows shown shown' (length (spans_brought e.work))
+pub kept_more : (old held : Held) (e : Entry) (shown shown' : Assembled) (starts starts' : Starts) (index index' : Names) (reported reported' : Reported)
+    → IsKept old shown starts index reported → held ≡ followed_by old e → Grows shown shown' (length (spans_brought e.work))
     → Follows old.limits.traces (located_events (old.entries ++ e ∷ [])) shown'.newest (spots_of shown')
-    → IsNamed (followed_by old e) index' → IsPlaced (followed_by old e) reported' → IsKept held shown' index' reported'
-kept_more old held e shown shown' index index' reported reported' k h grows f listed placed =
+    → AreFirst old.limits.traces (located_events (old.entries ++ e ∷ [])) starts'.starts → IsCounted shown' starts'
+    → IsNamed (followed_by old e) index' → IsPlaced (followed_by old e) reported' → IsKept held shown' starts' index' reported'
+kept_more old held e shown shown' starts starts' index index' reported reported' k h grows f first counted listed placed =
     let now : Held = followed_by old e in
     let back : now ≡ held = sym h in
     record {
       room = grows.room ∙ k.room ∙ ap (λ (v : Held). v.limits.spans) back;
       used = grows.used ∙ ap (λ n. n + length (spans_brought e.work)) k.used ∙ sym (span_count_push old.entries e) ∙ ap (λ (v : Held). span_count v.entries) back;
       follows = subst (λ (v : Held). Follows v.limits.traces (located_events v.entries) shown'.newest (spots_of shown')) back f;
+      first = subst (λ (v : Held). AreFirst v.limits.traces (located_events v.entries) starts'.starts) back first;
+      counted = counted;
       named = subst (λ (v : Held). IsNamed v index') back listed;
       placed = subst (λ (v : Held). IsPlaced v reported') back placed;
     }
@@ -57,40 +62,40 @@ pub spans_fit : (held : Held) (e : Entry) → admission_by held e ≡ Ok Added �
 spans_fit held e may = omega (arith, spans_within held e may, held.limits.within)
 
 -- they have room
-pub kept_room : (held : Held) (e : Entry) (shown : Assembled) (index : Names) (reported : Reported) → IsKept held shown index reported
+pub kept_room : (held : Held) (e : Entry) (shown : Assembled) (starts : Starts) (index : Names) (reported : Reported) → IsKept held shown starts index reported
     → admission_by held e ≡ Ok Added → shown.used + length (spans_brought e.work) ≤ shown.room
-kept_room held e shown index reported k may = omega (arith, k.room, k.used, spans_within held e may)
+kept_room held e shown starts index reported k may = omega (arith, k.room, k.used, spans_within held e may)
 
 -- nor are there more arrivals with them than there may be spans
 pub arrivals_fit : (held now : Held) (e : Entry) (h : List Entry) (room : ℕ) → now ≡ followed_by held e → IsLegal now.limits now.entries → h ≡ now.entries → room ≡ held.limits.spans → length (arrivals h) ≤ room
 arrivals_fit held now e h room appended legal same is = omega (arith, length-arrivals h ∙ ap span_count same, legal.spans, ap (λ (v : Held). v.limits.spans) appended, is)
 
 -- the ring is within the limit in force
-pub kept_within : (held : Held) (shown : Assembled) (index : Names) (reported : Reported) → IsKept held shown index reported → IsWithin shown.newest
-kept_within held shown index reported k = follows_within held.limits.traces (located_events held.entries) shown.newest (spots_of shown) k.follows
+pub kept_within : (held : Held) (shown : Assembled) (starts : Starts) (index : Names) (reported : Reported) → IsKept held shown starts index reported → IsWithin shown.newest
+kept_within held shown starts index reported k = follows_within held.limits.traces (located_events held.entries) shown.newest (spots_of shown) k.follows
 
 -- ---- what is kept is what the limits of the entries say
-pub kept_spots : (held : Held) (shown : Assembled) (index : Names) (reported : Reported) → IsKept held shown index reported
+pub kept_spots : (held : Held) (shown : Assembled) (starts : Starts) (index : Names) (reported : Reported) → IsKept held shown starts index reported
     → (t : TraceId) → spots_of shown t ≡ shown_spots held.limits.traces (located_events held.entries) t
-kept_spots held shown index reported k t = k.follows.spots t
+kept_spots held shown starts index reported k t = k.follows.spots t
 
-pub kept_ring : (held : Held) (shown : Assembled) (index : Names) (reported : Reported) → IsKept held shown index reported
+pub kept_ring : (held : Held) (shown : Assembled) (starts : Starts) (index : Names) (reported : Reported) → IsKept held shown starts index reported
     → shown.newest.ids ≡ ring held.limits.traces (events held.entries)
-kept_ring held shown index reported k = k.follows.ring ∙ ap (ring held.limits.traces) (events-located held.entries)
+kept_ring held shown starts index reported k = k.follows.ring ∙ ap (ring held.limits.traces) (events-located held.entries)
 
 -- the traces of the ring are those that are shown
-pub kept_traces : (held : Held) (shown : Assembled) (index : Names) (reported : Reported) → IsKept held shown index reported
+pub kept_traces : (held : Held) (shown : Assembled) (starts : Starts) (index : Names) (reported : Reported) → IsKept held shown starts index reported
     → map (spans_of_trace held.limits.traces (events held.entries)) shown.newest.ids ≡ traces held.limits.traces (events held.entries)
-kept_traces held shown index reported k = ap (map (spans_of_trace held.limits.traces (events held.entries))) (kept_ring held shown index reported k)
+kept_traces held shown starts index reported k = ap (map (spans_of_trace held.limits.traces (events held.entries))) (kept_ring held shown starts index reported k)
 
 -- a search finds among the spots of some traces what it finds among all, where it does so among these traces
-pub found_kept : (q : Find) (held : Held) (shown : Assembled) (index : Names) (reported : Reported) → IsKept held shown index reported
+pub found_kept : (q : Find) (held : Held) (shown : Assembled) (starts : Starts) (index : Names) (reported : Reported) → IsKept held shown starts index reported
     → (ids : List TraceId) (spots : List (List Spot)) → spots ≡ map (spots_of shown) ids
     → found_in q (map (spans_of_trace held.limits.traces (events held.entries)) ids) ≡ found_in q (map (spans_of_trace held.limits.traces (events held.entries)) shown.newest.ids)
     → found_in q (traces_named held.entries spots) ≡ found_in q (traces held.limits.traces (events held.entries))
-found_kept q held shown index reported k ids spots are same =
-    let stands = trace_stands held.limits.traces held.entries (spots_of shown) (kept_spots held shown index reported k) in
+found_kept q held shown starts index reported k ids spots are same =
+    let stands = trace_stands held.limits.traces held.entries (spots_of shown) (kept_spots held shown starts index reported k) in
     ap (λ ss. found_in q (map (spans_named held.entries) ss)) are
     ∙ ap (found_in q) (map-map (spans_named held.entries) (spots_of shown) ids ∙ (λ i. map (λ t. stands t i) ids))
     ∙ same
-    ∙ ap (found_in q) (kept_traces held shown index reported k)
+    ∙ ap (found_in q) (kept_traces held shown starts index reported k)

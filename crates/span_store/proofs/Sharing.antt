@@ -1,5 +1,5 @@
 -- Gathered spans of one place share a process.
-use Rattle.std.proofs.Common.{ℕ, ◌+◌, List, arith}
+use Rattle.std.proofs.Common.{ℕ, List}
 use Rattle.jaeger_model.specs.declared.placed.Placed.{Placed}
 use Rattle.trace_model.specs.declared.entry.Entry.{Entry}
 use Rattle.trace_model.specs.Sharing.{ShareProcesses}
@@ -7,4 +7,4 @@ use Rattle.journal_traces.specs.Standing.{process_at, AreAt}
 use Rattle.journal_traces.proofs.Processes.{one_process}
 
 pub share_processes : (h : List Entry) (spans : List Placed) (places : List ℕ) → AreAt h spans places → ShareProcesses spans places
-share_processes h spans places at k d l same = one_process (process_at h) spans places at k (k + 1) d (omega (arith, l)) l same
+share_processes h spans places at j k d one = one_process (process_at h) spans places at j k d one.0 one.1 one.2

@@ -1,3 +1,4 @@
+pub mod Opening
 pub mod Kept
 pub mod NextEntry
 pub mod Collecting

@@ -1,6 +1,6 @@
 //! What is shown follows what one more entry brings.
 
-ghost use Rattle.std.specs.Prelude.{◌≡◌, ℕ, ◌+◌, ◌^◌, ◌<◌, ◌≤◌, List, [], ◌∷◌, ◌++◌, Some, length, position};
+ghost use Rattle.std.specs.Prelude.{◌≡◌, ℕ, ℤ, ◌+◌, ◌^◌, ◌<◌, ◌≤◌, List, [], ◌∷◌, ◌++◌, Some, length, map, drop, position, is_some, if◌then◌else◌};
 ghost use Rattle.jaeger_model.specs.Parents.{same_trace};
 ghost use Rattle.jaeger_model.specs.declared.ids.TraceId.{TraceId as TraceIdValue};
 ghost use Rattle.jaeger_model.specs.declared.placed.Placed.{Placed as PlacedValue};
@@ -13,76 +13,132 @@ ghost use Rattle.trace_assembly.specs.declared.spot.Spot.{Spot as SpotValue};
 ghost use Rattle.trace_assembly.specs.Rows.{spots_of};
 ghost use Rattle.trace_assembly.specs.Located.{located_events, located_upto, without_left};
 ghost use Rattle.span_store.specs.Kept.{Follows, IsWithin};
+ghost use Rattle.span_store.specs.Opening.{AreFirst, IsCounted, first_with};
 
-use jaeger_model::{Batch, TraceId};
+use first_starts::FirstStarts;
+use jaeger_model::{Batch, Span};
 use trace_assembly::{Assembly, Spot};
 use trace_model::{Entry, Work};
+use trace_ring::Gone;
+
+/// Adds the start of the span that opened a trace, if it did.
+fn add_opened(starts: &mut FirstStarts, opened: bool, start: i64)
+    requires { starts.old.used < starts.old.room }
+    ensures starts { starts.new.starts ≡
+        (if opened then starts.old.starts ++ start ∷ [] else starts.old.starts) }
+    ensures used { starts.new.used ≤ starts.old.used + 1 }
+    ensures room { starts.new.room ≡ starts.old.room }
+{
+    if opened {
+        starts.push(start);
+    }
+}
+
+/// Drops the start of the trace that left, if one did.
+fn drop_left(starts: &mut FirstStarts, left: Option<Gone>)
+    ensures starts { starts.new.starts ≡
+        (if is_some left then drop 1 starts.old.starts else starts.old.starts) }
+    ensures used { starts.new.used ≡ starts.old.used }
+    ensures room { starts.new.room ≡ starts.old.room }
+{
+    if left.is_some() {
+        starts.drop_oldest();
+    }
+}
 
 /// Lets one span in, for which there is room: its trace may be opened, and another one may leave for
 /// it. The row that is given is a guess of how many traces were seen before its own, which is the result.
 #[tactic(auto, using(crate::proofs::Following::arrived_within))]
-fn let_in(shown: &mut Assembly, row: u32, trace: TraceId, spot: Spot) -> u32
+fn let_in(shown: &mut Assembly, starts: &mut FirstStarts, row: u32, span: &Span, spot: Spot) -> u32
     requires within { IsWithin shown.old.newest }
     requires room { shown.old.used < shown.old.room }
+    requires counted { IsCounted shown.old starts.old }
     ensures within { IsWithin shown.new.newest }
     ensures follows { (n : ℕ) (es : List (Event (SpotValue × PlacedValue))) (p : PlacedValue) →
-        Follows n es shown.old.newest (spots_of shown.old) → trace_of p ≡ trace →
+        Follows n es shown.old.newest (spots_of shown.old) → trace_of p ≡ span.now.trace →
         Follows n (es ++ came (spot, p) ∷ []) shown.new.newest (spots_of shown.new) }
     ensures room { shown.new.room ≡ shown.old.room }
     ensures used { shown.new.used ≡ shown.old.used + 1 }
-    ensures row { position (same_trace trace) shown.new.newest.seen ≡ Some result }
+    ensures row { position (same_trace span.now.trace) shown.new.newest.seen ≡ Some result }
+    ensures starts { (first : TraceIdValue → ℤ) →
+        starts.old.starts ≡ map first shown.old.newest.ids →
+        starts.new.starts ≡ map (first_with shown.old.newest.ids span.now.start first)
+        shown.new.newest.ids }
+    ensures counted { IsCounted shown.new starts.new }
 {
-    shown.arrive_near(row, trace, spot).row
+    let arrived = shown.arrive_near(row, span.trace, spot);
+    add_opened(starts, arrived.opened, span.start);
+    drop_left(starts, arrived.left);
+    arrived.row
 }
 
 /// Lets the spans of a batch in, which the entry at the place brings and for which there is room. A span of
 /// the same trace as the one before it isn't looked up.
-fn let_all_in(batch: &Batch, place: u64, shown: &mut Assembly)
+fn let_all_in(batch: &Batch, place: u64, shown: &mut Assembly, starts: &mut FirstStarts)
     requires within { IsWithin shown.old.newest }
     requires fits { length batch.now.spans < 2 ^ 32 }
     requires room { shown.old.used + length batch.now.spans ≤ shown.old.room }
+    requires counted { IsCounted shown.old starts.old }
     ensures follows { (n : ℕ) (h : List EntryValue) → place ≡ length h + 1 →
         Follows n (located_events h) shown.old.newest (spots_of shown.old) →
         Follows n (located_upto h batch.now (length batch.now.spans)) shown.new.newest
         (spots_of shown.new) }
     ensures room { shown.new.room ≡ shown.old.room }
     ensures used { shown.new.used ≡ shown.old.used + length batch.now.spans }
+    ensures first { (n : ℕ) (h : List EntryValue) → place ≡ length h + 1 →
+        Follows n (located_events h) shown.old.newest (spots_of shown.old) →
+        AreFirst n (located_events h) starts.old.starts →
+        AreFirst n (located_upto h batch.now (length batch.now.spans)) starts.new.starts }
+    ensures counted { IsCounted shown.new starts.new }
 {
     let mut index: u32 = 0;
     let mut row = 0;
     for span in batch.spans.as_slice() {
-        row = let_in(shown, row, span.trace, Spot { place, index });
+        row = let_in(shown, starts, row, span, Spot { place, index });
         index += 1;
     }
 }
 
 /// From now on so many traces stay, all where that is 0. The oldest of more leave, and their spots are
 /// forgotten. No memory is taken.
-fn lower(shown: &mut Assembly, limit: u32)
+fn lower(shown: &mut Assembly, starts: &mut FirstStarts, limit: u32)
     ensures limit { shown.new.newest.limit ≡ limit }
     ensures ids { shown.new.newest.ids ≡ newest limit shown.old.newest.ids }
     ensures spots { (t : TraceIdValue) → spots_of shown.new t ≡
         without_left shown.old.newest.ids shown.new.newest.ids (spots_of shown.old) t }
     ensures used { shown.new.used ≡ shown.old.used }
     ensures room { shown.new.room ≡ shown.old.room }
+    ensures starts { (first : TraceIdValue → ℤ) →
+        starts.old.starts ≡ map first shown.old.newest.ids →
+        starts.new.starts ≡ map first shown.new.newest.ids }
+    ensures starts_used { starts.new.used ≡ starts.old.used }
+    ensures starts_room { starts.new.room ≡ starts.old.room }
 {
     shown.set_limit(limit);
-    while let Some(_gone) = shown.drop_oldest() {}
+    while let Some(_gone) = shown.drop_oldest() {
+        starts.drop_oldest();
+    }
 }
 
 /// Lets in what the entry at the place brings: the spans of a batch, for which there is room, or a limit.
-pub(crate) fn follow(entry: &Entry, place: u64, shown: &mut Assembly)
+pub(crate) fn follow(entry: &Entry, place: u64, shown: &mut Assembly, starts: &mut FirstStarts)
     requires within { IsWithin shown.old.newest }
     requires fits { length (spans_brought entry.now.work) < 2 ^ 32 }
     requires room { shown.old.used + length (spans_brought entry.now.work) ≤ shown.old.room }
+    requires counted { IsCounted shown.old starts.old }
     ensures follows { (n : ℕ) (h : List EntryValue) → place ≡ length h + 1 →
         Follows n (located_events h) shown.old.newest (spots_of shown.old) →
         Follows n (located_events (h ++ entry.now ∷ [])) shown.new.newest (spots_of shown.new) }
     ensures room { shown.new.room ≡ shown.old.room }
     ensures used { shown.new.used ≡ shown.old.used + length (spans_brought entry.now.work) }
+    ensures first { (n : ℕ) (h : List EntryValue) → place ≡ length h + 1 →
+        Follows n (located_events h) shown.old.newest (spots_of shown.old) →
+        AreFirst n (located_events h) starts.old.starts →
+        AreFirst n (located_events (h ++ entry.now ∷ [])) starts.new.starts }
+    ensures counted { IsCounted shown.new starts.new }
 {
     match &entry.work {
-        Work::Batch(batch) => let_all_in(batch, place, shown),
-        Work::TraceLimit(limit) => lower(shown, *limit),
+        Work::Batch(batch) => let_all_in(batch, place, shown, starts),
+        Work::TraceLimit(limit) => lower(shown, starts, *limit),
     }
 }

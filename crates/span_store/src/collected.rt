@@ -10,23 +10,24 @@ ghost use Rattle.span_store.specs.Collecting.{form_answer};
 use crate::found_traces::FoundTraces;
 use crate::tag_search::TagSearch;
 use crate::window_calls::WindowCalls;
+use arrival_names::TakenOperation;
 use jaeger_model::{Seq, Text};
 use service_index::{names_in_order, operations_in_order, texts_in_order};
 use std::alloc::{AllocError, Global};
 use std::marker::Model;
-use trace_model::{Answer, Operation, Refusal, with_kind};
+use trace_model::{Answer, Operation, Refusal, ServiceName, with_kind};
 
 /// What was collected, by the kind of query.
 #[derive(Drop)]
 pub(crate) enum Form<'q> {
     /// The answer, which the store's numbers decided.
     Ready(Answer),
-    /// The services, in no order.
-    Services(Vec<Text>),
-    /// The operations of a service, in no order. Their names are asked.
-    OperationNames(Vec<Operation>),
-    /// The operations of a service, in no order. Those of this kind are asked.
-    Operations(Vec<Operation>, &'q Text),
+    /// The services, in no order, named by their entries.
+    Services(Vec<ServiceName>),
+    /// The operations of a service, in no order, named by their entries. Their names are asked.
+    OperationNames(Vec<TakenOperation>),
+    /// The operations of a service, in no order, named by their entries. Those of this kind are asked.
+    Operations(Vec<TakenOperation>, &'q Text),
     /// A search by tags.
     Tags(TagSearch<'q>),
     /// The traces that a search without tags found.
@@ -35,8 +36,8 @@ pub(crate) enum Form<'q> {
     Calls(WindowCalls),
 }
 
-/// What a query needs of a store to be answered: numbers, names, and entries that are shared. What takes long is done
-/// of it once the store is left. Contracts see the answer.
+/// What a query needs of a store to be answered: numbers, and entries that are shared. What takes long is done of it once
+/// the store is left: no text was copied before. Contracts see the answer.
 #[derive(Drop)]
 pub struct Collected<'q> {
     alloc: Global,
@@ -52,26 +53,54 @@ impl<'q> Model for Collected<'q> {
     ghost view = { λ c. form_answer c.form };
 }
 
+/// The names, copied.
+fn texts_of(alloc: Global, names: &[ServiceName]) -> Result<Vec<Text>, AllocError>
+    ensures { IfOk result (λ v. v.items ≡ names.now) }
+{
+    let mut texts = Vec::with_capacity(alloc, names.len())?;
+    for name in names {
+        texts.push(Text::from_str(alloc, name.as_str())?)?;
+    }
+    Ok(texts)
+}
+
+/// The operations, copied.
+fn operations_of(alloc: Global, taken: &[TakenOperation]) -> Result<Vec<Operation>, AllocError>
+    ensures { IfOk result (λ v. v.items ≡ taken.now) }
+{
+    let mut operations = Vec::with_capacity(alloc, taken.len())?;
+    for operation in taken {
+        operations.push(operation.operation(alloc)?)?;
+    }
+    Ok(operations)
+}
+
 /// The services, as an answer has them.
-fn answer_services(services: Vec<Text>) -> Result<Answer, AllocError>
+fn answer_services(alloc: Global, services: Vec<ServiceName>) -> Result<Answer, AllocError>
     ensures { IfOk result (λ a. a ≡ form_answer (collected.Services services)) }
 {
-    Ok(Answer::Names(Seq::from_vec(texts_in_order(services)?)))
+    let texts = texts_of(alloc, &services)?;
+    Ok(Answer::Names(Seq::from_vec(texts_in_order(texts)?)))
 }
 
 /// The names of the operations, as an answer has them.
-fn answer_names(alloc: Global, operations: Vec<Operation>) -> Result<Answer, AllocError>
-    ensures { IfOk result (λ a. a ≡ form_answer (collected.OperationNames operations)) }
+fn answer_names(alloc: Global, taken: Vec<TakenOperation>) -> Result<Answer, AllocError>
+    ensures { IfOk result (λ a. a ≡ form_answer (collected.OperationNames taken)) }
 {
+    let operations = operations_of(alloc, &taken)?;
     Ok(Answer::Names(Seq::from_vec(names_in_order(alloc, operations)?)))
 }
 
 /// The operations of the asked kind, as an answer has them.
-fn answer_operations(operations: Vec<Operation>, kind: &Text) -> Result<Answer, AllocError>
+fn answer_operations(
+    alloc: Global,
+    taken: Vec<TakenOperation>,
+    kind: &Text,
+) -> Result<Answer, AllocError>
     ensures { IfOk result (λ a. a ≡ say.Operations
-        (filter (is_asked_kind kind.now) (sorted_set operation_cmp operations.items))) }
+        (filter (is_asked_kind kind.now) (sorted_set operation_cmp taken.items))) }
 {
-    let known = operations_in_order(operations)?;
+    let known = operations_in_order(operations_of(alloc, &taken)?)?;
     Ok(Answer::Operations(Seq::from_vec(with_kind(known, kind))))
 }
 
@@ -94,9 +123,9 @@ impl<'q> Collected<'q> {
         let Collected { alloc, form } = self;
         match form {
             Form::Ready(answer) => Ok(answer),
-            Form::Services(services) => Ok(answer_services(services)?),
+            Form::Services(services) => Ok(answer_services(alloc, services)?),
             Form::OperationNames(operations) => Ok(answer_names(alloc, operations)?),
-            Form::Operations(operations, kind) => Ok(answer_operations(operations, kind)?),
+            Form::Operations(operations, kind) => Ok(answer_operations(alloc, operations, kind)?),
             Form::Tags(search) => Ok(search.answer(alloc)?),
             Form::Found(traces) => Ok(traces.answer(alloc)?),
             Form::Calls(calls) => Ok(calls.answer(alloc)?),

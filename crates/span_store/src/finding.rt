@@ -66,3 +66,12 @@ pub(crate) fn find_ids(
     let ids = find_traces::find_ids(alloc, traces)?;
     Ok(ids)
 }
+
+/// How many traces a search finds.
+pub(crate) fn count_found(alloc: Global, traces: &mut Candidates<'_>) -> Result<usize, AllocError>
+    ensures { IfOk result (λ n. n ≡
+        length (found_in (query_of traces.old) (traces_of traces.old))) }
+{
+    let places = find_traces::find(alloc, traces)?;
+    Ok(places.len())
+}

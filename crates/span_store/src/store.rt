@@ -22,7 +22,9 @@ ghost use Rattle.span_store.specs.NextEntry.{next_entry};
 
 use crate::arrange::follow;
 use crate::collected::{Collected, Form};
-use crate::common::{COMMON, asks_service_alone};
+use crate::common::{
+    COMMON, GROWTH, PER_ENTRY, TRIES, are_few, asks_service_alone, first_try, is_full, is_promising,
+};
 use crate::finding;
 use crate::found_traces::FoundTraces;
 use crate::tag_search::TagSearch;
@@ -30,9 +32,11 @@ use crate::window_calls::WindowCalls;
 use arrival_journal::{Journal, Record};
 use arrival_names::ArrivalNames;
 use find_traces::Wanted;
+use first_starts::FirstStarts;
 use jaeger_model::{Batch, Seq, Text, TraceId};
 use journal_traces::{
-    Candidates, TakenTraces, gather, ring_ids, spots_along, spots_reported, take_all, take_within,
+    Candidates, TakenTraces, gather, ring_ids, spots_after, spots_along, spots_reported, take_all,
+    take_within,
 };
 use service_places::ServicePlaces;
 use std::alloc::{AllocError, Global};
@@ -46,14 +50,17 @@ use trace_model::{Admission, Answer, AnsweredTrace, Entry, Find, Limits, Query, 
 ///
 /// A trace by its id costs its own spans, and names cost what is listed. A search looks at the entries
 /// of its service, or at the numbers of the services of each trace where it asks for a service alone that many entries
-/// are of, and at the first span of each trace that is left. It judges these traces as the answer orders them, until as
-/// many match as it asks for. It copies no span: what it answers shares the entries.
+/// are of, and at the first span of each trace that is left. With a limit and without tags it tries the traces that start
+/// last first, and looks no further where enough of them match. It judges these traces as the answer orders them, until
+/// as many match as it asks for. It copies no span: what it answers shares the entries.
 #[derive(Drop)]
 pub struct SpanStore {
     alloc: Global,
     journal: Journal,
     /// The shown traces, with where their spans stand.
     shown: Assembly,
+    /// The start of each shown trace's first span.
+    starts: FirstStarts,
     names: ArrivalNames,
     reported: ServicePlaces,
 }
@@ -67,7 +74,7 @@ impl Model for SpanStore {
 
     ghost view = { λ s. s.journal.held };
 
-    ghost invariant = { λ s. IsKept s.journal.held s.shown s.names s.reported };
+    ghost invariant = { λ s. IsKept s.journal.held s.shown s.starts s.names s.reported };
 }
 
 /// Room for the names, and for the places of services.
@@ -96,11 +103,13 @@ impl SpanStore {
     {
         let journal = Journal::new(alloc, keys, limits)?;
         let shown = Assembly::with_room(alloc, keys, limits.traces, limits.spans)?;
+        let starts = FirstStarts::with_room(alloc, limits.spans)?;
         let named = room_for_names(alloc, keys, limits)?;
         Ok(SpanStore {
             alloc,
             journal,
             shown,
+            starts,
             names: named.0,
             reported: named.1,
         })
@@ -190,7 +199,7 @@ impl SpanStore {
         ensures legal { IsLegal self.new.limits self.new.entries }
     {
         let place = self.journal.len() + 1;
-        follow(entry.entry(), place, &mut self.shown);
+        follow(entry.entry(), place, &mut self.shown, &mut self.starts);
         let kinds = entry.kinds().again();
         self.journal.append(entry);
         let entries = self.journal.entries();
@@ -232,7 +241,7 @@ impl SpanStore {
     }
 
     /// What this answer needs of the store. Whoever may not stay in the store for long collects here, and goes through
-    /// tags, logs and processes elsewhere.
+    /// tags, logs, processes and names elsewhere.
     ///
     /// # Errors
     ///
@@ -263,7 +272,7 @@ impl SpanStore {
     {
         let names = self
             .names
-            .known_services(self.journal.entries(), &self.reported)?;
+            .known_services(self.alloc, self.journal.entries(), &self.reported)?;
         Ok(Form::Services(names))
     }
 
@@ -272,9 +281,10 @@ impl SpanStore {
         ensures { IfOk result (λ f. form_answer f ≡ answer self.now.limits self.now.entries
             (ask.OperationNames service.now)) }
     {
+        let entries = self.journal.entries();
         let found = self
             .names
-            .known_operations(self.journal.entries(), &self.reported, service)?;
+            .known_operations(self.alloc, entries, &self.reported, service)?;
         Ok(Form::OperationNames(found))
     }
 
@@ -283,9 +293,10 @@ impl SpanStore {
         ensures { IfOk result (λ f. form_answer f ≡ answer self.now.limits self.now.entries
             (ask.Operations service.now kind.now)) }
     {
+        let entries = self.journal.entries();
         let found = self
             .names
-            .known_operations(self.journal.entries(), &self.reported, service)?;
+            .known_operations(self.alloc, entries, &self.reported, service)?;
         Ok(Form::Operations(found, kind))
     }
 
@@ -373,6 +384,72 @@ impl SpanStore {
         }
     }
 
+    /// Whether the traces that start last may hold all that a search asks for, so that a look at so many of them is worth its
+    /// time: they are few, and the search's service has many entries.
+    fn is_worth_a_try(&self, query: &Find, count: usize) -> bool {
+        if !are_few(count, self.starts.len()) || !self.may_find(query) {
+            return false;
+        }
+        let entries = self.journal.entries();
+        let mut places = self.reported.places_of(entries, query.service.as_str());
+        places.nth(count / PER_ENTRY).is_some()
+    }
+
+    /// The spots of about so many shown traces that start last, those of the one opened longest ago first, if the search
+    /// finds as many among these as it asks for: it finds the same among all then. And how many it finds among these.
+    fn latest(
+        &self,
+        query: &Find,
+        count: usize,
+    ) -> Result<(Option<Vec<Spots<'_>>>, usize), AllocError>
+        ensures { IfOk result (λ r. IfSome r.0 (λ v.
+            found_in query.now (traces_named self.now.entries v.items) ≡
+            found_in query.now (traces self.now.limits.traces (events self.now.entries)))) }
+    {
+        let Some(time) = self.starts.threshold(self.alloc, count)? else {
+            return Ok((None, 0));
+        };
+        let wanted = Wanted::new(self.alloc, query)?;
+        let spots = spots_after(self.alloc, &self.shown, &self.starts, time)?;
+        let mut late = Candidates {
+            journal: &self.journal,
+            wanted: &wanted,
+            spots: &spots,
+        };
+        let found = finding::count_found(self.alloc, &mut late)?;
+        if is_full(query.limit, found) {
+            return Ok((Some(spots), found));
+        }
+        Ok((None, found))
+    }
+
+    /// The spots of the shown traces that a search without tags looks at, those of the one opened longest ago first: it finds
+    /// the same among these traces as among all. A search with a limit looks at those that start last first. Where it finds
+    /// some, but fewer than it asks for, it looks at more.
+    fn narrowed(&self, query: &Find) -> Result<Vec<Spots<'_>>, AllocError>
+        ensures { IfOk result (λ v. found_in query.now (traces_named self.now.entries v.items) ≡
+            found_in query.now (traces self.now.limits.traces (events self.now.entries))) }
+    {
+        if query.limit == 0 {
+            return self.candidates(query);
+        }
+        let mut count = first_try(query.limit);
+        for _ in 0..TRIES {
+            if !self.is_worth_a_try(query, count) {
+                break;
+            }
+            let (late, found) = self.latest(query, count)?;
+            if let Some(spots) = late {
+                return Ok(spots);
+            }
+            if !is_promising(query.limit, found) {
+                break;
+            }
+            count = count.saturating_mul(GROWTH);
+        }
+        self.candidates(query)
+    }
+
     /// A search by tags, with its candidates taken out.
     fn tag_search<'q>(&self, query: &'q Find, ids_alone: bool) -> Result<TagSearch<'q>, AllocError>
         ensures { IfOk result (λ s. s ≡ answer self.now.limits self.now.entries
@@ -390,7 +467,7 @@ impl SpanStore {
             (ask.FindIds query.now)) }
     {
         let wanted = Wanted::new(self.alloc, query)?;
-        let spots = self.candidates(query)?;
+        let spots = self.narrowed(query)?;
         let mut traces = Candidates {
             journal: &self.journal,
             wanted: &wanted,
@@ -407,7 +484,7 @@ impl SpanStore {
     {
         let _legal = self.journal.len();
         let wanted = Wanted::new(self.alloc, query)?;
-        let spots = self.candidates(query)?;
+        let spots = self.narrowed(query)?;
         let candidates = Candidates {
             journal: &self.journal,
             wanted: &wanted,

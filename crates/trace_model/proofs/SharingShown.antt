@@ -1,5 +1,5 @@
 -- Spans that share a process share it as they are shown: no adjuster changes a process.
-use Rattle.std.proofs.Common.{◌≡◌, ℕ, zero, suc, ◌+◌, Bool, true, false, List, [], ◌∷◌, map, get_or, refl, sym, ap, ◌∙◌, subst}
+use Rattle.std.proofs.Common.{◌≡◌, ℕ, zero, suc, Bool, true, false, List, [], ◌∷◌, map, get_or, refl, sym, ap, ◌∙◌, subst}
 use Rattle.std.proofs.lemmas.List.{map-id}
 use Rattle.jaeger_model.specs.declared.batch.Process.{Process}
 use Rattle.jaeger_model.specs.declared.placed.Placed.{Placed}
@@ -20,10 +20,10 @@ still_process f (x ∷ xs) (suc k) d = still_process f xs k d
 
 -- spans that are the same but for their times share alike
 shared_alike : {X : Type 0} (f : X → Placed) (ps : List Placed) (xs : List X) (places : List ℕ) → map (λ x. still (f x)) xs ≡ map still ps → ShareProcesses ps places → ShareProcesses (map f xs) places
-shared_alike f ps xs places alike share k d l e = same k ∙ share k d l e ∙ sym (same (k + 1))
+shared_alike f ps xs places alike share j k d one = same j ∙ share j k d one ∙ sym (same k)
   where
-    same : (j : ℕ) → process_at (map f xs) j d ≡ process_at ps j d
-    same j = sym (still_process f xs j d) ∙ ap (λ qs. process_at qs j (still d)) alike ∙ still_process (λ p. p) ps j d ∙ ap (λ qs. process_at qs j d) (map-id ps)
+    same : (i : ℕ) → process_at (map f xs) i d ≡ process_at ps i d
+    same i = sym (still_process f xs i d) ∙ ap (λ qs. process_at qs i (still d)) alike ∙ still_process (λ p. p) ps i d ∙ ap (λ qs. process_at qs i d) (map-id ps)
 
 pub same_spans : (ps : List Placed) → spans_of (map unadjusted ps) ≡ ps
 same_spans [] = refl

@@ -16,7 +16,7 @@ spans_there spans = filter_map (λ s. s) spans
 abbrev pub kept_value : KeptTrace → List Shown
 kept_value t = shown_as t.limits t.raw (spans_there t.spans.items)
 
--- those that stand together and have one place have one process
+-- those that have one place have one process
 abbrev pub KeptShares : KeptTrace → Type 0
 KeptShares t = ShareProcesses (spans_there t.spans.items) t.places.items
 

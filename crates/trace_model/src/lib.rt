@@ -32,5 +32,5 @@ pub use limits::Limits;
 pub use query::{Find, Query};
 pub use refusal::Refusal;
 pub use service_name::ServiceName;
-pub use shown_trace::{ShownTrace, same_entry};
+pub use shown_trace::ShownTrace;
 pub use taken_span::TakenSpan;

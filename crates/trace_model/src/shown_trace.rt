@@ -1,25 +1,16 @@
 //! The spans of a trace as they are shown, with what is known of which of them share a process.
 
-ghost use Rattle.std.specs.Prelude.{◌≡◌, ◌==◌, IsTrue, length};
+ghost use Rattle.std.specs.Prelude.{◌≡◌, ◌==◌, length};
 ghost use Rattle.trace_model.specs.Adjusting.{spans_of};
-ghost use Rattle.trace_model.specs.Sharing.{ShareProcesses, OfOneEntry, GoesOn};
+ghost use Rattle.trace_model.specs.Sharing.{ShareProcesses};
 
 use crate::answer::Shown;
 use jaeger_model::Seq;
 use std::alloc::Global;
 use std::marker::Model;
 
-/// The entries of the span at the index and of the one before it stand at one place, by the places of the
-/// entries that brought the first spans of a trace.
-pub fn same_entry(places: &[u64], index: usize) -> bool
-    ensures { IsTrue result → OfOneEntry places.now index }
-{
-    0 < index && index < places.len() && places[index - 1] == places[index]
-}
-
 /// The spans of a trace as they are shown, and the places of the entries that brought them, as far as those are
-/// known: spans that stand together and have one place have one process, which need not be compared. Contracts see
-/// the list of the spans.
+/// known: spans with one place have one process, which need not be compared. Contracts see the list of the spans.
 #[derive(Debug, Drop)]
 pub struct ShownTrace {
     spans: Seq<Shown>,
@@ -62,12 +53,11 @@ impl ShownTrace {
         self.spans.as_slice()
     }
 
-    /// It is known that the span at the index has the process of the one before it.
-    #[tactic(auto, using(crate::proofs::Shared::goes_on))]
-    pub fn goes_on(&self, index: usize) -> bool
-        ensures { IsTrue result → GoesOn (spans_of self.now) index }
+    /// The places of the entries that brought the first spans: spans with one place have one process.
+    pub fn places(&self) -> &[u64]
+        ensures { ShareProcesses (spans_of self.now) result.now }
     {
-        same_entry(&self.places, index)
+        &self.places
     }
 
     /// The number of spans.

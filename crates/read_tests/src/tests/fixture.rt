@@ -2,6 +2,7 @@
 
 ghost use Rattle.std.specs.Prelude.{◌≡◌, ◌≤◌};
 
+use crate::tests::along::asked_along;
 use crate::tests::holding::{held_before, held_beside, learnt_late};
 use crate::tests::machine::followed;
 use crate::tests::rows::{all_or_nothing, moved_on, settled};
@@ -32,6 +33,7 @@ pub enum Row {
     FirstIsHeld,
     SentTwice,
     ReadBeside,
+    AskedAlong,
 }
 
 /// What belongs to a store that was opened.
@@ -68,6 +70,7 @@ impl Row {
             Row::FirstIsHeld => first_is_held(rt, alloc, keeper),
             Row::SentTwice => sent_twice(rt, alloc, keeper),
             Row::ReadBeside => read_beside(rt, alloc, keeper, passes),
+            Row::AskedAlong => asked_along(rt, alloc, keeper, passes, limits),
         }
     }
 }

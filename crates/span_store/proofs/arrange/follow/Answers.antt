@@ -1,5 +1,6 @@
 use Rattle.trace_assembly.specs.Rows.{spots_of}
 use Rattle.span_store.proofs.Following.{follows_batch, follows_limit}
+use Rattle.span_store.proofs.Opening.{first_batch, starts_limited}
 use Rattle.span_store.proofs.arrange.follow.Goals as goal
 
 pub returns-in-Batch-clause-follows : goal.returns-in-Batch-clause-follows
@@ -13,3 +14,12 @@ returns-in-TraceLimit-clause-follows c = λ n h at f.
     let after = c.lower.new.shown in
     follows_limit n h c.args.entry.now c.in-TraceLimit.limit c.in-TraceLimit.is before.newest after.newest (spots_of before) (spots_of after)
     f c.lower.ensures.limit c.lower.ensures.ids c.lower.ensures.spots
+
+pub returns-in-Batch-clause-first : goal.returns-in-Batch-clause-first
+returns-in-Batch-clause-first c = λ n h at f first.
+    first_batch n h c.args.entry.now c.in-Batch.batch c.in-Batch.is c.let_all_in.new.starts.starts (c.let_all_in.ensures.first n h at f first)
+
+pub returns-in-TraceLimit-clause-first : goal.returns-in-TraceLimit-clause-first
+returns-in-TraceLimit-clause-first c = λ n h at f first.
+    starts_limited n h c.args.entry.now c.in-TraceLimit.limit c.in-TraceLimit.is c.args.shown.now.newest.ids c.lower.new.shown.newest.ids
+    c.args.starts.now.starts c.lower.new.starts.starts f.ring c.lower.ensures.ids c.lower.ensures.starts first

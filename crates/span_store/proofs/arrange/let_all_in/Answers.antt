@@ -6,7 +6,10 @@ use Rattle.jaeger_model.proofs.Referred.{trace_stays}
 use Rattle.trace_assembly.specs.Rows.{spots_of}
 use Rattle.trace_assembly.specs.Located.{located_upto}
 use Rattle.trace_assembly.proofs.Places.{upto_more}
+use Rattle.trace_assembly.specs.declared.spot.Spot.{Spot as SpotValue}
 use Rattle.span_store.specs.Kept.{Follows}
+use Rattle.span_store.specs.Opening.{AreFirst}
+use Rattle.span_store.proofs.Opening.{first_none, start_stays, starts_came}
 use Rattle.span_store.proofs.Following.{upto_end, follows_none}
 use Rattle.span_store.proofs.arrange.let_all_in.Goals as goal
 
@@ -15,6 +18,8 @@ loop-span-init c = record {
   index = refl;
   within = c.requires.within;
   follows = λ n h at f. follows_none n h c.args.batch.now c.args.shown.now.newest (spots_of c.args.shown.now) f;
+  first = λ n h at f first. first_none n h c.args.batch.now c.args.starts.now.starts first;
+  counted = c.requires.counted;
   room = refl;
   used = omega arith;
 }
@@ -40,6 +45,16 @@ loop-span-preserved c =
           subst (λ es. Follows n es c.let_in-row.new.shown.newest (spots_of c.let_in-row.new.shown))
           ((λ j. located_upto h b i ++ came (record { place = at j; index = c.loop-span.invariant.index j }, placed b s) ∷ []) ∙ sym (upto_more h b i s le (sym is)))
           (c.let_in-row.ensures.follows n (located_upto h b i) (placed b s) (c.loop-span.invariant.follows n h at f) (trace_stays s));
+      first = λ n h at f first.
+          let before = c.loop-span.invariant.follows n h at f in
+          let spot : SpotValue = record { place = c.args.place; index = c.loop-span.index } in
+          let after : Follows n (located_upto h b i ++ came (spot, placed b s) ∷ []) c.let_in-row.new.shown.newest (spots_of c.let_in-row.new.shown) =
+          c.let_in-row.ensures.follows n (located_upto h b i) (placed b s) before (trace_stays s) in
+          subst (λ es. AreFirst n es c.let_in-row.new.starts.starts)
+          ((λ j. located_upto h b i ++ came (record { place = at j; index = c.loop-span.invariant.index j }, placed b s) ∷ []) ∙ sym (upto_more h b i s le (sym is)))
+          (starts_came n (located_upto h b i) (spot, placed b s) s.start c.loop-span.shown.newest.ids c.let_in-row.new.shown.newest.ids c.loop-span.starts.starts c.let_in-row.new.starts.starts
+          (start_stays b s) before.ring after.ring c.let_in-row.ensures.starts (c.loop-span.invariant.first n h at f first));
+      counted = c.let_in-row.ensures.counted;
       room = c.let_in-row.ensures.room ∙ c.loop-span.invariant.room;
       used = let now = c.let_in-row.ensures.used in let then = c.loop-span.invariant.used in omega arith;
     }
@@ -48,6 +63,11 @@ pub returns-clause-follows : goal.returns-clause-follows
 returns-clause-follows c = λ n h at f.
     let past : length c.args.batch.now.spans ≤ c.loop-span.span-index = subst (λ (ss : List Span). length ss ≤ c.loop-span.span-index) c.as_slice-span-items.ensures c.loop-span-test.false in
     subst (λ es. Follows n es c.loop-span.shown.newest (spots_of c.loop-span.shown)) (upto_end h c.args.batch.now c.loop-span.span-index past) (c.loop-span.invariant.follows n h at f)
+
+pub returns-clause-first : goal.returns-clause-first
+returns-clause-first c = λ n h at f first.
+    let past : length c.args.batch.now.spans ≤ c.loop-span.span-index = subst (λ (ss : List Span). length ss ≤ c.loop-span.span-index) c.as_slice-span-items.ensures c.loop-span-test.false in
+    subst (λ es. AreFirst n es c.loop-span.starts.starts) (upto_end h c.args.batch.now c.loop-span.span-index past) (c.loop-span.invariant.first n h at f first)
 
 pub let_in-row-requires-clause-room : goal.let_in-row-requires-clause-room
 let_in-row-requires-clause-room c =

@@ -1,8 +1,6 @@
-use Rattle.std.proofs.Common.{◌≡◌, ◌<◌, ◌≤◌, ◌∙◌, [], List, get_or, length, take, sym, ap, arith}
-use Rattle.std.specs.Prelude.{slice_index_or}
+use Rattle.std.proofs.Common.{◌<◌, ◌≤◌, ◌∙◌, [], length, sym, ap, arith}
 use Rattle.std.proofs.lemmas.List.{take_all}
 use Rattle.std.proofs.lemmas.List.Sums.{fold_more}
-use Rattle.trace_model.specs.Taking.{Taken}
 use Rattle.call_links.specs.Tallies.{with_trace, tallied}
 use Rattle.span_store.proofs.window_calls.links_of.Goals as goal
 

@@ -1,5 +1,5 @@
 use Rattle.std.proofs.Common.{◌≡◌, ◌∙◌, ℕ, List, map, ap, sym}
-use Rattle.std.specs.Prelude.{Vec, filter}
+use Rattle.std.specs.Prelude.{filter}
 use Rattle.std.specs.Arc.{arc_value}
 use Rattle.std.specs.Global.{Global}
 use Rattle.std.proofs.lemmas.Result.{IfOk-weaker}
@@ -10,7 +10,7 @@ use Rattle.trace_model.specs.Histories.{arrivals}
 use Rattle.trace_model.specs.Names.{operation_cmp, is_asked_kind}
 use Rattle.service_index.specs.Listing.{Listed, listed_in, operations_of}
 use Rattle.service_index.specs.Listing.{names_of as names_in_order}
-use Rattle.service_index.specs.Indexes.{listing_by, own_operations}
+use Rattle.service_index.specs.Indexes.{listing_by, own_operations, operations_at}
 use Rattle.service_index.proofs.Arrivals.{names_listed, operations_listed}
 use Rattle.service_index.proofs.Linking.{names_are}
 use Rattle.arrival_names.specs.Kept.{Kept, names_of, AreOperations}
@@ -20,14 +20,17 @@ pub returns : goal.returns
 returns c =
     let h : List Entry = map (arc_value {X = Entry} {Z = Global}) c.args.entries.now in
     let s = c.args.service.now in
+    let names = names_of c.arrivals-arrivals.result in
     let found : List ℕ → List Listed → List Operation = own_operations in
-    let listing = listing_by (names_of c.arrivals.result) c.self.inside.index in
+    let listing = listing_by names c.self.inside.index in
     let all : found c.as_str.result.now listing ≡ found s (listed_in (arrivals h)) =
     ap (λ t. found t listing) c.as_str.ensures.value
-    ∙ ap (λ (x : List Entry). found s (listing_by (names_of x) c.self.inside.index)) c.arrivals.ensures
+    ∙ ap (λ (x : List Entry). found s (listing_by (names_of x) c.self.inside.index)) c.arrivals-arrivals.ensures
     ∙ ap (λ (v : Kept). found s (listing_by (names_of h) v.index)) c.self.view_is ∙ ap (found s) c.requires.kept.listed in
-    IfOk-weaker c.known_operations.result (λ (known : Vec Operation Global). sorted_set operation_cmp known.items ≡ found c.as_str.result.now listing) (λ (known : Vec Operation Global). AreOperations s (arrivals h) known.items)
+    let listed : sorted_set operation_cmp (operations_at names c.deref.result.now) ≡ found s (listed_in (arrivals h)) =
+    ap (λ (ns : List ℕ). sorted_set operation_cmp (operations_at names ns)) c.deref.ensures.value ∙ c.in_ok-numbers.ensures.operations ∙ all in
+    IfOk-weaker c.operations_of.result (λ known. known.items ≡ operations_at names c.deref.result.now) (λ known. AreOperations s (arrivals h) known.items)
     (λ known is. record {
-      names = sym (names_are known.items) ∙ ap names_in_order (is ∙ all) ∙ names_are (operations_of s (listed_in (arrivals h))) ∙ names_listed s (arrivals h);
-      operations = λ kind. ap (filter (is_asked_kind kind)) (is ∙ all) ∙ operations_listed s kind (arrivals h);
-    }) c.known_operations.ensures
+      names = sym (names_are known.items) ∙ ap names_in_order (ap (sorted_set operation_cmp) is ∙ listed) ∙ names_are (operations_of s (listed_in (arrivals h))) ∙ names_listed s (arrivals h);
+      operations = λ kind. ap (filter (is_asked_kind kind)) (ap (sorted_set operation_cmp) is ∙ listed) ∙ operations_listed s kind (arrivals h);
+    }) c.operations_of.ensures

@@ -11,6 +11,7 @@ use Rattle.trace_assembly.specs.Rows.{spots_of}
 use Rattle.trace_assembly.specs.Located.{located_events}
 use Rattle.arrival_names.specs.Kept.{IsKept as NamesKept}
 use Rattle.service_places.specs.Reported.{IsKept as PlacesKept}
+use Rattle.span_store.specs.Opening.{AreFirst}
 use Rattle.span_store.specs.Kept.{Follows, IsNamed, IsPlaced}
 use Rattle.span_store.proofs.Keeping.{Grows, arrivals_fit, kept_more, kept_room, kept_within, spans_fit}
 use Rattle.span_store.proofs.store.SpanStore.append.Goals as goal
@@ -18,7 +19,7 @@ use Rattle.span_store.proofs.store.SpanStore.append.Goals as goal
 pub follow-requires-clause-within : goal.follow-requires-clause-within
 follow-requires-clause-within c =
     let was = c.self.inside in
-    kept_within was.journal.held was.shown was.names was.reported c.self.invariant
+    kept_within was.journal.held was.shown was.starts was.names was.reported c.self.invariant
 
 pub follow-requires-clause-fits : goal.follow-requires-clause-fits
 follow-requires-clause-fits c =
@@ -33,7 +34,7 @@ follow-requires-clause-room c =
     let was = c.self.inside in
     let e : Entry = c.args.entry in
     let may : admission_by was.journal.held e ≡ Ok Added = ap (λ (v : Held). admission_by v e) c.self.view_is ∙ c.requires in
-    let room : was.shown.used + length (spans_brought e.work) ≤ was.shown.room = kept_room was.journal.held e was.shown was.names was.reported c.self.invariant may in
+    let room : was.shown.used + length (spans_brought e.work) ≤ was.shown.room = kept_room was.journal.held e was.shown was.starts was.names was.reported c.self.invariant may in
     search rules
 
 pub invariant_of-self : goal.invariant_of-self
@@ -48,6 +49,8 @@ invariant_of-self c =
     let after = c.follow.new.shown in
     let follows : Follows n (located_events (h ++ e ∷ [])) after.newest (spots_of after) =
     subst (λ (x : Entry). Follows n (located_events (h ++ x ∷ [])) after.newest (spots_of after)) (c.deref.ensures ∙ c.entry.ensures) here in
+    let first : AreFirst n (located_events (h ++ e ∷ [])) c.follow.new.starts.starts =
+    subst (λ (x : Entry). AreFirst n (located_events (h ++ x ∷ [])) c.follow.new.starts.starts) (c.deref.ensures ∙ c.entry.ensures) (c.follow.ensures.first n h place c.self.invariant.follows c.self.invariant.first) in
     let used : after.used ≡ was.shown.used + length (spans_brought e.work) = search rules in
     let grows : Grows was.shown after (length (spans_brought e.work)) = record { room = c.follow.ensures.room; used = used } in
     let list : map (arc_value {X = Entry} {Z = Global}) c.entries-entries.result.now ≡ was.journal.held.entries ++ e ∷ [] = c.entries-entries.ensures ∙ ap (λ (v : Held). v.entries) held in
@@ -62,7 +65,7 @@ invariant_of-self c =
       kept = subst (λ (h : List Entry). PlacesKept h c.add.new.self) list c.add.ensures.kept;
       batches = c.add.ensures.batches ∙ c.self.invariant.placed.batches;
     } in
-    kept_more was.journal.held c.append.new.self.held e was.shown after was.names c.add-2.new.self was.reported c.add.new.self c.self.invariant held grows follows names placed
+    kept_more was.journal.held c.append.new.self.held e was.shown after was.starts c.follow.new.starts was.names c.add-2.new.self was.reported c.add.new.self c.self.invariant held grows follows first c.follow.ensures.counted names placed
 
 pub add-requires-2-clause-numbers : goal.add-requires-2-clause-numbers
 add-requires-2-clause-numbers c =

@@ -1,4 +1,4 @@
-use Rattle.std.proofs.Common.{[], ◌≡◌, ◌∙◌, ap, sym}
+use Rattle.std.proofs.Common.{◌∙◌, ap, sym}
 use Rattle.std.proofs.lemmas.Bool.{OnFalse_at}
 use Rattle.trace_model.specs.Searching.{found_in}
 use Rattle.journal_traces.specs.Standing.{traces_named}

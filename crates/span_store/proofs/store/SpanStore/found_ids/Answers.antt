@@ -2,7 +2,6 @@ use Rattle.std.proofs.Common.{◌∙◌, List, ap}
 use Rattle.trace_assembly.specs.declared.spot.Spot.{Spot}
 use Rattle.trace_model.specs.declared.answer.Answer.TheVariants as say
 use Rattle.trace_model.specs.Held.{Held}
-use Rattle.trace_model.specs.Histories.{events}
 use Rattle.trace_model.specs.declared.query.Find.{Find}
 use Rattle.trace_model.specs.Searching.{found_in, ids_of}
 use Rattle.journal_traces.specs.Standing.{traces_named}

@@ -3,8 +3,7 @@ use Rattle.jaeger_model.specs.declared.placed.Placed.{Placed}
 use Rattle.trace_assembly.specs.declared.spot.Spot.{Spot}
 use Rattle.trace_model.specs.declared.limits.Limits.{Limits}
 use Rattle.trace_model.specs.Held.{Held}
-use Rattle.trace_model.specs.Histories.{events}
-use Rattle.trace_model.specs.Searching.{found_in, traces}
+use Rattle.trace_model.specs.Searching.{found_in}
 use Rattle.journal_traces.specs.Standing.{process_at, traces_named}
 use Rattle.journal_traces.specs.Taking.{placed_taken}
 use Rattle.span_store.specs.Found.{found_answer}
