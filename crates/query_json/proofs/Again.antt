@@ -1,42 +1,93 @@
--- The place of the process of the span before.
-use Rattle.std.proofs.Common.{◌≡◌, ℕ, ◌+◌, ◌-◌, ◌<◌, ◌∙◌, true, List, [], ◌∷◌, ◌++◌, length, map, take, get_or, refl, sym, ap, ap₂, arith}
-use Rattle.std.proofs.lemmas.List.{get_or-map, map_push}
+-- The places of processes, which are known again by the places of entries.
+use Rattle.std.proofs.Common.{◌≡◌, ◌==◌, ℕ, ◌+◌, ◌∙◌, Bool, true, false, List, [], ◌∷◌, ◌++◌, map, take, get_or, refl, sym, ap, ap₂, arith, eqb-true}
+use Rattle.std.specs.Prelude.{Option, Some, None, option_and_then, slice_get, if◌then◌else◌}
+use Rattle.std.proofs.lemmas.List.{get_or-map, map_push, take_more}
+use Rattle.std.proofs.lemmas.Option.{get_or_from_slice_get, slice_get_within}
 use Rattle.jaeger_model.specs.declared.placed.Placed.{Placed}
 use Rattle.trace_model.specs.declared.answer.Shown.{Shown}
 use Rattle.trace_model.specs.Adjusting.{spans_of}
-use Rattle.trace_model.specs.Sharing.{GoesOn}
 use Rattle.query_json.specs.Naming.{among, place}
-use Rattle.query_json.specs.Placing.{IsLast}
+use Rattle.query_json.specs.Placing.{AreKnown, ComesNext, IsKnown, kept_under}
 use Rattle.query_json.specs.Trees.{processes_of}
 use Rattle.query_json.specs.Writing.{process_place}
-use Rattle.query_json.proofs.Distinct.{added_known, among_itself, processes_more}
+use Rattle.query_json.proofs.Distinct.{added_known, among_itself, among_stays, processes_more}
 
-process_there : (spans : List Shown) (i : ℕ) (s : Shown) → i < length spans → s ≡ get_or spans i s → (d : Placed) → (get_or (spans_of spans) i d).process ≡ s.placed.process
-process_there spans i s within is d = ap (λ (p : Placed). p.process) (get_or-map (λ (x : Shown). x.placed) spans i s d within ∙ ap (λ (x : Shown). x.placed) (sym is))
+module _ (spans : List Shown) (entries : List ℕ) (i : ℕ) (s : Shown) (entry : Option ℕ) (next : ComesNext spans entries i s entry) where
+  process_there : (d : Placed) → (get_or (spans_of spans) i d).process ≡ s.placed.process
+  process_there d = ap (λ (p : Placed). p.process) (get_or-map (λ (x : Shown). x.placed) spans i s d next.within ∙ ap (λ (x : Shown). x.placed) (sym next.is))
 
--- the span at the index has its place
-pub last_is : (spans : List Shown) (i : ℕ) (s : Shown) (last : ℕ) → i < length spans → s ≡ get_or spans i s → take (i + 1) spans ≡ take i spans ++ s ∷ [] → last ≡ place s.placed.process (processes_of spans) → IsLast spans (i + 1) last
-last_is spans i s last within is more found d above =
-    let one : (i + 1) - 1 ≡ i = omega arith in
-    let own : (get_or (spans_of spans) ((i + 1) - 1) d).process ≡ s.placed.process = ap (λ k. (get_or (spans_of spans) k d).process) one ∙ process_there spans i s within is d in
-    let known : among s.placed.process (processes_of (take (i + 1) spans)) ≡ true = ap (λ (l : List Shown). among s.placed.process (processes_of l)) more ∙ among_itself (take i spans) s in
-    (ap (λ p. among p (processes_of (take (i + 1) spans))) own ∙ known, found ∙ ap (λ p. place p (processes_of spans)) (sym own))
+  pub one_more : take (i + 1) spans ≡ take i spans ++ s ∷ []
+  one_more = take_more spans i s next.within ∙ ap (λ y. take i spans ++ y ∷ []) (sym next.is)
 
--- a span that goes on has the place of the one before
-pub goes_on_place : (spans : List Shown) (i : ℕ) (s : Shown) (last : ℕ) → i < length spans → s ≡ get_or spans i s → GoesOn (spans_of spans) i → IsLast spans i last → last ≡ place s.placed.process (processes_of spans)
-goes_on_place spans i s last within is goes before =
-    let same = goes.1 s.placed ∙ process_there spans i s within is s.placed in
-    (before s.placed goes.0).1 ∙ ap (λ p. place p (processes_of spans)) same
+  known_more : (e n : ℕ) → IsKnown spans entries i e n → IsKnown spans entries (i + 1) e n
+  known_more e n k = record {
+    index = k.index;
+    before = omega (arith, k.before);
+    stands = k.stands;
+    counted = λ d.
+        let p = (get_or (spans_of spans) k.index d).process in
+        ap (λ (l : List Shown). among p (processes_of l)) one_more ∙ ap (among p) (processes_more (processes_of (take i spans)) (take i spans) s refl)
+        ∙ among_stays p s.placed.process (processes_of (take i spans)) (k.counted d);
+    place = k.place;
+  }
 
--- and no process comes with it
-pub goes_on_known : (spans : List Shown) (i : ℕ) (s : Shown) (last : ℕ) → i < length spans → s ≡ get_or spans i s → GoesOn (spans_of spans) i → IsLast spans i last → processes_of (take i spans ++ s ∷ []) ≡ processes_of (take i spans)
-goes_on_known spans i s last within is goes before =
-    let ps = processes_of (take i spans) in
-    let same = goes.1 s.placed ∙ process_there spans i s within is s.placed in
-    processes_more ps (take i spans) s refl ∙ added_known s.placed.process ps (ap (λ p. among p ps) (sym same) ∙ (before s.placed goes.0).0)
+  -- nothing is put
+  pub all_more : (known : ℕ → Option ℕ) → AreKnown spans entries i known → AreKnown spans entries (i + 1) known
+  all_more known all e n found = known_more e n (all e n found)
 
--- one more place
-pub places_more : (spans : List Shown) (i : ℕ) (s : Shown) (front : List Shown) (old new : List ℕ) (last : ℕ) → old ≡ map (process_place (processes_of spans)) front → new ≡ old ++ last ∷ [] → take (i + 1) spans ≡ front ++ s ∷ [] → last ≡ process_place (processes_of spans) s → new ≡ map (process_place (processes_of spans)) (take (i + 1) spans)
-places_more spans i s front old new last are put more found =
-    let place_of = process_place (processes_of spans) in
-    put ∙ ap₂ (λ ps p. ps ++ p ∷ []) are found ∙ sym (map_push place_of front s) ∙ sym (ap (map place_of) more)
+  -- the place of the span's process is put under that of its entry
+  pub known_put : (n : ℕ) (old new : ℕ → Option ℕ) → n ≡ process_place (processes_of spans) s → ((e : ℕ) → new e ≡ kept_under entry n old e) → AreKnown spans entries i old → AreKnown spans entries (i + 1) new
+  known_put n old new found put all e m is = by entry refl (sym (put e) ∙ is)
+    where
+      own : (k : ℕ) → Some k ≡ slice_get entries i → IsKnown spans entries (i + 1) k n
+      own k at = record {
+        index = i;
+        before = omega arith;
+        stands = sym at;
+        counted = λ d.
+            ap (λ p. among p (processes_of (take (i + 1) spans))) (process_there d) ∙ ap (λ (l : List Shown). among s.placed.process (processes_of l)) one_more ∙ among_itself (take i spans) s;
+        place = λ d. found ∙ ap (λ p. place p (processes_of spans)) (sym (process_there d));
+      }
+
+      by_test : (k : ℕ) (b : Bool) → (k == e) ≡ b → Some k ≡ slice_get entries i → (if b then Some n else old e) ≡ Some m → IsKnown spans entries (i + 1) e m
+      by_test k false t at q = known_more e m (all e m q)
+      by_test k true t at q =
+          let known : IsKnown spans entries (i + 1) k n = own k at in
+          let same : m ≡ n = cc (q) in
+          record { index = known.index; before = known.before; stands = known.stands ∙ ap Some (eqb-true k e t); counted = known.counted; place = λ d. same ∙ known.place d }
+
+      by : (o : Option ℕ) → entry ≡ o → kept_under o n old e ≡ Some m → IsKnown spans entries (i + 1) e m
+      by None same q = known_more e m (all e m q)
+      by (Some k) same q = by_test k (k == e) refl (sym same ∙ next.stands) q
+
+  -- a span that its entry brought before has its process
+  same_process : (k n : ℕ) → entry ≡ Some k → (known : IsKnown spans entries i k n) → (get_or (spans_of spans) known.index s.placed).process ≡ s.placed.process
+  same_process k n is known =
+      let own : slice_get entries i ≡ Some k = sym next.stands ∙ is in
+      let one : get_or entries known.index 0 ≡ get_or entries i 0 = get_or_from_slice_get entries known.index k 0 known.stands ∙ sym (get_or_from_slice_get entries i k 0 own) in
+      next.shares known.index i s.placed (slice_get_within entries known.index k known.stands, slice_get_within entries i k own, one) ∙ process_there s.placed
+
+  -- what is known of the span's entry is the place of its process
+  pub known_place : (known : ℕ → Option ℕ) (n : ℕ) → AreKnown spans entries i known → option_and_then known entry ≡ Some n → n ≡ process_place (processes_of spans) s
+  known_place known n all found = by entry refl found
+    where
+      by : (o : Option ℕ) → entry ≡ o → option_and_then known o ≡ Some n → n ≡ process_place (processes_of spans) s
+      by None is q = absurd (cc (q))
+      by (Some k) is q = (all k n q).place s.placed ∙ ap (λ p. place p (processes_of spans)) (same_process k n is (all k n q))
+
+  -- and its process has been taken in
+  pub known_processes : (known : ℕ → Option ℕ) (n : ℕ) → AreKnown spans entries i known → option_and_then known entry ≡ Some n → processes_of (take (i + 1) spans) ≡ processes_of (take i spans)
+  known_processes known n all found =
+      let ps = processes_of (take i spans) in
+      ap processes_of one_more ∙ processes_more ps (take i spans) s refl ∙ added_known s.placed.process ps (by entry refl found)
+    where
+      by : (o : Option ℕ) → entry ≡ o → option_and_then known o ≡ Some n → among s.placed.process (processes_of (take i spans)) ≡ true
+      by None is q = absurd (cc (q))
+      by (Some k) is q = ap (λ p. among p (processes_of (take i spans))) (sym (same_process k n is (all k n q))) ∙ (all k n q).counted s.placed
+
+  -- one more place
+  pub places_more : (old new : List ℕ) (n : ℕ) → old ≡ map (process_place (processes_of spans)) (take i spans) → new ≡ old ++ n ∷ [] → n ≡ process_place (processes_of spans) s
+      → new ≡ map (process_place (processes_of spans)) (take (i + 1) spans)
+  places_more old new n are put found =
+      let place_of = process_place (processes_of spans) in
+      put ∙ ap₂ (λ ps p. ps ++ p ∷ []) are found ∙ sym (map_push place_of (take i spans) s) ∙ sym (ap (map place_of) one_more)

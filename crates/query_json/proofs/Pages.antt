@@ -9,11 +9,12 @@ use Rattle.json.specs.Print.{quoted}
 use Rattle.serde_json.specs.Data.{Data, null, boolean, number, string, array, object, Members, no_members, member}
 use Rattle.serde_json.specs.View.{items_of}
 use Rattle.serde_json.specs.Written.{compact_text, items_text, members_text}
+use Rattle.trace_model.specs.declared.answer.Shown.{Shown}
 use Rattle.query_json.specs.declared.writing.page.Page.{Page}
 use Rattle.query_json.specs.declared.writing.processes.NamedProcess.{NamedProcess}
-use Rattle.query_json.specs.Named.{name_of, named_members, named_text}
+use Rattle.query_json.specs.Named.{name_of, named_members, named_text, process_tree_at}
 use Rattle.query_json.specs.Page.{Adds, Puts}
-use Rattle.query_json.specs.Trees.{list, process_tree}
+use Rattle.query_json.specs.Trees.{list}
 
 pub Adds-nothing : (a : Page) → Adds a a []
 Adds-nothing a = record {
@@ -112,12 +113,12 @@ pub items_rest : {X : Type 0} (f : X → Data) (xs : List X) → rest_text (λ x
 items_rest f [] = refl
 items_rest f (x ∷ xs) = ap (λ (l : List ℕ). 44 ∷ (compact_text (f x) ++ l)) (items_rest f xs)
 
-pub members_rest : (ps : List NamedProcess) → rest_text named_text 125 ps ≡ members_text true (named_members ps)
-members_rest [] = refl
-members_rest (p ∷ ps) =
-    let tree : List ℕ = compact_text (process_tree p.process.now) in
-    ap (λ (l : List ℕ). 44 ∷ (named_text p ++ l)) (members_rest ps)
-    ∙ ap (λ (l : List ℕ). 44 ∷ l) (append_assoc (quoted (name_of p)) (58 ∷ tree) (members_text true (named_members ps)))
+pub members_rest : (ss : List Shown) (ps : List NamedProcess) → rest_text (named_text ss) 125 ps ≡ members_text true (named_members ss ps)
+members_rest ss [] = refl
+members_rest ss (p ∷ ps) =
+    let tree : List ℕ = compact_text (process_tree_at ss p.span) in
+    ap (λ (l : List ℕ). 44 ∷ (named_text ss p ++ l)) (members_rest ss ps)
+    ∙ ap (λ (l : List ℕ). 44 ∷ l) (append_assoc (quoted (name_of p)) (58 ∷ tree) (members_text true (named_members ss ps)))
 
 -- a list is put as far as `left`
 pub record Going {X : Type 0} (f : X → List ℕ) (close : ℕ) (old now : Page) (left : List X) (whole : List ℕ) : Type 0 where
@@ -162,17 +163,3 @@ list_begun f {x = x} {left = left} e p = record {
 -- the tree of an item that stands at the index
 pub tree_at : {X : Type 0} (f : X → Data) (xs : List X) (i : ℕ) (x : X) → i < length (map f xs) → slice_get xs i ≡ Some x → f x ≡ get_or (map f xs) i null
 tree_at f xs i x below e = sym (get_or-map f xs i x null (omega (arith, below, length-map xs f)) ∙ ap f (get_or_from_slice_get xs i x x e))
-
--- the first of some processes is put
-pub members_begun : {old now : Page} {ps : List NamedProcess} {p : NamedProcess} {left : List NamedProcess} → ps ≡ p ∷ left → Puts old now ((123 ∷ []) ++ named_text p)
-    → Going named_text 125 old now left (compact_text (object (named_members ps)))
-members_begun {p = p} {left = left} e put =
-    let tree : List ℕ = compact_text (process_tree p.process.now) in
-    record {
-      front = 123 ∷ named_text p;
-      put = put;
-      text =
-          ap (λ (l : List ℕ). 123 ∷ (named_text p ++ l)) (members_rest left)
-          ∙ ap (λ (l : List ℕ). 123 ∷ l) (append_assoc (quoted (name_of p)) (58 ∷ tree) (members_text true (named_members left)))
-          ∙ sym (ap (λ qs. compact_text (object (named_members qs))) e);
-    }

@@ -1,5 +1,5 @@
 -- The text of an answer's items, piece by piece.
-use Rattle.std.proofs.Common.{◌≡◌, ◌<◌, ◌∙◌, ℕ, List, [], ◌∷◌, ◌++◌, length, get_or, map, refl, sym, ap, append-nil, arith}
+use Rattle.std.proofs.Common.{◌≡◌, ◌<◌, ◌∙◌, ℕ, List, [], ◌∷◌, ◌++◌, length, get_or, map, refl, sym, ap, append-nil, arith, string_bytes}
 use Rattle.std.specs.Prelude.{All}
 use Rattle.std.proofs.lemmas.List.{get_or-map, length-map}
 use Rattle.std.proofs.lemmas.List.Elements.{All-head, All-tail}
@@ -7,11 +7,12 @@ use Rattle.serde_json.specs.Data.{Data, null, string}
 use Rattle.serde_json.specs.Written.{compact_text}
 use Rattle.query_json.specs.declared.items.Items.{Items}
 use Rattle.query_json.specs.declared.items.Items.TheVariants.{Names, Operations, Ids, Links, Traces}
-use Rattle.query_json.specs.declared.writing.trace.LentTrace.{LentTrace}
-use Rattle.query_json.specs.LentTraces.{IsNumbered}
-use Rattle.query_json.specs.Pieces.{AreNumbered, item_pieces, item_trees, one_piece, runs_of}
+use Rattle.query_json.specs.declared.writing.trace.TraceItem.{TraceItem}
+use Rattle.query_json.specs.declared.writing.trace.TraceItem.TheVariants.{Lent, Made}
+use Rattle.query_json.specs.LentTraces.{IsWritable}
+use Rattle.query_json.specs.Pieces.{AreWritable, item_pieces, item_trees, one_piece, runs_of}
 use Rattle.query_json.specs.Runs.{front_text, joined, text_of}
-use Rattle.query_json.specs.TracePieces.{lent_tree, spans_lent, trace_pieces}
+use Rattle.query_json.specs.TracePieces.{item_spans, item_tree, trace_pieces}
 use Rattle.query_json.specs.Trees.{id_tree, items_tree, link_tree, operation_tree, trace_tree}
 use Rattle.query_json.proofs.Runs.{Run, body, body_is, body_whole}
 use Rattle.query_json.proofs.TracePieces.{trace_text}
@@ -22,28 +23,32 @@ one_texts : (ds : List Data) → map joined (map one_piece ds) ≡ map compact_t
 one_texts [] = refl
 one_texts (d ∷ ds) = ap (λ (l : List ℕ). l ∷ map joined (map one_piece ds)) (append-nil (compact_text d)) ∙ ap (λ (ls : List (List ℕ)). compact_text d ∷ ls) (one_texts ds)
 
-trace_texts : (ts : List LentTrace) → All IsNumbered ts → map joined (map trace_pieces ts) ≡ map compact_text (map lent_tree ts)
+trace_text_of : (t : TraceItem) → IsWritable t → joined (trace_pieces t) ≡ compact_text (item_tree t)
+trace_text_of (Lent t) known = trace_text t known
+trace_text_of (Made t) known = append-nil (string_bytes t.text) ∙ known
+
+trace_texts : (ts : List TraceItem) → All IsWritable ts → map joined (map trace_pieces ts) ≡ map compact_text (map item_tree ts)
 trace_texts [] all = refl
 trace_texts (t ∷ ts) all =
-    ap (λ (l : List ℕ). l ∷ map joined (map trace_pieces ts)) (trace_text t (All-head IsNumbered t ts all))
-    ∙ ap (λ (ls : List (List ℕ)). compact_text (lent_tree t) ∷ ls) (trace_texts ts (All-tail IsNumbered t ts all))
+    ap (λ (l : List ℕ). l ∷ map joined (map trace_pieces ts)) (trace_text_of t (All-head IsWritable t ts all))
+    ∙ ap (λ (ls : List (List ℕ)). compact_text (item_tree t) ∷ ls) (trace_texts ts (All-tail IsWritable t ts all))
 
-item_texts : (items : Items) → AreNumbered items → map joined (item_pieces items) ≡ map compact_text (item_trees items)
-item_texts (Names names) known = one_texts (map string names.now)
-item_texts (Operations operations) known = one_texts (map operation_tree operations.now)
-item_texts (Ids ids) known = one_texts (map id_tree ids.now)
-item_texts (Links links) known = one_texts (map link_tree links.now)
+item_texts : (items : Items) → AreWritable items → map joined (item_pieces items) ≡ map compact_text (item_trees items)
+item_texts (Names names) known = one_texts (map string names)
+item_texts (Operations operations) known = one_texts (map operation_tree operations)
+item_texts (Ids ids) known = one_texts (map id_tree ids)
+item_texts (Links links) known = one_texts (map link_tree links)
 item_texts (Traces traces) known = trace_texts traces.items known
 
-pub whole_text : (items : Items) → AreNumbered items → front_text ++ text_of (runs_of items) ≡ compact_text (items_tree (item_trees items))
+pub whole_text : (items : Items) → AreWritable items → front_text ++ text_of (runs_of items) ≡ compact_text (items_tree (item_trees items))
 whole_text items known =
     ap (λ (l : List ℕ). front_text ++ l) (body_is (item_pieces items))
     ∙ ap (λ (ts : List (List ℕ)). front_text ++ body ts) (item_texts items known)
     ∙ body_whole (item_trees items)
 
-pub lent_trees : (ts : List LentTrace) → map lent_tree ts ≡ map trace_tree (map spans_lent ts)
-lent_trees [] = refl
-lent_trees (t ∷ ts) = ap (λ (ds : List Data). lent_tree t ∷ ds) (lent_trees ts)
+pub trees_of : (ts : List TraceItem) → map item_tree ts ≡ map trace_tree (map item_spans ts)
+trees_of [] = refl
+trees_of (t ∷ ts) = ap (λ (ds : List Data). item_tree t ∷ ds) (trees_of ts)
 
 -- ---- the pieces of an item
 

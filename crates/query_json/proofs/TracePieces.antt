@@ -9,10 +9,10 @@ use Rattle.trace_model.specs.declared.answer.Shown.{Shown}
 use Rattle.query_json.specs.declared.writing.processes.NamedProcess.{NamedProcess}
 use Rattle.query_json.specs.declared.writing.trace.LentTrace.{LentTrace}
 use Rattle.query_json.specs.LentTraces.{IsNumbered}
-use Rattle.query_json.specs.Named.{name_of, named_members, named_text}
+use Rattle.query_json.specs.Named.{name_of, named_members, named_text, process_tree_at}
 use Rattle.query_json.specs.Runs.{joined, separator}
-use Rattle.query_json.specs.TracePieces.{between_text, close_text, lent_text, open_text, span_pieces, span_text_in, trace_pieces, with_commas}
-use Rattle.query_json.specs.Trees.{list, process_tree, processes_of, processes_tree, span_tree, trace_id_text, trace_tree}
+use Rattle.query_json.specs.TracePieces.{between_text, close_text, lent_pieces, open_text, span_pieces, span_text_in, with_commas}
+use Rattle.query_json.specs.Trees.{list, processes_of, processes_tree, span_tree, trace_id_text, trace_tree}
 use Rattle.query_json.proofs.Pages.{items_rest, members_rest, put_tree-text, rest_text}
 
 -- ---- lists with commas
@@ -33,14 +33,14 @@ list_pieces f (x ∷ xs) =
     (append_assoc (compact_text (f x)) (joined (map (λ u. 44 ∷ u) texts)) (93 ∷ [])
     ∙ ap (λ (l : List ℕ). compact_text (f x) ++ l) (wrapped texts 93 ∙ rest_of_texts (λ y. compact_text (f y)) 93 xs ∙ items_rest f xs))
 
-object_pieces : (ps : List NamedProcess) → 123 ∷ (joined (with_commas (map named_text ps)) ++ 125 ∷ []) ≡ compact_text (object (named_members ps))
-object_pieces [] = refl
-object_pieces (p ∷ ps) =
-    let tree : List ℕ = compact_text (process_tree p.process.now) in
-    let texts : List (List ℕ) = map named_text ps in
+object_pieces : (ss : List Shown) (ps : List NamedProcess) → 123 ∷ (joined (with_commas (map (named_text ss) ps)) ++ 125 ∷ []) ≡ compact_text (object (named_members ss ps))
+object_pieces ss [] = refl
+object_pieces ss (p ∷ ps) =
+    let tree : List ℕ = compact_text (process_tree_at ss p.span) in
+    let texts : List (List ℕ) = map (named_text ss) ps in
     ap (λ (l : List ℕ). 123 ∷ l)
-    (append_assoc (named_text p) (joined (map (λ u. 44 ∷ u) texts)) (125 ∷ [])
-    ∙ ap (λ (l : List ℕ). named_text p ++ l) (wrapped texts 125 ∙ rest_of_texts named_text 125 ps ∙ members_rest ps)
+    (append_assoc (named_text ss p) (joined (map (λ u. 44 ∷ u) texts)) (125 ∷ [])
+    ∙ ap (λ (l : List ℕ). named_text ss p ++ l) (wrapped texts 125 ∙ rest_of_texts (named_text ss) 125 ps ∙ members_rest ss ps)
     ∙ append_assoc (quoted (name_of p)) (58 ∷ tree) _)
 
 -- ---- the whole
@@ -97,16 +97,16 @@ tree_text : (ss : List Shown) → tail_of ((((before_processes ++ compact_text (
 unfolding escape_byte
 tree_text ss = put_tree-text (trace_tree ss)
 
-pub trace_text : (t : LentTrace) → IsNumbered t → joined (trace_pieces t) ≡ lent_text t
+pub trace_text : (t : LentTrace) → IsNumbered t → joined (lent_pieces t) ≡ compact_text (trace_tree t.spans)
 trace_text t known =
     let ss : List Shown = t.spans in
-    let p : List ℕ = joined (with_commas (map named_text t.processes.items)) in
+    let p : List ℕ = joined (with_commas (map (named_text ss) t.processes.items)) in
     let s : List ℕ = joined (with_commas (map (span_text_in ss) ss)) in
     let id : List ℕ = compact_text (string (trace_id_text ss)) in
-    let obj : 123 ∷ (p ++ 125 ∷ []) ≡ compact_text (processes_tree (processes_of ss)) = object_pieces t.processes.items ∙ ap (λ ms. compact_text (object ms)) known.processes in
+    let obj : 123 ∷ (p ++ 125 ∷ []) ≡ compact_text (processes_tree (processes_of ss)) = object_pieces ss t.processes.items ∙ ap (λ ms. compact_text (object ms)) known.named.members in
     let spans : 91 ∷ (s ++ 93 ∷ []) ≡ compact_text (list (map (span_tree (processes_of ss)) ss)) = list_pieces (span_tree (processes_of ss)) ss in
     let behind : joined (span_pieces ss) ≡ between_text ++ (s ++ (close_text ss ++ [])) = ap (λ (l : List ℕ). between_text ++ l) (joined_parts (with_commas (map (span_text_in ss) ss)) (close_text ss ∷ [])) in
-    ap (λ (l : List ℕ). open_text ++ l) (joined_parts (with_commas (map named_text t.processes.items)) (span_pieces ss) ∙ ap (λ (l : List ℕ). p ++ l) behind)
+    ap (λ (l : List ℕ). open_text ++ l) (joined_parts (with_commas (map (named_text ss) t.processes.items)) (span_pieces ss) ∙ ap (λ (l : List ℕ). p ++ l) behind)
     ∙ one_by_one open_text p between_text s (close_text ss)
     ∙ ap (λ (l : List ℕ). (l ++ s) ++ close_text ss) (processes_in before_processes p before_spans)
     ∙ close_in ((((before_processes ++ (123 ∷ (p ++ 125 ∷ []))) ++ before_spans) ++ 91 ∷ []) ++ s) id

@@ -1,7 +1,7 @@
 -- What the parts of an answer say.
 use Rattle.std.specs.Prelude.{◌≡◌, ◌+◌, ◌≤◌, ◌⊎◌, ℕ, false, List, [], length, vec_capacity}
 use Rattle.query_json.specs.declared.paging.PagedAnswer.{PagedAnswer}
-use Rattle.query_json.specs.Pieces.{AreNumbered, runs_of}
+use Rattle.query_json.specs.Pieces.{AreWritable, runs_of}
 use Rattle.query_json.specs.Runs.{AllFit, left_at, text_of}
 
 -- the part that stands
@@ -25,6 +25,6 @@ pub record HasRoom (p : PagedAnswer) : Type 0 where
 -- what comes can be made, and there is room for each part of it
 pub record IsReady (p : PagedAnswer) : Type 0 where
   pub open_page : p.page.full ≡ false
-  pub numbered : AreNumbered p.items
+  pub writable : AreWritable p.items
   pub fits : (left_of p ≡ []) ⊎ HasRoom p
   pub left : p.left ≡ length (rest_of p)

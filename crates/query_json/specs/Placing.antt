@@ -1,26 +1,53 @@
 -- The places of the processes of the spans so far.
-use Rattle.std.specs.Prelude.{◌≡◌, ℕ, ◌-◌, ◌<◌, Bool, true, List, length, map, take, get_or, IsTrue}
+use Rattle.std.specs.Prelude.{◌≡◌, ◌==◌, ℕ, ◌+◌, ◌<◌, true, List, Option, Some, None, All, length, map, take, get_or, slice_get, if◌then◌else◌}
+use Rattle.std.specs.Ordering.{nat_cmp}
+use Rattle.std.specs.BTreeMap.{get}
 use Rattle.jaeger_model.specs.declared.placed.Placed.{Placed}
 use Rattle.trace_model.specs.declared.answer.Shown.{Shown}
 use Rattle.trace_model.specs.Adjusting.{spans_of}
-use Rattle.trace_model.specs.Sharing.{GoesOn}
+use Rattle.trace_model.specs.Sharing.{ShareProcesses}
 use Rattle.query_json.specs.declared.naming.Placing.{Placing}
 use Rattle.query_json.specs.Naming.{among, place}
-use Rattle.query_json.specs.Numbering.{IsByPlace, numbered}
+use Rattle.query_json.specs.Numbering.{IsByPlace, IsFirst, numbered}
 use Rattle.query_json.specs.Trees.{processes_of}
 use Rattle.query_json.specs.Writing.{process_place}
 
--- the process of the span before the index is known, and this is its place
-abbrev pub IsLast : List Shown → ℕ → ℕ → Type 0
-IsLast spans i last = (d : Placed) → 0 < i → (among (get_or (spans_of spans) (i - 1) d).process (processes_of (take i spans)) ≡ true) × (last ≡ place (get_or (spans_of spans) (i - 1) d).process (processes_of spans))
+-- what is kept by places of entries, one more put under a place, where that is known
+abbrev pub kept_under : Option ℕ → ℕ → (ℕ → Option ℕ) → ℕ → Option ℕ
+kept_under None number old entry = old entry
+kept_under (Some own) number old entry = if own == entry then Some number else old entry
+
+-- the number is the place of the process of one of the first spans, whose entry stands there
+pub record IsKnown (spans : List Shown) (entries : List ℕ) (i entry number : ℕ) : Type 0 where
+  pub index : ℕ
+  pub before : index < i
+  pub stands : slice_get entries index ≡ Some entry
+  pub counted : (d : Placed) → among (get_or (spans_of spans) index d).process (processes_of (take i spans)) ≡ true
+  pub place : (d : Placed) → number ≡ place (get_or (spans_of spans) index d).process (processes_of spans)
+
+-- whatever is kept under the place of an entry
+abbrev pub AreKnown : List Shown → List ℕ → ℕ → (ℕ → Option ℕ) → Type 0
+AreKnown spans entries i known = (entry number : ℕ) → known entry ≡ Some number → IsKnown spans entries i entry number
 
 -- so many of the spans have been taken in
-pub record HasPlaces (spans : List Shown) (i : ℕ) (p : Placing) : Type 0 where
+pub record HasPlaces (spans : List Shown) (entries : List ℕ) (i : ℕ) (p : Placing) : Type 0 where
   pub by_place : IsByPlace p.numbering
   pub processes : numbered p.numbering ≡ processes_of (take i spans)
+  pub firsts : All (IsFirst spans) p.numbering.processes.items
   pub places : p.places.items ≡ map (process_place (processes_of spans)) (take i spans)
-  pub last : IsLast spans i p.last
+  pub known : AreKnown spans entries i (get nat_cmp p.known)
 
--- s is the span at the index, and has the process of the one before it where this is said
-abbrev pub ComesNext : List Shown → ℕ → Shown → Bool → Type 0
-ComesNext spans i s goes_on = (i < length spans) × (s ≡ get_or spans i s) × (IsTrue goes_on → GoesOn (spans_of spans) i)
+-- the process of s, the span after so many, has been taken in, and this is its place
+pub record HasPlace (spans : List Shown) (entries : List ℕ) (i : ℕ) (s : Shown) (p : Placing) (number : ℕ) : Type 0 where
+  pub by_place : IsByPlace p.numbering
+  pub processes : numbered p.numbering ≡ processes_of (take (i + 1) spans)
+  pub firsts : All (IsFirst spans) p.numbering.processes.items
+  pub known : AreKnown spans entries (i + 1) (get nat_cmp p.known)
+  pub place : number ≡ process_place (processes_of spans) s
+
+-- s is the span at the index, and its entry stands there
+pub record ComesNext (spans : List Shown) (entries : List ℕ) (i : ℕ) (s : Shown) (entry : Option ℕ) : Type 0 where
+  pub within : i < length spans
+  pub is : s ≡ get_or spans i s
+  pub stands : entry ≡ slice_get entries i
+  pub shares : ShareProcesses (spans_of spans) entries

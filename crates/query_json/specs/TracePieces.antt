@@ -1,21 +1,21 @@
 -- The text of a trace, piece by piece: each process and each span is one, and so is what stands around them.
-use Rattle.std.specs.Prelude.{ℕ, List, [], ◌∷◌, ◌++◌, codes, map}
+use Rattle.std.specs.Prelude.{ℕ, List, [], ◌∷◌, ◌++◌, codes, map, string_bytes}
 use Rattle.serde_json.specs.Data.{Data, string}
 use Rattle.serde_json.specs.Written.{compact_text}
 use Rattle.trace_model.specs.declared.answer.Shown.{Shown}
 use Rattle.query_json.specs.declared.writing.processes.NamedProcess.{NamedProcess}
 use Rattle.query_json.specs.declared.writing.trace.LentTrace.{LentTrace}
+use Rattle.query_json.specs.declared.writing.trace.TraceItem.{TraceItem}
+use Rattle.query_json.specs.declared.writing.trace.TraceItem.TheVariants.{Lent, Made}
 use Rattle.query_json.specs.Named.{named_text}
 use Rattle.query_json.specs.Trees.{processes_of, span_tree, trace_id_text, trace_tree}
 
-abbrev pub spans_lent : LentTrace → List Shown
-spans_lent t = t.spans
+abbrev pub item_spans : TraceItem → List Shown
+item_spans (Lent t) = t.spans
+item_spans (Made t) = t.spans.value
 
-abbrev pub lent_tree : LentTrace → Data
-lent_tree t = trace_tree t.spans
-
-abbrev pub lent_text : LentTrace → List ℕ
-lent_text t = compact_text (lent_tree t)
+abbrev pub item_tree : TraceItem → Data
+item_tree t = trace_tree (item_spans t)
 
 -- each but the first with a comma before it
 abbrev pub with_commas : List (List ℕ) → List (List ℕ)
@@ -41,7 +41,11 @@ abbrev pub span_pieces : List Shown → List (List ℕ)
 span_pieces ss = between_text ∷ (with_commas (map (span_text_in ss) ss) ++ close_text ss ∷ [])
 
 abbrev pub pieces_of : List NamedProcess → List Shown → List (List ℕ)
-pieces_of ps ss = open_text ∷ (with_commas (map named_text ps) ++ span_pieces ss)
+pieces_of ps ss = open_text ∷ (with_commas (map (named_text ss) ps) ++ span_pieces ss)
 
-abbrev pub trace_pieces : LentTrace → List (List ℕ)
-trace_pieces t = pieces_of t.processes.items t.spans
+abbrev pub lent_pieces : LentTrace → List (List ℕ)
+lent_pieces t = pieces_of t.processes.items t.spans
+
+abbrev pub trace_pieces : TraceItem → List (List ℕ)
+trace_pieces (Lent t) = lent_pieces t
+trace_pieces (Made t) = string_bytes t.text ∷ []

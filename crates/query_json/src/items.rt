@@ -1,63 +1,60 @@
 //! The items of an answer, each written in pieces.
-ghost use Rattle.std.specs.Prelude.{◌≡◌, ◌<◌, ◌^◌, [], All, IfOk, IfSome, get_or, length, map};
+ghost use Rattle.std.specs.Prelude.{◌≡◌, ◌<◌, ◌^◌, ◌∷◌, [], All, IfOk, IfSome, get_or, length, map};
 ghost use Rattle.serde_json.specs.Written.{compact_text};
-ghost use Rattle.query_json.specs.LentTraces.{IsNumbered};
+ghost use Rattle.query_json.specs.LentTraces.{IsWritable};
 ghost use Rattle.query_json.specs.Page.{Puts};
-ghost use Rattle.query_json.specs.Pieces.{AreNumbered, item_pieces, item_trees};
-ghost use Rattle.query_json.specs.TracePieces.{spans_lent, trace_pieces};
-ghost use Rattle.query_json.specs.Trees.{answer_tree, items_tree, trace_tree};
+ghost use Rattle.query_json.specs.Pieces.{AreWritable, item_pieces, item_trees, items_text};
+ghost use Rattle.query_json.specs.TracePieces.{item_spans, trace_pieces};
+ghost use Rattle.query_json.specs.Trees.{answer_tree, trace_tree};
 
-use crate::writing::{LentTrace, Page, WriteItems};
+use crate::writing::{Page, TraceItem, WriteItems};
 use jaeger_model::{Seq, Text, TraceId};
 use std::alloc::{AllocError, Global};
-use std::slice;
-use trace_model::{Answer, AnsweredTrace, Link, Operation, TraceForm};
+use trace_model::{Answer, AnsweredTrace, Link, Operation};
 
-/// The items of an answer, written where they are. What is written at once is a piece.
+/// The items of an answer. What is written at once is a piece.
 #[derive(Drop)]
-pub(crate) enum Items<'a> {
-    Names(&'a [Text]),
-    Operations(&'a [Operation]),
-    Ids(&'a [TraceId]),
-    Links(&'a [Link]),
-    Traces(Vec<LentTrace<'a>>),
+pub(crate) enum Items {
+    Names(Seq<Text>),
+    Operations(Seq<Operation>),
+    Ids(Seq<TraceId>),
+    Links(Seq<Link>),
+    Traces(Vec<TraceItem>),
 }
 
-/// The traces, each lent by its entries; none if the spans of one are made.
-fn all_lent<'a>(
-    alloc: Global,
-    traces: &'a [AnsweredTrace],
-) -> Result<Option<Vec<LentTrace<'a>>>, AllocError>
-    ensures traces { IfOk result (λ o. IfSome o (λ v. map spans_lent v.items ≡ traces.now)) }
-    ensures numbered { IfOk result (λ o. IfSome o (λ v. All IsNumbered v.items)) }
+/// The traces as items.
+fn all_written(alloc: Global, traces: Vec<AnsweredTrace>) -> Result<Vec<TraceItem>, AllocError>
+    ensures spans { IfOk result (λ v. map item_spans v.items ≡ traces.items) }
+    ensures writable { IfOk result (λ v. All IsWritable v.items) }
 {
-    let mut lent = Vec::with_capacity(alloc, traces.len())?;
+    let mut items = Vec::with_capacity(alloc, traces.len())?;
     for trace in traces {
-        let TraceForm::Kept(kept) = trace.form() else {
-            return Ok(None);
-        };
-        lent.push(LentTrace::new(alloc, kept)?)?;
+        items.push(TraceItem::new(alloc, trace)?)?;
     }
-    Ok(Some(lent))
+    Ok(items)
 }
 
-/// The traces as items; none if the spans of one are made.
-fn of_traces<'a>(
-    alloc: Global,
-    traces: &'a [AnsweredTrace],
-) -> Result<Option<Items<'a>>, AllocError>
-    ensures trees { IfOk result (λ o. IfSome o (λ i. item_trees i ≡ map trace_tree traces.now)) }
-    ensures numbered { IfOk result (λ o. IfSome o AreNumbered) }
+/// A trace as the only item.
+fn of_trace(alloc: Global, trace: AnsweredTrace) -> Result<Items, AllocError>
+    ensures trees { IfOk result (λ i. item_trees i ≡ trace_tree trace ∷ []) }
+    ensures writable { IfOk result AreWritable }
 {
-    let Some(lent) = all_lent(alloc, traces)? else {
-        return Ok(None);
-    };
-    Ok(Some(Items::Traces(lent)))
+    let mut items = Vec::with_capacity(alloc, 1)?;
+    items.push(TraceItem::new(alloc, trace)?)?;
+    Ok(Items::Traces(items))
+}
+
+/// The traces as items of an answer.
+fn of_traces(alloc: Global, traces: Seq<AnsweredTrace>) -> Result<Items, AllocError>
+    ensures trees { IfOk result (λ i. item_trees i ≡ map trace_tree traces) }
+    ensures writable { IfOk result AreWritable }
+{
+    Ok(Items::Traces(all_written(alloc, traces.into_vec())?))
 }
 
 /// The number of pieces of the trace at the index.
-fn trace_piece_count(traces: &[LentTrace], item: usize) -> usize
-    requires numbered { All IsNumbered traces.now }
+fn trace_piece_count(traces: &[TraceItem], item: usize) -> usize
+    requires writable { All IsWritable traces.now }
     requires item { item < length traces.now }
     ensures count { result ≡ length (get_or (map trace_pieces traces.now) item []) }
     ensures bound { result < 2 ^ 63 }
@@ -66,41 +63,41 @@ fn trace_piece_count(traces: &[LentTrace], item: usize) -> usize
 }
 
 /// Puts a piece of the trace at the index.
-fn put_trace_piece(page: &mut Page, traces: &[LentTrace], item: usize, piece: usize)
-    requires numbered { All IsNumbered traces.now }
+fn put_trace_piece(page: &mut Page, traces: &[TraceItem], item: usize, piece: usize)
+    requires writable { All IsWritable traces.now }
     requires item { item < length traces.now }
     requires piece { piece < length (get_or (map trace_pieces traces.now) item []) }
-    ensures { Puts page.old page.new (get_or (get_or (map trace_pieces traces.now) item []) piece []) }
+    ensures { Puts page.old page.new
+        (get_or (get_or (map trace_pieces traces.now) item []) piece []) }
 {
     traces[item].put_piece(page, piece);
 }
 
-impl<'a> Items<'a> {
-    /// The items of the answer. None for an error, and if the spans of a trace are made.
+impl Items {
+    /// The items of the answer. None for a trace that wasn't found.
     ///
     /// # Errors
     ///
     /// Out of memory, and nothing else.
-    pub(crate) fn of(alloc: Global, answer: &'a Answer) -> Result<Option<Items<'a>>, AllocError>
-        ensures text { IfOk result (λ o. IfSome o (λ i.
-            compact_text (items_tree (item_trees i)) ≡ compact_text (answer_tree answer.now))) }
-        ensures numbered { IfOk result (λ o. IfSome o AreNumbered) }
+    pub(crate) fn of(alloc: Global, answer: Answer) -> Result<Option<Items>, AllocError>
+        ensures text { IfOk result (λ o. items_text o ≡ compact_text (answer_tree answer)) }
+        ensures writable { IfOk result (λ o. IfSome o AreWritable) }
     {
         match answer {
-            Answer::Trace(Some(trace)) => of_traces(alloc, slice::from_ref(trace)),
+            Answer::Trace(Some(trace)) => Ok(Some(of_trace(alloc, trace)?)),
             Answer::Trace(None) => Ok(None),
-            Answer::Traces(traces) => of_traces(alloc, traces.as_slice()),
-            Answer::Names(names) => Ok(Some(Items::Names(names.as_slice()))),
-            Answer::Operations(operations) => Ok(Some(Items::Operations(operations.as_slice()))),
-            Answer::Ids(ids) => Ok(Some(Items::Ids(ids.as_slice()))),
-            Answer::Links(links) => Ok(Some(Items::Links(links.as_slice()))),
+            Answer::Traces(traces) => Ok(Some(of_traces(alloc, traces)?)),
+            Answer::Names(names) => Ok(Some(Items::Names(names))),
+            Answer::Operations(operations) => Ok(Some(Items::Operations(operations))),
+            Answer::Ids(ids) => Ok(Some(Items::Ids(ids))),
+            Answer::Links(links) => Ok(Some(Items::Links(links))),
         }
     }
 
     /// No items.
-    pub(crate) fn none(alloc: Global) -> Items<'a>
+    pub(crate) fn none(alloc: Global) -> Items
         ensures none { item_pieces result ≡ [] }
-        ensures numbered { AreNumbered result }
+        ensures writable { AreWritable result }
     {
         Items::Traces(Vec::new(alloc))
     }
@@ -110,17 +107,17 @@ impl<'a> Items<'a> {
         ensures bound { result < 2 ^ 63 }
     {
         match self {
-            Items::Names(names) => names.len(),
-            Items::Operations(operations) => operations.len(),
-            Items::Ids(ids) => ids.len(),
-            Items::Links(links) => links.len(),
+            Items::Names(names) => names.as_slice().len(),
+            Items::Operations(operations) => operations.as_slice().len(),
+            Items::Ids(ids) => ids.as_slice().len(),
+            Items::Links(links) => links.as_slice().len(),
             Items::Traces(traces) => traces.len(),
         }
     }
 
     /// The number of pieces of an item.
     pub(crate) fn piece_count(&self, item: usize) -> usize
-        requires numbered { AreNumbered self.now }
+        requires writable { AreWritable self.now }
         requires item { item < length (item_pieces self.now) }
         ensures count { result ≡ length (get_or (item_pieces self.now) item []) }
         ensures bound { result < 2 ^ 63 }
@@ -136,16 +133,17 @@ impl<'a> Items<'a> {
 
     /// Puts a piece of an item.
     pub(crate) fn put_piece(&self, page: &mut Page, item: usize, piece: usize)
-        requires numbered { AreNumbered self.now }
+        requires writable { AreWritable self.now }
         requires item { item < length (item_pieces self.now) }
         requires piece { piece < length (get_or (item_pieces self.now) item []) }
-        ensures { Puts page.old page.new (get_or (get_or (item_pieces self.now) item []) piece []) }
+        ensures { Puts page.old page.new
+            (get_or (get_or (item_pieces self.now) item []) piece []) }
     {
         match self {
-            Items::Names(names) => names.write_item(page, item),
-            Items::Operations(operations) => operations.write_item(page, item),
-            Items::Ids(ids) => ids.write_item(page, item),
-            Items::Links(links) => links.write_item(page, item),
+            Items::Names(names) => names.as_slice().write_item(page, item),
+            Items::Operations(operations) => operations.as_slice().write_item(page, item),
+            Items::Ids(ids) => ids.as_slice().write_item(page, item),
+            Items::Links(links) => links.as_slice().write_item(page, item),
             Items::Traces(traces) => put_trace_piece(page, traces, item, piece),
         }
     }

@@ -2,11 +2,11 @@
 ghost use Rattle.std.specs.Prelude.{◌≡◌, ◌+◌, ◌^◌, ◌≤◌, ◌<◌, ◌⊎◌, ◌++◌, [], false, true, IfOk, OnOk, get_or, length, vec_capacity};
 ghost use Rattle.serde_json.specs.Written.{compact_text};
 ghost use Rattle.query_json.specs.Page.{Puts};
-ghost use Rattle.query_json.specs.Pieces.{AreNumbered, item_trees, runs_of};
+ghost use Rattle.query_json.specs.Pieces.{AreWritable, item_trees, runs_of};
 ghost use Rattle.query_json.specs.Runs.{AllFit, Fills, PutsNext, end_text, front_text, left_at, text_of};
 ghost use Rattle.query_json.specs.Trees.{answer_tree, items_tree};
 
-use crate::answer::{ROOM, answer_bytes};
+use crate::answer::{ROOM, not_found_bytes};
 use crate::items::Items;
 use crate::writing::{Page, begin_items, end_items, put_separator};
 use std::alloc::{AllocError, Global};
@@ -38,9 +38,9 @@ impl Position {
 /// The compact text of an answer's tree, given out in parts: the one that is on the page, and the pieces after it.
 /// Each part is made where the one before it was, and takes no memory.
 #[derive(Drop)]
-pub(crate) struct PagedAnswer<'a> {
+pub(crate) struct PagedAnswer {
     page: Page,
-    items: Items<'a>,
+    items: Items,
     next: Position,
     /// The number of bytes after the part.
     left: u64,
@@ -56,7 +56,7 @@ fn put_front(page: &mut Page)
 
 /// The number of pieces of a run.
 fn piece_count(items: &Items, run: usize) -> usize
-    requires numbered { AreNumbered items.now }
+    requires writable { AreWritable items.now }
     requires run { run < length (runs_of items.now) }
     ensures count { result ≡ length (get_or (runs_of items.now) run []) }
     ensures bound { run < 2 ^ 63 }
@@ -78,7 +78,7 @@ fn put_end(page: &mut Page, total: usize)
 
 /// Puts a piece.
 fn put_piece(page: &mut Page, items: &Items, at: Position)
-    requires numbered { AreNumbered items.now }
+    requires writable { AreWritable items.now }
     requires run { at.run < length (runs_of items.now) }
     requires piece { at.piece < length (get_or (runs_of items.now) at.run []) }
     ensures { Puts page.old page.new (get_or (get_or (runs_of items.now) at.run []) at.piece []) }
@@ -94,7 +94,7 @@ fn put_piece(page: &mut Page, items: &Items, at: Position)
 
 /// Puts the piece at a position, unless the run has ended. Returns the position after it.
 fn put_next(page: &mut Page, items: &Items, at: Position) -> Position
-    requires numbered { AreNumbered items.now }
+    requires writable { AreWritable items.now }
     requires run { at.run < length (runs_of items.now) }
     ensures { PutsNext page.old page.new (left_at (runs_of items.now) at.run at.piece)
         (left_at (runs_of items.now) result.run result.piece) }
@@ -115,7 +115,7 @@ fn put_next(page: &mut Page, items: &Items, at: Position) -> Position
 /// Puts pieces until the page has this number of bytes, finds no room, or none is left. Returns the position after
 /// them.
 fn fill(page: &mut Page, items: &Items, from: Position, enough: usize) -> Position
-    requires { AreNumbered items.now }
+    requires { AreWritable items.now }
     ensures fills { Fills enough page.old page.new (left_at (runs_of items.now) from.run from.piece)
         (left_at (runs_of items.now) result.run result.piece) }
     ensures enough { page.new.full ≡ false → (enough ≤ length page.new.bytes.items)
@@ -137,7 +137,7 @@ fn larger(size: usize, other: usize) -> usize
 
 /// The number of bytes of the pieces, and that of the largest one.
 fn measure(page: &mut Page, items: &Items) -> Result<(u64, usize), AllocError>
-    requires numbered { AreNumbered items.now }
+    requires writable { AreWritable items.now }
     requires room { page.old.full ≡ false }
     ensures left { IfOk result (λ r. r.0 ≡ length (text_of (runs_of items.now))) }
     ensures fit { IfOk result (λ r. AllFit r.1 (runs_of items.now)) }
@@ -172,12 +172,12 @@ fn page_for(alloc: Global, largest: usize) -> Result<Page, AllocError>
     Ok(Page::new(Vec::with_capacity(alloc, room)?))
 }
 
-impl<'a> PagedAnswer<'a> {
+impl PagedAnswer {
     ghost use Rattle.query_json.specs.Paging.{part_of, rest_of, IsReady};
     ghost use Rattle.query_json.specs.Parts.{IsSome};
 
     /// A text that is made already, as one part.
-    fn whole(alloc: Global, text: Vec<u8>) -> PagedAnswer<'a>
+    fn whole(alloc: Global, text: Vec<u8>) -> PagedAnswer
         ensures ready { IsReady result }
         ensures part { part_of result ≡ text.items }
         ensures rest { rest_of result ≡ [] }
@@ -191,16 +191,12 @@ impl<'a> PagedAnswer<'a> {
     }
 
     /// The text in parts, each made of pieces.
-    fn in_parts(
-        alloc: Global,
-        mut scratch: Page,
-        items: Items<'a>,
-    ) -> Result<PagedAnswer<'a>, AllocError>
-        requires numbered { AreNumbered items }
+    fn in_parts(alloc: Global, mut scratch: Page, items: Items) -> Result<PagedAnswer, AllocError>
+        requires writable { AreWritable items }
         requires room { scratch.full ≡ false }
         ensures ready { IfOk result IsReady }
         ensures text { IfOk result (λ p. part_of p ++ rest_of p
-            ≡ compact_text (items_tree (item_trees items.entry))) }
+            ≡ compact_text (items_tree (item_trees items))) }
         ensures some { IfOk result (λ p. IsSome (part_of p) (rest_of p)) }
     {
         let (left, largest) = measure(&mut scratch, &items)?;
@@ -221,11 +217,11 @@ impl<'a> PagedAnswer<'a> {
         Ok(paged)
     }
 
-    fn of_items(alloc: Global, items: Items<'a>) -> Result<PagedAnswer<'a>, AllocError>
-        requires { AreNumbered items }
+    fn of_items(alloc: Global, items: Items) -> Result<PagedAnswer, AllocError>
+        requires { AreWritable items }
         ensures ready { IfOk result IsReady }
-        ensures text { IfOk result (λ p. part_of p ++ rest_of p
-            ≡ compact_text (items_tree (item_trees items.entry))) }
+        ensures text { IfOk result (λ p.
+            part_of p ++ rest_of p ≡ compact_text (items_tree (item_trees items))) }
         ensures some { IfOk result (λ p. IsSome (part_of p) (rest_of p)) }
     {
         let mut page = Page::new(Vec::with_capacity(alloc, ROOM)?);
@@ -247,16 +243,16 @@ impl<'a> PagedAnswer<'a> {
     /// # Errors
     ///
     /// Out of memory, and nothing else.
-    pub(crate) fn new(alloc: Global, answer: &'a Answer) -> Result<PagedAnswer<'a>, AllocError>
+    pub(crate) fn new(alloc: Global, answer: Answer) -> Result<PagedAnswer, AllocError>
         ensures ready { IfOk result IsReady }
         ensures text { IfOk result (λ p.
-            part_of p ++ rest_of p ≡ compact_text (answer_tree answer.now)) }
+            part_of p ++ rest_of p ≡ compact_text (answer_tree answer)) }
         ensures some { IfOk result (λ p. IsSome (part_of p) (rest_of p)) }
     {
         if let Some(items) = Items::of(alloc, answer)? {
             return PagedAnswer::of_items(alloc, items);
         }
-        let text = answer_bytes(alloc, answer)?;
+        let text = not_found_bytes(alloc)?;
         Ok(PagedAnswer::whole(alloc, text))
     }
 
@@ -279,7 +275,8 @@ impl<'a> PagedAnswer<'a> {
     fn extend(&mut self)
         requires { IsReady self.old }
         ensures ready { IsReady self.new }
-        ensures gives { part_of self.new ++ rest_of self.new ≡ part_of self.old ++ rest_of self.old }
+        ensures gives { part_of self.new ++ rest_of self.new
+            ≡ part_of self.old ++ rest_of self.old }
         ensures some { IsSome (part_of self.new) (rest_of self.new) }
     {
         let before = self.page.len();

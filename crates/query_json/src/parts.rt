@@ -10,15 +10,16 @@ use std::alloc::{AllocError, Global};
 use std::marker::Model;
 use trace_model::Answer;
 
-/// The compact text of an answer's tree, given out in parts. Contracts see the bytes that are still to come.
+/// The compact text of an answer's tree, given out in parts. It owns what it is made of, so it may be kept for as long as
+/// a client takes to read it. Contracts see the bytes that are still to come.
 #[derive(Drop)]
-pub struct AnswerParts<'a> {
-    paged: PagedAnswer<'a>,
+pub struct AnswerParts {
+    paged: PagedAnswer,
     /// How many bytes are still to come.
     remaining: usize,
 }
 
-impl<'a> Model for AnswerParts<'a> {
+impl Model for AnswerParts {
     ghost use Rattle.std.specs.Prelude.{◌≡◌, ◌<◌, ◌^◌, length};
     ghost use Rattle.query_json.specs.Paging.{part_of, rest_of, IsReady};
     ghost use Rattle.query_json.specs.Parts.{Parted, to_come, IsSome};
@@ -43,7 +44,7 @@ fn total(part: usize, left: u64) -> Result<usize, AllocError>
     }
 }
 
-impl<'a> AnswerParts<'a> {
+impl AnswerParts {
     /// Goes through the answer once, and takes all the memory that giving it out needs. A text of at most about 1 MB
     /// is one part. A part of a larger one has about 16 KB and at most one item more, where an item is a name, an
     /// operation, an id, a link, or a span or a process of a trace.
@@ -51,8 +52,8 @@ impl<'a> AnswerParts<'a> {
     /// # Errors
     ///
     /// Out of memory, and nothing else.
-    pub fn new(alloc: Global, answer: &'a Answer) -> Result<AnswerParts<'a>, AllocError>
-        ensures { IfOk result (λ p. to_come p ≡ compact_text (answer_tree answer.now)) }
+    pub fn new(alloc: Global, answer: Answer) -> Result<AnswerParts, AllocError>
+        ensures { IfOk result (λ p. to_come p ≡ compact_text (answer_tree answer)) }
     {
         let paged = PagedAnswer::new(alloc, answer)?;
         let remaining = total(paged.part().len(), paged.left())?;

@@ -2,13 +2,14 @@ ghost use Rattle.std.specs.Prelude.{◌≡◌, IfOk, List, length, map, string_b
 ghost use Rattle.serde_json.specs.View.{view};
 ghost use Rattle.jaeger_model.specs.declared.batch.Process.{Process as ProcessValue};
 ghost use Rattle.query_json.specs.Naming.{process_name};
+ghost use Rattle.query_json.specs.Numbering.{first_process};
 ghost use Rattle.query_json.specs.Trees.{list, processes_of, processes_tree, span_tree, trace_id_text, trace_of, trace_tree, warnings_tree};
 ghost use Rattle.query_json.specs.Writing.{process_names, process_place};
 
-use crate::naming::{names, places, process_name};
+use crate::naming::{FirstSpan, names, places, process_name};
 use crate::tree::{Tree, list};
 use crate::values::flags_number;
-use jaeger_model::{Process, Text, span_text, trace_text};
+use jaeger_model::{Text, span_text, trace_text};
 use serde_json::{Map, Value, json, put};
 use std::alloc::{AllocError, Global};
 use trace_adjust::show;
@@ -74,13 +75,18 @@ fn spans_json(
 }
 
 /// The processes under their names.
-fn processes_json(alloc: Global, processes: &[&Process]) -> Result<Value, AllocError>
-    ensures { IfOk result (λ v. view v ≡ processes_tree (map (λ p. p.now) processes.now)) }
+fn processes_json(alloc: Global, processes: &[FirstSpan]) -> Result<Value, AllocError>
+    ensures { IfOk result (λ v. view v ≡ processes_tree (map first_process processes.now)) }
 {
     let mut named = Map::new(alloc);
-    for (place, process) in processes.iter().enumerate() {
+    for (place, first) in processes.iter().enumerate() {
         let name = process_name(alloc, place)?;
-        put(&mut named, alloc, name.as_str(), process.to_json(alloc)?)?;
+        put(
+            &mut named,
+            alloc,
+            name.as_str(),
+            first.process.to_json(alloc)?,
+        )?;
     }
     Ok(Value::Object(named))
 }

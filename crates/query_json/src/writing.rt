@@ -24,10 +24,10 @@ mod span;
 mod trace;
 mod values;
 
-pub(crate) use answer::{begin_items, end_items, write_answer, write_error};
+pub(crate) use answer::{begin_items, end_items, write_error};
 use jaeger_model::Text;
 pub(crate) use page::Page;
-pub(crate) use trace::LentTrace;
+pub(crate) use trace::TraceItem;
 
 /// What an answer shows as one JSON tree, written without that tree.
 pub(crate) trait WriteJson {

@@ -1,17 +1,30 @@
 //! The text of an outcome.
 ghost use Rattle.std.specs.Prelude.{◌≡◌, IfOk, string_bytes};
+ghost use Rattle.serde_json.specs.Written.{compact_text};
+ghost use Rattle.query_json.specs.Trees.{answer_tree};
 ghost use Rattle.step_lines.specs.OutcomeLines.{outcome_line};
 
-use query_json::answer_text;
+use query_json::answer_json;
+use query_json::laws::trees_have_no_float;
 use schedule_core::Outcome;
 use std::alloc::{AllocError, Global};
 use trace_model::Answer;
+
+/// The compact text of an answer's tree.
+fn json_text(alloc: Global, answer: &Answer) -> Result<String, AllocError>
+    ensures { IfOk result (λ s. string_bytes s ≡ compact_text (answer_tree answer.now)) }
+{
+    trees_have_no_float();
+    let tree = answer_json(alloc, answer)?;
+    let text = tree.to_string(alloc)?;
+    Ok(text)
+}
 
 /// The text of an answer.
 fn answered_text(alloc: Global, front: u64, answer: &Answer) -> Result<String, AllocError>
     ensures { IfOk result (λ s. string_bytes s ≡ outcome_line (Outcome.Answered front answer.now)) }
 {
-    let json = answer_text(alloc, answer)?;
+    let json = json_text(alloc, answer)?;
     let json = json.as_str();
     format!(in alloc; "read {front} {json}")
 }

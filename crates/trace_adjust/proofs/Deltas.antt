@@ -6,12 +6,10 @@ use Rattle.std.specs.Ordering.{int_eq}
 use Rattle.std.proofs.lemmas.Bool.{and_parts}
 use Rattle.std.proofs.lemmas.List.{take_more, length-take-le}
 use Rattle.jaeger_model.specs.declared.placed.Placed.{Placed}
-use Rattle.jaeger_model.specs.declared.placed.Seen.{Seen}
 use Rattle.trace_model.specs.declared.answer.Shown.{Shown}
 use Rattle.trace_model.specs.declared.clock.Clock.{Clock}
 use Rattle.trace_model.specs.Adjusting.{shifted, unadjusted, skew_adjusted, warned, past_limit, past_times, adjusted_by, all_fit, moved_placed}
-use Rattle.trace_model.specs.Seeing.{placed_by_its_entry}
-use Rattle.trace_adjust.specs.Lending.{placed_as, reported_as, shifted_all}
+use Rattle.trace_adjust.specs.Lending.{placed_as, shifted_all}
 use Rattle.trace_adjust.specs.Settling.{first_at, delta_at, AreClocks}
 use Rattle.trace_adjust.proofs.Shifting.{lent_more}
 
@@ -60,10 +58,6 @@ none_moves m (d ∷ ds) (p ∷ ps) e =
     (λ j. still m d p zero_now.0 j ∷ none_moves m ds ps zero_now.1 j)
 
 -- ---- spans that are lent as they came
-pub all_placed : (raw : Bool) (ss : List Seen) → map (reported_as raw) ss ≡ map (placed_as raw) (map placed_by_its_entry ss)
-all_placed raw [] = refl
-all_placed raw (s ∷ ss) = ap (λ ps. reported_as raw s ∷ ps) (all_placed raw ss)
-
 pub lent_raw : (m : ℕ) (ps : List Placed) → shifted_all m [] (map (placed_as true) ps) ≡ map unadjusted ps
 lent_raw m [] = refl
 lent_raw m (p ∷ ps) = ap (λ r. unadjusted p ∷ r) (lent_raw m ps)

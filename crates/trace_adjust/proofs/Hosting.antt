@@ -1,11 +1,13 @@
 -- Numbers tell hosts apart, and clocks by numbers are the spans' clocks.
-use Rattle.std.proofs.Common.{◌≡◌, ℕ, zero, suc, pos, ◌+◌, ◌-◌, ◌<◌, Bool, true, false, List, [], ◌∷◌, ◌++◌, map, take, drop, length, get_or, set, refl, sym, ap, ◌∙◌, arith, subst}
-use Rattle.std.specs.Prelude.{Option, Some, None, IfSome, option_map, is_some, not, ◌||◌, ◌==◌, cond, unwrap_or, codes, if◌then◌else◌}
-use Rattle.std.specs.Option.{option_or}
+use Rattle.std.proofs.Common.{Bor, eqb-true, ◌≡◌, ℕ, zero, suc, pos, ◌+◌, ◌<◌, Bool, true, false, List, [], ◌∷◌, ◌++◌, map, take, drop, length, get_or, set, refl, sym, ap, ◌∙◌, arith, subst}
+use Rattle.std.specs.Prelude.{Option, Some, None, IfSome, option_map, is_some, option_and_then, slice_get, not, ◌||◌, ◌==◌, cond, unwrap_or, codes, if◌then◌else◌}
+use Rattle.std.specs.Option.{option_or, option_copied}
+use Rattle.std.specs.Slice.{IsItemAt}
 use Rattle.std.specs.Ordering.{is_eq}
 use Rattle.std.specs.Cmp.Lexicographic.{texts_ties, bytes_decides}
 use Rattle.std.proofs.lemmas.Bool.{false≢true}
 use Rattle.std.proofs.lemmas.Map.Made.{IfSome-find_same}
+use Rattle.std.proofs.lemmas.Option.{get_or_from_slice_get, slice_get_within, slice_get_past, slice_get-get_or}
 use Rattle.std.proofs.lemmas.List.{map-set, map-append, map_more, map_push, get_or-map, length-map, length-take-le, take-append-drop}
 use Rattle.jaeger_model.specs.declared.placed.Placed.{Placed}
 use Rattle.jaeger_model.specs.declared.span.Span.{Span}
@@ -15,7 +17,7 @@ use Rattle.trace_model.specs.Adjusting.{host_of, new_delta, clock_at, clock_belo
 use Rattle.trace_adjust.specs.declared.clock.HostClock.{HostClock}
 use Rattle.trace_adjust.specs.Settling.{near, is_unset, written, clock_delta, delta_at, delta_or_none}
 use Rattle.trace_model.specs.Sharing.{ShareProcesses}
-use Rattle.trace_adjust.specs.Hosts.{hosts_of, number_in, hosted, all_hosted, AreNumbers, IsNumber, IsNumbered, AreNumbered, clock_by, below_by, near_by, host_delta, delta_by}
+use Rattle.trace_adjust.specs.Hosts.{hosts_of, number_in, kept_under, IsKept, AreKept, hosted, all_hosted, AreNumbers, IsNumber, IsNumbered, AreNumbered, clock_by, below_by, near_by, host_delta, delta_by}
 use Rattle.trace_adjust.proofs.Places.{place_push, place_found}
 use Rattle.trace_model.proofs.NameLaws.{same_where, text_is, text_self, text_turned}
 use Rattle.trace_model.proofs.Chains.{is_some-map}
@@ -165,9 +167,6 @@ module _ (ps : List Placed) (i : ℕ) (p : Placed) (l : i < length ps) (e : p �
   pub table_more : (g : List ℕ → Option ℕ) → ((t : List ℕ) → g t ≡ number_in (before ++ host_of p ∷ []) t) → (t : List ℕ) → g t ≡ number_in (hosts_of (take (i + 1) ps)) t
   table_more g is t = is t ∙ ap (λ hs. number_in hs t) (sym before_more)
 
-  pub last_more : (n : ℕ) → number_in (before ++ host_of p ∷ []) (host_of p) ≡ Some n → number_in (hosts_of (take (i + 1) ps)) (get_or all (i + 1) []) ≡ Some n
-  last_more n is = (λ j. number_in (before_more j) (host_at j)) ∙ is
-
   pub numbers_more : (ns new : List ℕ) (n : ℕ) → AreNumbers all (take i ps) ns → new ≡ ns ++ n ∷ [] → number_in (before ++ host_of p ∷ []) (host_of p) ≡ Some n → AreNumbers all (take (i + 1) ps) new
   numbers_more ns new n are put is =
       let known : number_in all (host_of p) ≡ Some n = ap (λ hs. number_in hs (host_of p)) (all_is ∙ ap (λ hs. hs ++ map host_of (drop (i + 1) ps)) before_more) ∙ number_stays (before ++ host_of p ∷ []) _ (host_of p) n is in
@@ -177,15 +176,58 @@ module _ (ps : List Placed) (i : ℕ) (p : Placed) (l : i < length ps) (e : p �
   pub fresh_is : length before ≡ i + 1
   fresh_is = let a = length-map (take i ps) host_of in let c = length-take-le i ps (omega (arith, l)) in omega (arith, a, c)
 
-  -- the span before has the same host
-  pub same_host : (places : List ℕ) → ShareProcesses ps places → 0 < i → i < length places → get_or places (i - 1) 0 ≡ get_or places i 0 → get_or all i [] ≡ host_of p
-  same_host places share above short same =
-      let one : (i - 1) + 1 ≡ i = omega (arith, above) in
-      let next : suc (i - 1) ≡ i = omega (arith, above) in
-      let shared = share (i - 1) p (omega (arith, one, short)) (same ∙ ap (λ k. get_or places k 0) (sym one)) in
-      ap (λ k. get_or all k []) (sym next) ∙ get_or-map host_of ps (i - 1) p [] (omega (arith, l))
-      ∙ ap (λ q. first_text (codes "ip") q.tags) (shared ∙ ap (λ k. (get_or ps k p).process) one)
+  -- ---- what is kept under places
+  known_more : (t : List ℕ) (n : ℕ) → number_in before t ≡ Some n → number_in (hosts_of (take (i + 1) ps)) t ≡ Some n
+  known_more t n is = ap (λ hs. number_in hs t) before_more ∙ number_stays before (host_of p ∷ []) t n is
+
+  pub kept_on : (places : List ℕ) (place n : ℕ) → IsKept ps places i place n → IsKept ps places (i + 1) place n
+  kept_on places place n k = record {
+    index = k.index;
+    before = let b = k.before in omega arith;
+    stands = k.stands;
+    host = known_more (get_or all (k.index + 1) []) n k.host;
+  }
+
+  pub kept_more : (places : List ℕ) (m : ℕ → Option ℕ) → AreKept ps places i m → AreKept ps places (i + 1) m
+  kept_more places m known place n e = kept_on places place n (known place n e)
+
+  -- one more number, that of this span's host
+  pub kept_put : (places : List ℕ) (own : Option ℕ) (n : ℕ) (old new : ℕ → Option ℕ) → own ≡ slice_get places i → ((q : ℕ) → new q ≡ kept_under own n old q)
+      → number_in (before ++ host_of p ∷ []) (host_of p) ≡ Some n → AreKept ps places i old → AreKept ps places (i + 1) new
+  kept_put places None n old new at put number known place k e = kept_more places old known place k (sym (put place) ∙ e)
+  kept_put places (Some own) n old new at put number known place k e = by_test (own == place) refl (sym (put place) ∙ e)
+    where
+      by_test : (b : Bool) → (own == place) ≡ b → (if b then Some n else old place) ≡ Some k → IsKept ps places (i + 1) place k
+      by_test false t q = kept_more places old known place k q
+      by_test true t q = record {
+        index = i;
+        before = omega arith;
+        stands = sym at ∙ ap Some (eqb-true own place t);
+        host = (λ j. number_in (before_more j) (host_at j)) ∙ number ∙ q;
+      }
+
+  -- a span has the host of each span whose entry stands at its place
+  pub same_host : (places : List ℕ) (j place : ℕ) → ShareProcesses ps places → j < i → slice_get places j ≡ Some place → slice_get places i ≡ Some place → get_or all (j + 1) [] ≡ host_of p
+  same_host places j place share above there own =
+      let one : get_or places j 0 ≡ get_or places i 0 = get_or_from_slice_get places j place 0 there ∙ sym (get_or_from_slice_get places i place 0 own) in
+      let next : j + 1 ≡ suc j = omega arith in
+      let within : j < length ps = omega (arith, above, l) in
+      ap (λ k. get_or all k []) next ∙ get_or-map host_of ps j p [] within
+      ∙ ap (λ q. first_text (codes "ip") q.tags) (share j i p (slice_get_within places j place there, slice_get_within places i place own, one))
       ∙ ap host_of (sym e)
+
+  -- the number that is kept under a span's place is its host's
+  pub own_number : (places : List ℕ) (own : Option ℕ) (m : ℕ → Option ℕ) (n : ℕ) → ShareProcesses ps places → own ≡ slice_get places i → AreKept ps places i m → option_and_then m own ≡ Some n
+      → number_in before (host_of p) ≡ Some n
+  own_number places None m n share at known found = absurd (cc found)
+  own_number places (Some place) m n share at known found =
+      let k = known place n found in
+      ap (number_in before) (sym (same_host places k.index place share k.before k.stands (sym at))) ∙ k.host
+
+-- the place of an entry, as a look-up lends it
+pub place_read : (places : List ℕ) (i : ℕ) (r : Option (Bor ℕ)) → IsItemAt places i r → option_copied r ≡ slice_get places i
+place_read places i None h = sym (slice_get_past places i h.3)
+place_read places i (Some x) h = ap Some (h.3.1 x.now) ∙ sym (slice_get-get_or places i x.now h.3.0)
 
 -- the number that a host gets
 pub number_given : (hosts : List (List ℕ)) (h : List ℕ) (o : Option ℕ) (n fresh : ℕ) → o ≡ number_in hosts h → n ≡ unwrap_or o fresh → length hosts ≡ fresh → number_in (hosts ++ h ∷ []) h ≡ Some n

@@ -4,3 +4,4 @@ pub mod Lent
 pub mod Places
 pub mod Settled
 pub mod Shifting
+pub mod There

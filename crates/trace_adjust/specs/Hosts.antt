@@ -1,5 +1,5 @@
 -- The hosts of the spans of a trace by numbers, and clocks that name them so.
-use Rattle.std.specs.Prelude.{◌≡◌, ℕ, pos, List, [], ◌∷◌, get_or, map, not, ◌||◌, ◌==◌, Option, Some, None, option_map, ℤ, if◌then◌else◌}
+use Rattle.std.specs.Prelude.{◌≡◌, ◌+◌, ◌<◌, ℕ, pos, List, [], ◌∷◌, get_or, slice_get, map, take, not, ◌||◌, ◌==◌, Option, Some, None, option_map, ℤ, if◌then◌else◌}
 use Rattle.jaeger_model.specs.declared.placed.Placed.{Placed}
 use Rattle.jaeger_model.specs.declared.span.Span.{Span}
 use Rattle.jaeger_model.specs.Texts.{same_text}
@@ -19,6 +19,22 @@ number_in hosts host = place_of (same_text host) hosts
 -- each span has the number of its host
 abbrev pub AreNumbers : List (List ℕ) → List Placed → List ℕ → Type 0
 AreNumbers hosts trace ns = map Some ns ≡ map (λ p. number_in hosts (host_of p)) trace
+
+-- the numbers by places, one more put under a place, where that is known
+abbrev pub kept_under : Option ℕ → ℕ → (ℕ → Option ℕ) → ℕ → Option ℕ
+kept_under None number old place = old place
+kept_under (Some own) number old place = if own == place then Some number else old place
+
+-- the number is that of the host of one of the first spans, whose entry stands at the place
+pub record IsKept (trace : List Placed) (places : List ℕ) (count place number : ℕ) : Type 0 where
+  pub index : ℕ
+  pub before : index < count
+  pub stands : slice_get places index ≡ Some place
+  pub host : number_in (hosts_of (take count trace)) (get_or (hosts_of trace) (index + 1) []) ≡ Some number
+
+-- each number that is kept under a place is
+abbrev pub AreKept : List Placed → List ℕ → ℕ → (ℕ → Option ℕ) → Type 0
+AreKept trace places count kept = (place number : ℕ) → kept place ≡ Some number → IsKept trace places count place number
 
 -- the clock of the host with the number
 abbrev pub hosted : List (List ℕ) → HostClock → Clock

@@ -1,12 +1,12 @@
 -- Lent spans as they are shown, each moved by the delta of its clock or left as it is, and their logs.
-use Rattle.std.specs.Prelude.{ℕ, ℤ, pos, ◌+ℤ◌, IsTrue, Bool, true, false, List, [], ◌∷◌, map, get_or, drop, Option, Some, None}
+use Rattle.std.specs.Prelude.{◌≡◌, ℕ, ℤ, pos, ◌+ℤ◌, IsTrue, Bool, true, false, List, [], ◌∷◌, map, get_or, drop, Option, Some, None}
 use Rattle.std.specs.List.{list_all}
 use Rattle.jaeger_model.specs.declared.placed.Placed.{Placed}
-use Rattle.jaeger_model.specs.declared.placed.Seen.{Seen}
 use Rattle.jaeger_model.specs.declared.span.Log.{Log}
 use Rattle.trace_model.specs.declared.answer.Shown.{Shown}
+use Rattle.trace_model.specs.declared.answered_trace.KeptTrace.{KeptTrace}
 use Rattle.trace_model.specs.Adjusting.{fits, move_log, shifted, with_parent_first}
-use Rattle.trace_model.specs.Seeing.{placed_by_its_entry}
+use Rattle.trace_model.specs.Keeping.{spans_there}
 use Rattle.trace_adjust.specs.declared.lent_logs.LentLog.{LentLog}
 
 -- the logs, moved where there is a delta
@@ -26,11 +26,15 @@ abbrev pub placed_as : Bool → Placed → Placed
 placed_as true p = p
 placed_as false p = with_parent_first p
 
--- the same of a span as it was reported
-abbrev pub reported_as : Bool → Seen → Placed
-reported_as raw s = placed_as raw (placed_by_its_entry s)
+-- no entry lacks the span
+abbrev pub AreThere : List (Option Placed) → Type 0
+AreThere spans = map Some (spans_there spans) ≡ spans
 
 -- the spans as they are shown, each moved by its delta, which is 0 for those behind the last delta
 abbrev pub shifted_all : ℕ → List ℤ → List Placed → List Shown
 shifted_all max_skew deltas [] = []
 shifted_all max_skew deltas (p ∷ ps) = shifted max_skew (get_or deltas 0 (pos 0)) p ∷ shifted_all max_skew (drop 1 deltas) ps
+
+-- the spans of a trace that are there, shown so
+abbrev pub shown_by_deltas : KeptTrace → List ℤ → List Shown
+shown_by_deltas t deltas = shifted_all t.limits.max_skew deltas (map (placed_as t.raw) (spans_there t.spans.items))

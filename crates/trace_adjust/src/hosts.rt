@@ -1,18 +1,18 @@
 //! The hosts of the spans of a trace by numbers, so that no clock has a host's text.
 
-ghost use Rattle.std.specs.Prelude.{◌≡◌, ℕ, List, IfOk, OnOk, cond, Some, unwrap_or};
+ghost use Rattle.std.specs.Prelude.{◌≡◌, ℕ, List, IfOk, OnOk, cond, Some, unwrap_or, option_and_then};
 ghost use Rattle.std.specs.BTreeMap.{get};
 ghost use Rattle.std.specs.Option.{option_or};
+ghost use Rattle.std.specs.Ordering.{nat_cmp};
 ghost use Rattle.jaeger_model.specs.Texts.{same_text, text_cmp};
 ghost use Rattle.trace_model.specs.Sharing.{ShareProcesses};
-ghost use Rattle.trace_adjust.specs.Hosts.{AreNumbers, hosts_of};
+ghost use Rattle.trace_adjust.specs.Hosts.{AreNumbers, hosts_of, kept_under};
 
 use crate::clock::NO_HOST;
 use crate::lent_placed::LentPlaced;
 use jaeger_model::Text;
 use std::alloc::{AllocError, Global};
 use std::collections::BTreeMap;
-use trace_model::same_entry;
 
 /// The number of a host, which gets the fresh one where it has none.
 fn number_of(
@@ -31,6 +31,28 @@ fn number_of(
     Ok(fresh)
 }
 
+/// The number that is kept under the place of a span's entry, if there is one.
+fn kept_number(kept: &BTreeMap<u64, usize>, place: Option<u64>) -> Option<usize>
+    ensures { result ≡ option_and_then (get nat_cmp kept.now) place }
+{
+    kept.get(&place?).copied()
+}
+
+/// Keeps the number of a span's host under the place of its entry, where that is known.
+fn keep_number(
+    kept: &mut BTreeMap<u64, usize>,
+    place: Option<u64>,
+    number: usize,
+) -> Result<(), AllocError>
+    ensures { OnOk result ((p : ℕ) →
+        get nat_cmp kept.new p ≡ kept_under place number (get nat_cmp kept.old) p) }
+{
+    if let Some(place) = place {
+        kept.insert(place, number)?;
+    }
+    Ok(())
+}
+
 /// The number of the host of each span: one more than the index of the first span that has it, and
 /// that of [`NO_HOST`] where it is empty. A host's text is looked at once for the spans of one entry,
 /// which have one process, and else for each span.
@@ -45,13 +67,19 @@ pub(crate) fn host_numbers(
 {
     let mut numbers = BTreeMap::new(alloc);
     numbers.insert(Text::new(alloc), NO_HOST)?;
+    let mut kept = BTreeMap::new(alloc);
     let mut hosts = Vec::new(alloc);
-    let mut last = NO_HOST;
     for (index, placed) in trace.iter().enumerate() {
-        if !same_entry(places, index) {
-            last = number_of(&mut numbers, placed.host(alloc)?, index + 1)?;
-        }
-        hosts.push(last)?;
+        let place = places.get(index).copied();
+        let number = match kept_number(&kept, place) {
+            Some(number) => number,
+            None => {
+                let number = number_of(&mut numbers, placed.host(alloc)?, index + 1)?;
+                keep_number(&mut kept, place, number)?;
+                number
+            }
+        };
+        hosts.push(number)?;
     }
     Ok(hosts)
 }

@@ -6,37 +6,24 @@ ghost use Rattle.std.specs.Ordering.{int_eq};
 ghost use Rattle.jaeger_model.specs.declared.placed.Placed.{Placed as PlacedValue};
 ghost use Rattle.trace_model.specs.Adjusting.{skew_adjusted, with_parent_first, adjusted};
 ghost use Rattle.trace_model.specs.Keeping.{spans_there, kept_value, KeptShares};
-ghost use Rattle.trace_model.specs.Seeing.{placed_by_its_entry};
-ghost use Rattle.trace_adjust.specs.Lending.{reported_as, shifted_all};
+ghost use Rattle.trace_adjust.specs.Lending.{AreThere, shifted_all, shown_by_deltas};
 ghost use Rattle.trace_adjust.specs.Skewing.{AreTraceClocks};
 
 use crate::lent_placed::LentPlaced;
 use crate::lent_spans::LentSpans;
 use crate::skew::{TraceClocks, clocks_of};
-use jaeger_model::Seen;
 use std::alloc::{AllocError, Global};
 use trace_model::{KeptSpan, KeptTrace};
 
-/// The spans that are there, as they were reported.
-fn all_reported<'a>(alloc: Global, kept: &'a [KeptSpan]) -> Result<Vec<Seen<'a>>, AllocError>
-    ensures { IfOk result (λ v. map placed_by_its_entry v.items ≡ spans_there kept.now) }
+/// The spans that are there, before their clock skew is taken away.
+fn all_lent<'a>(alloc: Global, kept: &'a [KeptSpan]) -> Result<Vec<LentPlaced<'a>>, AllocError>
+    ensures { IfOk result (λ v. v.items ≡ map with_parent_first (spans_there kept.now)) }
 {
-    let mut all = Vec::with_capacity(alloc, kept.len())?;
+    let mut lent = Vec::with_capacity(alloc, kept.len())?;
     for span in kept {
         if let Some(reported) = span.reported() {
-            all.push(reported)?;
+            lent.push(LentPlaced::with_parent_first(reported))?;
         }
-    }
-    Ok(all)
-}
-
-/// The spans, before their clock skew is taken away.
-fn all_lent<'a>(alloc: Global, reported: &[Seen<'a>]) -> Result<Vec<LentPlaced<'a>>, AllocError>
-    ensures { IfOk result (λ v. v.items ≡ map (reported_as false) reported.now) }
-{
-    let mut lent = Vec::with_capacity(alloc, reported.len())?;
-    for span in reported {
-        lent.push(LentPlaced::with_parent_first(*span))?;
     }
     Ok(lent)
 }
@@ -87,23 +74,34 @@ fn deltas_of(alloc: Global, trace: &KeptTrace, lent: &[LentPlaced]) -> Result<Ve
     Ok(needed(alloc, all_deltas(alloc, lent, &clocks)?))
 }
 
-/// The deltas of the spans of a trace as it is to be shown, which were reported so.
-fn shown_deltas(
-    alloc: Global,
-    trace: &KeptTrace,
-    reported: &[Seen],
-) -> Result<Vec<i128>, AllocError>
-    requires shares { KeptShares trace.now }
-    requires there { map placed_by_its_entry reported.now ≡ spans_there trace.now.spans.items }
-    ensures { IfOk result (λ v. shifted_all trace.now.limits.max_skew v.items
-        (map (reported_as trace.now.raw) reported.now)
-        ≡ kept_value trace.now) }
+/// The deltas of the spans of a trace as it is to be shown.
+fn shown_deltas(alloc: Global, trace: &KeptTrace) -> Result<Vec<i128>, AllocError>
+    requires { KeptShares trace.now }
+    ensures { IfOk result (λ v. shown_by_deltas trace.now v.items ≡ kept_value trace.now) }
 {
     if trace.raw {
         return Ok(Vec::new(alloc));
     }
-    let lent = all_lent(alloc, reported)?;
+    let lent = all_lent(alloc, &trace.spans)?;
     deltas_of(alloc, trace, &lent)
+}
+
+/// Drops the spans that their entries lack, which takes no memory.
+fn without_missing(trace: KeptTrace) -> KeptTrace
+    ensures there { AreThere result.spans.items }
+    ensures spans { spans_there result.spans.items ≡ spans_there trace.spans.items }
+    ensures places { result.places ≡ trace.places }
+    ensures limits { result.limits ≡ trace.limits }
+    ensures raw { result.raw ≡ trace.raw }
+{
+    let mut spans = trace.spans;
+    spans.retain(|span| span.is_there());
+    KeptTrace {
+        spans,
+        places: trace.places,
+        limits: trace.limits,
+        raw: trace.raw,
+    }
 }
 
 /// The spans of a trace as they are shown, each lent by the entry that keeps it.
@@ -111,16 +109,11 @@ fn shown_deltas(
 /// # Errors
 ///
 /// Out of memory, and nothing else.
-pub fn lend<'a>(alloc: Global, trace: &'a KeptTrace) -> Result<LentSpans<'a>, AllocError>
-    requires { KeptShares trace.now }
-    ensures { IfOk result (λ v. v ≡ kept_value trace.now) }
+pub fn lend(alloc: Global, trace: KeptTrace) -> Result<LentSpans, AllocError>
+    requires { KeptShares trace }
+    ensures { IfOk result (λ v. v ≡ kept_value trace) }
 {
-    let reported = all_reported(alloc, &trace.spans)?;
-    let deltas = shown_deltas(alloc, trace, &reported)?;
-    Ok(LentSpans {
-        reported,
-        deltas,
-        max_skew: trace.limits.max_skew,
-        raw: trace.raw,
-    })
+    let kept = without_missing(trace);
+    let deltas = shown_deltas(alloc, &kept)?;
+    Ok(LentSpans { kept, deltas })
 }

@@ -1,39 +1,44 @@
 //! The spans of a trace of an answer as they are shown, lent one by one by the entries that keep them.
 
-ghost use Rattle.std.specs.Prelude.{◌≡◌, ◌<◌, pos, get_or, length, map, slice_get, Some};
-ghost use Rattle.trace_adjust.specs.Lending.{reported_as};
+ghost use Rattle.std.specs.Prelude.{◌≡◌, ◌<◌, pos, get_or, length, slice_get, Some, None, option_map};
+ghost use Rattle.trace_model.specs.Adjusting.{spans_of};
+ghost use Rattle.trace_model.specs.Sharing.{ShareProcesses};
+ghost use Rattle.trace_model.specs.Seeing.{placed_by_its_entry};
+ghost use Rattle.trace_adjust.specs.Lending.{placed_as, AreThere};
 
 use crate::lent_placed::LentPlaced;
 use crate::lent_span::LentSpan;
 use jaeger_model::Seen;
 use std::marker::Model;
+use trace_model::{KeptSpan, KeptTrace};
 
 /// The spans of a trace, lent by the entries that keep them. Of each span it holds where it is and the delta of its
 /// clock; all else is found when the span is looked at. Contracts see the spans as they are shown.
 #[derive(Drop)]
-pub struct LentSpans<'a> {
-    pub(crate) reported: Vec<Seen<'a>>,
+pub struct LentSpans {
+    pub(crate) kept: KeptTrace,
     /// The deltas of the spans, in microseconds; 0 for the spans after the last delta.
     pub(crate) deltas: Vec<i128>,
-    pub(crate) max_skew: u64,
-    /// Whether the spans are shown as they came, and not adjusted.
-    pub(crate) raw: bool,
 }
 
-impl<'a> Model for LentSpans<'a> {
-    ghost use Rattle.std.specs.Prelude.{List, map};
+impl Model for LentSpans {
+    ghost use Rattle.std.specs.Prelude.{List};
     ghost use Rattle.trace_model.specs.declared.answer.Shown.{Shown};
-    ghost use Rattle.trace_adjust.specs.Lending.{reported_as, shifted_all};
+    ghost use Rattle.trace_model.specs.Adjusting.{spans_of};
+    ghost use Rattle.trace_model.specs.Sharing.{ShareProcesses};
+    ghost use Rattle.trace_adjust.specs.Lending.{shown_by_deltas, AreThere};
 
     ghost Value = { List Shown };
 
-    ghost view = { λ l. shifted_all l.max_skew l.deltas.items
-        (map (reported_as l.raw) l.reported.items) };
+    ghost view = { λ l. shown_by_deltas l.kept l.deltas.items };
+
+    ghost invariant = { λ l. AreThere l.kept.spans.items
+        × ShareProcesses (spans_of (shown_by_deltas l.kept l.deltas.items)) l.kept.places.items };
 }
 
 /// A span that was reported so: as a store keeps it where `raw` is asked, else the reference to its parent in front.
 fn lent_as<'a>(raw: bool, reported: Seen<'a>) -> LentPlaced<'a>
-    ensures { result ≡ reported_as raw reported.entry }
+    ensures { result ≡ placed_as raw (placed_by_its_entry reported.entry) }
 {
     if raw {
         LentPlaced::with_parent(reported)
@@ -50,28 +55,39 @@ fn delta_at(deltas: &[i128], index: usize) -> i128
 }
 
 /// The span at the index, as it is lent.
-fn lent_at<'a>(raw: bool, reported: &[Seen<'a>], index: usize) -> LentPlaced<'a>
-    requires { index < length reported.now }
-    ensures { result ≡ get_or (map (reported_as raw) reported.now) index result }
+fn lent_at<'a>(raw: bool, spans: &'a [KeptSpan], index: usize) -> LentPlaced<'a>
+    requires there { AreThere spans.now }
+    requires index { index < length spans.now }
+    ensures { Some result ≡ option_map (placed_as raw) (get_or spans.now index None) }
 {
-    lent_as(raw, reported[index])
+    match spans[index].reported() {
+        Some(reported) => lent_as(raw, reported),
+        None => unreachable!(),
+    }
 }
 
-impl<'a> LentSpans<'a> {
+impl LentSpans {
     /// The number of the spans.
     pub fn len(&self) -> usize
         ensures { result ≡ length self.now }
     {
-        self.reported.len()
+        self.kept.spans.len()
+    }
+
+    /// The places of the entries that brought the first spans: spans with one place have one process.
+    pub fn places(&self) -> &[u64]
+        ensures { ShareProcesses (spans_of self.now) result.now }
+    {
+        &self.kept.places
     }
 
     /// The span at the index. Takes no memory.
-    pub fn at(&self, index: usize) -> LentSpan<'a>
+    pub fn at(&self, index: usize) -> LentSpan<'_>
         requires { index < length self.now }
         ensures { slice_get self.now index ≡ Some result }
     {
         let delta = delta_at(&self.deltas, index);
-        let placed = lent_at(self.raw, &self.reported, index);
-        LentSpan::shifted(placed, delta, self.max_skew)
+        let placed = lent_at(self.kept.raw, &self.kept.spans, index);
+        LentSpan::shifted(placed, delta, self.kept.limits.max_skew)
     }
 }

@@ -12,7 +12,7 @@
 //! * `showing`: traces of an answer, whose spans are copied from their entries.
 //! * `lent_span`, `lent_logs`: a span of an answer where its entry keeps it, with what is shown otherwise.
 //! * `lent_spans`: the spans of a trace of an answer, lent one by one.
-//! * `lending`: what is held for that: where they are, and the deltas of their clocks.
+//! * `lending`: what is held for that: the trace as it is kept, and the deltas of its clocks.
 #![tactic(auto)]
 
 mod clock;

@@ -127,7 +127,7 @@ fn shift_all(
 /// one id.
 ///
 /// `places` are those of the entries that brought the spans, as far as they are known: the process
-/// of spans that stand together and have one place is looked at once. `max_skew` is the largest
+/// of spans that have one place is looked at once. `max_skew` is the largest
 /// difference of clocks, in microseconds, that is taken away.
 ///
 /// # Errors

@@ -1,16 +1,19 @@
-ghost use Rattle.std.specs.Prelude.{◌≡◌, ◌<◌, ◌∷◌, [], IfOk, decimal, get_or, length, map, string_bytes};
-ghost use Rattle.serde_json.specs.Data.{no_members, string};
+ghost use Rattle.std.specs.Prelude.{◌≡◌, ◌<◌, ◌∷◌, List, [], All, IfOk, decimal, get_or, length, map, string_bytes};
+ghost use Rattle.serde_json.specs.Data.{string};
 ghost use Rattle.serde_json.specs.Written.{compact_text};
+ghost use Rattle.trace_model.specs.declared.answer.Shown.{Shown};
 ghost use Rattle.query_json.specs.Page.{Puts};
-ghost use Rattle.query_json.specs.Trees.{named, process_tree};
-ghost use Rattle.query_json.specs.Named.{named_members, named_text};
+ghost use Rattle.query_json.specs.Trees.{process_tree};
+ghost use Rattle.query_json.specs.Named.{AreNamed, HasSpan, named_text};
+ghost use Rattle.query_json.specs.Numbering.{IsFirst, first_process};
 ghost use Rattle.query_json.specs.Writing.{process_names};
 
 use super::{Page, WriteJson, write_list};
-use crate::naming::names;
+use crate::naming::{FirstSpan, names};
 use jaeger_model::Process;
 use std::alloc::{AllocError, Global};
 use std::collections::BTreeMap;
+use trace_adjust::LentSpans;
 
 impl WriteJson for Process {
     ghost tree = { process_tree };
@@ -24,40 +27,40 @@ impl WriteJson for Process {
     }
 }
 
-/// A process of a trace with its number, counted from 1, by which it is named.
+/// A process of a trace with its number, counted from 1, by which it is named. It is that of the span at the index.
 #[derive(Clone, Copy)]
-pub(crate) struct NamedProcess<'a> {
+pub(crate) struct NamedProcess {
     number: u64,
-    process: &'a Process,
+    span: usize,
 }
 
 /// The processes by their names.
-fn by_name<'n, 'a>(
+fn by_name<'n>(
     alloc: Global,
     names: &'n [String],
-    processes: &[&'a Process],
-) -> Result<BTreeMap<&'n str, NamedProcess<'a>>, AllocError>
+    processes: &[FirstSpan],
+) -> Result<BTreeMap<&'n str, NamedProcess>, AllocError>
     requires names { map string_bytes names.now ≡ process_names (length processes.now) }
     requires count { length names.now ≡ length processes.now }
-    ensures { IfOk result (λ m. named_members (map (λ e. e.1) m.entries)
-        ≡ named 0 (map (λ p. p.now) processes.now) no_members) }
+    ensures { (spans : List Shown) → All (IsFirst spans) processes.now →
+        IfOk result (λ m.
+        AreNamed spans (map first_process processes.now) (map (λ e. e.1) m.entries)) }
 {
     let mut named = BTreeMap::new(alloc);
-    for (place, process) in processes.iter().enumerate() {
+    for (place, first) in processes.iter().enumerate() {
         let number = place as u64 + 1;
-        let process = *process;
-        named.insert(names[place].as_str(), NamedProcess { number, process })?;
+        let span = first.span;
+        named.insert(names[place].as_str(), NamedProcess { number, span })?;
     }
     Ok(named)
 }
 
 /// The processes in the order of the map.
-fn in_its_order<'a>(
+fn in_its_order(
     alloc: Global,
-    named: &BTreeMap<&str, NamedProcess<'a>>,
-) -> Result<Vec<NamedProcess<'a>>, AllocError>
-    ensures { IfOk result (λ v.
-        named_members v.items ≡ named_members (map (λ e. e.1) named.now.entries)) }
+    named: &BTreeMap<&str, NamedProcess>,
+) -> Result<Vec<NamedProcess>, AllocError>
+    ensures { IfOk result (λ v. v.items ≡ map (λ e. e.1) named.now.entries) }
 {
     let mut order = Vec::with_capacity(alloc, named.len())?;
     for (_, process) in named.iter() {
@@ -67,16 +70,17 @@ fn in_its_order<'a>(
 }
 
 /// The processes in the order of their names' bytes.
-pub(super) fn in_order<'a>(
+pub(super) fn in_order(
     alloc: Global,
-    processes: &[&'a Process],
-) -> Result<Vec<NamedProcess<'a>>, AllocError>
-    ensures { IfOk result (λ v.
-        named_members v.items ≡ named 0 (map (λ p. p.now) processes.now) no_members) }
+    processes: &[FirstSpan],
+) -> Result<Vec<NamedProcess>, AllocError>
+    ensures { (spans : List Shown) → All (IsFirst spans) processes.now →
+        IfOk result (λ v. AreNamed spans (map first_process processes.now) v.items) }
 {
     let names = names(alloc, processes.len())?;
     let named = by_name(alloc, &names, processes)?;
-    in_its_order(alloc, &named)
+    let order = in_its_order(alloc, &named)?;
+    Ok(order)
 }
 
 /// The name of the process with this number, as a JSON string.
@@ -88,19 +92,26 @@ pub(super) fn write_name(out: &mut Page, number: u64)
     out.put("\"");
 }
 
-/// A process under its name.
-fn write_named(out: &mut Page, named: &NamedProcess)
-    ensures { Puts out.old out.new (named_text named.now) }
+/// The process of one of the spans, under its name.
+fn write_named(out: &mut Page, spans: &LentSpans, named: NamedProcess)
+    requires { named.span < length spans.now }
+    ensures { Puts out.old out.new (named_text spans.now named) }
 {
     write_name(out, named.number);
     out.put(":");
-    named.process.write(out);
+    spans.at(named.span).process().write(out);
 }
 
-/// The process at the index, under its name.
-pub(super) fn write_process(out: &mut Page, processes: &[NamedProcess], index: usize)
-    requires { index < length processes.now }
-    ensures { Puts out.old out.new (get_or (map named_text processes.now) index []) }
+/// The process at the index, which one of the spans has, under its name.
+pub(super) fn write_process(
+    out: &mut Page,
+    spans: &LentSpans,
+    processes: &[NamedProcess],
+    index: usize,
+)
+    requires index { index < length processes.now }
+    requires spans { All (HasSpan spans.now) processes.now }
+    ensures { Puts out.old out.new (get_or (map (named_text spans.now) processes.now) index []) }
 {
-    write_named(out, &processes[index]);
+    write_named(out, spans, processes[index]);
 }

@@ -1,10 +1,12 @@
-ghost use Rattle.std.specs.Prelude.{◌≡◌, ◌+◌, ◌<◌, ◌^◌, [], IfOk, OnOk, get_or, length, map};
+ghost use Rattle.std.specs.Prelude.{◌≡◌, ◌+◌, ◌<◌, ◌^◌, [], IfOk, OnOk, get_or, length, map, string_bytes};
 ghost use Rattle.serde_json.specs.Data.{string};
 ghost use Rattle.serde_json.specs.Written.{compact_text};
 ghost use Rattle.trace_model.specs.Keeping.{kept_value, KeptShares};
+ghost use Rattle.query_json.specs.Named.{AreNamed};
 ghost use Rattle.query_json.specs.Page.{Puts};
-ghost use Rattle.query_json.specs.TracePieces.{close_text, span_pieces, span_text_in, trace_pieces};
-ghost use Rattle.query_json.specs.Trees.{trace_id_text, trace_tree};
+ghost use Rattle.query_json.specs.TracePieces.{close_text, item_spans, lent_pieces, span_pieces, span_text_in, trace_pieces};
+ghost use Rattle.query_json.specs.Trees.{processes_of, trace_id_text, trace_tree};
+ghost use Rattle.query_json.specs.Writing.{process_place};
 
 use super::processes::{NamedProcess, in_order, write_process};
 use super::span::write_span;
@@ -12,6 +14,7 @@ use super::{Page, WriteJson, put_separator};
 use crate::naming::lent_places;
 use crate::tree::Tree;
 use std::alloc::{AllocError, Global};
+use std::snapshot::Snapshot;
 use trace_adjust::{LentSpans, lend};
 use trace_model::{AnsweredTrace, KeptTrace, ShownTrace, TraceForm};
 
@@ -47,26 +50,40 @@ fn few(processes: usize, spans: usize) -> Result<(), AllocError>
     }
 }
 
-/// A trace whose spans are lent by their entries, with what is to be known of its processes before it is written.
-#[derive(Drop)]
-pub(crate) struct LentTrace<'a> {
-    spans: LentSpans<'a>,
-    /// For each span how many processes stand before its own.
-    places: Vec<u32>,
-    processes: Vec<NamedProcess<'a>>,
+/// The place of each span's process among the processes, and these in the order of their names.
+fn named_processes(
+    alloc: Global,
+    spans: &LentSpans,
+) -> Result<(Vec<u32>, Vec<NamedProcess>), AllocError>
+    ensures places { IfOk result (λ r.
+        r.0.items ≡ map (process_place (processes_of spans.now)) spans.now) }
+    ensures processes { IfOk result (λ r.
+        AreNamed spans.now (processes_of spans.now) r.1.items) }
+{
+    let (places, processes) = lent_places(alloc, spans)?;
+    let named = in_order(alloc, &processes)?;
+    Ok((places, named))
 }
 
-impl<'a> LentTrace<'a> {
+/// A trace whose spans are lent by their entries, with what is to be known of its processes before it is written.
+#[derive(Drop)]
+pub(crate) struct LentTrace {
+    spans: LentSpans,
+    /// For each span how many processes stand before its own.
+    places: Vec<u32>,
+    processes: Vec<NamedProcess>,
+}
+
+impl LentTrace {
     ghost use Rattle.query_json.specs.LentTraces.{IsNumbered};
 
-    pub(crate) fn new(alloc: Global, kept: &'a KeptTrace) -> Result<LentTrace<'a>, AllocError>
-        requires { KeptShares kept.now }
-        ensures spans { IfOk result (λ t. t.spans ≡ kept_value kept.now) }
+    pub(crate) fn new(alloc: Global, kept: KeptTrace) -> Result<LentTrace, AllocError>
+        requires { KeptShares kept }
+        ensures spans { IfOk result (λ t. t.spans ≡ kept_value kept) }
         ensures numbered { IfOk result IsNumbered }
     {
         let spans = lend(alloc, kept)?;
-        let (places, processes) = lent_places(alloc, &spans, &kept.places)?;
-        let processes = in_order(alloc, &processes)?;
+        let (places, processes) = named_processes(alloc, &spans)?;
         few(processes.len(), spans.len())?;
         Ok(LentTrace {
             spans,
@@ -78,7 +95,7 @@ impl<'a> LentTrace<'a> {
     /// The number of its pieces: its processes and spans, and what stands before, between and behind them.
     pub(crate) fn piece_count(&self) -> usize
         requires { IsNumbered self.now }
-        ensures count { result ≡ length (trace_pieces self.now) }
+        ensures count { result ≡ length (lent_pieces self.now) }
         ensures bound { result < 2 ^ 63 }
     {
         self.processes.len() + self.spans.len() + 3
@@ -87,8 +104,8 @@ impl<'a> LentTrace<'a> {
     /// Puts a piece.
     pub(crate) fn put_piece(&self, out: &mut Page, piece: usize)
         requires numbered { IsNumbered self.now }
-        requires piece { piece < length (trace_pieces self.now) }
-        ensures { Puts out.old out.new (get_or (trace_pieces self.now) piece []) }
+        requires piece { piece < length (lent_pieces self.now) }
+        ensures { Puts out.old out.new (get_or (lent_pieces self.now) piece []) }
     {
         if piece == 0 {
             out.put(r#"{"processes":{"#);
@@ -100,7 +117,7 @@ impl<'a> LentTrace<'a> {
             return;
         }
         put_separator(out, index);
-        write_process(out, &self.processes, index);
+        write_process(out, &self.spans, &self.processes, index);
     }
 
     /// Puts a piece of those behind the processes.
@@ -132,40 +149,71 @@ impl<'a> LentTrace<'a> {
         let number = u64::from(self.places[index]) + 1;
         write_span(out, number, &self.spans.at(index));
     }
+}
 
-    /// Its spans in order, and their processes under the names that the spans give.
-    pub(crate) fn write(&self, out: &mut Page)
-        requires { IsNumbered self.now }
-        ensures { Puts out.old out.new (compact_text (trace_tree self.now.spans)) }
+/// A trace whose spans are made: the text of its tree. The spans are there for contracts alone.
+#[derive(Drop)]
+pub(crate) struct MadeTrace {
+    spans: Snapshot<ShownTrace>,
+    text: String,
+}
+
+impl MadeTrace {
+    fn new(alloc: Global, made: &ShownTrace) -> Result<MadeTrace, AllocError>
+        ensures spans { IfOk result (λ t. t.spans.value ≡ made.now) }
+        ensures text { IfOk result (λ t.
+            string_bytes t.text ≡ compact_text (trace_tree made.now)) }
     {
-        for piece in 0..self.piece_count() {
-            self.put_piece(out, piece);
-        }
+        let text = made.to_json(alloc)?.to_string(alloc)?;
+        Ok(MadeTrace {
+            spans: Snapshot::of(made),
+            text,
+        })
     }
 }
 
-/// A trace whose spans are made, by its tree.
-fn write_made(alloc: Global, out: &mut Page, made: &ShownTrace) -> Result<(), AllocError>
-    ensures { OnOk result (Puts out.old out.new (compact_text (trace_tree made.now))) }
-{
-    let text = made.to_json(alloc)?.to_string(alloc)?;
-    out.put(text.as_str());
-    Ok(())
+/// A trace of an answer, written in pieces. One whose spans are made is one piece.
+#[derive(Drop)]
+pub(crate) enum TraceItem {
+    Lent(LentTrace),
+    Made(MadeTrace),
 }
 
-/// A trace of an answer. Spans that their entries keep are written where they are.
-pub(super) fn write_trace(
-    alloc: Global,
-    out: &mut Page,
-    trace: &AnsweredTrace,
-) -> Result<(), AllocError>
-    ensures { OnOk result (Puts out.old out.new (compact_text (trace_tree trace.now))) }
-{
-    match trace.form() {
-        TraceForm::Ready(made) => write_made(alloc, out, made),
-        TraceForm::Kept(kept) => {
-            LentTrace::new(alloc, kept)?.write(out);
-            Ok(())
+impl TraceItem {
+    ghost use Rattle.query_json.specs.LentTraces.{IsWritable};
+
+    /// Takes all the memory that writing it needs.
+    pub(crate) fn new(alloc: Global, trace: AnsweredTrace) -> Result<TraceItem, AllocError>
+        ensures spans { IfOk result (λ t. item_spans t ≡ trace) }
+        ensures writable { IfOk result IsWritable }
+    {
+        match trace.into_form() {
+            TraceForm::Kept(kept) => Ok(TraceItem::Lent(LentTrace::new(alloc, kept)?)),
+            TraceForm::Ready(made) => Ok(TraceItem::Made(MadeTrace::new(alloc, &made)?)),
+        }
+    }
+
+    /// The number of its pieces.
+    pub(crate) fn piece_count(&self) -> usize
+        requires { IsWritable self.now }
+        ensures count { result ≡ length (trace_pieces self.now) }
+        ensures bound { result < 2 ^ 63 }
+    {
+        match self {
+            TraceItem::Lent(lent) => lent.piece_count(),
+            TraceItem::Made(_) => 1,
+        }
+    }
+
+    /// Puts a piece.
+    pub(crate) fn put_piece(&self, out: &mut Page, piece: usize)
+        requires writable { IsWritable self.now }
+        requires piece { piece < length (trace_pieces self.now) }
+        ensures { Puts out.old out.new (get_or (trace_pieces self.now) piece []) }
+    {
+        match self {
+            TraceItem::Lent(lent) => lent.put_piece(out, piece),
+            TraceItem::Made(made) => out.put(made.text.as_str()),
         }
     }
 }

@@ -1,5 +1,5 @@
 use jaeger_model::{Seq, Span, Text, TraceId};
-use query_json::{answer_json, answer_text, error_json};
+use query_json::{AnswerParts, answer_json, error_json};
 use std::alloc::{AllocError, Global};
 use std::process::Abort;
 use std::test::*;
@@ -24,13 +24,27 @@ fn found(alloc: Global, span: Shown) -> Result<Answer, AllocError> {
     Ok(Answer::Trace(Some(AnsweredTrace::made(shown))))
 }
 
-fn text_of(alloc: Global, answer: &Answer) -> Result<String, AllocError> {
-    again(AllocError, || answer_text(alloc, answer))
+/// The text that the parts make up.
+fn text_in(alloc: Global, mut parts: AnswerParts) -> Result<Vec<u8>, AllocError> {
+    let mut text = Vec::new(alloc);
+    for _ in 0..1_000u16 {
+        text.extend_from_slice(parts.part())?;
+        parts.advance();
+    }
+    Ok(text)
 }
 
-fn shows(rt: &impl Abort, alloc: Global, answer: &Answer, want: &str) -> Result<(), Fail> {
+/// The text of the answer as it is given out.
+fn text_of(alloc: Global, answer: Answer) -> Result<Vec<u8>, AllocError> {
+    text_in(alloc, AnswerParts::new(alloc, answer)?)
+}
+
+/// The answer has this text, and so has its tree.
+fn shows(rt: &impl Abort, alloc: Global, answer: Answer, want: &str) -> Result<(), Fail> {
+    let tree = tree_text(alloc, &answer)?;
+    assert!(rt; tree.as_str() == want, "{tree}");
     let text = text_of(alloc, answer)?;
-    assert!(rt; text.as_str() == want, "{text}");
+    assert!(rt; text.as_slice() == want.as_bytes(), "{text:?}");
     Ok(())
 }
 
@@ -49,11 +63,7 @@ const SAMPLE_TEXT: &str =
 
 #[test]
 fn sample_trace(rt: HostRuntime) -> Result<(), Fail> {
-    let answer = sample(rt.alloc())?;
-    shows(&rt, rt.alloc(), &answer, SAMPLE_TEXT)?;
-    let text = tree_text(rt.alloc(), &answer)?;
-    assert!(rt; text.as_str() == SAMPLE_TEXT, "{text}");
-    Ok(())
+    shows(&rt, rt.alloc(), sample(rt.alloc())?, SAMPLE_TEXT)
 }
 
 /// Where memory runs out once it is said, and the same call behind that gives the tree or its text: the check of
@@ -63,10 +73,11 @@ fn memory_for_a_tree(rt: HostRuntime) -> Result<(), Fail> {
     let alloc = rt.alloc();
     let answer = sample(alloc)?;
     let tree = again(AllocError, || answer_json(alloc, &answer));
-    let (Ok(tree), Ok(text)) = (tree, text_of(alloc, &answer)) else {
+    let text = again(AllocError, || text_of(alloc, sample(alloc)?));
+    let (Ok(tree), Ok(text)) = (tree, text) else {
         panic!(rt; "an answer has no tree or no text");
     };
-    assert!(rt; text.as_str() == SAMPLE_TEXT, "{text}");
+    assert!(rt; text.as_slice() == SAMPLE_TEXT.as_bytes(), "{text:?}");
     let text = tree.to_string(alloc)?;
     assert!(rt; text.as_str() == SAMPLE_TEXT, "{text}");
     Ok(())
@@ -83,7 +94,7 @@ fn shows_items(
     let want = format!(in alloc;
         "{{\"data\":{items},\"errors\":null,\"limit\":0,\"offset\":0,\"total\":{total}}}"
     )?;
-    shows(rt, alloc, &answer, &want)
+    shows(rt, alloc, answer, &want)
 }
 
 #[test]
@@ -118,9 +129,9 @@ fn many_spans(alloc: Global) -> Result<Answer, AllocError> {
 }
 
 /// How long the text of the answer is, and that of its tree.
-fn lengths(alloc: Global, answer: &Answer) -> Result<(usize, usize), Fail> {
+fn lengths(alloc: Global, answer: Answer) -> Result<(usize, usize), Fail> {
+    let tree = tree_text(alloc, &answer)?;
     let text = text_of(alloc, answer)?;
-    let tree = tree_text(alloc, answer)?;
     Ok((text.len(), tree.len()))
 }
 
@@ -128,8 +139,8 @@ fn lengths(alloc: Global, answer: &Answer) -> Result<(usize, usize), Fail> {
 #[test]
 fn large_answers(rt: HostRuntime) -> Result<(), Fail> {
     let alloc = rt.alloc();
-    assert_eq!(rt; lengths(alloc, &many_names(alloc)?)?, (4_058, 4_058));
-    let (text, tree) = lengths(alloc, &many_spans(alloc)?)?;
+    assert_eq!(rt; lengths(alloc, many_names(alloc)?)?, (4_058, 4_058));
+    let (text, tree) = lengths(alloc, many_spans(alloc)?)?;
     assert!(rt; text == tree && text > 100 * MANY);
     Ok(())
 }
@@ -138,7 +149,7 @@ fn large_answers(rt: HostRuntime) -> Result<(), Fail> {
 fn missing_trace(rt: HostRuntime) -> Result<(), Fail> {
     let want =
         r#"{"data":null,"errors":[{"code":404,"msg":"trace not found"}],"limit":0,"offset":0,"total":0}"#;
-    shows(&rt, rt.alloc(), &Answer::Trace(None), want)?;
+    shows(&rt, rt.alloc(), Answer::Trace(None), want)?;
     let error = error_json(rt.alloc(), 404, "trace not found")?;
     let text = error.to_string(rt.alloc())?;
     assert!(rt; text.as_str() == want, "{text}");

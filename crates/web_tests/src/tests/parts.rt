@@ -1,7 +1,7 @@
 //! Answers of more than 1 MB, given out in parts.
 
 use jaeger_model::{Batch, Seq, SharedProcess, Text, TraceId};
-use query_json::{AnswerParts, answer_bytes};
+use query_json::{AnswerParts, answer_json};
 use std::alloc::{AllocError, Global};
 use std::sync::Arc;
 use std::test::*;
@@ -133,7 +133,7 @@ fn traces(alloc: Global, limits: Limits) -> Result<Answer, AllocError> {
 
 /// What is left of the text when the parts, each of at most [`MOST`] bytes, have been taken from its front; None if
 /// one of them is larger or something else. And the number of the parts.
-fn taken_from<'t>(text: &'t [u8], mut parts: AnswerParts<'_>) -> (Option<&'t [u8]>, usize) {
+fn taken_from<'t>(text: &'t [u8], mut parts: AnswerParts) -> (Option<&'t [u8]>, usize) {
     let mut left = text;
     for number in 0..1_000usize {
         let part = parts.part();
@@ -149,60 +149,72 @@ fn taken_from<'t>(text: &'t [u8], mut parts: AnswerParts<'_>) -> (Option<&'t [u8
     (None, 1_000)
 }
 
+/// The text of the answer's tree.
+fn tree_text(alloc: Global, answer: &Answer) -> Result<String, AllocError> {
+    again(AllocError, || answer_json(alloc, answer))?.to_string(alloc)
+}
+
 /// Whether the answer is given out in parts that make up its text.
-fn is_parted(alloc: Global, answer: &Answer) -> Result<bool, AllocError> {
-    let text = again(AllocError, || answer_bytes(alloc, answer))?;
-    let parts = again(AllocError, || AnswerParts::new(alloc, answer))?;
+fn is_parted(alloc: Global, answer: Answer) -> Result<bool, AllocError> {
+    let text = tree_text(alloc, &answer)?;
+    let parts = AnswerParts::new(alloc, answer)?;
     let whole = parts.remaining() == text.len();
-    let (left, count) = taken_from(text.as_slice(), parts);
+    let (left, count) = taken_from(text.as_bytes(), parts);
     Ok(whole && left.is_some_and(|left| left.is_empty()) && count > 40)
 }
 
 #[test]
 fn names_are_parted(rt: HostRuntime) -> Result<(), Fail> {
-    assert!(rt; is_parted(rt.alloc(), &names(rt.alloc())?)?);
+    assert!(rt; is_parted(rt.alloc(), names(rt.alloc())?)?);
     Ok(())
 }
 
 #[test]
 fn operations_are_parted(rt: HostRuntime) -> Result<(), Fail> {
-    assert!(rt; is_parted(rt.alloc(), &operations(rt.alloc())?)?);
+    assert!(rt; is_parted(rt.alloc(), operations(rt.alloc())?)?);
     Ok(())
 }
 
 #[test]
 fn ids_are_parted(rt: HostRuntime) -> Result<(), Fail> {
-    assert!(rt; is_parted(rt.alloc(), &ids(rt.alloc())?)?);
+    assert!(rt; is_parted(rt.alloc(), ids(rt.alloc())?)?);
     Ok(())
 }
 
 #[test]
 fn links_are_parted(rt: HostRuntime) -> Result<(), Fail> {
-    assert!(rt; is_parted(rt.alloc(), &links(rt.alloc())?)?);
+    assert!(rt; is_parted(rt.alloc(), links(rt.alloc())?)?);
     Ok(())
 }
 
 #[test]
 fn a_trace_is_parted(rt: HostRuntime) -> Result<(), Fail> {
     let limits = Limits::new(1, 1, 0, 200).ok_or("limits")?;
-    assert!(rt; is_parted(rt.alloc(), &one_trace(rt.alloc(), limits)?)?);
+    assert!(rt; is_parted(rt.alloc(), one_trace(rt.alloc(), limits)?)?);
     Ok(())
 }
 
 #[test]
 fn traces_are_parted(rt: HostRuntime) -> Result<(), Fail> {
     let limits = Limits::new(1, 1, 0, 200).ok_or("limits")?;
-    assert!(rt; is_parted(rt.alloc(), &traces(rt.alloc(), limits)?)?);
+    assert!(rt; is_parted(rt.alloc(), traces(rt.alloc(), limits)?)?);
     Ok(())
+}
+
+/// A trace of two large spans.
+fn two_spans(alloc: Global, limits: Limits) -> Result<Answer, AllocError> {
+    Ok(Answer::Trace(Some(trace(alloc, limits, 2, VERY_MANY)?)))
 }
 
 /// Whether the parts of a trace of two large spans are as long as its text and, where they are taken, make it up.
 fn are_made(alloc: Global, limits: Limits, taken: bool) -> Result<bool, AllocError> {
-    let answer = Answer::Trace(Some(trace(alloc, limits, 2, VERY_MANY)?));
-    let text = again(AllocError, || answer_bytes(alloc, &answer))?;
-    let mut parts = again(AllocError, || AnswerParts::new(alloc, &answer))?;
+    let text = tree_text(alloc, &two_spans(alloc, limits)?)?;
+    let mut parts = again(
+        AllocError,
+        || AnswerParts::new(alloc, two_spans(alloc, limits)?),
+    )?;
     let mut same = parts.remaining() == text.len();
-    let mut left = text.as_slice();
+    let mut left = text.as_bytes();
     for _ in 0..3u8 {
         if taken {
             same = same && left.starts_with(parts.part());

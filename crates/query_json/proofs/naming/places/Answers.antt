@@ -1,12 +1,14 @@
 use Rattle.std.proofs.Common.{rules, ◌≡◌, ◌<◌, ◌∙◌, List, ap, subst, get_or, length, map, take}
 use Rattle.std.proofs.lemmas.List.{take_all}
 use Rattle.trace_model.specs.declared.answer.Shown.{Shown}
+use Rattle.query_json.specs.Numbering.{first_process}
+use Rattle.query_json.specs.Placing.{ComesNext}
 use Rattle.query_json.specs.Trees.{processes_of}
 use Rattle.query_json.specs.Writing.{process_place}
 use Rattle.query_json.proofs.naming.places.Goals as goal
 
 pub loop-index-init : goal.loop-index-init
-loop-index-init c = c.in_ok-placing.ensures.placed c.args.trace.now
+loop-index-init c = c.in_ok-placing.ensures.placed c.args.trace.now c.places-entries.result.now
 
 pub loop-index-preserved : goal.loop-index-preserved
 loop-index-preserved c =
@@ -16,7 +18,9 @@ loop-index-preserved c =
     let slice : c.as_slice-shown-items.result.now ≡ spans = c.as_slice-shown-items.ensures in
     let within : i < length spans = subst (λ (l : List Shown). i < length l) slice (search rules) in
     let is : s ≡ get_or spans i s = subst (λ (l : List Shown). s ≡ get_or l i s) slice c.shown-item.is in
-    c.in_ok-add.ensures.placed spans i s c.get.ensures (within, is, c.goes_on.ensures) c.loop-index.invariant
+    let entries = c.places-entries.result.now in
+    let next : ComesNext spans entries i s c.entry_at.result = record { within = within; is = is; stands = c.entry_at.ensures; shares = c.places-entries.ensures } in
+    c.in_ok-add.ensures spans entries i s c.get.ensures next c.loop-index.invariant
 
 pub returns-clause-places : goal.returns-clause-places
 returns-clause-places c =
@@ -28,4 +32,4 @@ pub returns-clause-processes : goal.returns-clause-processes
 returns-clause-processes c =
     let spans = c.args.trace.now in
     let all : take c.loop-index.index spans ≡ spans = search (rules, take_all) in
-    c.into_parts.ensures.processes ∙ c.loop-index.invariant.processes ∙ ap processes_of all
+    ap (map first_process) c.into_parts.ensures.processes ∙ c.loop-index.invariant.processes ∙ ap processes_of all

@@ -1,14 +1,15 @@
 use Rattle.std.proofs.Common.{◌≡◌, ◌+◌, ◌<◌, ◌∙◌, ◌++◌, ◌∷◌, ℕ, List, [], cond, length, take, sym, ap, subst, rules}
-use Rattle.std.specs.Prelude.{Some, None, unwrap_or}
+use Rattle.std.specs.Prelude.{Some, None, unwrap_or, slice_get}
 use Rattle.std.specs.Option.{option_or}
+use Rattle.std.specs.Ordering.{nat_cmp}
 use Rattle.std.specs.BTreeMap.{get}
 use Rattle.std.proofs.lemmas.List.{take_all}
 use Rattle.jaeger_model.specs.Texts.{same_text, text_cmp}
 use Rattle.trace_model.specs.Adjusting.{host_of}
-use Rattle.trace_adjust.specs.Hosts.{hosts_of, number_in, AreNumbers}
-use Rattle.trace_adjust.proofs.Hosting.{table_more, last_more, numbers_more, fresh_is, same_host, number_again, number_stays, number_given, table_given}
+use Rattle.trace_adjust.specs.Hosts.{hosts_of, number_in, AreNumbers, AreKept}
+use Rattle.trace_adjust.proofs.Hosting.{table_more, numbers_more, kept_more, kept_put, own_number, place_read, fresh_is, number_again, number_stays, number_given, table_given}
 use Rattle.trace_adjust.proofs.hosts.host_numbers.Goals as goal
-use Rattle.trace_adjust.proofs.hosts.host_numbers.Goals.{then-not-same_entry+in_ok-host+in_ok-last, else-not-same_entry}
+use Rattle.trace_adjust.proofs.hosts.host_numbers.Goals.{in-Some, in-None+in_ok-host-in-None+in_ok-number-in-None+in_ok-keep_number-in-None}
 
 pub loop-index-preserved : goal.loop-index-preserved
 loop-index-preserved c =
@@ -19,28 +20,31 @@ loop-index-preserved c =
     let here = c.index-trace-index.is in
     let before = hosts_of (take i ps) in
     let host = host_of p in
-    elim c.if-not-same_entry.branch [
-      | then-not-same_entry+in_ok-host+in_ok-last w ↦
+    let places = c.args.places.now in
+    let place : c.copied-place.result ≡ slice_get places i = c.copied-place.ensures ∙ place_read places i c.get.result c.get.ensures.lookup in
+    elim c.match-kept_number.branch [
+      | in-None+in_ok-host-in-None+in_ok-number-in-None+in_ok-keep_number-in-None w ↦
           let old = get text_cmp c.loop-index.numbers in
           let new = get text_cmp w.number_of.new.numbers in
-          let same = w.in_ok-host.ensures in
+          let same = w.in_ok-host-in-None.ensures in
           let long = fresh_is ps i p l here in
-          let put : (t : List ℕ) → new t ≡ option_or (old t) (cond (same_text t host) (Some (i + 1)) None) = λ t. w.in_ok-last.ensures.numbers t ∙ ap (λ h. option_or (old t) (cond (same_text t h) (Some (i + 1)) None)) same in
-          let given = number_given before host (old host) w.in_ok-last.last (i + 1) (c.loop-index.invariant.table host) (w.in_ok-last.ensures.number ∙ ap (λ h. unwrap_or (old h) (i + 1)) same) long in
-          let known : number_in (before ++ host ∷ []) host ≡ Some c.if-not-same_entry.last = given ∙ ap Some (sym w.last-is) in
+          let put : (t : List ℕ) → new t ≡ option_or (old t) (cond (same_text t host) (Some (i + 1)) None) = λ t. w.in_ok-number-in-None.ensures.numbers t ∙ ap (λ h. option_or (old t) (cond (same_text t h) (Some (i + 1)) None)) same in
+          let given = number_given before host (old host) w.in_ok-number-in-None.number (i + 1) (c.loop-index.invariant.table host) (w.in_ok-number-in-None.ensures.number ∙ ap (λ h. unwrap_or (old h) (i + 1)) same) long in
+          let known : number_in (before ++ host ∷ []) host ≡ Some c.match-kept_number.number = given ∙ ap Some (sym w.number-is) in
           record {
             table = λ t. ap (λ m. get text_cmp m t) w.numbers-is ∙ table_more ps i p l here new (table_given before host old new (i + 1) c.loop-index.invariant.table long put) t;
-            hosts = numbers_more ps i p l here c.loop-index.hosts.items c.push.new.self.items c.if-not-same_entry.last c.loop-index.invariant.hosts c.in_ok-push.ensures.items known;
-            last = last_more ps i p l here c.if-not-same_entry.last known;
+            hosts = numbers_more ps i p l here c.loop-index.hosts.items c.push.new.self.items c.match-kept_number.number c.loop-index.invariant.hosts c.in_ok-push.ensures.items known;
+            kept = subst (λ m. AreKept ps places (i + 1) (get nat_cmp m)) (sym w.kept-is)
+                (kept_put ps i p l here places c.copied-place.result w.in_ok-number-in-None.number (get nat_cmp c.loop-index.kept) (get nat_cmp w.keep_number.new.kept) place w.in_ok-keep_number-in-None.ensures given c.loop-index.invariant.kept);
           }
-      | else-not-same_entry w ↦
-          let goes = c.same_entry.ensures w.if-not-same_entry.false in
-          let own : number_in before host ≡ Some c.loop-index.last = ap (number_in before) (sym (same_host ps i p l here c.args.places.now c.requires goes.0 goes.1 goes.2)) ∙ c.loop-index.invariant.last in
-          let known : number_in (before ++ host ∷ []) host ≡ Some c.if-not-same_entry.last = number_stays before (host ∷ []) host c.loop-index.last own ∙ ap Some (sym w.last-is) in
+      | in-Some w ↦
+          let own : number_in before host ≡ Some c.match-kept_number.number =
+          own_number ps i p l here places c.copied-place.result (get nat_cmp c.loop-index.kept) c.match-kept_number.number c.requires place c.loop-index.invariant.kept (sym w.in-Some.ensures ∙ ap Some (sym w.number-is)) in
+          let known : number_in (before ++ host ∷ []) host ≡ Some c.match-kept_number.number = number_stays before (host ∷ []) host c.match-kept_number.number own in
           record {
-            table = λ t. ap (λ m. get text_cmp m t) w.numbers-is ∙ table_more ps i p l here (get text_cmp c.loop-index.numbers) (λ u. c.loop-index.invariant.table u ∙ sym (number_again before host c.loop-index.last own u)) t;
-            hosts = numbers_more ps i p l here c.loop-index.hosts.items c.push.new.self.items c.if-not-same_entry.last c.loop-index.invariant.hosts c.in_ok-push.ensures.items known;
-            last = last_more ps i p l here c.if-not-same_entry.last known;
+            table = λ t. ap (λ m. get text_cmp m t) w.numbers-is ∙ table_more ps i p l here (get text_cmp c.loop-index.numbers) (λ u. c.loop-index.invariant.table u ∙ sym (number_again before host c.match-kept_number.number own u)) t;
+            hosts = numbers_more ps i p l here c.loop-index.hosts.items c.push.new.self.items c.match-kept_number.number c.loop-index.invariant.hosts c.in_ok-push.ensures.items known;
+            kept = subst (λ m. AreKept ps places (i + 1) (get nat_cmp m)) (sym w.kept-is) (kept_more ps i p l here places (get nat_cmp c.loop-index.kept) c.loop-index.invariant.kept);
           }
     ]
 

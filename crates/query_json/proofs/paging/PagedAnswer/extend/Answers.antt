@@ -44,7 +44,7 @@ returns-clause-ready c =
     let left = left_count p c.fill-self.new.page _ c.requires f in
     record {
       open_page = stays_open p c.fill-self.new.page _ c.requires f;
-      numbered = c.requires.numbered;
+      writable = c.requires.writable;
       fits = elim c.requires.fits [
         | inl none ↦ inl (f.ended none)
         | inr h ↦ inr (record { most = h.most; fit = f.fits h.most h.fit; room = omega (arith, h.room, f.puts.adds.capacity) })

@@ -11,4 +11,4 @@ returns-clause-text c =
     let first = c.first-next in
     let front = put_items c.put_front.ensures (sym c.if-is_full.ensures) c.in_ok-page.ensures.empty in
     c.extend.ensures.gives ∙ ap (λ l. l ++ text_of (left_at rs first.result.run first.result.piece)) front
-    ∙ ap (λ ls. front_text ++ text_of ls) (left_first rs first.result.run first.result.piece first.ensures.run first.ensures.piece) ∙ whole_text c.args.items c.requires.numbered
+    ∙ ap (λ ls. front_text ++ text_of ls) (left_first rs first.result.run first.result.piece first.ensures.run first.ensures.piece) ∙ whole_text c.args.items c.requires.writable

@@ -1,6 +1,5 @@
 use Rattle.std.proofs.Common.{◌++◌, ◌∷◌, ◌∙◌, [], List, ap, sym, map, append_assoc, append-nil}
 use Rattle.query_json.specs.declared.writing.processes.NamedProcess.{NamedProcess}
-use Rattle.query_json.specs.Named.{named_members}
 use Rattle.query_json.proofs.Named.{Entry}
 use Rattle.query_json.proofs.writing.processes.in_its_order.Goals as goal
 
@@ -14,5 +13,4 @@ loop-process-preserved c =
 pub returns : goal.returns
 returns c =
     let l = c.loop-process in
-    ap named_members
-    (sym (append-nil l.order.items) ∙ ap (λ (es : List Entry). l.order.items ++ map (λ e. e.1) es) (sym c.in-None.ensures.steps.0) ∙ l.invariant)
+    sym (append-nil l.order.items) ∙ ap (λ (es : List Entry). l.order.items ++ map (λ e. e.1) es) (sym c.in-None.ensures.steps.0) ∙ l.invariant

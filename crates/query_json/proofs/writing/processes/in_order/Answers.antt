@@ -1,6 +1,7 @@
-use Rattle.std.proofs.Common.{◌≡◌, IfOk, subst}
-use Rattle.query_json.specs.Named.{named_members}
+use Rattle.std.proofs.Common.{map, subst, sym}
+use Rattle.query_json.specs.Named.{AreNamed}
+use Rattle.query_json.specs.Numbering.{first_process}
 use Rattle.query_json.proofs.writing.processes.in_order.Goals as goal
 
 pub returns : goal.returns
-returns c = subst (λ ms. IfOk c.in_its_order.result (λ v. named_members v.items ≡ ms)) c.in_ok-named.ensures c.in_its_order.ensures
+returns c = λ spans all. subst (AreNamed spans (map first_process c.args.processes.now)) (sym c.in_ok-order.ensures) (c.in_ok-named.ensures spans all)

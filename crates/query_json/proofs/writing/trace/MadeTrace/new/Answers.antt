@@ -3,11 +3,10 @@ use Rattle.serde_json.specs.View.{view}
 use Rattle.serde_json.specs.Written.{compact_text, has_float}
 use Rattle.query_json.specs.Trees.{trace_tree}
 use Rattle.query_json.proofs.NoFloat.{trace_no}
-use Rattle.query_json.proofs.Pages.{Puts-is}
-use Rattle.query_json.proofs.writing.trace.write_made.Goals as goal
+use Rattle.query_json.proofs.writing.trace.MadeTrace.new.Goals as goal
 
-pub returns : goal.returns
-returns c =
+pub returns-clause-text : goal.returns-clause-text
+returns-clause-text c =
     let tree : view c.in_ok-to_json.field-0 ≡ trace_tree c.args.made.now = c.in_ok-to_json.ensures in
     let none : has_float (view c.in_ok-to_json.field-0) ≡ false = ap has_float tree ∙ trace_no c.args.made.now in
-    Puts-is c.put.ensures (c.as_str.ensures.value ∙ c.in_ok-text.ensures.text none ∙ ap compact_text tree)
+    c.in_ok-text.ensures.text none ∙ ap compact_text tree
