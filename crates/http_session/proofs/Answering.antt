@@ -2,7 +2,6 @@
 use Rattle.std.proofs.Common.{◌≡◌, ◌≢◌, ℕ, ◌+◌, ◌*◌, ◌<◌, ◌||◌, Bool, true, false, ◌++◌, length, take, Err, refl, sym, ap, ◌∙◌, subst, arith, length-append}
 use Rattle.std.specs.Io.KnownBytes.{Appends}
 use Rattle.http_requests.specs.declared.room.TheConstants.{PIECE}
-use Rattle.http_requests.specs.Waiting.{Source}
 use Rattle.http_requests.specs.Receiving.{ReadBuffer, put_back}
 use Rattle.http_requests.proofs.Once.{request_is_some}
 use Rattle.http_session.specs.Hearing.{HearsOne}
@@ -16,39 +15,38 @@ use Rattle.http_session.specs.declared.exchanges.SessionErrorKind.TheVariants.{M
 use Rattle.http_session.specs.declared.exchanges.Silence.{Silence}
 use Rattle.http_session.proofs.Turns.{reads_on, goes_on, ends_closing, fails_due}
 
-module _ {R : Type 0} (source : Source R) (i1 i2 : R) (old here : ReadBuffer) (v : Verdict) (asked : Bool) (found : HearsOne source i1 i2 old here v asked) where
-  -- a request has a byte
-  some_text : 0 < length found.request.text
-  some_text = request_is_some found.request.text found.head found.body found.request.spells
+-- a request has a byte
+some_text : (old here : ReadBuffer) (v : Verdict) (asked : Bool) (found : HearsOne old here v asked) → 0 < length found.text
+some_text old here v asked found = request_is_some found.text found.head found.body found.spells
 
-  -- fewer bytes and reads are left behind a request
-  pub fewer_left : PIECE * here.left + length here.held < PIECE * old.left + length old.held
-  fewer_left =
-      let reads = found.request.reads.on in
-      let cut : length (found.request.text ++ here.held) ≡ length (old.held ++ reads.more) = ap length reads.held in
-      omega (arith, some_text, cut, reads.most, length-append found.request.text here.held, length-append old.held reads.more)
+-- fewer bytes are left behind a request, and as many reads
+pub fewer_left : (old here : ReadBuffer) (v : Verdict) (asked : Bool) (found : HearsOne old here v asked) → PIECE * here.left + length here.held < PIECE * old.left + length old.held
+fewer_left old here v asked found =
+    let held : length old.held ≡ length (found.text ++ here.held) = ap (λ (b : ReadBuffer). length b.held) found.cut in
+    let left : old.left ≡ here.left = ap (λ (b : ReadBuffer). b.left) found.cut in
+    rw left (omega (arith, some_text old here v asked found, held, length-append found.text here.held))
 
-module _ {S C : Type 0} (submits : Submits S) (reads : Reads S) (line : Line C) (two : IsTwoWay line) (c0 c1 c2 : C) (s t : S) (old here : ReadBuffer) (answered : ℕ)
-    (v : Verdict) (asked : Bool) (so : SoFar submits reads line c0 c1 s t old answered) (found : HearsOne line.source c1 c2 old here v asked) where
+module _ {S C : Type 0} (submits : Submits S) (reads : Reads S) (line : Line C) (two : IsTwoWay line) (c0 c2 : C) (s t : S) (old here : ReadBuffer) (answered : ℕ)
+    (v : Verdict) (asked : Bool) (so : SoFar submits reads line c0 c2 s t old answered) (found : HearsOne old here v asked) where
   -- with the request's text in front again
   abbrev pub whole : ReadBuffer
-  whole = put_back found.request.text here
+  whole = put_back found.text here
 
   so_whole : SoFar submits reads line c0 c2 s t whole answered
-  so_whole = reads_on submits reads line two c0 c1 c2 s t old whole answered so found.request.reads
+  so_whole = subst (λ (b : ReadBuffer). SoFar submits reads line c0 c2 s t b answered) found.cut so
 
   module _ (c3 : C) (u : S) (reply : Reply) (close : Bool) (step : Step submits reads t v reply u) (close_is : close ≡ (asked || closes reply)) where
     abbrev pub turn : Exchange
-    turn = record { text = found.request.text; head = found.head; body = found.body; verdict = v; reply = reply; close = asked || closes reply }
+    turn = record { text = found.text; head = found.head; body = found.body; verdict = v; reply = reply; close = asked || closes reply }
 
     is_turn : IsExchange turn
-    is_turn = record { spells = found.request.spells; verdict_follows = found.verdict_follows; close_is = ap (λ (b : Bool). b || closes reply) found.closes_is }
+    is_turn = record { spells = found.spells; verdict_follows = found.verdict_follows; close_is = ap (λ (b : Bool). b || closes reply) found.closes_is }
 
     pub answered_open : Appends (line.contents c2) (line.contents c3) (response_of reply close) → line.takes c2 (response_of reply close) c3 → close ≡ false
         → SoFar submits reads line c0 c3 s u here (answered + 1)
     answered_open wrote took stays =
         goes_on submits reads line two c0 c2 c3 s t u whole here.held answered turn so_whole is_turn (sym close_is ∙ stays) refl
-        (some_text line.source c1 c2 old here v asked found) step
+        (some_text old here v asked found) step
         (subst (λ (b : Bool). Appends (line.contents c2) (line.contents c3) (response_of reply b)) close_is wrote)
         (subst (λ (b : Bool). line.takes c2 (response_of reply b) c3) close_is took)
 

@@ -1,66 +1,277 @@
 -- A request that was heard: its head, and then its body.
-use Rattle.std.proofs.Common.{◌≡◌, ℕ, Bool, List, take, drop, Result, Ok, Err, IfOk, sym, ap, subst, inl}
-use Rattle.http_requests.specs.Asked.{Asked, asked_by}
-use Rattle.http_requests.specs.Requests.{AwaitsRequest}
-use Rattle.http_requests.specs.Waiting.{Source}
+use Rattle.std.proofs.Common.{◌≡◌, ℕ, ◌≤◌, ◌<◌, Bool, true, List, [], ◌++◌, length, take, drop, Option, Some, None, refl, sym, ap, ◌∙◌, subst, arith, inl, inr, append_assoc, append-nil, length-append}
+use Rattle.std.proofs.lemmas.List.{take-append-drop, take_all}
+use Rattle.std.proofs.Math.Seq.{take-append_seam}
+use Rattle.httparse.specs.Grammar.{RequestHead, print_request}
+use Rattle.batch_codec.specs.BatchReading.{decoded}
+use Rattle.batch_feeder.specs.Answers.{answers}
 use Rattle.session_devices.specs.Takings.{Takings}
-use Rattle.http_requests.specs.Receiving.{ReadBuffer, StopsWhile, FindsHead, FindsEnd}
-use Rattle.http_requests.specs.Bodies.{TakesBody, ReadsBody}
+use Rattle.http_requests.specs.Asked.{Asked, asked_by, body_length}
+use Rattle.http_requests.specs.Heads.{TakesHead, AwaitsHead, NeverHasHead}
+use Rattle.http_requests.specs.Requests.{HasBody, BodyBreaks, Spells, IsBroken, BreaksBehind, IsHeadOf, AwaitsRequest}
+use Rattle.http_requests.specs.Receiving.{ReadBuffer, put_back}
+use Rattle.http_requests.specs.Framing.{Frames}
+use Rattle.http_requests.specs.InParts.{IsPart, Comes, AwaitsMore, TakesOn}
 use Rattle.http_requests.specs.declared.asked.BodyLength.{BodyLength}
-use Rattle.http_requests.specs.declared.asked.Request.{Request}
+use Rattle.http_requests.specs.declared.asked.BodyLength.TheVariants.{Bytes, Chunked, Unreadable, TooLarge}
 use Rattle.http_requests.specs.declared.asked.Breach.{Breach}
-use Rattle.http_requests.specs.declared.read_buffer.ReadError.{ReadError}
-use Rattle.http_requests.specs.declared.read_buffer.ReadError.TheVariants as why
-use Rattle.http_requests.proofs.Wholes.{awaits_more, takes_request}
-use Rattle.http_session.specs.Verdicts.{Judges, AsksQuery, asked_of}
-use Rattle.http_session.specs.Questions.{Decides, Asks}
-use Rattle.http_session.specs.Hearing.{reported_behind, HearsBody, HearsWhole, HearsOne, HearsEnd, HearsNoQuery, HearsNothing}
+use Rattle.http_requests.specs.declared.asked.Breach.TheVariants as breach
+use Rattle.http_requests.specs.declared.asked.Request.{Request}
+use Rattle.http_requests.specs.declared.body_reader.BodyReader.{BodyReader}
+use Rattle.http_requests.specs.declared.body_reader.BodyLook.TheVariants as look
+use Rattle.http_requests.proofs.Once.{head_stays}
+use Rattle.http_requests.proofs.Wholes.{head_cut}
+use Rattle.http_requests.proofs.Parts.{awaits_body, has_looked, ended_breaks, breaks_anyway}
+use Rattle.http_session.specs.Verdicts.{Judges, JudgesBatch, asked_of}
+use Rattle.http_session.specs.Questions.{Decides, Asks, JudgesRead}
+use Rattle.http_session.specs.Fed.{Follows}
+use Rattle.http_session.specs.FedLaws.{follows_joined}
+use Rattle.http_session.specs.Hearing.{JudgesBy, Carries, IsPartOf, HasHeard, HasLookedBy, WaitsBehind, HearsOne, HearsBreach, HearsPart, HearsWhole, HearsOf, FinishesAs, before_a_request}
 use Rattle.http_session.specs.declared.question.Question.{Question}
+use Rattle.http_session.specs.declared.question.Question.TheVariants as question
 use Rattle.http_session.specs.declared.verdict.Verdict.{Verdict}
+use Rattle.http_session.specs.declared.hearing.Heard.{Heard}
+use Rattle.http_session.specs.declared.hearing.Heard.TheVariants.{One, Clean, Broken}
+use Rattle.http_session.specs.declared.hearing.BatchBody.{BatchBody}
+use Rattle.http_session.specs.declared.hearing.BodySink.{BodySink}
+use Rattle.http_session.specs.declared.hearing.BodySink.TheVariants.{Settled, Batch}
+use Rattle.http_session.specs.declared.hearing.PartialRequest.{PartialRequest}
+use Rattle.http_session.specs.declared.hearing.Stage.{Stage}
+use Rattle.http_session.specs.declared.hearing.Stage.TheVariants.{Head, Body}
+use Rattle.http_session.proofs.Feeding.{batch_verdict}
 use Rattle.http_session.proofs.Texts.{asked_is}
 
-module _ {R : Type 0} (source : Source R) (s m t : R) (old here behind new : ReadBuffer) (r : Request) (len : ℕ) (size : BodyLength)
-    (found : FindsHead source s m old here r len size) (behind_is : behind ≡ record here { held = drop len here.held }) where
-  abbrev bytes : List ℕ
-  bytes = take len here.held
+-- ---- what is made of a body
 
-  pub hears_one : (q : Question) (v : Verdict) → Asks (asked_of bytes r) q → HearsWhole source m t behind new size q v → HearsOne source s t old new v r.closes
-  hears_one q v asks whole =
-      let takes : Question → List ℕ → Question → Type 0 = λ s w t. Decides s w v in
-      let body : TakesBody takes source m t behind new q q size = record { text = whole.text; body = whole.body; body_is = whole.body_is; reads = whole.reads; put = whole.decides } in
-      let same : asked_by (found.is).head ≡ asked_of bytes r = asked_is bytes r found.is in
+pub settled_carries : (v : Verdict) (content : List ℕ) → Carries (Settled v) content (Settled v)
+settled_carries v content (question.Settled w) before judged = judged
+settled_carries v content question.Batch before judged = judged
+
+pub batch_carries : (b d : BatchBody) (content : List ℕ) → Follows (answers b.feeder.value) content (answers d.feeder.value) → Carries (Batch b) content (Batch d)
+batch_carries b d content follows (question.Settled w) before judged = absurd judged
+batch_carries b d content follows question.Batch before judged = follows_joined decoded (answers b.feeder.value) (answers d.feeder.value) before content judged follows
+
+-- the same was taken, and put into another sink
+pub put_as : {S T : Type 0} (takes : Takings S) (other : Takings T) (old new : ReadBuffer) (s t : S) (x y : T) (was : BodyReader) (Come : BodyLength → List ℕ → List ℕ → Type 0)
+    → ((content : List ℕ) → takes s content t → other x content y) → TakesOn takes old new s t was Come → TakesOn other old new x y was Come
+put_as takes other old new s t x y was Come puts on = record { text = on.text; content = on.content; cut = on.cut; put = puts on.content on.put; come = on.come }
+
+pub settled_decides : (v : Verdict) (q : Question) (body : List ℕ) → JudgesBy q (Settled v) body → Decides q body v
+settled_decides v (question.Settled w) body judged = judged
+settled_decides v question.Batch body judged = subst (JudgesBatch true body) (sym judged) refl
+
+pub batch_decides : (b : BatchBody) (v : Verdict) → JudgesRead (answers b.feeder.value []) v → (q : Question) (body : List ℕ) → JudgesBy q (Batch b) body → Decides q body v
+batch_decides b v judges (question.Settled w) body judged = absurd judged
+batch_decides b v judges question.Batch body judged = batch_verdict decoded (answers b.feeder.value) body (λ w. refl) v judged judges
+
+-- ---- a head
+
+pub head_of : (bytes : List ℕ) (len : ℕ) (r : Request) (size : BodyLength) → Frames bytes len r size → IsHeadOf (take len bytes) r
+head_of bytes len r size frames =
+    record { head = frames.head; is = frames.takes.reads.0; bytes_are = head_cut bytes len frames.head frames.takes frames.fits; describes = frames.describes }
+
+-- the head of a request, before its body
+pub begins_request : (bytes : List ℕ) (len : ℕ) (r : Request) (size : BodyLength) (q : Question) (request : PartialRequest) (frames : Frames bytes len r size) → Asks (asked_of (take len bytes) r) q
+    → IsPart size [] [] request.reader → JudgesBy q request.sink [] → request.closes ≡ r.closes → IsPartOf request (take len bytes)
+unfolding head_of
+begins_request bytes len r size q request frames asks part judged closes =
+    let is = head_of bytes len r size frames in
+    let same : asked_by frames.head ≡ asked_of (take len bytes) r = asked_is (take len bytes) r is in
+    record {
+      head = frames.head;
+      taken = [];
+      content = [];
+      question = q;
+      takes = record { reads = (frames.takes.reads.0, sym (append-nil (print_request frames.head))); size = frames.takes.size; fields = frames.takes.fields };
+      text_is = is.bytes_are ∙ sym (append-nil (print_request frames.head));
+      part = subst (λ (z : BodyLength). IsPart z [] [] request.reader) frames.size_is part;
+      asks = subst (λ (a : Asked). Asks a q) (sym same) asks;
+      judged = judged;
+      closes_is = closes ∙ ap (λ (a : Asked). a.closes) (sym same);
+    }
+
+-- ---- a part of a request, and what follows
+
+module _ (request : PartialRequest) (text : List ℕ) (so : IsPartOf request text) where
+  head_taken : (after : List ℕ) → TakesHead (print_request so.head ++ after) so.head after
+  head_taken after = head_stays (print_request so.head) so.head [] after so.takes
+
+  all_of : (more : List ℕ) → text ++ more ≡ print_request so.head ++ (so.taken ++ more)
+  all_of more = ap (λ l. l ++ more) so.text_is ∙ append_assoc (print_request so.head) so.taken more
+
+  -- more of it is awaited
+  pub awaits_behind : (held : List ℕ) → AwaitsMore request.reader held → AwaitsRequest (text ++ held)
+  awaits_behind held awaits = inr (record {
+    head = so.head;
+    after = so.taken ++ held;
+    takes = subst (λ (l : List ℕ). TakesHead l so.head (so.taken ++ held)) (sym (all_of held)) (head_taken (so.taken ++ held));
+    awaits = awaits_body (body_length so.head) so.taken so.content held request.reader so.part awaits;
+  })
+
+  breaks_as : (AtEnd : Type 0) (why : Breach) (held : List ℕ) → BodyBreaks AtEnd why (body_length so.head) (so.taken ++ held) → BreaksBehind AtEnd (text ++ held) why
+  breaks_as AtEnd why held breaks = record {
+    head = so.head;
+    after = so.taken ++ held;
+    takes = subst (λ (l : List ℕ). TakesHead l so.head (so.taken ++ held)) (sym (all_of held)) (head_taken (so.taken ++ held));
+    breaks = breaks;
+  }
+
+  broken_as : (AtEnd : Type 0) (why : Breach) (held : List ℕ) → BodyBreaks AtEnd why (body_length so.head) (so.taken ++ held) → IsBroken AtEnd (text ++ held) why
+  broken_as AtEnd breach.Head held breaks = absurd breaks
+  broken_as AtEnd breach.Body held breaks = breaks_as AtEnd breach.Body held breaks
+  broken_as AtEnd breach.TooLarge held breaks = breaks_as AtEnd breach.TooLarge held breaks
+
+  spells_whole : (body : List ℕ) → HasBody (body_length so.head) so.taken body → Spells text so.head body
+  spells_whole body is = record {
+    after = so.taken;
+    takes = subst (λ (l : List ℕ). TakesHead l so.head so.taken) (sym so.text_is) (head_taken so.taken);
+    body_is = is;
+  }
+
+  -- where the input has ended
+  pub ends_inside : (new : ReadBuffer) → AwaitsMore request.reader new.held → new.ended ≡ true → HearsBreach (put_back text new) new breach.Body
+  ends_inside new awaits ended = record {
+    text = text;
+    cut = refl;
+    broken = broken_as (new.ended ≡ true) breach.Body new.held
+        (ended_breaks (new.ended ≡ true) (body_length so.head) (so.taken ++ new.held) (awaits_body (body_length so.head) so.taken so.content new.held request.reader so.part awaits) ended);
+  }
+
+-- a text was taken behind it
+module _ (was is : PartialRequest) (text : List ℕ) (old new : ReadBuffer) (so : IsPartOf was text) where
+  cut_behind : (more : List ℕ) → old ≡ put_back more new → put_back text old ≡ put_back (text ++ more) new
+  cut_behind more cut = ap (put_back text) cut ∙ ap (λ (l : List ℕ). record new { held = l }) (sym (append_assoc text more new.held))
+
+  text_behind : (more : List ℕ) → text ++ more ≡ print_request so.head ++ (so.taken ++ more)
+  text_behind more = ap (λ l. l ++ more) so.text_is ∙ append_assoc (print_request so.head) so.taken more
+
+  pub part_more : is.closes ≡ was.closes → (on : TakesOn Carries old new was.sink is.sink was.reader (λ size text content. Comes size text content new.held is.reader look.More)) → IsPartOf is (text ++ on.text)
+  part_more closes on = record {
+    head = so.head;
+    taken = so.taken ++ on.text;
+    content = so.content ++ on.content;
+    question = so.question;
+    takes = so.takes;
+    text_is = text_behind on.text;
+    part = on.come (body_length so.head) so.taken so.content so.part;
+    asks = so.asks;
+    judged = on.put so.question so.content so.judged;
+    closes_is = closes ∙ so.closes_is;
+  }
+
+  pub hears_more : is.closes ≡ was.closes → TakesOn Carries old new was.sink is.sink was.reader (λ size text content. Comes size text content new.held is.reader look.More)
+      → HearsPart (put_back text old) new (Body is)
+  hears_more closes on = record { text = text ++ on.text; cut = cut_behind on.text on.cut; heard = part_more closes on }
+
+  -- the input ended behind it
+  pub hears_end_inside : is.closes ≡ was.closes → TakesOn Carries old new was.sink is.sink was.reader (λ size text content. Comes size text content new.held is.reader look.More)
+      → AwaitsMore is.reader new.held → new.ended ≡ true → HearsBreach (put_back text old) new breach.Body
+  unfolding ends_inside part_more
+  hears_end_inside closes on awaits ended =
+      let inside = ends_inside is (text ++ on.text) (part_more closes on) new awaits ended in
+      record { text = text ++ on.text; cut = cut_behind on.text on.cut; broken = inside.broken }
+
+  pub hears_broken : (why : Breach) → TakesOn Carries old new was.sink is.sink was.reader (λ size text content. Comes size text content new.held is.reader (look.Broken why)) → HearsBreach (put_back text old) new why
+  hears_broken why on =
+      let breaks = on.come (body_length so.head) so.taken so.content so.part in
+      let after : (so.taken ++ on.text) ++ new.held ≡ so.taken ++ (on.text ++ new.held) = append_assoc so.taken on.text new.held in
       record {
-        head = (found.is).head;
-        body = whole.body;
-        request = takes_request source s m t old here behind new r len size found behind_is takes q q body;
-        verdict_follows = subst (λ (a : Asked). Judges a whole.body v) (sym same) (asks whole.body v whole.decides);
-        closes_is = ap (λ (a : Asked). a.closes) (sym same);
+        text = text ++ on.text;
+        cut = cut_behind on.text on.cut;
+        broken = subst (λ (l : List ℕ). IsBroken (new.ended ≡ true) l why) (sym (append_assoc text on.text new.held))
+            (broken_as was text so (new.ended ≡ true) why (on.text ++ new.held)
+            (subst (BodyBreaks (new.ended ≡ true) why (body_length so.head)) after (breaks_anyway (new.ended ≡ true) why (body_length so.head) ((so.taken ++ on.text) ++ new.held) breaks)));
       }
 
--- there was no memory for the query that it asks
-pub hears_no_query : {R : Type 0} (source : Source R) (s t : R) (old here : ReadBuffer) (r : Request) (len : ℕ) (size : BodyLength) → FindsHead source s t old here r len size
-    → AsksQuery (asked_of (take len here.held) r) → HearsNoQuery source s t old
-hears_no_query source s t old here r len size found asks = record {
-  here = here;
-  reads = awaits_more source s t old here found.reads;
-  query = record { head = (found.is).head; after = drop len here.held; takes = found.takes; asks = subst AsksQuery (sym (asked_is (take len here.held) r found.is)) asks };
-}
+  pub hears_whole : is.closes ≡ was.closes → TakesOn Carries old new was.sink is.sink was.reader (λ size text content. Comes size text content new.held is.reader look.Whole)
+      → HearsWhole (put_back text old) new is
+  hears_whole closes on = record {
+    text = text ++ on.text;
+    head = so.head;
+    body = so.content ++ on.content;
+    question = so.question;
+    cut = cut_behind on.text on.cut;
+    spells = record {
+      after = so.taken ++ on.text;
+      takes = subst (λ (l : List ℕ). TakesHead l so.head (so.taken ++ on.text)) (sym (text_behind on.text)) (head_taken was text so (so.taken ++ on.text));
+      body_is = on.come (body_length so.head) so.taken so.content so.part;
+    };
+    asks = so.asks;
+    judged = on.put so.question so.content so.judged;
+    closes_is = closes ∙ so.closes_is;
+  }
 
--- nothing is left of an input that has ended
-pub hears_end : {R : Type 0} (source : Source R) (s t : R) (old new : ReadBuffer) → FindsEnd source s t old new → HearsEnd source s t old new
-hears_end source s t old new found = record { reads = awaits_more source s t old new found.reads; at_end = found.at_end; nothing = found.nothing }
+-- the verdict on it
+finished_as : (old new : ReadBuffer) (request : PartialRequest) (heard : Heard) → HearsWhole old new request → FinishesAs (Body request) heard → HearsOf old new before_a_request (Some heard)
+finished_as old new request (One v closes) whole finishes = (
+  record {
+    text = whole.text;
+    head = whole.head;
+    body = whole.body;
+    cut = whole.cut;
+    spells = whole.spells;
+    verdict_follows = whole.asks whole.body v (finishes.0 whole.question whole.body whole.judged);
+    closes_is = finishes.1 ∙ whole.closes_is;
+  },
+  refl,
+)
+finished_as old new request Clean whole finishes = absurd finishes
+finished_as old new request (Broken why) whole finishes = absurd finishes
 
--- no more could be had
-pub hears_nothing : {R : Type 0} (source : Source R) (s t : R) (failed : Bool) (old : ReadBuffer) (why : ReadError) → StopsWhile source AwaitsRequest s t failed old why → HearsNothing source s t failed old why
-hears_nothing source s t failed old why.Reading stops = stops
-hears_nothing source s t failed old why.Memory stops = inl stops
+pub hears_finished : (old new : ReadBuffer) (request : PartialRequest) (stage next : Stage) (heard : Heard) → stage ≡ Body request → next ≡ before_a_request → HearsWhole old new request
+    → FinishesAs stage heard → HearsOf old new next (Some heard)
+hears_finished old new request stage next heard is next_is whole finishes =
+    subst (λ (s : Stage). HearsOf old new s (Some heard)) (sym next_is) (finished_as old new request heard whole (subst (λ (s : Stage). FinishesAs s heard) is finishes))
 
--- ---- the verdict behind a body
+-- ---- a session that waits
 
-pub reported_heard : {S R : Type 0} (takes : Takings S) (source : Source R) (s t : R) (old new : ReadBuffer) (before after : S) (size : BodyLength) (q : Question) (v : Verdict)
-    (read : Result (Result (Unit {0}) Breach) ReadError) → ((body : List ℕ) → takes before body after → Decides q body v) → IfOk read (ReadsBody takes source s t old new before after size)
-    → IfOk (reported_behind read v) (HearsBody source s t old new size q)
-reported_heard takes source s t old new before after size q v (Ok (Ok x)) decides body =
-    record { text = body.text; body = body.body; body_is = body.body_is; reads = body.reads; decides = decides body.body body.put }
-reported_heard takes source s t old new before after size q v (Ok (Err why)) decides breaks = breaks
-reported_heard takes source s t old new before after size q v (Err why) decides read = tt
+pub waits_for_request : (stage : Stage) (text held : List ℕ) → HasHeard stage text → WaitsBehind stage held → AwaitsRequest (text ++ held)
+waits_for_request (Head wait) text held heard waits = subst (λ (l : List ℕ). AwaitsRequest (l ++ held)) (sym heard) (inl waits.1)
+waits_for_request (Body request) text held heard waits = awaits_behind request text heard held waits
+
+-- what was looked at was so among more
+pub looked_by : (stage : Stage) (held new more : List ℕ) → new ≡ held ++ more → WaitsBehind stage held → HasLookedBy stage new
+looked_by (Head wait) held new more is waits = (
+  omega (arith, waits.0, ap length is, length-append held more),
+  subst AwaitsHead (sym (ap (λ n. take n new) waits.0 ∙ ap (take (length held)) is ∙ take-append_seam held more)) waits.1,
+)
+looked_by (Body request) held new more is waits = has_looked request.reader held new more is waits
+
+pub looked_still : (stage : Stage) (held : List ℕ) → WaitsBehind stage held → HasLookedBy stage held
+looked_still stage held waits = looked_by stage held held [] (sym (append-nil held)) waits
+
+-- ---- where the input has ended only perhaps
+
+module _ (A B : Type 0) (if_ended : A → B) where
+  breaks_if : (why : Breach) (size : BodyLength) (after : List ℕ) → BodyBreaks A why size after → BodyBreaks B why size after
+  breaks_if breach.Head size after breaks = breaks
+  breaks_if breach.Body (Bytes n) after breaks = (breaks.0, if_ended breaks.1)
+  breaks_if breach.Body Chunked after (inl never) = inl never
+  breaks_if breach.Body Chunked after (inr ended) = inr (if_ended ended.0, ended.1)
+  breaks_if breach.Body Unreadable after breaks = breaks
+  breaks_if breach.Body TooLarge after breaks = breaks
+  breaks_if breach.TooLarge size after breaks = breaks
+
+  breaks_behind_if : (why : Breach) (rest : List ℕ) → BreaksBehind A rest why → BreaksBehind B rest why
+  breaks_behind_if why rest b = record { head = b.head; after = b.after; takes = b.takes; breaks = breaks_if why (body_length b.head) b.after b.breaks }
+
+broken_by : (A B : Type 0) → (A → B) → (why : Breach) (rest : List ℕ) → IsBroken A rest why → IsBroken B rest why
+broken_by A B if_ended breach.Head rest (inl never) = inl never
+broken_by A B if_ended breach.Head rest (inr ended) = inr (if_ended ended.0, ended.1, ended.2)
+broken_by A B if_ended breach.Body rest b = breaks_behind_if A B if_ended breach.Body rest b
+broken_by A B if_ended breach.TooLarge rest b = breaks_behind_if A B if_ended breach.TooLarge rest b
+
+pub broken_if : (A B : Type 0) (why : Breach) (rest : List ℕ) → (A → B) → IsBroken A rest why → IsBroken B rest why
+broken_if A B why rest if_ended broken = broken_by A B if_ended why rest broken
+
+-- what was taken, in front again
+pub cut_back : (old mid : ReadBuffer) (count : ℕ) → mid ≡ record old { held = drop count old.held } → put_back (take count old.held) mid ≡ old
+cut_back old mid count is = ap (put_back (take count old.held)) is ∙ ap (λ (l : List ℕ). record old { held = l }) (take-append-drop count old.held)
+
+-- none of a head can come
+pub no_head_comes : (here : ReadBuffer) → NeverHasHead here.held → HearsBreach here here breach.Head
+no_head_comes here never = record { text = []; cut = refl; broken = inl never }
+
+-- the input ended inside a head
+pub ends_in_head : (here : ReadBuffer) → AwaitsHead here.held → here.ended ≡ true → 0 < length here.held → HearsBreach here here breach.Head
+ends_in_head here awaits ended some = record { text = []; cut = refl; broken = inr (ended, some, awaits.none) }

@@ -1,5 +1,5 @@
 -- One piece of a session: what it has come to, wherever it began, and also where others used the store since the piece before.
-use Rattle.std.proofs.Common.{◌≡◌, ◌≢◌, ℕ, ◌+◌, ◌||◌, Bool, true, false, List, take, Option, Some, None, Result, Ok, Err, refl, sym, ◌∙◌, subst, arith, inl, inr}
+use Rattle.std.proofs.Common.{◌≡◌, ◌≢◌, ℕ, ◌+◌, ◌||◌, Bool, true, false, List, [], ◌++◌, length, take, Option, Some, None, Result, Ok, Err, refl, sym, ap, ◌∙◌, subst, arith, inl, inr, length-append}
 use Rattle.std.specs.Io.KnownBytes.{Appends, IsAtEnd}
 use Rattle.jaeger_model.specs.declared.batch.Batch.{Batch}
 use Rattle.trace_model.specs.declared.limits.Limits.{Limits}
@@ -9,14 +9,21 @@ use Rattle.trace_model.specs.declared.refusal.Refusal.{Refusal}
 use Rattle.store_backend.specs.Knowing.{History, Keeps, SubmitKnows, ReadKnows}
 use Rattle.http_requests.specs.declared.read_buffer.ReadError.{ReadError}
 use Rattle.http_requests.specs.declared.asked.Breach.{Breach}
-use Rattle.http_requests.specs.Receiving.{ReadBuffer, SameUnlessReading, FindsBreach}
-use Rattle.http_session.specs.Hearing.{HearsOne, HearsEnd, HearsNothing}
+use Rattle.http_requests.specs.declared.read_buffer.ReadError.TheVariants as why
+use Rattle.http_requests.specs.Requests.{AwaitsRequest}
+use Rattle.http_requests.specs.LineLaws.{no_bytes_await}
+use Rattle.http_requests.specs.Receiving.{ReadBuffer, ReadsOn, ReadsOnWhile, IsRead, ReadFails, StopsWhile, SameUnlessReading, put_back}
+use Rattle.http_requests.proofs.Readings.{nothing_yet, read_behind, stops_reading}
+use Rattle.http_session.specs.Verdicts.{BeginsWithQuery}
+use Rattle.http_session.specs.Hearing.{before_a_request, HasHeard, WaitsBehind, HearsOne, HearsEnd, HearsBreach, HearsPart, HearsNothing}
+use Rattle.http_session.specs.Underway.{SoFar}
 use Rattle.http_session.specs.Replies.{closes, takes_no_memory, response_of}
 use Rattle.http_session.specs.Sessions.{Submits, Reads, Step, Says, cause_by}
 use Rattle.http_session.specs.InOrder.{Line, IsTwoWay, EndsOver, FailsOver}
 use Rattle.http_session.specs.Between.{Store, store_of, EndsServed, FailsServed}
-use Rattle.http_session.specs.Pieces.{AsksOnce, AnswersSoFar, StaysUnderway, ForgetsNothing, SubmitsSome, ReadsSome, no_requests_yet, CanContinue, shared, Underway, ComesTo, UnderwayAmong, GoesOn}
+use Rattle.http_session.specs.Pieces.{AsksOnce, AnswersSoFar, StaysUnderway, OutlastsWrites, ForgetsNothing, SubmitsSome, ReadsSome, no_requests_yet, CanContinue, AwaitsMore, shared, Underway, ComesTo, UnderwayAmong, GoesOn}
 use Rattle.http_session.specs.declared.pieces.Session.{Session}
+use Rattle.http_session.specs.declared.hearing.Stage.{Stage}
 use Rattle.http_session.specs.declared.verdict.Verdict.{Verdict}
 use Rattle.http_session.specs.declared.verdict.Verdict.TheVariants.{Submit, Ask, Say}
 use Rattle.http_session.specs.declared.reply.Reply.{Reply}
@@ -26,7 +33,8 @@ use Rattle.http_session.specs.declared.exchanges.SessionError.{SessionError}
 use Rattle.http_session.specs.declared.exchanges.SessionErrorKind.TheVariants.{Memory}
 use Rattle.http_session.specs.declared.exchanges.Silence.{Silence}
 use Rattle.http_session.proofs.Points.{related_all}
-use Rattle.http_session.proofs.Turns.{begins, reads_on, ends_clean, ends_broken, fails_reading, fails_parting}
+use Rattle.http_session.proofs.Hearings.{broken_if, waits_for_request, looked_by, looked_still}
+use Rattle.http_session.proofs.Turns.{begins, reads_on, stays, ends_clean, ends_broken, fails_reading, fails_stopped, fails_parting, works_heard}
 use Rattle.http_session.proofs.Answering.{fewer_left, answered_open, answered_last, answered_not}
 
 -- ---- what a store promises, and that it promises it also where others use it
@@ -107,90 +115,195 @@ module _ {S C : Type 0} (store : Store S) (promises : Promises store) (line : Li
         (on.0, each (shared store) (shared_promises store promises) c0 s under.0 on.0 on.1 under.1, on.2);
   }
 
+  -- memory ran out for a query
+  pub hears_no_query : line.in_failed c1 ≡ false → line.out_failed c1 ≡ false → ((text : List ℕ) → HasHeard old.stage text → BeginsWithQuery (text ++ old.received.held))
+      → GoesOn store line c1 c1 t t old new (Err (record { answered = old.answered; written = 0; cause = Memory }))
+  hears_no_query in_works out_works none =
+      unasked c1 (Err (record { answered = old.answered; written = 0; cause = Memory }))
+      (λ other kept c0 s m so.
+      let here = put_back so.text old.received in
+      let nothing : HearsNothing line.source c1 c1 (line.in_failed c1) here why.Memory =
+      inr (record { here = here; reads = nothing_yet line.source AwaitsRequest c1 here; query = none so.text so.heard }) in
+      fails_served other kept line c0 c1 s m _ (fails_reading other.submits other.reads line two (Unit {0}) c0 c1 c1 s m here old.answered false why.Memory so.so_far nothing in_works refl out_works))
+
+  -- no more could be read
   pub hears_nothing : (A : Type 0) (c2 : C) (before : Bool) (stop : ReadError)
-      → HearsNothing line.source c1 c2 (line.in_failed c2) old.received stop → SameUnlessReading {A = A} before (line.in_failed c2) (Err stop) → before ≡ false → line.out_failed c1 ≡ false
+      → ((text : List ℕ) → HasHeard old.stage text → StopsWhile line.source AwaitsRequest c1 c2 (line.in_failed c2) (put_back text old.received) stop)
+      → SameUnlessReading {A = A} before (line.in_failed c2) (Err stop) → before ≡ false → line.out_failed c1 ≡ false
       → GoesOn store line c1 c2 t t old new (Err (record { answered = old.answered; written = 0; cause = cause_by stop }))
   hears_nothing A c2 before stop stops same was out =
       unasked c2 (Err (record { answered = old.answered; written = 0; cause = cause_by stop }))
-      (λ other kept c0 s m so. fails_served other kept line c0 c2 s m _ (fails_reading other.submits other.reads line two A c0 c1 c2 s m old.received old.answered before stop so stops same was out))
-
-  pub hears_end : (c2 : C) (here : ReadBuffer) → HearsEnd line.source c1 c2 old.received here
-      → GoesOn store line c1 c2 t t old new (Ok (Some (record { answered = old.answered; clean = true })))
-  hears_end c2 here found =
-      unasked c2 (Ok (Some (record { answered = old.answered; clean = true })))
       (λ other kept c0 s m so.
-      let here_so = reads_on other.submits other.reads line two c0 c1 c2 s m old.received here old.answered so found.reads in
-      ends_served other kept line c0 c2 s m _ (ends_clean other.submits other.reads line two c0 c2 s m here old.answered here_so (found.at_end, found.nothing)))
+      fails_served other kept line c0 c2 s m _
+      (fails_stopped other.submits other.reads line two A c0 c1 c2 s m (put_back so.text old.received) old.answered before stop so.so_far (stops so.text so.heard) same was out))
 
-  pub parts : (c2 c3 : C) (here : ReadBuffer) (b : Breach) → FindsBreach line.source c1 c2 old.received here b
-      → Appends (line.contents c2) (line.contents c3) (response_of (Broken b) true) → line.takes c2 (response_of (Broken b) true) c3
-      → GoesOn store line c1 c3 t t old new (Ok (Some (record { answered = old.answered + 1; clean = false })))
-  parts c2 c3 here b found wrote took =
-      unasked c3 (Ok (Some (record { answered = old.answered + 1; clean = false })))
+  pub hears_end : (here : ReadBuffer) → ((text : List ℕ) → HasHeard old.stage text → HearsEnd (put_back text old.received) here)
+      → GoesOn store line c1 c1 t t old new (Ok (Some (record { answered = old.answered; clean = true })))
+  hears_end here found =
+      unasked c1 (Ok (Some (record { answered = old.answered; clean = true })))
       (λ other kept c0 s m so.
-      let here_so = reads_on other.submits other.reads line two c0 c1 c2 s m old.received _ old.answered so found.reads in
-      ends_served other kept line c0 c3 s m _ (ends_broken other.submits other.reads line two c0 c2 c3 s m _ old.answered b here_so found.broken wrote took))
+      let end = found so.text so.heard in
+      let here_so = subst (λ (b : ReadBuffer). SoFar other.submits other.reads line c0 c1 s m b old.answered) end.same so.so_far in
+      ends_served other kept line c0 c1 s m _ (ends_clean other.submits other.reads line two c0 c1 s m here old.answered here_so (here_so.end end.ended, end.nothing)))
 
-  pub parts_not : (c2 c3 : C) (here : ReadBuffer) (b : Breach) (silence : Silence) → FindsBreach line.source c1 c2 old.received here b
-      → Says (line.contents c2) (line.contents c3) false (line.out_failed c3) (response_of (Broken b) true) (Err silence)
-      → line.takes c2 (take silence.written (response_of (Broken b) true)) c3 → line.in_failed c2 ≡ false
-      → GoesOn store line c1 c3 t t old new (Err (record { answered = old.answered; written = silence.written; cause = silence.cause }))
-  parts_not c2 c3 here b silence found said took works =
-      unasked c3 (Err (record { answered = old.answered; written = silence.written; cause = silence.cause }))
+  pub parts : (c2 : C) (here : ReadBuffer) (b : Breach) → ((text : List ℕ) → HasHeard old.stage text → HearsBreach (put_back text old.received) here b)
+      → Appends (line.contents c1) (line.contents c2) (response_of (Broken b) true) → line.takes c1 (response_of (Broken b) true) c2
+      → GoesOn store line c1 c2 t t old new (Ok (Some (record { answered = old.answered + 1; clean = false })))
+  parts c2 here b found wrote took =
+      unasked c2 (Ok (Some (record { answered = old.answered + 1; clean = false })))
       (λ other kept c0 s m so.
-      let here_so = reads_on other.submits other.reads line two c0 c1 c2 s m old.received _ old.answered so found.reads in
-      fails_served other kept line c0 c3 s m _ (fails_parting other.submits other.reads line two c0 c2 c3 s m _ old.answered b silence here_so found.broken said took works))
+      let breach = found so.text so.heard in
+      let here_so = subst (λ (r : ReadBuffer). SoFar other.submits other.reads line c0 c1 s m r old.answered) breach.cut so.so_far in
+      ends_served other kept line c0 c2 s m _ (ends_broken other.submits other.reads line two c0 c1 c2 s m _ old.answered b here_so (broken_if _ _ b _ here_so.end breach.broken) wrote took))
 
-  module _ (c2 c3 : C) (u : S) (here : ReadBuffer) (v : Verdict) (ask : Bool) (reply : Reply) (close : Bool) (found : HearsOne line.source c1 c2 old.received here v ask)
+  pub parts_not : (c2 : C) (here : ReadBuffer) (b : Breach) (silence : Silence) → ((text : List ℕ) → HasHeard old.stage text → HearsBreach (put_back text old.received) here b)
+      → Says (line.contents c1) (line.contents c2) false (line.out_failed c2) (response_of (Broken b) true) (Err silence)
+      → line.takes c1 (take silence.written (response_of (Broken b) true)) c2 → line.in_failed c1 ≡ false
+      → GoesOn store line c1 c2 t t old new (Err (record { answered = old.answered; written = silence.written; cause = silence.cause }))
+  parts_not c2 here b silence found said took works =
+      unasked c2 (Err (record { answered = old.answered; written = silence.written; cause = silence.cause }))
+      (λ other kept c0 s m so.
+      let breach = found so.text so.heard in
+      let here_so = subst (λ (r : ReadBuffer). SoFar other.submits other.reads line c0 c1 s m r old.answered) breach.cut so.so_far in
+      fails_served other kept line c0 c2 s m _ (fails_parting other.submits other.reads line two c0 c1 c2 s m _ old.answered b silence here_so (broken_if _ _ b _ here_so.end breach.broken) said took works))
+
+  module _ (c2 : C) (u : S) (here : ReadBuffer) (v : Verdict) (ask : Bool) (reply : Reply) (close : Bool)
+      (found : (text : List ℕ) → HasHeard old.stage text → HearsOne (put_back text old.received) here v ask)
       (step : Step store.submits store.reads t v reply u) (close_is : close ≡ (ask || closes reply)) where
-    pub answers_last : Appends (line.contents c2) (line.contents c3) (response_of reply close) → line.takes c2 (response_of reply close) c3 → close ≡ true
-        → GoesOn store line c1 c3 t u old new (Ok (Some (record { answered = old.answered + 1; clean = false })))
+    pub answers_last : Appends (line.contents c1) (line.contents c2) (response_of reply close) → line.takes c1 (response_of reply close) c2 → close ≡ true
+        → GoesOn store line c1 c2 t u old new (Ok (Some (record { answered = old.answered + 1; clean = false })))
     answers_last wrote took leaves =
-        asked c3 u v reply (Ok (Some (record { answered = old.answered + 1; clean = false }))) step
+        asked c2 u v reply (Ok (Some (record { answered = old.answered + 1; clean = false }))) step
         (λ other kept c0 s m n one so.
-        ends_served other kept line c0 c3 s n _
-        (answered_last other.submits other.reads line two c0 c1 c2 s m old.received here old.answered v ask so found c3 n reply close one close_is wrote took leaves))
+        ends_served other kept line c0 c2 s n _
+        (answered_last other.submits other.reads line two c0 c1 s m (put_back so.text old.received) here old.answered v ask so.so_far (found so.text so.heard) c2 n reply close one close_is wrote took leaves))
 
-    pub answers_not : (silence : Silence) → Says (line.contents c2) (line.contents c3) false (line.out_failed c3) (response_of reply close) (Err silence)
-        → line.takes c2 (take silence.written (response_of reply close)) c3 → line.in_failed c2 ≡ false
+    pub answers_not : (silence : Silence) → Says (line.contents c1) (line.contents c2) false (line.out_failed c2) (response_of reply close) (Err silence)
+        → line.takes c1 (take silence.written (response_of reply close)) c2 → line.in_failed c1 ≡ false
         → (takes_no_memory reply ≡ true → silence.cause ≢ Memory)
-        → GoesOn store line c1 c3 t u old new (Err (record { answered = old.answered; written = silence.written; cause = silence.cause }))
+        → GoesOn store line c1 c2 t u old new (Err (record { answered = old.answered; written = silence.written; cause = silence.cause }))
     answers_not silence said took works spared =
-        asked c3 u v reply (Err (record { answered = old.answered; written = silence.written; cause = silence.cause })) step
+        asked c2 u v reply (Err (record { answered = old.answered; written = silence.written; cause = silence.cause })) step
         (λ other kept c0 s m n one so.
-        fails_served other kept line c0 c3 s n _
-        (answered_not other.submits other.reads line two c0 c1 c2 s m old.received here old.answered v ask so found c3 n reply close one close_is silence said took works spared))
+        fails_served other kept line c0 c2 s n _
+        (answered_not other.submits other.reads line two c0 c1 s m (put_back so.text old.received) here old.answered v ask so.so_far (found so.text so.heard) c2 n reply close one close_is silence said took works spared))
 
 -- a response was written, and the session stays open
-module _ {S C : Type 0} (store : Store S) (promises : Promises store) (line : Line C) (two : IsTwoWay line) (c1 c2 c3 : C) (t u : S) (old : Session) (here : ReadBuffer) (v : Verdict) (ask : Bool) (reply : Reply)
-    (close : Bool) (found : HearsOne line.source c1 c2 old.received here v ask) where
+module _ {S C : Type 0} (store : Store S) (promises : Promises store) (line : Line C) (two : IsTwoWay line) (c1 c2 : C) (t u : S) (old : Session) (here : ReadBuffer) (v : Verdict) (ask : Bool) (reply : Reply)
+    (close : Bool) (found : (text : List ℕ) → HasHeard old.stage text → HearsOne (put_back text old.received) here v ask) where
   pub answers_open : Step store.submits store.reads t v reply u → close ≡ (ask || closes reply)
-      → Appends (line.contents c2) (line.contents c3) (response_of reply close) → line.takes c2 (response_of reply close) c3 → close ≡ false
-      → GoesOn store line c1 c3 t u old (record { received = here; answered = old.answered + 1 }) (Ok None)
+      → Appends (line.contents c1) (line.contents c2) (response_of reply close) → line.takes c1 (response_of reply close) c2 → close ≡ false
+      → GoesOn store line c1 c2 t u old (record { received = here; stage = before_a_request; answered = old.answered + 1 }) (Ok None)
   answers_open step close_is wrote took stays =
-      asked store promises line two c1 t old (record { received = here; answered = old.answered + 1 }) c3 u v reply (Ok None) step
-      (λ other kept c0 s m n one so. answered_open other.submits other.reads line two c0 c1 c2 s m old.received here old.answered v ask so found c3 n reply close one close_is wrote took stays)
+      asked store promises line two c1 t old (record { received = here; stage = before_a_request; answered = old.answered + 1 }) c2 u v reply (Ok None) step
+      (λ other kept c0 s m n one so. record {
+        text = [];
+        heard = refl;
+        so_far = answered_open other.submits other.reads line two c0 c1 s m (put_back so.text old.received) here old.answered v ask so.so_far (found so.text so.heard) c2 n reply close one close_is wrote took stays;
+      })
 
--- and it can be gone on with
-pub still_continues : {C : Type 0} (line : Line C) (two : IsTwoWay line) (c1 c2 c3 : C) (old : Session) (here : ReadBuffer) (v : Verdict) (ask : Bool) (bytes : List ℕ)
-    → HearsOne line.source c1 c2 old.received here v ask → line.takes c2 bytes c3 → CanContinue (line.source.remaining c1) old
-    → CanContinue (line.source.remaining c3) (record { received = here; answered = old.answered + 1 })
-still_continues line two c1 c2 c3 old here v ask bytes found took can = record {
-  end = λ e. subst IsAtEnd (sym (two.writes_leave c2 c3 bytes took).0) (found.request.reads.on.end can.end e);
-  most = omega (arith, can.most, fewer_left line.source c1 c2 old.received here v ask found);
-}
+  -- and it can be gone on with
+  pub still_continues : (bytes : List ℕ) → line.takes c1 bytes c2 → CanContinue (line.source.remaining c1) old
+      → CanContinue (line.source.remaining c2) (record { received = here; stage = before_a_request; answered = old.answered + 1 })
+  still_continues bytes took can =
+      let one = found can.text can.heard in
+      record {
+        text = [];
+        heard = refl;
+        looked = (omega arith, no_bytes_await);
+        end = λ e. subst IsAtEnd (sym (two.writes_leave c1 c2 bytes took).0) (can.end (ap (λ (b : ReadBuffer). b.ended) one.cut ∙ e));
+        most = omega (arith, can.most, fewer_left (put_back can.text old.received) here v ask one);
+      }
+
+-- ---- a pause inside a request
+
+module _ {S C : Type 0} (store : Store S) (promises : Promises store) (line : Line C) (two : IsTwoWay line) (c1 : C) (t : S) (old : Session) (here : ReadBuffer) (stage : Stage)
+    (found : (text : List ℕ) → HasHeard old.stage text → HearsPart (put_back text old.received) here stage) where
+  abbrev paused : Session
+  paused = record { received = here; stage = stage; answered = old.answered }
+
+  pub pauses : GoesOn store line c1 c1 t t old paused (Ok None)
+  pauses = unasked store promises line two c1 t old paused c1 (Ok None)
+      (λ other kept c0 s m so.
+      let part = found so.text so.heard in
+      record { text = part.text; heard = part.heard; so_far = subst (λ (b : ReadBuffer). SoFar other.submits other.reads line c0 c1 s m b old.answered) part.cut so.so_far })
+
+  pub paused_continues : WaitsBehind stage here.held → CanContinue (line.source.remaining c1) old → CanContinue (line.source.remaining c1) paused
+  paused_continues waits can =
+      let part = found can.text can.heard in
+      let held : length (can.text ++ old.received.held) ≡ length (part.text ++ here.held) = ap (λ (b : ReadBuffer). length b.held) part.cut in
+      let left : old.received.left ≡ here.left = ap (λ (b : ReadBuffer). b.left) part.cut in
+      record {
+        text = part.text;
+        heard = part.heard;
+        looked = looked_still stage here.held waits;
+        end = λ e. can.end (ap (λ (b : ReadBuffer). b.ended) part.cut ∙ e);
+        most = rw (sym held, sym left) can.most;
+      }
+
+pub awaits_more : (session : Session) → WaitsBehind session.stage session.received.held → session.received.ended ≡ false → AwaitsMore session
+awaits_more session waits open_still =
+    record { open_still = open_still; waits = waits; awaits = λ text heard. waits_for_request session.stage text session.received.held heard waits }
+
+-- ---- one read
+
+module _ {S C : Type 0} (store : Store S) (promises : Promises store) (line : Line C) (two : IsTwoWay line) (c1 c2 : C) (t : S) (old : Session) (new : ReadBuffer) (awaits : AwaitsMore old)
+    (on : ReadsOn (line.source.remaining c1) (line.source.remaining c2) old.received new) (read : IsRead line.source.gives c1 c2 old.received new) where
+  abbrev with_more : Session
+  with_more = record old { received = new }
+
+  read_with : (text : List ℕ) → HasHeard old.stage text → ReadsOnWhile line.source AwaitsRequest c1 c2 (put_back text old.received) (put_back text new)
+  read_with text heard =
+      read_behind line.source AwaitsRequest c1 c1 c2 (put_back text old.received) old.received new text (nothing_yet line.source AwaitsRequest c1 (put_back text old.received)) (awaits.awaits text heard) on read
+
+  pub goes_on_reading : GoesOn store line c1 c2 t t old with_more (Ok None)
+  goes_on_reading = unasked store promises line two c1 t old with_more c2 (Ok None)
+      (λ other kept c0 s m so. record {
+        text = so.text;
+        heard = so.heard;
+        so_far = reads_on other.submits other.reads line two c0 c1 c2 s m (put_back so.text old.received) (put_back so.text new) old.answered so.so_far (read_with so.text so.heard);
+      })
+
+  pub read_continues : CanContinue (line.source.remaining c1) old → CanContinue (line.source.remaining c2) with_more
+  read_continues can =
+      let held : length new.held ≡ length old.received.held + length on.more = ap length on.held ∙ length-append old.received.held on.more in
+      record {
+        text = can.text;
+        heard = can.heard;
+        looked = looked_by old.stage old.received.held new.held read.0 read.2 awaits.waits;
+        end = on.end can.end;
+        most = omega (arith, can.most, on.most, held, length-append can.text old.received.held, length-append can.text new.held);
+      }
+
+  -- the devices that worked work still
+  pub works_read : line.in_failed c2 ≡ line.in_failed c1 → (line.in_failed c1 ≡ false) × (line.out_failed c1 ≡ false) → (text : List ℕ) → HasHeard old.stage text
+      → (line.in_failed c2 ≡ false) × (line.out_failed c2 ≡ false)
+  works_read same works text heard = works_heard line two c1 c2 (put_back text old.received) (put_back text new) (read_with text heard) same works
+
+-- a read that gave nothing
+pub stops_with : {C : Type 0} (line : Line C) (c1 c2 : C) (old : Session) (stop : ReadError) → AwaitsMore old → ReadFails line.source c1 c2 (line.in_failed c2) old.received stop
+    → (text : List ℕ) → HasHeard old.stage text → StopsWhile line.source AwaitsRequest c1 c2 (line.in_failed c2) (put_back text old.received) stop
+stops_with line c1 c2 old stop awaits last text heard =
+    stops_reading line.source AwaitsRequest c1 c1 c2 (line.in_failed c2) (put_back text old.received) old.received text stop
+    (nothing_yet line.source AwaitsRequest c1 (put_back text old.received)) (awaits.awaits text heard) last
+
+-- one piece and then another
+pub goes_on_then : {S C : Type 0} (store : Store S) (line : Line C) (c1 c2 c3 : C) (t u w : S) (old mid new : Session) (result : Result (Option Ended) SessionError)
+    → GoesOn store line c1 c2 t u old mid (Ok None) → GoesOn store line c2 c3 u w mid new result → GoesOn store line c1 c3 t w old new result
+goes_on_then store line c1 c2 c3 t u w old mid new result first second =
+    record { alone = λ c0 s so. second.alone c0 s (first.alone c0 s so); among = λ c0 s under. second.among c0 s (first.among c0 s under) }
 
 -- ---- before the first piece
 
 pub can_begin : (input : Option (List ℕ)) → CanContinue input no_requests_yet
-can_begin input = record { end = λ e. absurd (cc e); most = omega arith }
+can_begin input = record { text = []; heard = refl; looked = (omega arith, no_bytes_await); end = λ e. absurd (cc e); most = omega arith }
 
 module _ {S C : Type 0} (store : Store S) (line : Line C) (two : IsTwoWay line) (c : C) (s : S) where
   pub begins_alone : Underway store line c c s s no_requests_yet
-  begins_alone = begins store.submits store.reads line two c s
+  begins_alone = record { text = []; heard = refl; so_far = begins store.submits store.reads line two c s }
 
   pub begins_among : UnderwayAmong store line c c s s no_requests_yet
-  begins_among = (s, begins (shared store).submits (shared store).reads line two c s, keeps_all store s)
+  begins_among = (s, record { text = []; heard = refl; so_far = begins (shared store).submits (shared store).reads line two c s }, keeps_all store s)
 
 -- ---- in a pause
 
@@ -224,7 +337,26 @@ module _ {S C : Type 0} (store : Store S) (promises : Promises store) (line : Li
   others_go_on c0 c1 s t u session under (inl same) = subst (λ (x : S). UnderwayAmong store line c0 c1 s x session) (sym same) under
   others_go_on c0 c1 s t u session under (inr does) = others_forget_nothing c0 c1 s t u session under (step_keeps t u does.0 does.1 does.2)
 
+  -- and when the connection has taken nothing
+  pub outlasts_writes : IsTwoWay line → OutlastsWrites store line
+  outlasts_writes two c0 c1 c2 s t session under took kept = (
+    under.0,
+    record {
+      text = under.1.text;
+      heard = under.1.heard;
+      so_far = stays (shared store).submits (shared store).reads line two c0 c1 c2 s under.0 (put_back under.1.text session.received) session.answered under.1.so_far took kept;
+    },
+    under.2,
+  )
+
   pub answers_of_one_history : AnswersSoFar store line
   answers_of_one_history c0 c1 s t session under =
       let kept = shared_promises store promises in
-      related_all store.limits store.knows (shared store).submits (shared store).reads kept.submit_knows kept.read_knows s under.0 under.1.opens under.1.run
+      related_all store.limits store.knows (shared store).submits (shared store).reads kept.submit_knows kept.read_knows s under.0 under.1.so_far.opens under.1.so_far.run
+
+-- nothing was done yet
+pub goes_nowhere : {S C : Type 0} (store : Store S) (line : Line C) (c : C) (t : S) (session : Session) → GoesOn store line c c t t session session (Ok None)
+goes_nowhere store line c t session = record { alone = λ c0 s so. so; among = λ c0 s under. under }
+
+pub asks_from : {S : Type 0} (store : Store S) (s m t : S) → m ≡ s → AsksOnce store m t → AsksOnce store s t
+asks_from {S = S} store s m t same asks = subst (λ (x : S). AsksOnce store x t) same asks

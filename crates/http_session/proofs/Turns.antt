@@ -1,7 +1,7 @@
 -- How one turn of a session carries what is known of it on.
 use Rattle.std.proofs.Common.{◌≡◌, ◌≢◌, ℕ, ◌+◌, ◌<◌, ◌⊎◌, Bool, true, false, if◌then◌else◌, List, [], ◌∷◌, ◌++◌, length, take, Option, Err, refl, sym, ap, ◌∙◌, subst, arith, inl, inr, append_assoc, append-nil, length-append, rules}
-use Rattle.std.specs.Io.KnownBytes.{Appends, Consumes, IsAtEnd}
-use Rattle.std.proofs.KnownBytes.{Consumes-trans, Consumes-kept, Appends-trans, Consumes-nil, Appends-nil}
+use Rattle.std.specs.Io.KnownBytes.{Appends, Consumes, IsAtEnd, Keeps as KeepsBytes}
+use Rattle.std.proofs.KnownBytes.{Consumes-trans, Consumes-kept, Appends-trans, Appends-kept, Consumes-nil, Appends-nil}
 use Rattle.std.proofs.lemmas.List.{flat_map_more}
 use Rattle.std.proofs.lemmas.List.Elements.{All-append, All-cons, All-nil}
 use Rattle.session_devices.specs.Takings.{Takings, LeavesOther}
@@ -152,6 +152,28 @@ module _ {S C : Type 0} (submits : Submits S) (reads : Reads S) (line : Line C) 
         end = λ e. subst IsAtEnd (sym same) (so.end e);
       }
 
+  -- the connection went on without taking anything, and what was written stays
+  pub stays : (c0 c1 c2 : C) (s t : S) (received : ReadBuffer) (answered : ℕ)
+      → SoFar submits reads line c0 c1 s t received answered → line.takes c1 [] c2 → KeepsBytes (line.contents c1) (line.contents c2) → SoFar submits reads line c0 c2 s t received answered
+  stays c0 c1 c2 s t received answered so took kept =
+      let same = (two.writes_leave c1 c2 [] took).0 in
+      let said = said_on line.source.gives line.takes c0 c1 c2 so.opens so.taken (responses so.opens) [] (responses so.opens) so.answers took (sym (append-nil (responses so.opens))) in
+      record {
+        taken = so.taken;
+        opens = so.opens;
+        read = subst (λ (r : Option (List ℕ)). Consumes (line.source.remaining c0) r so.taken) (sym same) so.read;
+        answers = said.0;
+        made = omega (arith, so.made, said.1);
+        split = so.split;
+        each = so.each;
+        run = so.run;
+        written = Appends-kept (line.contents c0) (line.contents c1) (line.contents c2) (responses so.opens) so.written kept;
+        count = so.count;
+        least = so.least;
+        most = so.most;
+        end = λ e. subst IsAtEnd (sym same) (so.end e);
+      }
+
   -- ---- a session that ends
 
   pub ends_clean : (c0 c1 : C) (s t : S) (old : ReadBuffer) (answered : ℕ)
@@ -256,7 +278,7 @@ module _ {S C : Type 0} (submits : Submits S) (reads : Reads S) (line : Line C) 
       )
 
   -- no more could be read for the request that was awaited
-  fails_stopped : (A : Type 0) (c0 c1 c2 : C) (s t : S) (old : ReadBuffer) (answered : ℕ) (before : Bool) (stop : ReadError)
+  pub fails_stopped : (A : Type 0) (c0 c1 c2 : C) (s t : S) (old : ReadBuffer) (answered : ℕ) (before : Bool) (stop : ReadError)
       → SoFar submits reads line c0 c1 s t old answered → StopsWhile line.source AwaitsRequest c1 c2 (line.in_failed c2) old stop
       → SameUnlessReading {A = A} before (line.in_failed c2) (Err stop) → before ≡ false → line.out_failed c1 ≡ false
       → FailsOver submits reads line c0 c2 s t (record { answered = answered; written = 0; cause = cause_by stop })

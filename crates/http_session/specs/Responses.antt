@@ -1,10 +1,10 @@
 -- A response as it goes out.
-use Rattle.std.specs.Prelude.{ℕ, List, ◌++◌}
-use Rattle.query_json.specs.Parts.{to_come}
-use Rattle.http_session.specs.declared.reply.Response.{Response}
-use Rattle.http_session.specs.declared.reply.Response.TheVariants.{Whole, InParts}
+use Rattle.std.specs.Prelude.{ℕ, List, [], ◌∷◌, ◌++◌, Option, Some, None}
+use Rattle.query_json.specs.Parts.{Parted, to_come}
 
--- all its bytes, those that are still to come of an answer too
-abbrev pub response_bytes : Response → List ℕ
-response_bytes (Whole bytes) = bytes.items
-response_bytes (InParts head parts) = head.items ++ to_come parts
+-- what comes next of a head, or of what was left of one, and of the answer behind it
+abbrev pub parted_by : List ℕ → Option Parted → Parted
+parted_by [] None = record { part = []; rest = [] }
+parted_by [] (Some answer) = answer
+parted_by (b ∷ bs) None = record { part = b ∷ bs; rest = [] }
+parted_by (b ∷ bs) (Some answer) = record { part = b ∷ bs; rest = to_come answer }

@@ -1,23 +1,24 @@
-ghost use Rattle.std.specs.Prelude.{◌≡◌, ◌≢◌, true, false, IfOk, IfErr, OnOk, ◌||◌, ◌++◌};
+ghost use Rattle.std.specs.Prelude.{◌≡◌, ◌≢◌, true, false, IfOk, IfErr, OnOk, ◌||◌};
 ghost use Rattle.query_http.specs.Paths.{endpoint_rows};
 ghost use Rattle.query_json.specs.Parts.{to_come};
 ghost use Rattle.http_session.specs.Replies.{response_of, closes, takes_no_memory};
-ghost use Rattle.http_session.specs.Responses.{response_bytes};
 ghost use Rattle.http_session.specs.declared.exchanges.SessionErrorKind.TheVariants.{Writing, Memory};
 ghost use Rattle.http_session.specs.Sessions.{Step, Says, part_said, cause_by};
 ghost use Rattle.http_session.specs.InOrder.{line_of};
 ghost use Rattle.http_session.specs.Between.{store_of, devices_of, EndsBetween, FailsBetween, EndsServed, FailsServed};
 
 use crate::pieces::Session;
-use crate::reply::{Reply, Response};
-use crate::send::{send, send_parts};
+use crate::reply::Reply;
+use crate::respond::Respond;
+use crate::response::Response;
+use crate::send::send;
 use crate::verdict::Verdict;
 use http_requests::ReadError;
 use matchit::Router;
 use query_http::{Endpoint, endpoints};
-use query_json::AnswerParts;
-use session_devices::{Connection, Input, Join, Output};
+use session_devices::{Input, Join, Output};
 use std::alloc::Global;
+use std::mem::drop;
 use store_backend::Backend;
 
 /// How a session ended.
@@ -123,68 +124,51 @@ fn speak<W: Output>(output: &mut W, response: &[u8]) -> Result<(), Silence>
     }
 }
 
-/// Writes a head and the answer behind it, part by part, and takes no memory.
-fn speak_parts<W: Output>(
-    output: &mut W,
-    head: &[u8],
-    parts: AnswerParts<'_>,
-) -> Result<(), Silence>
-    ensures says { Says (W.contents output.old) (W.contents output.new) (W.has_failed output.old)
-        (W.has_failed output.new) (head.now ++ to_come parts.entry) result }
-    ensures took { W.takes output.old
-        (part_said (head.now ++ to_come parts.entry) result) output.new }
+/// Hands a response over.
+fn hand_over<C: Respond>(connection: &mut C, response: Response) -> Result<(), Silence>
+    ensures says { Says (C.contents connection.old) (C.contents connection.new)
+        (C.Output.has_failed connection.old) (C.Output.has_failed connection.new)
+        (to_come response) result }
+    ensures took { C.takes connection.old (part_said (to_come response) result) connection.new }
     ensures writing { IfErr result (λ e. e.cause ≡ Writing) }
 {
-    speak(output, head)?;
-    match send_parts(output, parts) {
+    match connection.respond(response) {
         Ok(()) => Ok(()),
         Err(written) => Err(Silence {
-            written: head.len() + written,
+            written,
             cause: SessionErrorKind::Writing,
         }),
     }
 }
 
-/// Writes all of a response, and takes no memory.
-fn speak_whole<W: Output>(output: &mut W, response: Response<'_>) -> Result<(), Silence>
-    ensures says { Says (W.contents output.old) (W.contents output.new) (W.has_failed output.old)
-        (W.has_failed output.new) (response_bytes response.entry) result }
-    ensures took { W.takes output.old
-        (part_said (response_bytes response.entry) result) output.new }
-    ensures writing { IfErr result (λ e. e.cause ≡ Writing) }
-{
-    match response {
-        Response::Whole(bytes) => speak(output, bytes.as_slice()),
-        Response::InParts(head, parts) => speak_parts(output, head.as_slice(), parts),
-    }
-}
-
-/// Writes the response of a reply; it takes no memory where that is 202 or 500.
-pub(crate) fn say<W: Output>(
+/// Says what a reply comes to; it takes no memory where that is 202 or 500.
+pub(crate) fn say<C: Respond>(
     alloc: Global,
-    output: &mut W,
-    reply: &Reply,
+    connection: &mut C,
+    reply: Reply,
     close: bool,
 ) -> Result<(), Silence>
-    ensures says { Says (W.contents output.old) (W.contents output.new) (W.has_failed output.old)
-        (W.has_failed output.new) (response_of reply.now close) result }
-    ensures took { W.takes output.old (part_said (response_of reply.now close) result) output.new }
-    ensures spared { takes_no_memory reply.now ≡ true → IfErr result (λ e. e.cause ≢ Memory) }
+    ensures says { Says (C.contents connection.old) (C.contents connection.new)
+        (C.Output.has_failed connection.old) (C.Output.has_failed connection.new)
+        (response_of reply close) result }
+    ensures took { C.takes connection.old (part_said (response_of reply close) result)
+        connection.new }
+    ensures spared { takes_no_memory reply ≡ true → IfErr result (λ e. e.cause ≢ Memory) }
 {
     if let Some(bytes) = reply.fixed(close) {
-        return speak(output, bytes);
+        return speak(connection, bytes);
     }
-    let Ok(response) = reply.response(alloc, close) else {
+    let Ok(response) = reply.into_response(alloc, close) else {
         return Err(Silence {
             written: 0,
             cause: SessionErrorKind::Memory,
         });
     };
-    speak_whole(output, response)
+    hand_over(connection, response)
 }
 
 /// Answers the requests of the connection one after the other.
-fn run_session<T, C: Connection, B: Backend<T>>(
+fn run_session<T, C: Respond, B: Backend<T>>(
     rt: &T,
     alloc: Global,
     router: &Router<Endpoint>,
@@ -207,8 +191,14 @@ fn run_session<T, C: Connection, B: Backend<T>>(
     'requests: loop {
         match session.answer_next(rt, alloc, router, connection, backend) {
             Ok(None) => {}
-            Ok(Some(ended)) => return Ok(ended),
-            Err(error) => return Err(error),
+            Ok(Some(ended)) => {
+                drop(session);
+                return Ok(ended);
+            }
+            Err(error) => {
+                drop(session);
+                return Err(error);
+            }
         }
     }
 }
@@ -233,7 +223,7 @@ fn run_session<T, C: Connection, B: Backend<T>>(
 /// memory ran out: for what is read at once, while a request was awaited, for a query, or for a response other than
 /// 202 and 500. A batch that came whole is answered, with 500 where memory ran out for it. A batch that was accepted
 /// before stays so.
-pub fn serve_connection<T, C: Connection, B: Backend<T>>(
+pub fn serve_connection<T, C: Respond, B: Backend<T>>(
     rt: &T,
     alloc: Global,
     connection: &mut C,

@@ -2,7 +2,7 @@
 
 ghost use Rattle.http_session.specs.InOrder.{line_of};
 ghost use Rattle.http_session.specs.Between.{store_of};
-ghost use Rattle.http_session.specs.Pieces.{no_requests_yet, CanContinue, Underway, UnderwayAmong, AnswersSoFar, StaysUnderway, SubmitsSome, ReadsSome, AsksOnce, ForgetsNothing};
+ghost use Rattle.http_session.specs.Pieces.{no_requests_yet, CanContinue, Underway, UnderwayAmong, AnswersSoFar, StaysUnderway, OutlastsWrites, SubmitsSome, ReadsSome, AsksOnce, ForgetsNothing};
 
 use session_devices::Connection;
 use store_backend::Backend;
@@ -38,6 +38,13 @@ pub fn a_pause_keeps_a_session_underway<T, C: Connection, B: Backend<T>>()
     ensures others { StaysUnderway (store_of B.submits B.reads B.knows B.limits)
         (line_of C.remaining C.gives C.Input.has_failed C.contents C.takes C.Output.has_failed)
         (ForgetsNothing (store_of B.submits B.reads B.knows B.limits)) }
+{}
+
+/// A session stays underway while its connection writes what it had kept of a response: nothing new is taken, and what was
+/// handed over stays as it was.
+pub fn late_writes_keep_a_session_underway<T, C: Connection, B: Backend<T>>()
+    ensures { OutlastsWrites (store_of B.submits B.reads B.knows B.limits)
+        (line_of C.remaining C.gives C.Input.has_failed C.contents C.takes C.Output.has_failed) }
 {}
 
 /// The answers so far of a session that is underway are those of one growing history, though others use the store too: each

@@ -7,11 +7,12 @@
 //!
 //! * `verdict`: what a request asks of the store, or what is said to it without asking.
 //! * `question`: what the head of a request asks.
-//! * `hearing`: hearing a request: its head, and its body as it comes, which is never held whole.
-//! * `reply`: what is answered, and its response.
+//! * `hearing`: what the bytes received come to: a head, and a body as it comes, which is never held whole.
+//! * `reply`: what is answered, and its response. `response`: a response as it is written.
+//! * `respond`: connections that take whole responses.
 //! * `fixed`: the responses 202 and 500, which take no memory.
-//! * `send`: writing all of a piece, or all parts of an answer.
-//! * `pieces`: a session that goes on request by request, with pauses in between.
+//! * `send`: writing all of a piece, or all parts of a response.
+//! * `pieces`: a session that goes on in pieces, with pauses between two requests or inside one.
 //! * `exchanges`: the session, one exchange after the other.
 //! * `laws`: facts about sessions that go on in pieces.
 #![tactic(auto)]
@@ -23,10 +24,15 @@ pub mod laws;
 mod pieces;
 mod question;
 mod reply;
+mod respond;
+mod response;
 mod send;
 mod verdict;
 
 pub use exchanges::{Ended, SessionError, SessionErrorKind, serve_connection, session};
-pub use pieces::Session;
-pub use reply::{Reply, Response};
+pub use http_requests::SpareRoom;
+pub use pieces::{Progress, Session};
+pub use reply::Reply;
+pub use respond::Respond;
+pub use response::Response;
 pub use verdict::{Remark, Verdict};

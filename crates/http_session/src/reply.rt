@@ -4,10 +4,10 @@ ghost use Rattle.query_http.specs.Responses.{response};
 ghost use Rattle.query_json.specs.Parts.{to_come};
 ghost use Rattle.query_json.specs.Trees.{answer_tree};
 ghost use Rattle.http_session.specs.Replies.{status_of, allow_of, closes, takes_no_memory, response_of, remark_message, remark_status, refusal_status, refusal_message, breach_status, breach_message, error_body};
-ghost use Rattle.http_session.specs.Responses.{response_bytes};
 ghost use Rattle.http_session.specs.declared.reply.Reply.TheVariants as reply;
 
 use crate::fixed::{accepted, internal_error, out_of_memory};
+use crate::response::Response;
 use crate::verdict::Remark;
 use http_requests::Breach;
 use query_http::{Endpoint, respond, response_head_of};
@@ -32,15 +32,6 @@ pub enum Reply {
 
 /// The most bytes of an answer that are copied behind their head, so that one write takes both.
 const JOINED: usize = 16_384;
-
-/// The bytes of a response. The text of a large answer is not held as a whole: it is given out part by part.
-#[derive(Drop)]
-pub enum Response<'a> {
-    /// All of them.
-    Whole(Vec<u8>),
-    /// The head, and the answer that comes behind it.
-    InParts(Vec<u8>, AnswerParts<'a>),
-}
 
 fn refusal_status(refusal: Refusal) -> u16
     ensures { result ≡ refusal_status refusal }
@@ -121,9 +112,9 @@ fn remark_body(alloc: Global, remark: Remark) -> Result<Vec<u8>, AllocError>
     error_bytes(alloc, remark_status(remark), message.as_str())
 }
 
-/// The head, and behind it all that is still to come of an answer.
-fn joined(head: Vec<u8>, mut parts: AnswerParts<'_>) -> Result<Vec<u8>, AllocError>
-    ensures { IfOk result (λ v. v.items ≡ head.items ++ to_come parts.entry) }
+/// Returns the head, followed by all that is still to come of an answer.
+fn joined(head: Vec<u8>, mut parts: AnswerParts) -> Result<Vec<u8>, AllocError>
+    ensures { IfOk result (λ v. v.items ≡ head.items ++ to_come parts) }
 {
     let mut whole = head;
     whole.reserve(parts.remaining())?;
@@ -134,23 +125,18 @@ fn joined(head: Vec<u8>, mut parts: AnswerParts<'_>) -> Result<Vec<u8>, AllocErr
     Ok(whole)
 }
 
-/// The response of an answer, which goes out in parts where it is large.
-fn answered(
-    alloc: Global,
-    status: u16,
-    answer: &Answer,
-    close: bool,
-) -> Result<Response<'_>, AllocError>
-    ensures { IfOk result (λ r. response_bytes r ≡
-        response status (compact_text (answer_tree answer.now)) [] close) }
+/// Returns the response of an answer, which is given out in parts if it is large.
+fn answered(alloc: Global, status: u16, answer: Answer, close: bool) -> Result<Response, AllocError>
+    ensures { IfOk result (λ r. to_come r ≡
+        response status (compact_text (answer_tree answer)) [] close) }
 {
     let parts = AnswerParts::new(alloc, answer)?;
     let head = response_head_of(alloc, status, parts.remaining(), "", close)?;
     if parts.remaining() > JOINED {
-        return Ok(Response::InParts(head, parts));
+        return Response::in_parts(head, parts);
     }
     let whole = joined(head, parts)?;
-    Ok(Response::Whole(whole))
+    Ok(Response::whole(whole))
 }
 
 /// The response of a refusal, where it takes no memory.
@@ -228,25 +214,25 @@ impl Reply {
         }
     }
 
-    /// Its response, which borrows the answer where that goes out in parts. All the memory that it takes is taken
+    /// Returns its response, which keeps the answer if that is given out in parts. All the memory that it takes is taken
     /// here.
     ///
     /// # Errors
     ///
     /// Out of memory, and nothing else.
     #[tactic(auto, unfolding(crate::specs::Replies::response_of))]
-    pub fn response(&self, alloc: Global, close: bool) -> Result<Response<'_>, AllocError>
-        ensures { IfOk result (λ r. response_bytes r ≡ response_of self.now close) }
+    pub fn into_response(self, alloc: Global, close: bool) -> Result<Response, AllocError>
+        ensures { IfOk result (λ r. to_come r ≡ response_of self close) }
     {
         let (status, allow) = (self.status(), self.allow());
         let body = match self {
             Reply::Accepted => Vec::new(alloc),
             Reply::Answered(answer) => return answered(alloc, status, answer, close),
-            Reply::Refused(refusal) => error_bytes(alloc, status, refusal_message(*refusal))?,
-            Reply::Said(remark) => remark_body(alloc, *remark)?,
-            Reply::Broken(breach) => error_bytes(alloc, status, breach_message(*breach))?,
+            Reply::Refused(refusal) => error_bytes(alloc, status, refusal_message(refusal))?,
+            Reply::Said(remark) => remark_body(alloc, remark)?,
+            Reply::Broken(breach) => error_bytes(alloc, status, breach_message(breach))?,
         };
         let whole = respond(alloc, status, body.as_slice(), allow, close)?;
-        Ok(Response::Whole(whole))
+        Ok(Response::whole(whole))
     }
 }

@@ -3,7 +3,7 @@ ghost use Rattle.std.specs.Io.KnownBytes.{Appends};
 ghost use Rattle.query_json.specs.Parts.{to_come};
 ghost use Rattle.http_session.specs.Sessions.{part_sent};
 
-use query_json::AnswerParts;
+use crate::response::Response;
 use session_devices::Output;
 
 /// Writes all of the bytes.
@@ -29,28 +29,27 @@ pub(crate) fn send<W: Output>(output: &mut W, bytes: &[u8]) -> Result<(), usize>
     Ok(())
 }
 
-/// Writes all that is still to come of an answer, part by part, and takes no memory.
+/// Writes all of a response, part by part, and takes no memory.
 ///
 /// # Errors
 ///
 /// The output failed; how many of the bytes it took before.
-pub(crate) fn send_parts<W: Output>(output: &mut W, mut parts: AnswerParts<'_>) -> Result<(), usize>
+pub(crate) fn send_response<W: Output>(output: &mut W, mut response: Response) -> Result<(), usize>
     ensures ok { OnOk result (Appends (W.contents output.old) (W.contents output.new)
-        (to_come parts.entry)) }
-    ensures took { W.takes output.old (part_sent (to_come parts.entry) result) output.new }
+        (to_come response)) }
+    ensures took { W.takes output.old (part_sent (to_come response) result) output.new }
     ensures same { OnOk result (W.has_failed output.new ≡ W.has_failed output.old) }
-    ensures err { IfErr result (λ n. (n ≤ length (to_come parts.entry))
-        × Appends (W.contents output.old) (W.contents output.new) (take n (to_come parts.entry))
+    ensures err { IfErr result (λ n. (n ≤ length (to_come response))
+        × Appends (W.contents output.old) (W.contents output.new) (take n (to_come response))
         × (W.has_failed output.new ≡ true)) }
-    ensures bound { IfErr result (λ n. n < 2 ^ 63) }
 {
-    let all = parts.remaining();
-    while parts.remaining() > 0 {
-        let sent = all - parts.remaining();
-        if let Err(written) = send(output, parts.part()) {
+    let all = response.remaining();
+    while response.remaining() > 0 {
+        let sent = all - response.remaining();
+        if let Err(written) = send(output, response.part()) {
             return Err(sent + written);
         }
-        parts.advance();
+        response.advance();
     }
     Ok(())
 }

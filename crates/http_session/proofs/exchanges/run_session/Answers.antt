@@ -1,11 +1,12 @@
-use Rattle.http_session.proofs.Turns.{two_way, begins}
-use Rattle.http_session.proofs.Piecewise.{can_begin}
+use Rattle.http_session.specs.Between.{store_of}
+use Rattle.http_session.proofs.Turns.{two_way}
+use Rattle.http_session.proofs.Piecewise.{begins_alone, can_begin}
 use Rattle.http_session.proofs.exchanges.run_session.Goals as goal
 
 pub requests-init : goal.requests-init
 requests-init g c =
     let two = two_way g.met.C.Connection.reads_leave g.met.C.Connection.writes_leave in
-    rw c.new-session.ensures (begins _ _ _ two _ _, c.requires.input_works, c.requires.output_works, can_begin _)
+    rw c.new-session.ensures (begins_alone (store_of g.B.Backend.submits g.B.Backend.reads g.B.Backend.knows g.B.Backend.limits) _ two _ _, c.requires.input_works, c.requires.output_works, can_begin _)
 
 pub returns-in-Err-clause-error : goal.returns-in-Err-clause-error
 returns-in-Err-clause-error g c = c.in-Err.ensures.goes_on.alone _ _ c.requests.invariant.0

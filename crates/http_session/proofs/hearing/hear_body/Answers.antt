@@ -1,16 +1,11 @@
-use Rattle.std.proofs.Common.{ℕ, List}
-use Rattle.batch_feeder.specs.Answers.{answers}
-use Rattle.http_requests.specs.Waiting.{source_of}
-use Rattle.http_session.specs.Fed.{Follows}
-use Rattle.http_session.specs.Questions.{Decides}
-use Rattle.http_session.specs.declared.question.Question.TheVariants.{Batch}
-use Rattle.http_session.proofs.Feeding.{batch_verdict}
-use Rattle.http_session.proofs.Hearings.{reported_heard}
+use Rattle.std.proofs.Common.{refl, subst}
+use Rattle.http_session.specs.Hearing.{HasHeard}
+use Rattle.http_session.specs.declared.hearing.Stage.{Stage}
+use Rattle.http_session.specs.declared.hearing.Stage.TheVariants.{Body}
+use Rattle.http_session.proofs.Hearings.{hears_finished}
 use Rattle.http_session.proofs.hearing.hear_body.Goals as goal
 
-pub returns-in-Batch-clause-heard : goal.returns-in-Batch-clause-heard
-returns-in-Batch-clause-heard g c =
-    let fed = c.read_body-read-in-Batch.new.sink in
-    let decides : (body : List ℕ) → Follows (answers c.new-body.result.feeder) body (answers fed.feeder) → Decides Batch body c.verdict.result =
-    λ body follows. batch_verdict _ _ body c.new-body.ensures _ follows c.verdict.ensures in
-    rw (c.reported-in-Batch.ensures, c.in-Batch.is) (reported_heard _ (source_of g.R.Input.remaining g.R.Input.gives) _ _ _ _ _ _ _ _ _ _ decides c.read_body-read-in-Batch.ensures.body)
+pub returns-in-Whole-clause-heard : goal.returns-in-Whole-clause-heard
+returns-in-Whole-clause-heard c = λ text heard.
+    let part = subst (λ (s : Stage). HasHeard s text) c.in-Body.is heard in
+    hears_finished _ _ c.take_part.new.self (Body c.take_part.new.self) c.finish.new.stage c.finish.result refl c.finish.ensures.next (c.in-Whole.ensures.part text part) c.finish.ensures.finished

@@ -1,6 +1,6 @@
 use Rattle.http_session.specs.Between.{store_of}
-use Rattle.http_session.proofs.Turns.{two_way, begins}
-use Rattle.http_session.proofs.Piecewise.{can_begin, begins_among}
+use Rattle.http_session.proofs.Turns.{two_way}
+use Rattle.http_session.proofs.Piecewise.{can_begin, begins_alone, begins_among}
 use Rattle.http_session.proofs.laws.a_new_session_is_underway.Goals as goal
 
 pub returns-clause-ready : goal.returns-clause-ready
@@ -9,7 +9,7 @@ returns-clause-ready g c = can_begin _
 pub returns-clause-alone : goal.returns-clause-alone
 returns-clause-alone g c =
     let two = two_way g.met.C.Connection.reads_leave g.met.C.Connection.writes_leave in
-    begins _ _ _ two _ _
+    begins_alone (store_of g.B.Backend.submits g.B.Backend.reads g.B.Backend.knows g.B.Backend.limits) _ two _ _
 
 pub returns-clause-among : goal.returns-clause-among
 returns-clause-among g c =
