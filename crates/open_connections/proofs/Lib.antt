@@ -1,1 +1,2 @@
+pub mod Deliveries
 pub mod Keeping

@@ -1,1 +1,4 @@
+pub mod Leaving
+pub mod Outgoing
+pub mod Boxes
 pub mod Open

@@ -18,7 +18,7 @@ pub struct Report {
     pub has_ended: bool,
 }
 
-/// Which sockets of a thread are readable. Each has a token of the caller's.
+/// Which sockets of a thread are ready. Each has a token of the caller's.
 ///
 /// A socket is reported when bytes come, and not again for bytes that were there before: read until fewer come than fit,
 /// or have it watched again.
@@ -58,7 +58,14 @@ impl Readiness {
             .reregister(&mut SourceFd(&socket), Token(token), Interest::READABLE)
     }
 
-    /// Waits until a socket is readable or the time is up. It holds what was reported until the next wait.
+    /// Reports a socket that is watched under this token once it takes bytes again, and not when it is readable.
+    pub fn watch_writes(&self, socket: RawFd, token: usize) -> io::Result<()> {
+        self.poll
+            .registry()
+            .reregister(&mut SourceFd(&socket), Token(token), Interest::WRITABLE)
+    }
+
+    /// Waits until a socket is ready or the time is up. It holds what was reported until the next wait.
     pub fn wait(&mut self, timeout: Option<Duration>) -> io::Result<()> {
         self.poll.poll(&mut self.events, timeout)
     }

@@ -1,19 +1,22 @@
 //! The sessions of all connections of a thread.
 
 ghost use Rattle.std.specs.Prelude.{◌≡◌, false, IfOk};
-ghost use Rattle.http_session.specs.InOrder.{line_of};
 ghost use Rattle.http_session.specs.Between.{store_of};
 ghost use Rattle.http_session.specs.Pieces.{AsksOnce};
+ghost use Rattle.open_connections.specs.Boxes.{box_line};
 ghost use Rattle.open_connections.specs.Open.{AllOpen, IsEmpty, IsRest};
 
+use crate::nonblocking::TryConnection;
 use crate::open::{Moment, OpenConnection, Progress};
+use crate::outbox::Outbox;
+use http_session::SpareRoom;
 use http_session::laws::a_new_session_is_underway;
 use matchit::Router;
 use query_http::{Endpoint, endpoints};
-use session_devices::Connection;
 use slab::Slab;
 use std::alloc::{AllocError, Global};
 use std::marker::Model;
+use std::mem::drop;
 use std::time::Duration;
 use store_backend::Backend;
 
@@ -22,6 +25,10 @@ use store_backend::Backend;
 pub struct ConnectionSet<C> {
     connections: Slab<OpenConnection<C>>,
     router: Router<Endpoint>,
+    /// What its sessions read into, one after the other.
+    spare: SpareRoom,
+    /// How many bytes of responses wait.
+    waiting: usize,
 }
 
 impl<C> Model for ConnectionSet<C> {
@@ -45,10 +52,10 @@ pub enum Turn<C> {
     /// It stays open.
     Open(Progress),
     /// It has left the set.
-    Left(Progress, C),
+    Left(Progress, Outbox<C>),
 }
 
-impl<C: Connection + Drop> ConnectionSet<C> {
+impl<C: TryConnection + Drop> ConnectionSet<C> {
     /// Holds no connection.
     ///
     /// # Errors
@@ -61,6 +68,8 @@ impl<C: Connection + Drop> ConnectionSet<C> {
             Ok(router) => Ok(ConnectionSet {
                 connections: Slab::new(alloc),
                 router,
+                spare: SpareRoom::new(alloc),
+                waiting: 0,
             }),
             Err(_) => Err(AllocError),
         }
@@ -74,6 +83,11 @@ impl<C: Connection + Drop> ConnectionSet<C> {
     /// Returns how many connections are open.
     pub fn len(&self) -> usize {
         self.connections.len()
+    }
+
+    /// Returns how many bytes of responses wait for clients that don't take them.
+    pub fn waiting_bytes(&self) -> usize {
+        self.waiting
     }
 
     /// Returns the connection under a key, if there is one.
@@ -93,29 +107,28 @@ impl<C: Connection + Drop> ConnectionSet<C> {
         now: Duration,
         backend: &B,
     ) -> Result<usize, AllocError>
-        requires input_works { C.Input.has_failed connection ≡ false }
-        requires output_works { C.Output.has_failed connection ≡ false }
+        requires works { C.has_failed connection ≡ false }
 
         requires underway { AllOpen (store_of B.submits B.reads B.knows B.limits)
-            (line_of C.remaining C.gives C.Input.has_failed C.contents C.takes C.Output.has_failed)
+            (box_line C.remaining C.gives C.has_failed C.contents)
             backend.now self.old }
 
         ensures underway { AllOpen (store_of B.submits B.reads B.knows B.limits)
-            (line_of C.remaining C.gives C.Input.has_failed C.contents C.takes C.Output.has_failed)
+            (box_line C.remaining C.gives C.has_failed C.contents)
             backend.now self.new }
     {
-        a_new_session_is_underway::<T, C, B>(&connection, backend);
-        match self
-            .connections
-            .insert(OpenConnection::new(alloc, connection, now))
-        {
-            Ok(key) => Ok(key),
-            Err(_) => Err(AllocError),
-        }
+        let outbox = Outbox::new(alloc, connection);
+        a_new_session_is_underway::<T, Outbox<C>, B>(&outbox, backend);
+        let open = OpenConnection::new(alloc, outbox, now);
+        let Ok(key) = self.connections.insert(open) else {
+            return Err(AllocError);
+        };
+        Ok(key)
     }
 
-    /// Answers one request of the connection under a key, over the store that all of them use. One that has ended or failed
-    /// leaves the set.
+    /// Goes on with the connection under a key, over the store that all of them use: it writes what waits of a response, or
+    /// reads once at most and answers one request if it has come. One that has ended or failed leaves the set, perhaps
+    /// with a response that still waits.
     pub fn answer_next<T, B: Backend<T>>(
         &mut self,
         rt: &T,
@@ -125,11 +138,11 @@ impl<C: Connection + Drop> ConnectionSet<C> {
         backend: &mut B,
     ) -> Turn<C>
         requires underway { AllOpen (store_of B.submits B.reads B.knows B.limits)
-            (line_of C.remaining C.gives C.Input.has_failed C.contents C.takes C.Output.has_failed)
+            (box_line C.remaining C.gives C.has_failed C.contents)
             backend.old self.old }
 
         ensures underway { AllOpen (store_of B.submits B.reads B.knows B.limits)
-            (line_of C.remaining C.gives C.Input.has_failed C.contents C.takes C.Output.has_failed)
+            (box_line C.remaining C.gives C.has_failed C.contents)
             backend.new self.new }
 
         ensures asks { AsksOnce (store_of B.submits B.reads B.knows B.limits)
@@ -139,12 +152,20 @@ impl<C: Connection + Drop> ConnectionSet<C> {
             return Turn::Absent;
         };
         let mut open = open;
-        let progress = open.answer_next(rt, alloc, &self.router, backend);
+        self.waiting = self.waiting.saturating_sub(open.connection.waiting_bytes());
+        let progress = open.answer_next(rt, alloc, &self.router, backend, &mut self.spare);
         if !progress.is_open() {
-            return Turn::Left(progress, open.connection);
+            let OpenConnection {
+                connection,
+                session,
+                ..
+            } = open;
+            drop(session);
+            return Turn::Left(progress, connection);
         }
         open.active = at.now;
         open.round = at.round;
+        self.waiting = self.waiting.saturating_add(open.connection.waiting_bytes());
         let _key = self.connections.insert_reserved(open);
         Turn::Open(progress)
     }
@@ -158,7 +179,9 @@ impl<C: Connection + Drop> ConnectionSet<C> {
     pub fn remove(&mut self, key: usize) -> Option<OpenConnection<C>>
         ensures rest { IsRest self.old self.new }
     {
-        self.connections.try_remove(key)
+        let open = self.connections.try_remove(key)?;
+        self.waiting = self.waiting.saturating_sub(open.connection.waiting_bytes());
+        Some(open)
     }
 
     /// Returns whether there is a connection under a key that was not active since this time.
@@ -175,7 +198,7 @@ impl<C: Connection + Drop> ConnectionSet<C> {
     {
         for key in 0..self.connections.capacity() {
             if self.is_silent(key, since) {
-                self.connections.try_remove(key);
+                drop(self.remove(key));
             }
         }
     }

@@ -1,33 +1,32 @@
 ghost use Rattle.std.specs.Prelude.{◌≡◌, false, None};
+ghost use Rattle.std.specs.Io.{ReadsAtMost};
 
-use session_devices::{Connection, Failed, Input, Output};
-use std::io::{ErrorKind, Read, Write};
+use crate::nonblocking::TryConnection;
+use session_devices::{Failed, Input};
+use std::io::{self, ErrorKind, Read, Write};
 use std::net::TcpStream;
 use std::os::fd::{AsRawFd, RawFd};
 
 /// How often a call that a signal interrupted is made again before it counts as failed.
 const MAX_INTERRUPTIONS: u32 = 1_000_000;
 
-/// A TCP stream as a connection. Nothing is known of the bytes that it carries.
+/// A TCP stream in non-blocking mode as a connection. Nothing is known of the bytes that it carries.
 #[derive(Drop)]
 pub struct Socket {
     stream: TcpStream,
-    input_failed: bool,
-    output_failed: bool,
+    failed: bool,
     /// The last read filled its buffer, so more may have come already.
     may_hold_more: bool,
 }
 
 impl Socket {
-    /// A stream of which nothing has failed yet.
+    /// A stream of which no read has failed yet. It is to be in non-blocking mode.
     pub fn new(stream: TcpStream) -> Socket
-        ensures input { result.input_failed ≡ false }
-        ensures output { result.output_failed ≡ false }
+        ensures { result.failed ≡ false }
     {
         Socket {
             stream,
-            input_failed: false,
-            output_failed: false,
+            failed: false,
             may_hold_more: false,
         }
     }
@@ -48,16 +47,34 @@ impl Socket {
     }
 }
 
+/// Reads once, and waits until something has come, for as long as the stream's limit says.
+fn read_waiting(stream: &TcpStream, buf: &mut [u8]) -> io::Result<usize>
+    ensures { ReadsAtMost result buf.new }
+{
+    stream.set_nonblocking(false)?;
+    let mut input = stream;
+    let got = input.read(buf);
+    stream.set_nonblocking(true)?;
+    got
+}
+
 impl Input for Socket {
     ghost remaining = { λ s. None };
 
-    ghost gives = { λ s given t. t.output_failed ≡ s.output_failed };
+    ghost gives = { λ s given t. Unit {0} };
 
-    ghost has_failed = { λ s. s.input_failed };
+    ghost has_failed = { λ s. s.failed };
 
+    /// The stream is to be readable. If it isn't after all, this waits.
     fn read(&mut self, buf: &mut [u8]) -> Result<usize, Failed> {
         for _tried in 0..MAX_INTERRUPTIONS {
-            match self.stream.read(buf) {
+            let got = match self.stream.read(buf) {
+                Err(error) if error.kind() == ErrorKind::WouldBlock => {
+                    read_waiting(&self.stream, buf)
+                }
+                got => got,
+            };
+            match got {
                 Ok(count) => {
                     self.may_hold_more = count > 0 && count == buf.len();
                     return Ok(count);
@@ -66,49 +83,31 @@ impl Input for Socket {
                 Err(_) => break,
             }
         }
-        self.input_failed = true;
+        self.failed = true;
         Err(Failed)
     }
 
     fn failed(&self) -> bool {
-        self.input_failed
+        self.failed
     }
 }
 
-impl Output for Socket {
-    ghost use Rattle.std.proofs.Common.{refl, ◌∙◌};
+impl TryConnection for Socket {
+    ghost use Rattle.std.proofs.Common.{refl};
 
     ghost contents = { λ s. None };
 
-    ghost takes = { λ s bytes t. t.input_failed ≡ s.input_failed };
+    ghost reads_leave = { λ s t bytes given. refl };
 
-    ghost has_failed = { λ s. s.output_failed };
-
-    ghost takes_nothing = { λ s. refl };
-
-    ghost takes_joined = { λ s t u front back one two. two ∙ one };
-
-    fn write(&mut self, buf: &[u8]) -> Result<usize, Failed> {
+    fn try_write(&mut self, buf: &[u8]) -> Result<usize, Failed> {
         for _tried in 0..MAX_INTERRUPTIONS {
             match self.stream.write(buf) {
                 Ok(count) if count > 0 || buf.is_empty() => return Ok(count),
+                Err(error) if error.kind() == ErrorKind::WouldBlock => return Ok(0),
                 Err(error) if error.kind() == ErrorKind::Interrupted => {}
                 _ => break,
             }
         }
-        self.output_failed = true;
         Err(Failed)
     }
-
-    fn failed(&self) -> bool {
-        self.output_failed
-    }
-}
-
-impl Connection for Socket {
-    ghost use Rattle.std.proofs.Common.{refl};
-
-    ghost reads_leave = { λ s t bytes given. (refl, given) };
-
-    ghost writes_leave = { λ s t bytes taken. (refl, taken) };
 }

@@ -6,4 +6,5 @@ mod large;
 mod pieces;
 mod pipes;
 mod requests;
+mod slow_readers;
 mod turns;

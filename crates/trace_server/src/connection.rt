@@ -8,8 +8,8 @@ use std::time::Duration;
 /// For how many seconds the rest of a request is dropped after a response that closes the connection.
 pub(crate) const PARTING_SECONDS: u64 = 2;
 
-/// For how many seconds a client may be silent in the middle of a request, or not take its response, at most.
-const MAX_STALL_SECONDS: u32 = 10;
+/// How long a read waits at most whose connection was reported readable, and isn't.
+const MAX_STALL_SECONDS: u64 = 10;
 
 /// How long a connection may be silent; none is for ever.
 pub(crate) fn patience(idle: u32) -> Option<Duration> {
@@ -19,19 +19,16 @@ pub(crate) fn patience(idle: u32) -> Option<Duration> {
     }
 }
 
-/// Sends each response at once, and gives up a connection that is silent for too long in the middle of a request or of a
-/// response: its worker waits for it meanwhile.
-pub(crate) fn prepare(stream: &TcpStream, idle: u32) -> io::Result<()> {
+/// Sends each response at once, and never waits for the client.
+pub(crate) fn prepare(stream: &TcpStream) -> io::Result<()> {
     stream.set_nodelay(true)?;
-    let patience = patience(idle.min(MAX_STALL_SECONDS));
-    stream.set_read_timeout(patience)?;
-    stream.set_write_timeout(patience)
+    stream.set_read_timeout(Some(Duration::from_secs(MAX_STALL_SECONDS)))?;
+    stream.set_nonblocking(true)
 }
 
 /// Sends no more, so that the client learns that the last response was the last. What it still sends is dropped.
 pub(crate) fn part(stream: &TcpStream) -> io::Result<()> {
-    stream.shutdown(Shutdown::Write)?;
-    stream.set_nonblocking(true)
+    stream.shutdown(Shutdown::Write)
 }
 
 /// What became of a connection of which some bytes were dropped.

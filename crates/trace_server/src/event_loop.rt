@@ -1,4 +1,4 @@
-//! A worker's connections: it waits for them, and answers one request of each that is readable.
+//! A worker's connections: it waits for them, and takes a turn with each that is ready.
 
 ghost use Rattle.std.specs.Prelude.{◌≡◌, IfOk};
 ghost use Rattle.live_store.specs.Sharing.{GoesOn};
@@ -6,19 +6,20 @@ ghost use Rattle.open_connections.specs.Open.{IsEmpty, IsRest};
 ghost use Rattle.trace_server.specs.Underway.{AllUnderway};
 
 use crate::arrivals::Arrivals;
-use crate::connection::{part, patience, prepare};
+use crate::connection::{patience, prepare};
 use crate::gate::Gate;
 use crate::gated::Gated;
-use crate::leaving::Leaving;
+use crate::leaving::{Leaving, Step};
 use crate::worker::Server;
 use open_connections::{
-    ConnectionSet, MAX_REPORTS, Moment, Progress, Readiness, Report, Socket, Turn,
+    ConnectionSet, MAX_REPORTS, Moment, Outbox, Progress, Readiness, Report, Socket, Turn,
 };
 use read_side::StoreName;
 use std::alloc::Global;
 use std::collections::VecDeque;
 use std::io;
 use std::io::ErrorKind;
+use std::mem::drop;
 use std::net::{Net, TcpListener, TcpStream};
 use std::os::fd::AsRawFd;
 use std::sync::Wait;
@@ -30,6 +31,10 @@ const LISTENER: usize = usize::MAX;
 
 /// How many seconds lie between two looks for connections that were silent for too long.
 const CHECK_SECONDS: u64 = 1;
+
+/// The most bytes of responses that wait at a worker, if those of several clients do. Those of a large answer aren't made yet: it
+/// takes about a tenth of them.
+const MAX_WAITING_BYTES: usize = 2 << 30;
 
 /// After how many milliseconds a worker looks whether all sessions were accepted by others.
 const SESSIONS_PAUSE: u64 = 20;
@@ -59,13 +64,17 @@ pub(crate) struct EventLoop {
     readiness: Readiness,
     open: ConnectionSet<Socket>,
     leaving: Leaving,
-    /// The keys of connections of which more has come than was answered, and whether to watch their sockets again then.
+    /// The keys of connections of which more has come than was answered, and whether their clients have ended.
     again: VecDeque<(usize, bool)>,
     at: Moment,
     /// When to look for connections that were silent for too long.
     next_check: Duration,
     /// How many places are taken for its connections.
     places: usize,
+    /// How long a connection may be silent; none is for ever.
+    patience: Option<Duration>,
+    /// A client was given up because too much waited.
+    has_given_up: bool,
 }
 
 impl EventLoop {
@@ -78,6 +87,7 @@ impl EventLoop {
         rt: &R,
         alloc: Global,
         listener: &TcpListener,
+        idle: u32,
     ) -> io::Result<EventLoop>
         ensures { IfOk result (λ a. IsEmpty a.open) }
     {
@@ -98,6 +108,8 @@ impl EventLoop {
             },
             next_check: Duration::ZERO,
             places: 0,
+            patience: patience(idle),
+            has_given_up: false,
         })
     }
 
@@ -113,43 +125,78 @@ impl EventLoop {
 }
 
 impl EventLoop {
-    /// Has a connection that stays open served again when there is something to serve: at once if more has come than was
-    /// answered, or if its socket may hold what isn't reported again. Returns whether that could be done.
-    fn remind(&mut self, key: usize, progress: Progress, watch_again: bool) -> bool
+    /// Has a connection that stays open served again when there is something to do: at once if it holds more than was
+    /// answered, when its client takes more if a response waits, or if more may have come that will not be reported. Returns
+    /// whether that could be done.
+    fn remind(&mut self, key: usize, progress: Progress, has_ended: bool) -> bool
         ensures open { self.new.open ≡ self.old.open }
     {
         if let Progress::HoldsMore = progress {
-            return self.again.push_back((key, watch_again)).is_ok();
+            return self.again.push_back((key, has_ended)).is_ok();
         }
-        match self.open.get(key) {
-            Some(open) if watch_again || open.connection.may_hold_more() => self
+        let Some(open) = self.open.get(key) else {
+            return true;
+        };
+        let socket = open.connection.connection();
+        if let Progress::Writing = progress {
+            return self
                 .readiness
-                .watch_again(open.connection.raw_fd(), open_token(key))
-                .is_ok(),
-            _ => true,
+                .watch_writes(socket.raw_fd(), open_token(key))
+                .is_ok();
         }
+        if has_ended || open.is_unread || socket.may_hold_more() {
+            return self
+                .readiness
+                .watch_again(socket.raw_fd(), open_token(key))
+                .is_ok();
+        }
+        true
+    }
+
+    /// Returns whether too much waits for the clients of this worker, of which so many bytes are one client's.
+    fn waits_too_much(&self, own: usize) -> bool {
+        let all = self
+            .open
+            .waiting_bytes()
+            .saturating_add(self.leaving.waiting_bytes());
+        all > MAX_WAITING_BYTES && all > own
+    }
+
+    /// Returns whether a connection is to be given up, since its response waits beside too much.
+    fn is_to_go(&mut self, key: usize, progress: Progress) -> bool
+        ensures open { self.new.open ≡ self.old.open }
+    {
+        let own = match (progress, self.open.get(key)) {
+            (Progress::Writing, Some(open)) => open.connection.waiting_bytes(),
+            _ => return false,
+        };
+        let is_to_go = self.waits_too_much(own);
+        self.has_given_up |= is_to_go;
+        is_to_go
     }
 
     /// Keeps a connection that stays open, if it can be served again.
-    fn keep(&mut self, key: usize, progress: Progress, watch_again: bool)
+    fn keep(&mut self, key: usize, progress: Progress, has_ended: bool)
         ensures rest { IsRest self.old.open self.new.open }
     {
-        if !self.remind(key, progress, watch_again) {
-            self.open.remove(key);
+        let stays = !self.is_to_go(key, progress) && self.remind(key, progress, has_ended);
+        if !stays {
+            drop(self.open.remove(key));
         }
     }
 
-    /// Lets a connection go whose last response was written.
-    fn leave(&mut self, socket: Socket)
+    /// Lets a connection go whose session has ended. What waits of its last response is written first.
+    fn leave(&mut self, outbox: Outbox<Socket>)
         ensures open { self.new.open ≡ self.old.open }
     {
-        if part(socket.stream()).is_err() {
+        let own = outbox.waiting_bytes();
+        if own > 0 && self.waits_too_much(own) {
+            self.has_given_up = true;
             return;
         }
-        let Some(key) = self.leaving.add(socket, self.at.now) else {
-            return;
-        };
-        self.watch_leaving(key);
+        if let Some(key) = self.leaving.add(outbox) {
+            self.go_on_leaving(key);
+        }
         self.next_check = self.next_check.min(self.after_pause());
     }
 
@@ -160,33 +207,44 @@ impl EventLoop {
             .saturating_add(Duration::from_secs(CHECK_SECONDS))
     }
 
-    /// Drops what has come of a connection that leaves, and has it reported again when more comes.
-    fn drop_rest(&mut self, key: usize)
+    /// Lets a connection go that has left the set. Its client reads the last response before the connection closes, unless
+    /// that has failed.
+    fn let_go(&mut self, progress: Progress, outbox: Outbox<Socket>)
         ensures open { self.new.open ≡ self.old.open }
     {
-        if self.leaving.drop_some(key) {
-            self.watch_leaving(key);
+        match progress {
+            Progress::Closing => self.leave(outbox),
+            Progress::Ended if outbox.has_waiting() => self.leave(outbox),
+            _ => drop(outbox),
         }
     }
 
-    /// Has a connection that leaves reported when more has come.
-    fn watch_leaving(&mut self, key: usize)
+    /// Goes on with a connection that leaves, and has it reported again when there is more to do.
+    fn go_on_leaving(&mut self, key: usize)
         ensures open { self.new.open ≡ self.old.open }
     {
-        if let Some(socket) = self.leaving.get(key) {
-            let _unwatched = self
+        let step = self.leaving.go_on(key, self.at.now, self.patience);
+        let Some(socket) = self.leaving.get(key) else {
+            return;
+        };
+        let _unwatched = match step {
+            Step::Writes => self
                 .readiness
-                .watch_again(socket.raw_fd(), leaving_token(key));
-        }
+                .watch_writes(socket.raw_fd(), leaving_token(key)),
+            Step::Reads => self
+                .readiness
+                .watch_again(socket.raw_fd(), leaving_token(key)),
+            Step::Nothing => Ok(()),
+        };
     }
 
-    /// Answers one request of a connection. `watch_again` says that its socket may hold what isn't reported again.
+    /// Takes a turn with a connection.
     fn serve<N: StoreName, G: Gate, R: Wait + Eprint>(
         &mut self,
         rt: &R,
         alloc: Global,
         key: usize,
-        watch_again: bool,
+        has_ended: bool,
         store: &mut Gated<'_, N, G, R>,
     )
         requires underway { AllUnderway N.limits store.old self.old.open }
@@ -194,18 +252,9 @@ impl EventLoop {
         ensures goes_on { GoesOn store.old.seat store.new.seat }
     {
         match self.open.answer_next(rt, alloc, key, self.at, store) {
-            Turn::Open(progress) => self.keep(key, progress, watch_again),
-            Turn::Left(Progress::Closing, socket) => self.leave(socket),
-            Turn::Left(_, _) | Turn::Absent => {}
-        }
-    }
-
-    /// Returns whether a connection holds bytes of a request. It may then be answered without a read, and what was
-    /// reported stays in its socket.
-    fn holds_bytes(&self, key: usize) -> bool {
-        match self.open.get(key) {
-            Some(open) => open.session.holds_bytes(),
-            None => false,
+            Turn::Open(progress) => self.keep(key, progress, has_ended),
+            Turn::Left(progress, outbox) => self.let_go(progress, outbox),
+            Turn::Absent => {}
         }
     }
 
@@ -223,10 +272,9 @@ impl EventLoop {
     {
         let key = report.token >> 1;
         if report.token & 1 == 1 {
-            self.drop_rest(key);
+            self.go_on_leaving(key);
         } else {
-            let watch_again = report.has_ended || self.holds_bytes(key);
-            self.serve(rt, alloc, key, watch_again, store);
+            self.serve(rt, alloc, key, report.has_ended, store);
         }
     }
 
@@ -263,7 +311,7 @@ impl EventLoop {
         ensures underway { AllUnderway N.limits store.new self.new.open }
         ensures goes_on { GoesOn store.old.seat store.new.seat }
     {
-        let Some((key, watch_again)) = self.again.pop_front() else {
+        let Some((key, has_ended)) = self.again.pop_front() else {
             return;
         };
         let due = match self.open.get(key) {
@@ -271,7 +319,7 @@ impl EventLoop {
             None => false,
         };
         if due {
-            self.serve(rt, alloc, key, watch_again, store);
+            self.serve(rt, alloc, key, has_ended, store);
         }
     }
 
@@ -311,7 +359,7 @@ impl EventLoop {
             return;
         };
         store.learn(&receipt);
-        if prepare(&stream, server.idle).is_err() {
+        if prepare(&stream).is_err() {
             return;
         }
         let socket = Socket::new(stream);
@@ -323,12 +371,12 @@ impl EventLoop {
             return;
         };
         if self.readiness.watch(descriptor, open_token(key)).is_err() {
-            self.open.remove(key);
+            drop(self.open.remove(key));
         }
     }
 
     /// Drops the connections that were silent for too long.
-    fn drop_silent(&mut self, idle: u32)
+    fn drop_silent(&mut self)
         ensures rest { IsRest self.old.open self.new.open }
     {
         let now = self.at.now;
@@ -337,7 +385,7 @@ impl EventLoop {
         }
         self.leaving.drop_late(now);
         self.next_check = self.after_pause();
-        if let Some(patience) = patience(idle) {
+        if let Some(patience) = self.patience {
             self.open.drop_silent(now.saturating_sub(patience));
             self.put_off_check(patience);
         }
@@ -358,7 +406,7 @@ impl EventLoop {
         server: &Server<'_, N, G>,
         arrivals: &Arrivals,
     ) -> Option<Duration> {
-        let checks = !self.leaving.is_empty() || (server.idle > 0 && !self.open.is_empty());
+        let checks = !self.leaving.is_empty() || (self.patience.is_some() && !self.open.is_empty());
         let check = if checks { Some(self.next_check) } else { None };
         let last = if server.sessions.are_limited() {
             Some(
@@ -441,8 +489,11 @@ impl EventLoop {
         if self.serve_ready(rt, server.alloc, store) {
             arrivals.arrived();
         }
+        if self.has_given_up {
+            server.notices.say_given_up(rt);
+        }
         self.accept(rt, server, worker, arrivals, store);
-        self.drop_silent(server.idle);
+        self.drop_silent();
     }
 
     /// Serves connections until none is open and no more may be accepted.

@@ -1,24 +1,55 @@
-//! Connections whose last response was written while their clients may still send.
+//! Connections whose sessions have ended while their clients may still read or send.
 
-use crate::connection::{Dropped, PARTING_SECONDS, drop_some};
-use open_connections::Socket;
+use crate::connection::{Dropped, PARTING_SECONDS, drop_some, part};
+use open_connections::{Outbox, Socket};
 use slab::Slab;
 use std::alloc::Global;
 use std::time::Duration;
 
-/// A connection whose last response was written.
+/// A connection whose session has ended.
 #[derive(Drop)]
 struct LeavingConnection {
-    socket: Socket,
-    /// Until when what still comes is dropped.
-    until: Duration,
+    outbox: Outbox<Socket>,
+    /// No more is sent: the client was told so.
+    has_parted: bool,
+    /// Until when it is kept; for ever if there is no time.
+    until: Option<Duration>,
 }
 
-/// Connections whose last response was written. What they still send is dropped for a while, so that the client reads that
-/// response before the connection goes.
+/// What a connection that leaves waits for.
+#[derive(Clone, Copy, Debug, PartialEq, Eq)]
+pub(crate) enum Step {
+    /// That its client takes more of the last response.
+    Writes,
+    /// That more comes of what is dropped.
+    Reads,
+    /// Nothing that would have to be asked for.
+    Nothing,
+}
+
+/// Connections whose sessions have ended. What waits of the last response is written; then what the client still sends is
+/// dropped for a while, so that it reads that response before the connection goes.
 #[derive(Drop)]
 pub(crate) struct Leaving {
     connections: Slab<LeavingConnection>,
+    /// How many bytes of responses wait.
+    waiting: usize,
+}
+
+impl LeavingConnection {
+    /// Writes what waits, as far as the client takes it. Returns whether the connection is of use still.
+    fn write(&mut self, now: Duration, patience: Option<Duration>) -> bool {
+        if self.outbox.flush().is_err() {
+            return false;
+        }
+        if self.outbox.has_waiting() {
+            self.until = patience.map(|patience| now.saturating_add(patience));
+            return true;
+        }
+        self.has_parted = true;
+        self.until = Some(now.saturating_add(Duration::from_secs(PARTING_SECONDS)));
+        part(self.outbox.connection().stream()).is_ok()
+    }
 }
 
 impl Leaving {
@@ -26,6 +57,7 @@ impl Leaving {
     pub(crate) fn new(alloc: Global) -> Leaving {
         Leaving {
             connections: Slab::new(alloc),
+            waiting: 0,
         }
     }
 
@@ -37,37 +69,101 @@ impl Leaving {
         self.connections.len()
     }
 
+    /// Returns how many bytes of responses wait for clients that don't take them.
+    pub(crate) fn waiting_bytes(&self) -> usize {
+        self.waiting
+    }
+
     /// Returns the key that the next one gets.
-    pub(crate) fn add(&mut self, socket: Socket, now: Duration) -> Option<usize> {
-        let until = now.saturating_add(Duration::from_secs(PARTING_SECONDS));
-        match self.connections.insert(LeavingConnection { socket, until }) {
-            Ok(key) => Some(key),
-            Err(_) => None,
-        }
+    pub(crate) fn add(&mut self, outbox: Outbox<Socket>) -> Option<usize> {
+        let waiting = outbox.waiting_bytes();
+        let leaving = LeavingConnection {
+            outbox,
+            has_parted: false,
+            until: None,
+        };
+        let Ok(key) = self.connections.insert(leaving) else {
+            return None;
+        };
+        self.waiting = self.waiting.saturating_add(waiting);
+        Some(key)
     }
 
     /// Returns the socket under a key.
     pub(crate) fn get(&self, key: usize) -> Option<&Socket> {
         match self.connections.get(key) {
-            Some(leaving) => Some(&leaving.socket),
+            Some(leaving) => Some(leaving.outbox.connection()),
             None => None,
         }
     }
 
-    /// Drops what has come of one, which goes once its client has ended. Returns whether it is to be reported again.
-    pub(crate) fn drop_some(&mut self, key: usize) -> bool {
-        let dropped = match self.connections.get(key) {
-            Some(leaving) => drop_some(leaving.socket.stream()),
+    /// Removes a connection.
+    pub(crate) fn remove(&mut self, key: usize) {
+        if let Some(leaving) = self.connections.try_remove(key) {
+            self.waiting = self.waiting.saturating_sub(leaving.outbox.waiting_bytes());
+        }
+    }
+
+    /// Writes what waits of one's last response, as far as its client takes it.
+    fn write(&mut self, key: usize, now: Duration, patience: Option<Duration>) -> Step {
+        let Some(leaving) = self.connections.get_mut(key) else {
+            return Step::Nothing;
+        };
+        let before = leaving.outbox.waiting_bytes();
+        let is_of_use = leaving.write(now, patience);
+        let has_parted = leaving.has_parted;
+        let written = before.saturating_sub(leaving.outbox.waiting_bytes());
+        self.waiting = self.waiting.saturating_sub(written);
+        match (is_of_use, has_parted) {
+            (false, _) => {
+                self.remove(key);
+                Step::Nothing
+            }
+            (true, true) => Step::Reads,
+            (true, false) => Step::Writes,
+        }
+    }
+
+    /// Drops what has come of one whose response was written.
+    fn drop_input(&mut self, key: usize) -> Step {
+        let dropped = match self.get(key) {
+            Some(socket) => drop_some(socket.stream()),
             None => Dropped::All,
         };
-        if dropped == Dropped::Last {
-            self.connections.try_remove(key);
+        match dropped {
+            Dropped::All => Step::Nothing,
+            Dropped::Much => Step::Reads,
+            Dropped::Last => {
+                self.remove(key);
+                Step::Nothing
+            }
         }
-        dropped == Dropped::Much
+    }
+
+    /// Writes what waits of one's last response, or drops what has come of it. One that has failed goes, and one whose client
+    /// has ended after the response.
+    pub(crate) fn go_on(&mut self, key: usize, now: Duration, patience: Option<Duration>) -> Step {
+        match self.connections.get(key) {
+            Some(leaving) if leaving.has_parted => self.drop_input(key),
+            Some(_) => self.write(key, now, patience),
+            None => Step::Nothing,
+        }
+    }
+
+    /// Returns whether there is one under a key whose time is up.
+    fn is_late(&self, key: usize, now: Duration) -> bool {
+        match self.connections.get(key) {
+            Some(leaving) => leaving.until.is_some_and(|until| until <= now),
+            None => false,
+        }
     }
 
     /// Lets those go whose time is up.
     pub(crate) fn drop_late(&mut self, now: Duration) {
-        self.connections.retain(|_, leaving| leaving.until > now);
+        for key in 0..self.connections.capacity() {
+            if self.is_late(key, now) {
+                self.remove(key);
+            }
+        }
     }
 }

@@ -21,6 +21,7 @@ pub(crate) struct Notices {
     /// The system's shortage was said, and no connection was accepted since.
     said_shortage: AtomicBool,
     said_all_taken: AtomicBool,
+    said_given_up: AtomicBool,
 }
 
 impl Notices {
@@ -30,6 +31,7 @@ impl Notices {
             said_full: AtomicBool::new(false),
             said_shortage: AtomicBool::new(false),
             said_all_taken: AtomicBool::new(false),
+            said_given_up: AtomicBool::new(false),
         }
     }
 
@@ -47,6 +49,15 @@ impl Notices {
         if !self.said_all_taken.swap(true, Ordering::SeqCst) {
             let _lost = eprintln!(rt;
                 "as many connections are open as --connections lets be: the next ones wait until one closes"
+            );
+        }
+    }
+
+    /// Says that a client was given up which didn't read its response, unless it was said before.
+    pub(crate) fn say_given_up<R: Eprint>(&self, rt: &R) {
+        if !self.said_given_up.swap(true, Ordering::SeqCst) {
+            let _lost = eprintln!(rt;
+                "too much waits for clients that don't read: connections of more of them are closed"
             );
         }
     }

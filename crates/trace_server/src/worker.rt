@@ -51,7 +51,7 @@ impl<'a, N: StoreName, G: Gate> Server<'a, N, G> {
         ensures { GoesOn post.1.seat result.1.seat }
     {
         let (worker, live) = post;
-        let mut event_loop = match EventLoop::new(rt, self.alloc, self.listener) {
+        let mut event_loop = match EventLoop::new(rt, self.alloc, self.listener, self.idle) {
             Ok(event_loop) => event_loop,
             Err(error) => {
                 say_accepts_no_more(rt, worker, &error);

@@ -25,6 +25,13 @@ fn round_letters(alloc: Global, front: &[&[u8]], back: &[&[u8]]) -> Result<Vec<u
     joined(alloc, &[&front, &letters, &back])
 }
 
+/// The bytes of both requests, and of their responses.
+pub(crate) fn two_requests(alloc: Global) -> Result<(Vec<u8>, Vec<u8>), Fail> {
+    let bytes = round_letters(alloc, &[POST], &[&BATCH[11..], SERVICES])?;
+    let wanted = round_letters(alloc, &[ACCEPTED, HEAD], &[TAIL])?;
+    Ok((bytes, wanted))
+}
+
 /// How a session ends whose output has room for so many bytes of two responses, which have so many in all.
 fn ended_at(room: usize, all: usize) -> Result<Ended, SessionError> {
     if room >= all {
@@ -42,8 +49,7 @@ fn ended_at(room: usize, all: usize) -> Result<Ended, SessionError> {
 
 /// Whether a session with both requests writes the two responses as far as there is room, and says how far that was.
 fn is_written_up_to(alloc: Global, keys: RandomState, room: usize) -> Result<bool, Fail> {
-    let bytes = round_letters(alloc, &[POST], &[&BATCH[11..], SERVICES])?;
-    let wanted = round_letters(alloc, &[ACCEPTED, HEAD], &[TAIL])?;
+    let (bytes, wanted) = two_requests(alloc)?;
     let played = played(alloc, keys, bytes.as_slice(), (10_000, 0), (room, 10_000))?;
     let written = wanted.len().min(room);
     Ok(

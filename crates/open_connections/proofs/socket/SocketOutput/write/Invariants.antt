@@ -1,5 +1,0 @@
-use Rattle.std.proofs.Common.{◌≡◌}
-use Rattle.open_connections.proofs.socket.SocketOutput.write.Given as goal
-
-abbrev pub invariant-loop-tried : goal.invariant-loop-tried
-invariant-loop-tried l = (l.self.output_failed ≡ l.initial.self.output_failed) × (l.self.input_failed ≡ l.initial.self.input_failed)

@@ -1,0 +1,73 @@
+//! A response that waits to be written.
+
+ghost use Rattle.std.specs.Prelude.{◌≡◌, ◌≤◌, ◌<◌, ◌^◌, ◌==◌, [], drop, length};
+ghost use Rattle.query_json.specs.Parts.{to_come};
+
+use http_session::Response;
+use std::marker::Model;
+
+/// A response of which a part may have been written. Contracts see what is still to be written.
+#[derive(Drop)]
+pub(crate) struct Waiting {
+    response: Response,
+    /// How many bytes of its part were written.
+    sent: usize,
+}
+
+impl Model for Waiting {
+    ghost use Rattle.std.specs.Prelude.{◌≡◌, ◌<◌, ◌⊎◌, length};
+    ghost use Rattle.query_json.specs.Parts.{Parted};
+    ghost use Rattle.open_connections.specs.Outgoing.{unsent};
+
+    ghost Value = { Parted };
+
+    ghost view = { λ w. unsent w.response w.sent };
+
+    ghost invariant = { λ w. (w.sent ≡ 0) ⊎ (w.sent < length w.response.part) };
+}
+
+impl Waiting {
+    /// Nothing of it was written yet.
+    pub(crate) fn new(response: Response) -> Waiting
+        ensures { to_come result ≡ to_come response }
+    {
+        Waiting { response, sent: 0 }
+    }
+
+    /// How many bytes are still to be written.
+    pub(crate) fn len(&self) -> usize
+        ensures length { result ≡ length (to_come self.now) }
+        ensures bound { result < 2 ^ 63 }
+    {
+        self.response.remaining() - self.sent
+    }
+
+    /// Whether all was written.
+    pub(crate) fn is_empty(&self) -> bool
+        ensures { result ≡ (length (to_come self.now) == 0) }
+    {
+        self.len() == 0
+    }
+
+    /// The next bytes, none only if nothing is left.
+    pub(crate) fn next(&self) -> &[u8]
+        ensures first { result.now ≡ self.now.part }
+        ensures some { self.now.part ≡ [] → self.now.rest ≡ [] }
+    {
+        &self.response.part()[self.sent..]
+    }
+
+    /// Goes on behind so many of the next bytes.
+    pub(crate) fn pass(&mut self, count: usize)
+        requires { count ≤ length self.old.part }
+        ensures { to_come self.new ≡ drop count (to_come self.old) }
+    {
+        let size = self.response.part().len();
+        if count < size - self.sent {
+            self.sent += count;
+        } else {
+            self.response.advance();
+            self.sent = 0;
+        }
+    }
+}

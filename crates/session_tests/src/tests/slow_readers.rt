@@ -1,0 +1,165 @@
+use crate::tests::large::two_requests;
+use crate::tests::pipes::{empty_store, joined};
+use open_connections::{ConnectionSet, Moment, Outbox, Progress, TryConnection, Turn};
+use session_devices::{Failed, Input};
+use std::alloc::Global;
+use std::hash::RandomState;
+use std::test::*;
+use std::time::Duration;
+use store_backend::Backend;
+
+/// A client that sends all at once. It takes a few bytes at a time, and none each second time; after its last bytes the
+/// connection fails.
+#[derive(Drop)]
+struct SlowClient<'a> {
+    bytes: &'a [u8],
+    taken: Vec<u8>,
+    step: usize,
+    is_busy: bool,
+    room: usize,
+}
+
+impl<'a> Input for SlowClient<'a> {
+    ghost use Rattle.std.specs.Prelude.{◌≡◌, ◌++◌, Some, false};
+
+    ghost remaining = { λ s. Some s.bytes.now };
+
+    ghost gives = { λ s given t. (s.bytes.now ≡ given ++ t.bytes.now)
+        × (t.taken.items ≡ s.taken.items) };
+
+    ghost has_failed = { λ s. false };
+
+    fn read(&mut self, buf: &mut [u8]) -> Result<usize, Failed> {
+        let count = buf.len().min(self.bytes.len());
+        buf[..count].copy_from_slice(&self.bytes[..count]);
+        self.bytes = &self.bytes[count..];
+        Ok(count)
+    }
+
+    fn failed(&self) -> bool {
+        false
+    }
+}
+
+impl<'a> TryConnection for SlowClient<'a> {
+    ghost use Rattle.std.specs.Prelude.{Some};
+    ghost use Rattle.std.proofs.Common.{ap};
+
+    ghost contents = { λ s. Some s.taken.items };
+
+    ghost reads_leave = { λ s t bytes given. ap Some given.1 };
+
+    fn try_write(&mut self, buf: &[u8]) -> Result<usize, Failed> {
+        self.is_busy = !self.is_busy;
+        if self.is_busy {
+            return Ok(0);
+        }
+        if self.room == 0 {
+            return Err(Failed);
+        }
+        let count = buf.len().min(self.step).min(self.room);
+        if self.taken.extend_from_slice(&buf[..count]).is_err() {
+            return Err(Failed);
+        }
+        self.room -= count;
+        Ok(count)
+    }
+}
+
+/// What became of a connection: what its client took, how it ended, and how often its response waited.
+#[derive(Drop)]
+struct Served<'a> {
+    outbox: Outbox<SlowClient<'a>>,
+    progress: Progress,
+    waits: u32,
+}
+
+/// Takes turns with one connection until it leaves the set.
+fn serve_alone<'a, B: Backend<()>>(
+    alloc: Global,
+    client: SlowClient<'a>,
+    store: &mut B,
+) -> Result<Served<'a>, Fail> {
+    let mut connections = ConnectionSet::new(alloc)?;
+    let key = connections.add::<(), B>(alloc, client, Duration::ZERO, store)?;
+    let mut waits = 0u32;
+    for round in 0..1_000_000u64 {
+        let at = Moment {
+            now: Duration::ZERO,
+            round,
+        };
+        match connections.answer_next(&(), alloc, key, at, store) {
+            Turn::Open(Progress::Writing) => waits = waits.saturating_add(1),
+            Turn::Open(_) => {}
+            Turn::Left(progress, outbox) => {
+                return Ok(Served {
+                    outbox,
+                    progress,
+                    waits,
+                });
+            }
+            Turn::Absent => break,
+        }
+    }
+    Err(Fail::from("a connection that is there, and ends"))
+}
+
+/// A client that takes so many bytes at a time, and so many in all.
+fn slow_client(alloc: Global, bytes: &[u8], step: usize, room: usize) -> SlowClient<'_> {
+    SlowClient {
+        bytes,
+        taken: Vec::new(alloc),
+        step,
+        is_busy: false,
+        room,
+    }
+}
+
+/// Whether all that waits is written in so many writes.
+fn is_flushed(outbox: &mut Outbox<SlowClient<'_>>) -> bool {
+    for _round in 0..1_000_000u32 {
+        if outbox.flush().is_err() {
+            return false;
+        }
+        if !outbox.has_waiting() {
+            return true;
+        }
+    }
+    false
+}
+
+/// The responses are the same however few bytes the client takes at a time, and wait for it.
+#[test]
+fn a_few_bytes_at_a_time(rt: HostRuntime) -> Result<(), Fail> {
+    let alloc = rt.alloc();
+    let (bytes, wanted) = two_requests(alloc)?;
+    for step in [1, 2, 7, 100, 16_383, 16_384, 40_000] {
+        let mut store = empty_store(alloc, RandomState::new(&rt)?)?;
+        let client = slow_client(alloc, &bytes, step, usize::MAX);
+        let mut served = serve_alone(alloc, client, &mut store)?;
+        assert!(rt; served.waits > 0, "{step}");
+        assert_eq!(rt; served.progress, Progress::Ended);
+        assert!(rt; is_flushed(&mut served.outbox), "{step}");
+        let taken = served.outbox.connection().taken.as_slice();
+        assert!(rt; taken == wanted.as_slice(), "{step}");
+    }
+    Ok(())
+}
+
+/// A connection that fails while its response waits leaves the set, and has taken the first bytes of the responses.
+#[test]
+fn a_failure_while_a_response_waits(rt: HostRuntime) -> Result<(), Fail> {
+    let alloc = rt.alloc();
+    let (bytes, wanted) = two_requests(alloc)?;
+    let twice = joined(alloc, &[&bytes, &bytes])?;
+    for room in [10, 100, 16_500, 40_000] {
+        let mut store = empty_store(alloc, RandomState::new(&rt)?)?;
+        let client = slow_client(alloc, &twice, 1_000, room);
+        let served = serve_alone(alloc, client, &mut store)?;
+        assert_eq!(rt; served.progress, Progress::Undelivered, "{room}");
+        let taken = served.outbox.connection().taken.as_slice();
+        assert_eq!(rt; taken.len(), room);
+        assert!(rt; wanted.as_slice().starts_with(taken), "{room}");
+    }
+    Ok(())
+}
