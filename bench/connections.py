@@ -8,7 +8,8 @@
   silent        so many clients that connect and send nothing: what memory they take, and processor time in ten seconds
   parked        so many clients that each post one batch and stay: the same
   slow senders  a trace by its id beside so many clients that send a body a byte a second, and alone (p50, p99)
-  slow readers  a trace by its id beside so many clients that ask for a large answer and don't read it, and alone (p50, p99)
+  slow readers  a trace by its id beside so many clients that have asked for an answer of 30,000 spans each and don't read it, and alone
+                (p50, p99); what memory these answers take
 
 Times are those of a client in Python on the same machine, so they include its own work. A figure of one run.
 """
@@ -158,10 +159,14 @@ def slow_readers(options):
             for trace in range(1, 3001):
                 client.ask(ten_spans(trace), 202)
         alone = looks(server)
-        slow = [Client(server.port, room=4096) for _ in range(options.slow)]
+        before = server.memory()
+        slow = [Client(server.port, patience=60, room=4096) for _ in range(options.slow)]
         for client in slow:
             client.send(get("/api/traces?service=shop&limit=0"))
-        return beside(server, alone, slow, "slow readers")
+        for client in slow:
+            check(client.socket.recv(1), "no response began")
+        held = server.memory() - before
+        return f"{beside(server, alone, slow, 'slow readers')}; {held / 1000:.1f} MB, {1000 * held / options.slow / 30_000:.0f} bytes a span of an answer"
 
 
 def main():

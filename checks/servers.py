@@ -264,8 +264,8 @@ class Server:
         """The most kilobytes that it held."""
         return self.kilobytes("VmHWM")
 
-    def client(self):
-        return Client(self.port)
+    def client(self, **more):
+        return Client(self.port, **more)
 
     def ends(self):
         """Its status and all that it printed, once it has ended by itself."""

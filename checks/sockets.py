@@ -345,6 +345,111 @@ def large_answers_unread():
         check(len(lengths) == 1 and min(lengths) > 200_000, f"the answers have {lengths} bytes")
 
 
+def in_turn_at_two_workers():
+    """200 connections at two workers, each with requests of its own, all under way at once."""
+    with Server("--port", 0, "--workers", 2) as server, contextlib.ExitStack() as stack:
+        clients = [stack.enter_context(server.client()) for _ in range(200)]
+        for turn in range(5):
+            for number, client in enumerate(clients):
+                trace = 1000 * (number + 1) + turn
+                client.send(post(trace) + get(f"/api/traces/{trace:x}"))
+            for number, client in enumerate(clients):
+                status = client.response().status
+                check(status == 202, f"a batch was answered {status}")
+                check(client.response().traces() == [f"{1000 * (number + 1) + turn:016x}"], "another trace was answered")
+
+
+def cut_at_each_byte():
+    """A request with a pause at each of its bytes, during which the one worker answers another client."""
+    requests = [post(1), get("/api/traces/1"), post(2) + get("/api/traces/2")]
+    with Server("--port", 0, "--workers", 1) as server, server.client() as other:
+        for request in requests:
+            for cut in range(1, len(request)):
+                with server.client() as client:
+                    client.send(request[:cut])
+                    other.ask(get("/api/x"), 404)
+                    client.send(request[cut:])
+                    statuses = [client.response().status for _ in range(request.count(b"HTTP/1.1"))]
+                    check(set(statuses) <= {200, 202}, f"cut at {cut}, {request[:30]!r} was answered {statuses}")
+
+
+def large_store(server, count=100):
+    """A trace whose answer has so many spans with a long operation each; that answer."""
+    with server.client() as client:
+        for _ in range(count):
+            client.ask(post(1, operation="o" * 50_000), 202)
+        return client.ask(get("/api/traces/1"), 200).body
+
+
+def slow_readers():
+    """Clients that don't read their answers hold no worker, and get them whole later."""
+    with Server("--port", 0, "--workers", 2) as server, contextlib.ExitStack() as stack:
+        whole = large_store(server)
+        slow = [stack.enter_context(server.client(room=4096)) for _ in range(20)]
+        for client in slow:
+            client.send(get("/api/traces/1") * 2)
+        with server.client() as quick:
+            for trace in range(2, 102):
+                quick.ask(post(trace), 202)
+                found(quick, trace)
+        for client in slow:
+            for _ in range(2):
+                check(client.response().body == whole, "the answer that was read late is another one")
+
+
+def byte_at_a_time():
+    """A response that is taken a byte at a time, while the one worker answers others."""
+    with Server("--port", 0, "--workers", 1) as server, server.client(room=1024) as slow, server.client() as quick:
+        whole = large_store(server)
+        slow.send(get("/api/traces/1") + get("/api/services"))
+        for number in range(3000):
+            slow.input += slow.socket.recv(1)
+            if number % 100 == 0:
+                quick.ask(get("/api/x"), 404)
+        check(slow.response().body == whole, "the answer is another one")
+        check(slow.response().status == 200, "the request behind it was not answered")
+
+
+def read_late(request, responses):
+    """A client that asks for much, says that it sends no more, and reads late."""
+    with Server("--port", 0, "--workers", 1) as server, server.client(room=4096) as client:
+        whole = large_store(server)
+        client.send(request)
+        if b"close" not in request:
+            client.socket.shutdown(socket.SHUT_WR)
+        time.sleep(0.5)
+        server.is_well()
+        for _ in range(responses):
+            check(client.response().body == whole, "the answer is another one")
+        check(client.reads_end() == b"", "something follows the last response")
+
+
+def goes_away_while_answered(leave):
+    """Clients that go while their answers wait; the server goes on."""
+    with Server("--port", 0, "--workers", 1) as server:
+        whole = large_store(server)
+        for _ in range(10):
+            client = server.client(room=4096)
+            client.send(get("/api/traces/1") * 3)
+            time.sleep(0.05)
+            leave(client)
+        with server.client() as client:
+            check(client.ask(get("/api/traces/1"), 200).body == whole, "the answer is another one")
+
+
+def silent_reader():
+    """A client that takes nothing of its response for --idle seconds is closed."""
+    with Server("--port", 0, "--workers", 1, "--idle", 1) as server, server.client(room=4096) as client:
+        whole = large_store(server)
+        client.send(get("/api/traces/1"))
+        time.sleep(4.5)
+        got = b""
+        with contextlib.suppress(OSError):
+            while data := client.socket.recv(65536):
+                got += data
+        check(len(got) < len(whole), "the whole answer came")
+
+
 def seen_elsewhere():
     with Server("--port", 0, "--workers", 4) as server, server.client() as early, server.client() as writer:
         early.ask(get("/api/traces/1"), 404)
@@ -436,6 +541,15 @@ CASES = {
     "pipelined in pieces": pipelined_in_pieces,
     "pipelined while another is answered": pipelined_while_answered,
     "large answers that are read late": large_answers_unread,
+    "200 connections, 2 workers": in_turn_at_two_workers,
+    "a pause at each byte": cut_at_each_byte,
+    "slow readers hold no worker": slow_readers,
+    "a response taken a byte at a time": byte_at_a_time,
+    "half-closed, read late": lambda: read_late(get("/api/traces/1") * 2, 2),
+    "asked to close, read late": lambda: read_late(head("GET /api/traces/1 HTTP/1.1", "Connection: close"), 1),
+    "goes away while answered": lambda: goes_away_while_answered(lambda client: client.socket.close()),
+    "reset while answered": lambda: goes_away_while_answered(Client.reset),
+    "takes no response": silent_reader,
     "acknowledged here, found there": seen_elsewhere,
     "reset right after connecting": reset_at_once,
     "closed right after connecting": closed_at_once,
