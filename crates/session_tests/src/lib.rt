@@ -7,7 +7,7 @@
 //! * `chunked`: requests whose bodies come in chunks, and the same sessions as with a Content-Length.
 //! * `pipes`: whole sessions, those whose devices fail at each call, and one in which memory runs out.
 //! * `large`: an answer that is sent in several parts, and an output that fails inside it.
-//! * `pauses`: sessions that pause inside a request, at each byte.
+//! * `slow_readers`: clients that take a few bytes of a response at a time.
 //! * `pieces`: two sessions that take turns over one store.
 //! * `turns`: no read before the responses to what was read are written.
 #![tactic(auto)]
