@@ -13,6 +13,7 @@
 
 Times are those of a client in Python on the same machine, so they include its own work. A figure of one run.
 """
+import collections
 import resource
 import selectors
 import statistics
@@ -52,24 +53,32 @@ class Senders:
     def __init__(self, port, count):
         self.clients = [Client(port) for _ in range(count)]
         self.selector = selectors.DefaultSelector()
-        self.sent = {}
+        self.sent = [collections.deque() for _ in range(count)]
         self.times = []
         self.refused = 0
         for number, client in enumerate(self.clients):
             self.selector.register(client.socket, selectors.EVENT_READ, number)
 
     def post(self, number, trace):
-        self.sent[number] = time.perf_counter()
+        self.sent[number].append(time.perf_counter())
         self.clients[number].send(ten_spans(trace))
+
+    def take(self, number):
+        """Takes the responses that have come to a client."""
+        client = self.clients[number]
+        while True:
+            response = client.response()
+            self.times.append(time.perf_counter() - self.sent[number].popleft())
+            self.refused += response.status != 202
+            if not client.input:
+                return
 
     def hear(self, seconds):
         """Takes in what is answered for so long."""
         end = time.perf_counter() + seconds
         while True:
             for key, _ in self.selector.select(max(0, end - time.perf_counter())):
-                response = self.clients[key.data].response()
-                self.times.append(time.perf_counter() - self.sent.pop(key.data))
-                self.refused += response.status != 202
+                self.take(key.data)
             if time.perf_counter() >= end:
                 return
 
@@ -79,7 +88,12 @@ class Senders:
             self.post(trace % count, trace + 1)
             trace += 1
             self.hear(max(0, begin + trace / count - time.perf_counter()))
-        self.hear(1)
+        end = time.perf_counter() + 10
+        while self.unanswered() and time.perf_counter() < end:
+            self.hear(0.1)
+
+    def unanswered(self):
+        return sum(map(len, self.sent))
 
     def close(self):
         for client in self.clients:
@@ -93,19 +107,21 @@ def senders(options):
         work.run(options.seconds)
         took = server.processor() - begin
         work.close()
-        check(not work.sent and not work.refused, f"{len(work.sent)} POSTs were not answered, {work.refused} not by 202")
+        unanswered = work.unanswered()
+        check(not unanswered and not work.refused, f"{unanswered} POSTs were not answered, {work.refused} not by 202")
         return f"{len(work.times)} POSTs answered 202; {said(work.times)}; {1e6 * took / len(work.times):.0f} us of a processor each"
 
 
 def resting(server, clients, before):
-    """What connections cost that do nothing."""
+    """What connections cost that do nothing, once all of them are open."""
+    time.sleep(1)
     held = server.memory() - before
     share = server.share(10)
     return f"{held / 1000:.1f} MB for {len(clients)} connections, {1000 * held / len(clients):.0f} bytes each; {share * 10:.2f} s of a processor in ten"
 
 
 def silent(options):
-    with started(options.bin, options.silent) as server:
+    with started(options.bin, options.silent + 10) as server:
         before = server.memory()
         clients = [Client(server.port) for _ in range(options.silent)]
         clients[-1].ask(get("/api/services"), 200)

@@ -59,6 +59,7 @@ class Bench:
         self.load = load
         self.seconds = seconds
         self.rounds = rounds
+        self.workers = None
         self.end = time.monotonic() + AT_MOST
         self.shown = {}
         self.faults = []
@@ -77,7 +78,7 @@ class Bench:
         if name not in self.programs or time.monotonic() > self.end:
             return {}
         try:
-            with started(self.programs[name], writers + readers + 4) as server:
+            with started(self.programs[name], self.workers or writers + readers + 4) as server:
                 self.load_with("--port", server.port, "--fill", size, "--writers", 0)
                 before = server.processor()
                 asked = ["--target", target] if target else []
@@ -87,7 +88,7 @@ class Bench:
                 numbers["peak"] = server.peak() / 1000
                 self.shown[name] = [get(server, f"/api/traces/{first_trace():x}"), get(server, SEARCH)]
         except (Failed, OSError, subprocess.TimeoutExpired) as fault:
-            self.faults.append(f"{NAMES[name]}, {size} spans, {writers} writers, {readers} readers: {fault}")
+            self.faults.append(f"{NAMES.get(name, name)}, {size} spans, {writers} writers, {readers} readers: {fault}")
             return {}
         numbers["held"] = size + numbers["spans"]
         return numbers

@@ -16,7 +16,11 @@ import threading
 import time
 
 from crates import asked_of
-from servers import PATIENCE, THRIFT, Client, Failed, Server, batch, check, get, head, post, run_cases
+from servers import PATIENCE, THRIFT, Client, Failed, Server, batch, check, get, head, post, post_body, run_cases
+import wire
+
+# A start that no query of long answers asks for, in microseconds.
+LATE = 1_000_000_000
 
 
 def found(client, trace):
@@ -397,6 +401,41 @@ def slow_readers():
                 check(client.response().body == whole, "the answer that was read late is another one")
 
 
+def store_with_long_names(server, count=300):
+    """A store in which each kind of answer is long: services that each call the next, and operations of one service."""
+    def name(kind, number):
+        return f"{kind}{number % count}" + "-" * 2000
+
+    with server.client() as client:
+        for number in range(count):
+            caller = wire.batch(name("s", number), [wire.span(number + 1, 1)])
+            callee = wire.batch(name("s", number + 1), [wire.span(number + 1, 2, parent=1)])
+            one = wire.batch("many", [wire.span(1000 + number, 1, operation=name("o", number)), wire.span(5000, 2 + number, parent=1)])
+            for body in (caller, callee, one):
+                client.ask(post_body(body), 202)
+        client.ask(post_body(wire.batch("late", [wire.span(6000, 1, start=LATE)])), 202)
+
+
+def each_kind_read_slowly():
+    """Each kind of answer is given out whole, as it was when it was asked for, to a client that reads it slowly while batches come."""
+    asked = ["/api/traces/1388", "/api/traces?service=many&limit=0&start=0&end=100000", "/api/services", "/api/services/many/operations",
+             "/api/operations?service=many", "/api/dependencies?endTs=100&lookback=100"]
+    with Server("--port", 0, "--workers", 2, "--batches", 10_000) as server, contextlib.ExitStack() as stack:
+        store_with_long_names(server)
+        writer = stack.enter_context(server.client())
+        whole = [writer.ask(get(target), 200).body for target in asked]
+        slow = [stack.enter_context(server.client(room=4096)) for _ in asked]
+        for client, target in zip(slow, asked):
+            client.send(get(target))
+        for number in range(1, 101):
+            writer.ask(post_body(wire.batch("late", [wire.span(6000 + number, 1, start=LATE)])), 202)
+            for client in slow:
+                client.input += client.socket.recv(200)
+        for client, target, body in zip(slow, asked, whole):
+            check(len(body) > 20_000, f"the answer to {target} is short")
+            check(client.response().body == body, f"the answer to {target} that was read slowly is another one")
+
+
 def byte_at_a_time():
     """A response that is taken a byte at a time, while the one worker answers others."""
     with Server("--port", 0, "--workers", 1) as server, server.client(room=1024) as slow, server.client() as quick:
@@ -488,6 +527,21 @@ def stop(server, seconds):
     time.sleep(0.1)
 
 
+def many_at_once():
+    """500 clients that connect and post while the server is stopped are all answered when it goes on."""
+    with Server("--port", 0, "--workers", 2) as server:
+        server.run.send_signal(signal.SIGSTOP)
+        clients = [Client(server.port) for _ in range(500)]
+        for number, client in enumerate(clients, 1):
+            client.send(post(number))
+        server.run.send_signal(signal.SIGCONT)
+        for client in clients:
+            status = client.response().status
+            check(status == 202, f"a batch was answered {status}")
+        for client in clients:
+            client.socket.close()
+
+
 def stopped_and_continued(idle):
     with Server("--port", 0, "--workers", 2, "--idle", idle, "--sessions", 2) as server:
         stop(server, 0.2)
@@ -545,6 +599,7 @@ CASES = {
     "a pause at each byte": cut_at_each_byte,
     "slow readers hold no worker": slow_readers,
     "a response taken a byte at a time": byte_at_a_time,
+    "each kind of answer read slowly": each_kind_read_slowly,
     "half-closed, read late": lambda: read_late(get("/api/traces/1") * 2, 2),
     "asked to close, read late": lambda: read_late(head("GET /api/traces/1 HTTP/1.1", "Connection: close"), 1),
     "goes away while answered": lambda: goes_away_while_answered(lambda client: client.socket.close()),
@@ -553,6 +608,7 @@ CASES = {
     "acknowledged here, found there": seen_elsewhere,
     "reset right after connecting": reset_at_once,
     "closed right after connecting": closed_at_once,
+    "500 clients connect at once": many_at_once,
     "stopped and continued": lambda: stopped_and_continued(10),
     "stopped and continued, no idle limit": lambda: stopped_and_continued(0),
 }

@@ -4,10 +4,12 @@ use crate::gate::Gate;
 use crate::notices::say_accepts_no_more;
 use crate::sessions::Sessions;
 use crate::worker::{Server, WorkerOutcome};
+use libc::net::listen;
 use read_side::StoreName;
 use std::io;
 use std::io::ErrorKind;
-use std::net::TcpStream;
+use std::net::{TcpListener, TcpStream};
+use std::os::fd::AsRawFd;
 use std::sync::Wait;
 use std::time::{Clock, Duration};
 
@@ -19,6 +21,9 @@ const DEFERRAL: u64 = 1;
 
 /// How often it does so before it accepts the connection itself: after 127 ms in all.
 const MAX_DEFERRALS: u32 = 7;
+
+/// How many connections may wait in the system's queue until they are accepted, if the system allows as many.
+const MAX_QUEUED: i32 = 4_096;
 
 // Linux's numbers of errors.
 const ENOMEM: i32 = 12;
@@ -69,6 +74,12 @@ fn is_shortage(error: &io::Error) -> bool {
         error.raw_os_error(),
         Some(ENOMEM | ENFILE | EMFILE | ENOBUFS)
     )
+}
+
+/// Makes room in the system's queue for clients that connect at the same time: `bind` leaves it at 128. Where the system
+/// refuses, the queue stays as it is.
+pub(crate) fn lengthen_queue(listener: &TcpListener) {
+    let _status = listen(listener.as_raw_fd(), MAX_QUEUED);
 }
 
 /// Accepts a connection that waits. It accepts again after a call that was interrupted or whose client has gone.

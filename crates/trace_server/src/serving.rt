@@ -8,6 +8,7 @@ ghost use Rattle.intake.specs.Turns.{IsNewClerk};
 ghost use Rattle.trace_server.specs.Serving.{OneForEach, Reports, Serves};
 ghost use Rattle.trace_server.specs.WorkerSeats.{AreNew, HasJudged};
 
+use crate::arrivals::lengthen_queue;
 use crate::config::ServerConfig;
 use crate::ending::close_books;
 use crate::gate::Gate;
@@ -228,6 +229,7 @@ fn serve_named<
     let Ok(address) = setup.listener.local_addr() else {
         return 5;
     };
+    lengthen_queue(setup.listener);
     let Ok(shared) = SharedStore::<N>::open(rt, alloc, name, limits, setup.config) else {
         return 5;
     };
