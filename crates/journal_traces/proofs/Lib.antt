@@ -13,3 +13,4 @@ pub mod Near
 pub mod Bounds
 pub mod Windows
 pub mod Keeping
+pub mod Telling

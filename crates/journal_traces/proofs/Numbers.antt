@@ -33,7 +33,7 @@ after (x ∷ h) (suc n) p e =
     let below : n < length h = r.0 in
     (omega (arith, below), r.1)
 
-at_place : (h : List Entry) (place : ℕ) (p : Process) → Some p ≡ process_at h place → (0 < place) × ((place - 1 < length h) × (p.service ≡ service_at h (place - 1)))
+pub at_place : (h : List Entry) (place : ℕ) (p : Process) → Some p ≡ process_at h place → (0 < place) × ((place - 1 < length h) × (p.service ≡ service_at h (place - 1)))
 at_place h zero p e = absurd (cc e)
 at_place h (suc n) p e =
     let r = after h n p e in

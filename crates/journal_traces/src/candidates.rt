@@ -1,19 +1,29 @@
-ghost use Rattle.std.specs.Prelude.{◌≡◌};
+ghost use Rattle.journal_traces.specs.Lasting.{AreTold};
+ghost use Rattle.std.proofs.Props.{props};
 
+use crate::judging::Judging;
 use crate::standing::{first_id, first_start, is_found};
 use arrival_journal::Journal;
 use find_traces::{Searched, Wanted};
 use jaeger_model::TraceId;
+use service_places::ServicePlaces;
 use std::alloc::{AllocError, Global};
 use trace_assembly::Spots;
 
-/// A search, and the traces that it looks at, by the spots of their spans in the journal.
+/// A search, and the traces that it looks at, by the spots of their spans in the journal. Which entries are of its
+/// service is told by numbers.
 #[derive(Clone, Copy)]
 pub struct Candidates<'a> {
     pub journal: &'a Journal,
+    /// The numbers of the services of the journal's entries.
+    pub reported: &'a ServicePlaces,
+    /// The number of the service that the search asks for; none where no entry is of it.
+    pub service: Option<u32>,
     pub wanted: &'a Wanted<'a>,
     /// The spots of each trace, those of the one opened longest ago first.
     pub spots: &'a [Spots<'a>],
+    pub ghost told: { AreTold wanted.now journal.now.held.entries reported.now.groups
+        service } by { Prim.hlevel props },
 }
 
 impl<'a> Searched for Candidates<'a> {
@@ -47,7 +57,10 @@ impl<'a> Searched for Candidates<'a> {
 
     fn is_found_at(&mut self, alloc: Global, place: usize) -> Result<bool, AllocError> {
         match self.spots.get(place) {
-            Some(spots) => is_found(alloc, self.journal, spots.again(), self.wanted),
+            Some(spots) => {
+                let judging = Judging::new(self.journal, self.reported, self.wanted, self.service);
+                is_found(alloc, judging, spots.again())
+            }
             None => Ok(false),
         }
     }

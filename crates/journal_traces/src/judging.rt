@@ -1,17 +1,20 @@
 //! Spans of the journal, judged by a search one after the other.
 
-ghost use Rattle.std.specs.Prelude.{◌≡◌, Some, [], ◌∷◌, IfOk};
+ghost use Rattle.std.specs.Prelude.{◌≡◌, Some, [], ◌∷◌, IfOk, IsSome};
 ghost use Rattle.std.specs.List.{list_any};
+ghost use Rattle.jaeger_model.specs.declared.batch.Process.{Process as ProcessValue};
+ghost use Rattle.jaeger_model.specs.Texts.{same_text};
 ghost use Rattle.trace_model.specs.Searching.{matches};
 ghost use Rattle.trace_model.specs.Seeing.{seen};
-ghost use Rattle.journal_traces.specs.Meeting.{IsJudgedAs};
+ghost use Rattle.journal_traces.specs.Lasting.{AreTold};
 ghost use Rattle.journal_traces.specs.Standing.{process_at, spans_named};
 
-use crate::meeting::{has_tags, is_met_alone, judge};
+use crate::meeting::is_met_alone;
 use crate::standing::seen_at;
 use arrival_journal::Journal;
 use find_traces::{JudgedProcess, Wanted};
 use jaeger_model::{Process, Seen};
+use service_places::ServicePlaces;
 use std::alloc::{AllocError, Global};
 use std::marker::Model;
 use trace_assembly::Spot;
@@ -23,12 +26,16 @@ struct LastJudged<'a> {
     process: JudgedProcess<'a>,
 }
 
-/// A search, and the entries whose spans it judges. The process of an entry is judged once for those of its spans
-/// that are judged one after the other. Contracts see the search and the entries.
+/// A search, and the entries whose spans it judges. Whether an entry is of the asked service is told by the numbers of
+/// services. Its process is judged once for those of its spans that are judged one after the other. Contracts see the
+/// search and the entries.
 #[derive(Drop)]
 pub(crate) struct Judging<'a> {
     journal: &'a Journal,
+    reported: &'a ServicePlaces,
     wanted: &'a Wanted<'a>,
+    /// The number of the asked service; none where no entry is of it.
+    service: Option<u32>,
     last: Option<LastJudged<'a>>,
 }
 
@@ -36,45 +43,65 @@ impl<'a> Model for Judging<'a> {
     ghost use Rattle.std.specs.Prelude.{List};
     ghost use Rattle.trace_model.specs.declared.entry.Entry.{Entry};
     ghost use Rattle.trace_model.specs.declared.query.Find.{Find};
-    ghost use Rattle.journal_traces.specs.Lasting.{IsLast};
+    ghost use Rattle.journal_traces.specs.Lasting.{IsLast, AreTold};
 
     ghost Value = { Find × List Entry };
 
     ghost view = { λ j. (j.wanted.now, j.journal.now.held.entries) };
 
-    ghost invariant = { λ j. IsLast j.wanted.now j.journal.now.held.entries j.last };
+    ghost invariant = { λ j. IsLast j.wanted.now j.journal.now.held.entries j.last
+        × AreTold j.wanted.now j.journal.now.held.entries j.reported.now.groups j.service };
 }
 
 impl<'a> Judging<'a> {
-    pub(crate) fn new(journal: &'a Journal, wanted: &'a Wanted<'a>) -> Self
+    pub(crate) fn new(
+        journal: &'a Journal,
+        reported: &'a ServicePlaces,
+        wanted: &'a Wanted<'a>,
+        service: Option<u32>,
+    ) -> Self
+        requires { AreTold wanted.now journal.now.held.entries reported.now.groups service }
         ensures { result ≡ (wanted.now, journal.now.held.entries) }
     {
         Judging {
             journal,
+            reported,
             wanted,
+            service,
             last: None,
         }
     }
 
-    /// The process of the entry at a place, judged anew unless it was the last that was judged; `None` if it is of
-    /// another service than the search asks for.
+    /// Whether the entry at a place is of the asked service.
+    fn is_asked(&self, place: u64) -> bool
+        requires { IsSome (process_at self.now.1 place) }
+        ensures { (process : ProcessValue) → Some process ≡ process_at self.now.1 place →
+            result ≡ same_text self.now.0.service process.service }
+    {
+        match self.service {
+            Some(service) => self.reported.group_at((place - 1) as u32) == service,
+            None => false,
+        }
+    }
+
+    /// The process of the entry at a place, judged anew unless it was the last that was judged.
     fn judged_at(
         &mut self,
         alloc: Global,
         place: u64,
         process: &'a Process,
-    ) -> Result<Option<JudgedProcess<'a>>, AllocError>
+    ) -> Result<JudgedProcess<'a>, AllocError>
         requires { Some process.now ≡ process_at self.old.1 place }
-        ensures process { IfOk result (IsJudgedAs self.old.0 process.now) }
+        ensures process { IfOk result (λ j. j ≡
+            record { query = self.old.0; process = process.now }) }
         ensures same { self.new ≡ self.old }
     {
         if let Some(last) = self.last.take() {
             if last.place == place {
-                return Ok(Some(last.process));
+                return Ok(last.process);
             }
-            self.last = Some(last);
         }
-        judge(alloc, self.wanted, process)
+        JudgedProcess::new(alloc, self.wanted, process)
     }
 
     /// Whether a span of the entry at a place meets every condition of the search. The process is judged where the
@@ -84,14 +111,12 @@ impl<'a> Judging<'a> {
         ensures found { IfOk result (λ b. b ≡ matches self.old.0 (seen at.entry)) }
         ensures same { self.new ≡ self.old }
     {
-        if !is_met_alone(at, self.wanted.query()) {
+        if !self.is_asked(place) || !is_met_alone(at, self.wanted.query()) {
             return Ok(false);
         }
         let process = self.judged_at(alloc, place, at.process)?;
-        let is_match = has_tags(alloc, &process, at.span)?;
-        if let Some(process) = process {
-            self.last = Some(LastJudged { place, process });
-        }
+        let is_match = process.has_all_tags(alloc, at.span)?;
+        self.last = Some(LastJudged { place, process });
         Ok(is_match)
     }
 

@@ -12,7 +12,6 @@ ghost use Rattle.journal_traces.specs.Standing.{batch_at, spans_named};
 use crate::judging::Judging;
 use crate::pruning::may_reach;
 use arrival_journal::Journal;
-use find_traces::Wanted;
 use jaeger_model::{Batch, Seen, TraceId};
 use span_steps::is_in_window;
 use std::alloc::{AllocError, Global};
@@ -83,14 +82,13 @@ pub(crate) fn first_id(journal: &Journal, spots: Spots<'_>) -> Option<TraceId>
 /// at after that one.
 pub(crate) fn is_found<'a>(
     alloc: Global,
-    journal: &'a Journal,
+    judging: Judging<'a>,
     spots: Spots<'_>,
-    wanted: &'a Wanted<'a>,
 ) -> Result<bool, AllocError>
     ensures { IfOk result (λ b. b ≡
-        list_any (matches wanted.now) (spans_named journal.now.held.entries spots.entry)) }
+        list_any (matches judging.entry.0) (spans_named judging.entry.1 spots.entry)) }
 {
-    let mut judging = Judging::new(journal, wanted);
+    let mut judging = judging;
     for spot in spots {
         let is_match = judging.is_match_at(alloc, spot)?;
         if is_match {

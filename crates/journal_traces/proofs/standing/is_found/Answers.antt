@@ -9,8 +9,8 @@ use Rattle.journal_traces.proofs.standing.is_found.Goals as goal
 
 pub loop-spot-preserved : goal.loop-spot-preserved
 loop-spot-preserved c =
-    let h = c.args.journal.now.held.entries in
-    let own = matches c.args.wanted.now in
+    let h = c.args.judging.1 in
+    let own = matches c.args.judging.0 in
     let met = c.in_ok-is_match.ensures.found ∙ ap (λ (j : Find × List Entry). list_any (matches j.0) (spans_named j.1 (c.in-Some.spot ∷ []))) c.loop-spot.invariant.judging in
     record {
       found =
@@ -21,11 +21,11 @@ loop-spot-preserved c =
 
 pub returns-then-is_match : goal.returns-then-is_match
 returns-then-is_match c =
-    let h = c.args.journal.now.held.entries in
-    let own = matches c.args.wanted.now in
+    let h = c.args.judging.1 in
+    let own = matches c.args.judging.0 in
     let met = c.in_ok-is_match.ensures.found ∙ ap (λ (j : Find × List Entry). list_any (matches j.0) (spans_named j.1 (c.in-Some.spot ∷ []))) c.loop-spot.invariant.judging in
     any_here h own c.in-Some.spot c.next.new.self (sym met ∙ c.if-is_match.true)
     ∙ ap (λ l. list_any own (spans_named h l)) (sym c.in-Some.ensures.steps) ∙ c.loop-spot.invariant.found
 
 pub returns : goal.returns
-returns c = any_end c.args.journal.now.held.entries (matches c.args.wanted.now) c.loop-spot.spot-iterator c.in-None.ensures.steps.0 ∙ c.loop-spot.invariant.found
+returns c = any_end c.args.judging.1 (matches c.args.judging.0) c.loop-spot.spot-iterator c.in-None.ensures.steps.0 ∙ c.loop-spot.invariant.found

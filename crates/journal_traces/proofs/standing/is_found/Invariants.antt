@@ -6,6 +6,6 @@ use Rattle.journal_traces.proofs.standing.is_found.Given as goal
 
 abbrev pub invariant-loop-spot : goal.invariant-loop-spot
 invariant-loop-spot l = record {
-  found : list_any (matches l.wanted) (spans_named l.journal.held.entries l.spot-iterator) ≡ list_any (matches l.wanted) (spans_named l.journal.held.entries l.fn.spots);
-  judging : l.judging ≡ (l.wanted, l.journal.held.entries);
+  found : list_any (matches l.fn.judging.0) (spans_named l.fn.judging.1 l.spot-iterator) ≡ list_any (matches l.fn.judging.0) (spans_named l.fn.judging.1 l.fn.spots);
+  judging : l.judging ≡ l.fn.judging;
 }
