@@ -395,6 +395,14 @@ impl SpanStore {
         places.nth(count / PER_ENTRY).is_some()
     }
 
+    /// The number of the service that a search asks for; none where no entry is of it.
+    fn asked_service(&self, query: &Find) -> Option<u32>
+        ensures { result ≡ group_of self.now.entries query.now.service }
+    {
+        self.reported
+            .group_of(self.journal.entries(), query.service.as_str())
+    }
+
     /// The spots of about so many shown traces that start last, those of the one opened longest ago first, if the search
     /// finds as many among these as it asks for: it finds the same among all then. And how many it finds among these.
     fn latest(
@@ -406,13 +414,17 @@ impl SpanStore {
             found_in query.now (traces_named self.now.entries v.items) ≡
             found_in query.now (traces self.now.limits.traces (events self.now.entries)))) }
     {
+        let _legal = self.journal.len();
         let Some(time) = self.starts.threshold(self.alloc, count)? else {
             return Ok((None, 0));
         };
         let wanted = Wanted::new(self.alloc, query)?;
         let spots = spots_after(self.alloc, &self.shown, &self.starts, time)?;
+        let service = self.asked_service(query);
         let mut late = Candidates {
             journal: &self.journal,
+            reported: &self.reported,
+            service,
             wanted: &wanted,
             spots: &spots,
         };
@@ -466,10 +478,14 @@ impl SpanStore {
         ensures { IfOk result (λ a. a ≡ answer self.now.limits self.now.entries
             (ask.FindIds query.now)) }
     {
+        let _legal = self.journal.len();
         let wanted = Wanted::new(self.alloc, query)?;
         let spots = self.narrowed(query)?;
+        let service = self.asked_service(query);
         let mut traces = Candidates {
             journal: &self.journal,
+            reported: &self.reported,
+            service,
             wanted: &wanted,
             spots: &spots,
         };
@@ -485,8 +501,11 @@ impl SpanStore {
         let _legal = self.journal.len();
         let wanted = Wanted::new(self.alloc, query)?;
         let spots = self.narrowed(query)?;
+        let service = self.asked_service(query);
         let candidates = Candidates {
             journal: &self.journal,
+            reported: &self.reported,
+            service,
             wanted: &wanted,
             spots: &spots,
         };
