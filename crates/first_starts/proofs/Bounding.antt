@@ -9,7 +9,7 @@ use Rattle.first_starts.specs.Starting.{IsBounded}
 rises : (a b c : ℤ) → int_lt a b ≡ false → int_lt b c ≡ false → int_lt a c ≡ false
 rises a b c p q = grind (arith, ints)
 
-count_more : (n m k : ℕ) → m ≡ (n + 255) / 256 → k ≡ (if n / 256 == m then m + 1 else m) → k ≡ (n + 1 + 255) / 256
+pub count_more : (n m k : ℕ) → m ≡ (n + 255) / 256 → k ≡ (if n / 256 == m then m + 1 else m) → k ≡ (n + 1 + 255) / 256
 count_more n m k is e = elim (cases_Bool (n / 256 == m)) [
   | inl hit ↦ let same : n / 256 ≡ m = eqb-true (n / 256) m hit in let more : k ≡ m + 1 = e ∙ ap (λ b. if b then m + 1 else m) hit in omega arith
   | inr miss ↦ let other = eqb-false (n / 256) m miss in let more : k ≡ m = e ∙ ap (λ b. if b then m + 1 else m) miss in omega (arith, other)

@@ -1,11 +1,14 @@
 -- The first starts of traces, and which of the traces start after some time.
 use Rattle.std.specs.Prelude.{◌≡◌, ℕ, suc, ℤ, pos, ◌+◌, ◌/◌, ◌^◌, ◌<◌, ◌≤◌, int_lt, false, List, [], ◌∷◌, length, get_or, if◌then◌else◌}
+use Rattle.first_starts.specs.declared.ranges.Range.{Range}
 
--- the starts, that of the trace opened longest ago first; how many were pushed in all, and how many may be
+-- the starts, that of the trace opened longest ago first; how many were pushed in all, and how many may be; how many of them left, and the ranges of the blocks of all
 pub record Starts : Type 0 where
   pub starts : List ℤ
   pub used : ℕ
   pub room : ℕ
+  pub left : ℕ
+  pub ranges : List Range
 
 -- the places of those after a time, where the first one has this place
 abbrev pub places_from : ℤ → ℕ → List ℤ → List ℕ

@@ -1,11 +1,14 @@
-ghost use Rattle.std.specs.Prelude.{◌≡◌, ◌+◌, ◌<◌, ◌∷◌, ◌++◌, [], length, drop, IfOk};
+ghost use Rattle.std.specs.Prelude.{◌≡◌, ◌+◌, ◌<◌, ◌∷◌, ◌++◌, ℕ, [], length, drop, IfOk};
 ghost use Rattle.first_starts.specs.Starting.{places_after};
+ghost use Rattle.first_starts.specs.Ranges.{IsIn, IsWider, range_at};
 
 use crate::bounds::{BLOCK, is_later, raise};
+use crate::ranges::{Range, widen};
 use std::alloc::{AllocError, Global};
 use std::marker::Model;
 
-/// The first starts of the newest traces, that of the trace opened longest ago first.
+/// The first starts of the newest traces, that of the trace opened longest ago first, and for each block of them a range
+/// that has the starts of all spans of its traces.
 #[derive(Drop)]
 pub struct FirstStarts {
     pub(crate) room: u32,
@@ -15,6 +18,8 @@ pub struct FirstStarts {
     pub(crate) left: usize,
     /// For each block of them an upper bound.
     pub(crate) bounds: Vec<i64>,
+    /// For each block of them the range of the starts of all spans of its traces.
+    pub(crate) ranges: Vec<Range>,
 }
 
 impl Model for FirstStarts {
@@ -23,10 +28,11 @@ impl Model for FirstStarts {
 
     ghost Value = { Starts };
 
-    ghost view = { λ s. record { starts = drop s.left s.opened.items; used = length s.opened.items; room = s.room } };
+    ghost view = { λ s. record { starts = drop s.left s.opened.items; used = length s.opened.items; room = s.room; left = s.left; ranges = s.ranges.items } };
 
     ghost invariant = { λ s. (s.room ≤ vec_capacity s.opened) × (s.room / 256 + 2 ≤ vec_capacity s.bounds)
-        × IsBounded s.room s.left s.opened.items s.bounds.items };
+        × IsBounded s.room s.left s.opened.items s.bounds.items × (s.room / 256 + 2 ≤ vec_capacity s.ranges)
+        × (length s.ranges.items ≡ (length s.opened.items + 255) / 256) };
 }
 
 impl FirstStarts {
@@ -42,11 +48,13 @@ impl FirstStarts {
     {
         let opened = Vec::with_capacity(alloc, room as usize)?;
         let bounds = Vec::with_capacity(alloc, room as usize / BLOCK + 2)?;
+        let ranges = Vec::with_capacity(alloc, room as usize / BLOCK + 2)?;
         Ok(FirstStarts {
             room,
             opened,
             left: 0,
             bounds,
+            ranges,
         })
     }
 
@@ -57,22 +65,42 @@ impl FirstStarts {
         self.opened.len() - self.left
     }
 
-    /// Adds the start of a trace that was opened. It takes no memory.
+    /// Adds the start of a trace that was opened, which its range has from now on. It takes no memory.
     pub fn push(&mut self, start: i64)
         requires { self.old.used < self.old.room }
         ensures starts { self.new.starts ≡ self.old.starts ++ start ∷ [] }
         ensures used { self.new.used ≡ self.old.used + 1 }
         ensures room { self.new.room ≡ self.old.room }
+        ensures own { IsIn (range_at self.new (length self.old.starts)) start }
+        ensures none_narrows { (k : ℕ) → k < length self.old.starts →
+            IsWider (range_at self.old k) (range_at self.new k) }
     {
-        raise(&mut self.bounds, self.opened.len() / BLOCK, start);
+        let block = self.opened.len() / BLOCK;
+        raise(&mut self.bounds, block, start);
+        widen(&mut self.ranges, block, start);
         self.opened.push_reserved(start);
     }
 
-    /// The trace opened longest ago leaves.
+    /// The range of the trace at a place, the oldest one at 0, has the start of one more of its spans from now on.
+    pub fn widen(&mut self, place: usize, start: i64)
+        requires { place < length self.old.starts }
+        ensures starts { self.new.starts ≡ self.old.starts }
+        ensures used { self.new.used ≡ self.old.used }
+        ensures room { self.new.room ≡ self.old.room }
+        ensures own { IsIn (range_at self.new place) start }
+        ensures none_narrows { (k : ℕ) → k < length self.old.starts →
+            IsWider (range_at self.old k) (range_at self.new k) }
+    {
+        widen(&mut self.ranges, (self.left + place) / BLOCK, start);
+    }
+
+    /// The trace opened longest ago leaves. The others keep their ranges.
     pub fn drop_oldest(&mut self)
         ensures starts { self.new.starts ≡ drop 1 self.old.starts }
         ensures used { self.new.used ≡ self.old.used }
         ensures room { self.new.room ≡ self.old.room }
+        ensures ranges { 0 < length self.old.starts →
+            (k : ℕ) → range_at self.new k ≡ range_at self.old (k + 1) }
     {
         if self.left < self.opened.len() {
             self.left += 1;

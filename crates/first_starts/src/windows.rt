@@ -1,0 +1,31 @@
+//! The traces that may have a span in a window of time.
+
+ghost use Rattle.std.specs.Prelude.{◌≡◌, ◌<◌, ◌≤◌, ℕ, true, false, length};
+ghost use Rattle.first_starts.specs.Ranges.{range_at, reaches};
+
+use crate::bounds::BLOCK;
+use crate::ranges::{Window, reaches};
+use crate::starts::FirstStarts;
+
+impl FirstStarts {
+    /// The first place, from this one on, of a trace whose range reaches into the window, the oldest trace at 0; how many
+    /// traces there are if no range does. A block whose range doesn't reach into the window is skipped.
+    pub fn next_within(&self, from: usize, window: Window) -> usize
+        requires { from ≤ length self.now.starts }
+        ensures from { from ≤ result }
+        ensures within { result ≤ length self.now.starts }
+        ensures skipped { (k : ℕ) → from ≤ k → k < result →
+            reaches window (range_at self.now k) ≡ false }
+        ensures found { result < length self.now.starts →
+            reaches window (range_at self.now result) ≡ true }
+    {
+        let mut at = self.left + from;
+        while at < self.opened.len() {
+            if reaches(self.ranges[at / BLOCK], window) {
+                return at - self.left;
+            }
+            at = (at / BLOCK + 1) * BLOCK;
+        }
+        self.len()
+    }
+}
