@@ -14,3 +14,4 @@ pub mod Bounds
 pub mod Windows
 pub mod Keeping
 pub mod Telling
+pub mod Skipping

@@ -24,13 +24,13 @@ use Rattle.trace_assembly.proofs.Written.{same_swap}
 use Rattle.journal_traces.specs.Picked.{reaches, meets, met, same_before}
 
 -- ---- where a trace stands in the ring
-held : (r : List TraceId) (k : ℕ) (t : TraceId) → slice_get r k ≡ Some t → holds r t ≡ true
+pub held : (r : List TraceId) (k : ℕ) (t : TraceId) → slice_get r k ≡ Some t → holds r t ≡ true
 held [] k t e = absurd cc
 held (x ∷ xs) zero t e = let same : x ≡ t = cc e in ap (λ y. same_trace t y || holds xs t) same ∙ ap (λ b. b || holds xs t) (same_self t)
 held (x ∷ xs) (suc k) t e = ap (λ b. same_trace t x || b) (held xs k t e) ∙ or-true (same_trace t x)
 
 -- where a trace is found is its place
-placed_at : (r : List TraceId) (t : TraceId) (place : ℕ) → position (same_trace t) r ≡ Some place → slice_get r place ≡ Some t
+pub placed_at : (r : List TraceId) (t : TraceId) (place : ℕ) → position (same_trace t) r ≡ Some place → slice_get r place ≡ Some t
 placed_at r t place e =
     let w = position-Some (same_trace t) r place t e in
     slice_get-get_or r place t w.0 ∙ ap Some (sym (same_is t (get_or r place t) w.1))

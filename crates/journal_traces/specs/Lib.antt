@@ -9,3 +9,4 @@ pub mod Cutting
 pub mod Taking
 pub mod TakenSearch
 pub mod Meeting
+pub mod Ranged

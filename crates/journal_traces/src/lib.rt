@@ -10,6 +10,7 @@
 //! * `meeting`: the conditions of a search, one after the other.
 //! * `judging`: spans judged one after the other.
 //! * `candidates`: these traces, as a search looks at them.
+//! * `window`: a window of time in microseconds.
 //! * `seeing`: the traces in a window of time, taken with the numbers of their services.
 //! * `taken`: traces whose spans were taken out, to be read after the journal is left.
 //! * `taken_search`: a search over such traces, which judges each process once.
@@ -31,6 +32,7 @@ mod taken;
 mod taken_answer;
 mod taken_search;
 mod taking;
+mod window;
 
 pub use candidates::Candidates;
 pub use gathering::gather;

@@ -7,12 +7,15 @@ ghost use Rattle.trace_model.specs.Linking.{in_window};
 ghost use Rattle.trace_assembly.specs.Located.{span_at};
 ghost use Rattle.trace_assembly.specs.Rows.{spots_of};
 ghost use Rattle.service_places.specs.Reported.{AreGroups};
+ghost use Rattle.journal_traces.specs.Ranged.{AreRanged};
 ghost use Rattle.journal_traces.specs.Standing.{spans_named, trace_named, HasNumber, AreNumberedByService};
 ghost use Rattle.journal_traces.specs.Taking.{placed_taken};
 
 use crate::standing::reaches_window;
 use crate::taken::TakenTraces;
+use crate::window::window_of;
 use arrival_journal::Journal;
+use first_starts::FirstStarts;
 use jaeger_model::TraceId;
 use service_places::ServicePlaces;
 use std::alloc::{AllocError, Global};
@@ -81,8 +84,8 @@ pub fn ring_ids(alloc: Global, ring: &Ring) -> Result<Vec<TraceId>, AllocError>
 
 /// Takes the traces of the ring that have a span that starts strictly after `end_ms - lookback_ms` and
 /// strictly before `end_ms`, both in milliseconds since 1970; the one opened longest ago comes first. The
-/// number of each span is that of its service. Of the other traces only the starts of their spans are looked
-/// at.
+/// number of each span is that of its service. Blocks of traces whose range doesn't reach into the window are skipped;
+/// of the other traces only the starts of their spans are looked at.
 ///
 /// # Errors
 ///
@@ -91,23 +94,30 @@ pub fn take_within(
     alloc: Global,
     journal: &Journal,
     assembly: &Assembly,
+    starts: &FirstStarts,
     reported: &ServicePlaces,
     end_ms: i64,
     lookback_ms: i64,
 ) -> Result<TakenTraces, AllocError>
     requires few { length journal.now.held.entries < 2 ^ 32 }
     requires numbers { AreGroups journal.now.held.entries reported.now.groups }
+    requires as_many { length starts.now.starts ≡ length assembly.now.newest.ids }
+    requires ranged { AreRanged starts.now assembly.now.newest.ids
+        (trace_named journal.now.held.entries (spots_of assembly.now)) }
     ensures within { IfOk result (λ traces. map placed_taken traces ≡
         filter (list_any (in_window end_ms lookback_ms))
         (map (trace_named journal.now.held.entries (spots_of assembly.now)) assembly.now.newest.ids)) }
     ensures numbered { IfOk result (AreNumberedByService journal.now.held.entries) }
 {
+    let window = window_of(end_ms, lookback_ms);
     let mut traces = TakenTraces::new(alloc);
-    for place in 0..assembly.ring().len() {
+    let mut place = starts.next_within(0, window);
+    while place < starts.len() {
         let spots = assembly.spots_at(place);
         if reaches_window(journal, spots.again(), end_ms, lookback_ms) {
             take_trace(&mut traces, journal, reported, spots)?;
         }
+        place = starts.next_within(place + 1, window);
     }
     Ok(traces)
 }

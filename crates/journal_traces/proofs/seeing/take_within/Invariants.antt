@@ -1,4 +1,4 @@
-use Rattle.std.proofs.Common.{◌≡◌, map, take}
+use Rattle.std.proofs.Common.{◌≡◌, ◌-◌, ◌≤◌, length, map, take}
 use Rattle.std.specs.Prelude.{filter}
 use Rattle.std.specs.List.{list_any}
 use Rattle.trace_model.specs.Linking.{in_window}
@@ -9,6 +9,10 @@ use Rattle.journal_traces.proofs.seeing.take_within.Given as goal
 
 abbrev pub invariant-loop-place : goal.invariant-loop-place
 invariant-loop-place l = record {
+  place : l.place ≤ length l.assembly.newest.ids;
   within : map placed_taken l.traces ≡ filter (list_any (in_window l.end_ms l.lookback_ms)) (map (trace_named l.journal.held.entries (spots_of l.assembly)) (take l.place l.assembly.newest.ids));
   numbered : AreNumberedByService l.journal.held.entries l.traces;
 }
+
+abbrev pub decreases-loop-place : goal.decreases-loop-place
+decreases-loop-place l = length l.assembly.newest.ids - l.place

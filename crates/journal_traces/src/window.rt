@@ -1,0 +1,36 @@
+//! Windows of time in microseconds.
+
+ghost use Rattle.std.specs.Prelude.{◌≡◌, Some, pos, ◌-ℤ◌, ◌*ℤ◌, ◌≤ℤ◌, ◌<ℤ◌, ◌^◌};
+
+use first_starts::Window;
+
+/// Milliseconds as microseconds.
+fn micros(ms: i128) -> i128
+    requires low { (pos 0 -ℤ pos (2 ^ 64)) ≤ℤ ms }
+    requires high { ms ≤ℤ pos (2 ^ 64) }
+    ensures { result ≡ pos 1000 *ℤ ms }
+{
+    1000 * ms
+}
+
+/// The number in more bits.
+fn wide(n: i64) -> i128
+    ensures same { result ≡ n }
+    ensures low { (pos 0 -ℤ pos (2 ^ 63)) ≤ℤ result }
+    ensures high { result <ℤ pos (2 ^ 63) }
+{
+    n as i128
+}
+
+/// The window strictly between `end_ms - lookback_ms` and `end_ms`, both in milliseconds. No bound overflows.
+pub(crate) fn window_of(end_ms: i64, lookback_ms: i64) -> Window
+    ensures { result ≡ record {
+      after = Some (pos 1000 *ℤ (end_ms -ℤ lookback_ms));
+      before = Some (pos 1000 *ℤ end_ms);
+    } }
+{
+    Window {
+        after: Some(micros(wide(end_ms) - wide(lookback_ms))),
+        before: Some(micros(wide(end_ms))),
+    }
+}
