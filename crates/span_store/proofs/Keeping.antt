@@ -23,7 +23,7 @@ use Rattle.arrival_names.proofs.Numbering.{length-arrivals}
 use Rattle.service_places.specs.Reported.{Reported}
 use Rattle.journal_traces.specs.Standing.{spans_named, traces_named}
 use Rattle.first_starts.specs.Starting.{Starts}
-use Rattle.span_store.specs.Opening.{AreFirst, IsCounted}
+use Rattle.span_store.specs.Opening.{AreFirst, IsCounted, IsRanged}
 use Rattle.span_store.specs.Kept.{Follows, IsWithin, IsKept, IsNamed, IsPlaced}
 use Rattle.span_store.proofs.Following.{follows_within, trace_stands}
 
@@ -37,8 +37,9 @@ pub kept_more : (old held : Held) (e : Entry) (shown shown' : Assembled) (starts
     → IsKept old shown starts index reported → held ≡ followed_by old e → Grows shown shown' (length (spans_brought e.work))
     → Follows old.limits.traces (located_events (old.entries ++ e ∷ [])) shown'.newest (spots_of shown')
     → AreFirst old.limits.traces (located_events (old.entries ++ e ∷ [])) starts'.starts → IsCounted shown' starts'
+    → IsRanged old.limits.traces (located_events (old.entries ++ e ∷ [])) shown' starts'
     → IsNamed (followed_by old e) index' → IsPlaced (followed_by old e) reported' → IsKept held shown' starts' index' reported'
-kept_more old held e shown shown' starts starts' index index' reported reported' k h grows f first counted listed placed =
+kept_more old held e shown shown' starts starts' index index' reported reported' k h grows f first counted ranged listed placed =
     let now : Held = followed_by old e in
     let back : now ≡ held = sym h in
     record {
@@ -47,6 +48,7 @@ kept_more old held e shown shown' starts starts' index index' reported reported'
       follows = subst (λ (v : Held). Follows v.limits.traces (located_events v.entries) shown'.newest (spots_of shown')) back f;
       first = subst (λ (v : Held). AreFirst v.limits.traces (located_events v.entries) starts'.starts) back first;
       counted = counted;
+      ranged = subst (λ (v : Held). IsRanged v.limits.traces (located_events v.entries) shown' starts') back ranged;
       named = subst (λ (v : Held). IsNamed v index') back listed;
       placed = subst (λ (v : Held). IsPlaced v reported') back placed;
     }

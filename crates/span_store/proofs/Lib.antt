@@ -6,3 +6,4 @@ pub mod Keeping
 pub mod Picking
 pub mod Sharing
 pub mod Collecting
+pub mod Ranging

@@ -12,7 +12,7 @@ use Rattle.trace_assembly.specs.Rows.{Assembled, spots_of}
 use Rattle.trace_assembly.specs.Located.{located_events, events_in, shown_spots}
 use Rattle.service_places.specs.Reported.{Reported, IsKept as PlacesKept}
 use Rattle.first_starts.specs.Starting.{Starts}
-use Rattle.span_store.specs.Opening.{AreFirst, IsCounted}
+use Rattle.span_store.specs.Opening.{AreFirst, IsCounted, IsRanged}
 use Rattle.arrival_names.specs.Kept.{Kept as Names, IsKept as NamesKept}
 
 -- the ring and its limit are those of these events, where the limit was n before them, and each trace has the spots of its shown spans
@@ -37,12 +37,13 @@ pub record IsPlaced (held : Held) (reported : Reported) : Type 0 where
   pub kept : PlacesKept held.entries reported
   pub batches : reported.batches ≡ held.limits.batches
 
--- the shown traces with their spots and first starts, the names and the places of services are those of the entries, and there is room for all spans that may come
+-- the shown traces with their spots, first starts and ranges, the names and the places of services are those of the entries, and there is room for all spans that may come
 pub record IsKept (held : Held) (shown : Assembled) (starts : Starts) (names : Names) (reported : Reported) : Type 0 where
   pub room : shown.room ≡ held.limits.spans
   pub used : shown.used ≡ span_count held.entries
   pub follows : Follows held.limits.traces (located_events held.entries) shown.newest (spots_of shown)
   pub first : AreFirst held.limits.traces (located_events held.entries) starts.starts
   pub counted : IsCounted shown starts
+  pub ranged : IsRanged held.limits.traces (located_events held.entries) shown starts
   pub named : IsNamed held names
   pub placed : IsPlaced held reported

@@ -1,6 +1,6 @@
 //! What is shown follows what one more entry brings.
 
-ghost use Rattle.std.specs.Prelude.{◌≡◌, ℕ, ℤ, ◌+◌, ◌^◌, ◌<◌, ◌≤◌, List, [], ◌∷◌, ◌++◌, Some, length, map, drop, position, is_some, if◌then◌else◌};
+ghost use Rattle.std.specs.Prelude.{◌≡◌, ℕ, ℤ, ◌+◌, ◌^◌, ◌<◌, ◌≤◌, List, [], ◌∷◌, ◌++◌, Some, length, map, drop, position, is_some, slice_get, if◌then◌else◌};
 ghost use Rattle.jaeger_model.specs.Parents.{same_trace};
 ghost use Rattle.jaeger_model.specs.declared.ids.TraceId.{TraceId as TraceIdValue};
 ghost use Rattle.jaeger_model.specs.declared.placed.Placed.{Placed as PlacedValue};
@@ -12,14 +12,16 @@ ghost use Rattle.trace_model.specs.Works.{spans_brought};
 ghost use Rattle.trace_assembly.specs.declared.spot.Spot.{Spot as SpotValue};
 ghost use Rattle.trace_assembly.specs.Rows.{spots_of};
 ghost use Rattle.trace_assembly.specs.Located.{located_events, located_upto, without_left};
+ghost use Rattle.first_starts.specs.Ranges.{IsIn, IsWider, range_at};
+ghost use Rattle.journal_traces.specs.Ranged.{AreRanged};
 ghost use Rattle.span_store.specs.Kept.{Follows, IsWithin};
-ghost use Rattle.span_store.specs.Opening.{AreFirst, IsCounted, first_with};
+ghost use Rattle.span_store.specs.Opening.{AreFirst, IsCounted, IsRanged, first_with};
 
 use first_starts::FirstStarts;
 use jaeger_model::{Batch, Span};
 use trace_assembly::{Assembly, Spot};
 use trace_model::{Entry, Work};
-use trace_ring::Gone;
+use trace_ring::{Gone, Ring};
 
 /// Adds the start of the span that opened a trace, if it did.
 fn add_opened(starts: &mut FirstStarts, opened: bool, start: i64)
@@ -28,6 +30,8 @@ fn add_opened(starts: &mut FirstStarts, opened: bool, start: i64)
         (if opened then starts.old.starts ++ start ∷ [] else starts.old.starts) }
     ensures used { starts.new.used ≤ starts.old.used + 1 }
     ensures room { starts.new.room ≡ starts.old.room }
+    ensures none_narrows { (k : ℕ) → k < length starts.old.starts →
+        IsWider (range_at starts.old k) (range_at starts.new k) }
 {
     if opened {
         starts.push(start);
@@ -40,9 +44,29 @@ fn drop_left(starts: &mut FirstStarts, left: Option<Gone>)
         (if is_some left then drop 1 starts.old.starts else starts.old.starts) }
     ensures used { starts.new.used ≡ starts.old.used }
     ensures room { starts.new.room ≡ starts.old.room }
+    ensures ranges { 0 < length starts.old.starts → (k : ℕ) → range_at starts.new k ≡
+        range_at starts.old (if is_some left then k + 1 else k) }
 {
     if left.is_some() {
         starts.drop_oldest();
+    }
+}
+
+/// The range of the place of a span's trace in the ring has its start from now on. The row is a guess of how many traces
+/// were seen before this one.
+fn add_start(starts: &mut FirstStarts, ring: &Ring, row: u32, span: &Span)
+    requires { length starts.old.starts ≡ length ring.now.ids }
+    ensures starts { starts.new.starts ≡ starts.old.starts }
+    ensures used { starts.new.used ≡ starts.old.used }
+    ensures room { starts.new.room ≡ starts.old.room }
+    ensures none_narrows { (k : ℕ) → k < length starts.old.starts →
+        IsWider (range_at starts.old k) (range_at starts.new k) }
+    ensures own { (k : ℕ) → slice_get ring.now.ids k ≡ Some span.now.trace →
+        IsIn (range_at starts.new k) span.now.start }
+{
+    let _once = ring.len();
+    if let Some(place) = ring.place_near(row, span.trace) {
+        starts.widen(place as usize, span.start);
     }
 }
 
@@ -65,10 +89,16 @@ fn let_in(shown: &mut Assembly, starts: &mut FirstStarts, row: u32, span: &Span,
         starts.new.starts ≡ map (first_with shown.old.newest.ids span.now.start first)
         shown.new.newest.ids }
     ensures counted { IsCounted shown.new starts.new }
+    ensures ranged { (n : ℕ) (es : List (Event (SpotValue × PlacedValue))) (p : PlacedValue) →
+        Follows n es shown.old.newest (spots_of shown.old) →
+        IsRanged n es shown.old starts.old →
+        trace_of p ≡ span.now.trace → p.span.start ≡ span.now.start →
+        IsRanged n (es ++ came (spot, p) ∷ []) shown.new starts.new }
 {
     let arrived = shown.arrive_near(row, span.trace, spot);
     add_opened(starts, arrived.opened, span.start);
     drop_left(starts, arrived.left);
+    add_start(starts, shown.ring(), arrived.row, span);
     arrived.row
 }
 
@@ -90,6 +120,10 @@ fn let_all_in(batch: &Batch, place: u64, shown: &mut Assembly, starts: &mut Firs
         AreFirst n (located_events h) starts.old.starts →
         AreFirst n (located_upto h batch.now (length batch.now.spans)) starts.new.starts }
     ensures counted { IsCounted shown.new starts.new }
+    ensures ranged { (n : ℕ) (h : List EntryValue) → place ≡ length h + 1 →
+        Follows n (located_events h) shown.old.newest (spots_of shown.old) →
+        IsRanged n (located_events h) shown.old starts.old →
+        IsRanged n (located_upto h batch.now (length batch.now.spans)) shown.new starts.new }
 {
     let mut index: u32 = 0;
     let mut row = 0;
@@ -102,6 +136,7 @@ fn let_all_in(batch: &Batch, place: u64, shown: &mut Assembly, starts: &mut Firs
 /// From now on so many traces stay, all where that is 0. The oldest of more leave, and their spots are
 /// forgotten. No memory is taken.
 fn lower(shown: &mut Assembly, starts: &mut FirstStarts, limit: u32)
+    requires { length starts.old.starts ≡ length shown.old.newest.ids }
     ensures limit { shown.new.newest.limit ≡ limit }
     ensures ids { shown.new.newest.ids ≡ newest limit shown.old.newest.ids }
     ensures spots { (t : TraceIdValue) → spots_of shown.new t ≡
@@ -113,6 +148,10 @@ fn lower(shown: &mut Assembly, starts: &mut FirstStarts, limit: u32)
         starts.new.starts ≡ map first shown.new.newest.ids }
     ensures starts_used { starts.new.used ≡ starts.old.used }
     ensures starts_room { starts.new.room ≡ starts.old.room }
+    ensures as_many { length starts.new.starts ≡ length shown.new.newest.ids }
+    ensures ranged { (spans : TraceIdValue → List PlacedValue) →
+        AreRanged starts.old shown.old.newest.ids spans →
+        AreRanged starts.new shown.new.newest.ids spans }
 {
     shown.set_limit(limit);
     while let Some(_gone) = shown.drop_oldest() {
@@ -136,6 +175,10 @@ pub(crate) fn follow(entry: &Entry, place: u64, shown: &mut Assembly, starts: &m
         AreFirst n (located_events h) starts.old.starts →
         AreFirst n (located_events (h ++ entry.now ∷ [])) starts.new.starts }
     ensures counted { IsCounted shown.new starts.new }
+    ensures ranged { (n : ℕ) (h : List EntryValue) → place ≡ length h + 1 →
+        Follows n (located_events h) shown.old.newest (spots_of shown.old) →
+        IsRanged n (located_events h) shown.old starts.old →
+        IsRanged n (located_events (h ++ entry.now ∷ [])) shown.new starts.new }
 {
     match &entry.work {
         Work::Batch(batch) => let_all_in(batch, place, shown, starts),

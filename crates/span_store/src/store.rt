@@ -59,7 +59,7 @@ pub struct SpanStore {
     journal: Journal,
     /// The shown traces, with where their spans stand.
     shown: Assembly,
-    /// The start of each shown trace's first span.
+    /// The start of each shown trace's first span, and the ranges of the starts of all.
     starts: FirstStarts,
     names: ArrivalNames,
     reported: ServicePlaces,
@@ -542,6 +542,7 @@ impl SpanStore {
             self.alloc,
             &self.journal,
             &self.shown,
+            &self.starts,
             &self.reported,
             end_ms,
             lookback_ms,

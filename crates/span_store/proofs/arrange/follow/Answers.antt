@@ -1,6 +1,9 @@
 use Rattle.trace_assembly.specs.Rows.{spots_of}
 use Rattle.span_store.proofs.Following.{follows_batch, follows_limit}
+use Rattle.trace_assembly.specs.Located.{events_in, located_events}
+use Rattle.trace_model.specs.Showing.{spans_of_trace}
 use Rattle.span_store.proofs.Opening.{first_batch, starts_limited}
+use Rattle.span_store.proofs.Ranging.{ranged_batch, ranged_limited}
 use Rattle.span_store.proofs.arrange.follow.Goals as goal
 
 pub returns-in-Batch-clause-follows : goal.returns-in-Batch-clause-follows
@@ -23,3 +26,11 @@ pub returns-in-TraceLimit-clause-first : goal.returns-in-TraceLimit-clause-first
 returns-in-TraceLimit-clause-first c = λ n h at f first.
     starts_limited n h c.args.entry.now c.in-TraceLimit.limit c.in-TraceLimit.is c.args.shown.now.newest.ids c.lower.new.shown.newest.ids
     c.args.starts.now.starts c.lower.new.starts.starts f.ring c.lower.ensures.ids c.lower.ensures.starts first
+
+pub returns-in-Batch-clause-ranged : goal.returns-in-Batch-clause-ranged
+returns-in-Batch-clause-ranged c = λ n h at f ranged.
+    ranged_batch n h c.args.entry.now c.in-Batch.batch c.in-Batch.is c.let_all_in.new.shown c.let_all_in.new.starts (c.let_all_in.ensures.ranged n h at f ranged)
+
+pub returns-in-TraceLimit-clause-ranged : goal.returns-in-TraceLimit-clause-ranged
+returns-in-TraceLimit-clause-ranged c = λ n h at f ranged.
+    ranged_limited n h c.args.entry.now c.in-TraceLimit.limit c.in-TraceLimit.is c.lower.new.shown c.lower.new.starts (c.lower.ensures.ranged (spans_of_trace n (events_in (located_events h))) ranged)

@@ -8,9 +8,10 @@ use Rattle.trace_assembly.specs.Located.{located_upto}
 use Rattle.trace_assembly.proofs.Places.{upto_more}
 use Rattle.trace_assembly.specs.declared.spot.Spot.{Spot as SpotValue}
 use Rattle.span_store.specs.Kept.{Follows}
-use Rattle.span_store.specs.Opening.{AreFirst}
+use Rattle.span_store.specs.Opening.{AreFirst, IsRanged}
 use Rattle.span_store.proofs.Opening.{first_none, start_stays, starts_came}
 use Rattle.span_store.proofs.Following.{upto_end, follows_none}
+use Rattle.span_store.proofs.Ranging.{ranged_none}
 use Rattle.span_store.proofs.arrange.let_all_in.Goals as goal
 
 pub loop-span-init : goal.loop-span-init
@@ -20,6 +21,7 @@ loop-span-init c = record {
   follows = λ n h at f. follows_none n h c.args.batch.now c.args.shown.now.newest (spots_of c.args.shown.now) f;
   first = λ n h at f first. first_none n h c.args.batch.now c.args.starts.now.starts first;
   counted = c.requires.counted;
+  ranged = λ n h at f ranged. ranged_none n h c.args.batch.now c.args.shown.now c.args.starts.now ranged;
   room = refl;
   used = omega arith;
 }
@@ -55,6 +57,11 @@ loop-span-preserved c =
           (starts_came n (located_upto h b i) (spot, placed b s) s.start c.loop-span.shown.newest.ids c.let_in-row.new.shown.newest.ids c.loop-span.starts.starts c.let_in-row.new.starts.starts
           (start_stays b s) before.ring after.ring c.let_in-row.ensures.starts (c.loop-span.invariant.first n h at f first));
       counted = c.let_in-row.ensures.counted;
+      ranged = λ n h at f ranged.
+          let spot : SpotValue = record { place = c.args.place; index = c.loop-span.index } in
+          subst (λ es. IsRanged n es c.let_in-row.new.shown c.let_in-row.new.starts)
+          ((λ j. located_upto h b i ++ came (record { place = at j; index = c.loop-span.invariant.index j }, placed b s) ∷ []) ∙ sym (upto_more h b i s le (sym is)))
+          (c.let_in-row.ensures.ranged n (located_upto h b i) (placed b s) (c.loop-span.invariant.follows n h at f) (c.loop-span.invariant.ranged n h at f ranged) (trace_stays s) (start_stays b s));
       room = c.let_in-row.ensures.room ∙ c.loop-span.invariant.room;
       used = let now = c.let_in-row.ensures.used in let then = c.loop-span.invariant.used in omega arith;
     }
@@ -81,3 +88,8 @@ pub returns-clause-used : goal.returns-clause-used
 returns-clause-used c =
     let past : length c.args.batch.now.spans ≤ c.loop-span.span-index = subst (λ (ss : List Span). length ss ≤ c.loop-span.span-index) c.as_slice-span-items.ensures c.loop-span-test.false in
     omega (arith, c.loop-span.invariant.used)
+
+pub returns-clause-ranged : goal.returns-clause-ranged
+returns-clause-ranged c = λ n h at f ranged.
+    let past : length c.args.batch.now.spans ≤ c.loop-span.span-index = subst (λ (ss : List Span). length ss ≤ c.loop-span.span-index) c.as_slice-span-items.ensures c.loop-span-test.false in
+    subst (λ es. IsRanged n es c.loop-span.shown c.loop-span.starts) (upto_end h c.args.batch.now c.loop-span.span-index past) (c.loop-span.invariant.ranged n h at f ranged)

@@ -1,9 +1,10 @@
-use Rattle.std.proofs.Common.{rules, ◌≡◌, ◌∙◌, ap, ◌++◌, ◌∷◌, [], w64, to_z, of_z}
-use Rattle.std.specs.Prelude.{if◌then◌else◌}
-use Rattle.trace_ring.specs.Windows.{gone_trace}
+use Rattle.std.proofs.Common.{rules, ◌≡◌, ◌∙◌, ap, sym, arith, length, List, ◌++◌, ◌∷◌, [], w64, to_z, of_z, ℤ}
+use Rattle.std.specs.Prelude.{slice_get, if◌then◌else◌}
+use Rattle.trace_ring.specs.Windows.{Window, gone_trace}
 use Rattle.trace_assembly.specs.Rows.{spots_of}
 use Rattle.span_store.proofs.Following.{follows_more}
 use Rattle.span_store.proofs.Opening.{arrived_starts}
+use Rattle.span_store.proofs.Ranging.{Ranges, counted_came, ranged_came, some_pushed}
 use Rattle.span_store.proofs.arrange.let_in.Goals as goal
 
 pub returns-clause-follows : goal.returns-clause-follows
@@ -20,5 +21,55 @@ returns-clause-starts c = λ first are.
     let arrived = c.arrive_near-arrived.result in
     let same : to_z w64 (of_z w64 c.args.span.now.start) ≡ c.args.span.now.start = search rules in
     let pushed = c.add_opened.ensures.starts ∙ ap (λ start. if arrived.opened then c.args.starts.now.starts ++ start ∷ [] else c.args.starts.now.starts) same in
-    arrived_starts c.args.shown.now.newest.ids c.arrive_near-arrived.new.self.newest.ids c.args.span.now.trace c.args.span.now.start arrived.opened arrived.left
+    c.add_start.ensures.starts
+    ∙ arrived_starts c.args.shown.now.newest.ids c.arrive_near-arrived.new.self.newest.ids c.args.span.now.trace c.args.span.now.start arrived.opened arrived.left
     c.args.starts.now.starts c.add_opened.new.starts.starts c.drop_left.new.starts.starts came.opened came.left pushed c.drop_left.ensures.starts first are
+
+pub add_start-requires : goal.add_start-requires
+add_start-requires c =
+    let came = c.arrive_near-arrived.ensures in
+    let arrived = c.arrive_near-arrived.result in
+    counted_came c.args.shown.now.newest.ids c.arrive_near-arrived.new.self.newest.ids c.args.span.now.trace arrived.opened arrived.left _
+    c.args.starts.now.starts c.add_opened.new.starts.starts c.drop_left.new.starts.starts c.requires.counted.as_many came.opened came.left c.add_opened.ensures.starts c.drop_left.ensures.starts
+    ∙ sym (ap (λ (w : Window). length w.ids) c.ring.ensures)
+
+pub returns-clause-counted : goal.returns-clause-counted
+returns-clause-counted c =
+    let came = c.arrive_near-arrived.ensures in
+    let arrived = c.arrive_near-arrived.result in
+    let counted = c.requires.counted in
+    let pushed = c.add_opened.ensures in
+    let dropped = c.drop_left.ensures in
+    let widened = c.add_start.ensures in
+    record {
+      as_many =
+          ap (λ (l : List ℤ). length l) widened.starts
+          ∙ counted_came c.args.shown.now.newest.ids c.arrive_near-arrived.new.self.newest.ids c.args.span.now.trace arrived.opened arrived.left _
+          c.args.starts.now.starts c.add_opened.new.starts.starts c.drop_left.new.starts.starts counted.as_many came.opened came.left pushed.starts dropped.starts;
+      few = omega (arith, counted.few, pushed.used, dropped.used, widened.used, came.used);
+      same_room = widened.room ∙ dropped.room ∙ pushed.room ∙ counted.same_room ∙ sym came.room;
+    }
+
+pub returns-clause-ranged : goal.returns-clause-ranged
+returns-clause-ranged c = λ n es p f ranged same start_is.
+    let came = c.arrive_near-arrived.ensures in
+    let arrived = c.arrive_near-arrived.result in
+    let before = c.args.shown.now in
+    let after = c.arrive_near-arrived.new.self in
+    let pushed = c.add_opened.ensures in
+    let dropped = c.drop_left.ensures in
+    let follows = follows_more n es c.args.spot p c.args.span.now.trace (gone_trace arrived.left) before.newest after.newest
+    (spots_of before) (spots_of after) f same came.limit came.ids came.left came.gone came.spots in
+    let ranges : Ranges before.newest.ids after.newest.ids c.args.span.now.trace arrived.left c.args.span.now.start c.args.starts.now c.add_opened.new.starts c.drop_left.new.starts c.add_start.new.starts = record {
+      split = came.left;
+      as_many = c.requires.counted.as_many;
+      some = some_pushed arrived.opened c.args.starts.now.starts _ c.add_opened.new.starts.starts pushed.starts;
+      wider = pushed.none_narrows;
+      moved = dropped.ranges;
+      still = counted_came before.newest.ids after.newest.ids c.args.span.now.trace arrived.opened arrived.left _
+          c.args.starts.now.starts c.add_opened.new.starts.starts c.drop_left.new.starts.starts c.requires.counted.as_many came.opened came.left pushed.starts dropped.starts;
+      wider_still = c.add_start.ensures.none_narrows;
+      own = λ k at. c.add_start.ensures.own k (ap (λ (w : Window). slice_get w.ids k) c.ring.ensures ∙ at);
+    } in
+    ranged_came before.newest.ids after.newest.ids c.args.span.now.trace arrived.left c.args.span.now.start c.args.starts.now c.add_opened.new.starts c.drop_left.new.starts c.add_start.new.starts ranges
+    n es (c.args.spot, p) f.ring follows.ring same start_is ranged

@@ -1,5 +1,8 @@
-use Rattle.std.proofs.Common.{refl, ◌∙◌, ap, drop, map}
+use Rattle.std.proofs.Common.{◌≡◌, List, refl, ◌∙◌, ap, subst, drop, map}
+use Rattle.jaeger_model.specs.declared.ids.TraceId.{TraceId}
+use Rattle.journal_traces.specs.Ranged.{AreRanged}
 use Rattle.span_store.proofs.Leaving.{lowering_more}
+use Rattle.span_store.proofs.Ranging.{one_fewer, ranged_dropped}
 use Rattle.span_store.proofs.arrange.lower.Goals as goal
 
 pub loop-gone-preserved : goal.loop-gone-preserved
@@ -13,4 +16,13 @@ loop-gone-preserved c =
       starts = λ first are. c.drop_oldest-in-Some.ensures.starts ∙ ap (drop 1) (before.invariant.starts first are ∙ ap (map first) out.ids);
       used = c.drop_oldest-in-Some.ensures.used ∙ before.invariant.used;
       room = c.drop_oldest-in-Some.ensures.room ∙ before.invariant.room;
+      as_many = one_fewer before.shown.newest.ids c.drop_oldest.new.self.newest.ids c.in-Some._gone.trace before.starts.starts c.drop_oldest-in-Some.new.self.starts before.invariant.as_many out.ids c.drop_oldest-in-Some.ensures.starts;
+      ranged = λ spans ranged.
+          ranged_dropped before.starts c.drop_oldest-in-Some.new.self before.shown.newest.ids c.drop_oldest.new.self.newest.ids c.in-Some._gone.trace
+          out.ids before.invariant.as_many c.drop_oldest-in-Some.ensures.ranges spans (before.invariant.ranged spans ranged);
     }
+
+pub returns-clause-ranged : goal.returns-clause-ranged
+returns-clause-ranged c = λ spans ranged.
+    let same : c.loop-gone.shown.newest.ids ≡ c.drop_oldest.new.self.newest.ids = c.in_default.ensures.ids in
+    subst (λ (r : List TraceId). AreRanged c.loop-gone.starts r spans) same (c.loop-gone.invariant.ranged spans ranged)

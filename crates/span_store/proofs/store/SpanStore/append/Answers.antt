@@ -11,7 +11,7 @@ use Rattle.trace_assembly.specs.Rows.{spots_of}
 use Rattle.trace_assembly.specs.Located.{located_events}
 use Rattle.arrival_names.specs.Kept.{IsKept as NamesKept}
 use Rattle.service_places.specs.Reported.{IsKept as PlacesKept}
-use Rattle.span_store.specs.Opening.{AreFirst}
+use Rattle.span_store.specs.Opening.{AreFirst, IsRanged}
 use Rattle.span_store.specs.Kept.{Follows, IsNamed, IsPlaced}
 use Rattle.span_store.proofs.Keeping.{Grows, arrivals_fit, kept_more, kept_room, kept_within, spans_fit}
 use Rattle.span_store.proofs.store.SpanStore.append.Goals as goal
@@ -51,6 +51,8 @@ invariant_of-self c =
     subst (λ (x : Entry). Follows n (located_events (h ++ x ∷ [])) after.newest (spots_of after)) (c.deref.ensures ∙ c.entry.ensures) here in
     let first : AreFirst n (located_events (h ++ e ∷ [])) c.follow.new.starts.starts =
     subst (λ (x : Entry). AreFirst n (located_events (h ++ x ∷ [])) c.follow.new.starts.starts) (c.deref.ensures ∙ c.entry.ensures) (c.follow.ensures.first n h place c.self.invariant.follows c.self.invariant.first) in
+    let ranged : IsRanged n (located_events (h ++ e ∷ [])) after c.follow.new.starts =
+    subst (λ (x : Entry). IsRanged n (located_events (h ++ x ∷ [])) after c.follow.new.starts) (c.deref.ensures ∙ c.entry.ensures) (c.follow.ensures.ranged n h place c.self.invariant.follows c.self.invariant.ranged) in
     let used : after.used ≡ was.shown.used + length (spans_brought e.work) = search rules in
     let grows : Grows was.shown after (length (spans_brought e.work)) = record { room = c.follow.ensures.room; used = used } in
     let list : map (arc_value {X = Entry} {Z = Global}) c.entries-entries.result.now ≡ was.journal.held.entries ++ e ∷ [] = c.entries-entries.ensures ∙ ap (λ (v : Held). v.entries) held in
@@ -65,7 +67,7 @@ invariant_of-self c =
       kept = subst (λ (h : List Entry). PlacesKept h c.add.new.self) list c.add.ensures.kept;
       batches = c.add.ensures.batches ∙ c.self.invariant.placed.batches;
     } in
-    kept_more was.journal.held c.append.new.self.held e was.shown after was.starts c.follow.new.starts was.names c.add-2.new.self was.reported c.add.new.self c.self.invariant held grows follows first c.follow.ensures.counted names placed
+    kept_more was.journal.held c.append.new.self.held e was.shown after was.starts c.follow.new.starts was.names c.add-2.new.self was.reported c.add.new.self c.self.invariant held grows follows first c.follow.ensures.counted ranged names placed
 
 pub add-requires-2-clause-numbers : goal.add-requires-2-clause-numbers
 add-requires-2-clause-numbers c =

@@ -1,4 +1,5 @@
-use Rattle.std.proofs.Common.{sym, subst, ◌∙◌, arith}
+use Rattle.std.proofs.Common.{ℤ, List, length, sym, ap, subst, ◌∙◌, arith}
+use Rattle.jaeger_model.specs.declared.ids.TraceId.{TraceId}
 use Rattle.trace_model.specs.Held.{Held}
 use Rattle.span_store.specs.Kept.{IsKept}
 use Rattle.span_store.proofs.store.SpanStore.open.Goals as goal
@@ -11,7 +12,12 @@ invariant_of-result c =
       used = shown.used;
       follows = record { limit = shown.limit; ring = shown.ids; spots = shown.spots };
       first = c.in_ok-starts.ensures.starts;
-      counted = record { few = omega (arith, c.in_ok-starts.ensures.used); same_room = c.in_ok-starts.ensures.room ∙ sym shown.room };
+      counted = record {
+        as_many = ap (λ (l : List ℤ). length l) c.in_ok-starts.ensures.starts ∙ sym (ap (λ (l : List TraceId). length l) shown.ids);
+        few = omega (arith, c.in_ok-starts.ensures.used);
+        same_room = c.in_ok-starts.ensures.room ∙ sym shown.room;
+      };
+      ranged = λ k t at. tt;
       named = c.in_ok-named.ensures.named;
       placed = c.in_ok-named.ensures.placed;
     })

@@ -13,6 +13,7 @@ use Rattle.journal_traces.specs.Taking.{placed_taken}
 use Rattle.span_store.proofs.Following.{trace_stands}
 use Rattle.span_store.proofs.Keeping.{kept_spots, kept_traces}
 use Rattle.journal_traces.proofs.Spots.{links_chosen}
+use Rattle.span_store.proofs.Ranging.{named_ranged}
 use Rattle.span_store.proofs.store.SpanStore.traces_within.Goals as goal
 
 pub returns-clause-links : goal.returns-clause-links
@@ -42,3 +43,12 @@ take_within-requires-clause-few c = omega (arith, c.self.invariant.placed.batche
 
 pub take_within-requires-clause-numbers : goal.take_within-requires-clause-numbers
 take_within-requires-clause-numbers c = c.self.invariant.placed.kept.grouped
+
+pub take_within-requires-clause-as_many : goal.take_within-requires-clause-as_many
+take_within-requires-clause-as_many c = c.self.invariant.counted.as_many
+
+pub take_within-requires-clause-ranged : goal.take_within-requires-clause-ranged
+take_within-requires-clause-ranged c =
+    let was = c.self.inside in
+    let h = was.journal.held in
+    named_ranged h.limits.traces h.entries (spots_of was.shown) was.shown.newest.ids was.starts (kept_spots h was.shown was.starts was.names was.reported c.self.invariant) c.self.invariant.ranged
