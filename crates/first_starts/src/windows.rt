@@ -28,4 +28,17 @@ impl FirstStarts {
         }
         self.len()
     }
+
+    /// How many traces there are in blocks whose ranges reach into the window, some that left too: a guess of how many may
+    /// have a span there, and no answer.
+    pub fn count_within(&self, window: Window) -> usize {
+        let mut count: usize = 0;
+        for block in self.left / BLOCK..self.ranges.len() {
+            let range = self.ranges[block];
+            if reaches(range, window) {
+                count = count.saturating_add(BLOCK);
+            }
+        }
+        count
+    }
 }

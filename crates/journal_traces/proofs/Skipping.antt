@@ -1,9 +1,11 @@
 -- Traces whose ranges don't reach into a window have no span in it.
-use Rattle.std.proofs.Common.{◌≡◌, ℕ, ℤ, zero, suc, ◌+◌, ◌-◌, ◌<◌, ◌≤◌, Bool, true, false, ◌||◌, ◌&&◌, List, [], ◌∷◌, map, length, take, get_or, refl, sym, ap, ◌∙◌, arith, Some}
+use Rattle.std.proofs.Common.{◌≡◌, ℕ, ℤ, zero, suc, ◌+◌, ◌-◌, ◌<◌, ◌≤◌, Bool, true, false, ◌||◌, ◌&&◌, List, [], ◌∷◌, ◌++◌, map, length, take, get_or, refl, sym, ap, ◌∙◌, arith, Some}
 use Rattle.std.specs.Prelude.{filter, int_lt, pos, ◌-ℤ◌, ◌*ℤ◌}
 use Rattle.std.specs.List.{list_any, AllByRecursion}
 use Rattle.std.proofs.lemmas.Bool.{false≢true, and_parts, true_from_ne_false}
 use Rattle.std.proofs.lemmas.Int.{ints}
+use Rattle.std.proofs.lemmas.List.{map_push, take_more}
+use Rattle.std.proofs.lemmas.List.Elements.{filter-append}
 use Rattle.std.proofs.lemmas.Option.{slice_get-get_or}
 use Rattle.jaeger_model.specs.declared.ids.TraceId.{TraceId}
 use Rattle.jaeger_model.specs.declared.placed.Placed.{Placed}
@@ -12,7 +14,9 @@ use Rattle.first_starts.specs.declared.ranges.Range.{Range}
 use Rattle.first_starts.specs.declared.ranges.Window.{Window}
 use Rattle.first_starts.specs.Starting.{Starts}
 use Rattle.first_starts.specs.Ranges.{IsIn, range_at, reaches}
-use Rattle.journal_traces.specs.Ranged.{AreRanged, StartsIn}
+use Rattle.trace_assembly.specs.declared.spot.Spot.{Spot}
+use Rattle.trace_assembly.specs.Rows.{Assembled, spots_of}
+use Rattle.journal_traces.specs.Ranged.{AreRanged, FailsOutside, StartsIn}
 use Rattle.journal_traces.proofs.Spots.{no_id, left_out}
 
 -- the window of these times in milliseconds
@@ -41,25 +45,49 @@ none_starts e l r [] none all = refl
 none_starts e l r (p ∷ ps) none all =
     ap (λ b. b || list_any (in_window e l) ps) (outside e l r p.span.start none all.0) ∙ none_starts e l r ps none all.1
 
--- ---- of the traces of a ring
-module _ (e l : ℤ) (starts : Starts) (ids : List TraceId) (spans : TraceId → List Placed) (ranged : AreRanged starts ids spans) where
-  none_at : (k : ℕ) → k < length ids → reaches (window_of e l) (range_at starts k) ≡ false → list_any (in_window e l) (spans (get_or ids k no_id)) ≡ false
-  none_at k below none = none_starts e l (range_at starts k) (spans (get_or ids k no_id)) none (ranged k (get_or ids k no_id) (slice_get-get_or ids k no_id below))
-
-  so_many : (from more : ℕ) → from + more ≤ length ids → ((k : ℕ) → from ≤ k → k < from + more → reaches (window_of e l) (range_at starts k) ≡ false)
-      → filter (list_any (in_window e l)) (map spans (take (from + more) ids)) ≡ filter (list_any (in_window e l)) (map spans (take from ids))
-  so_many from zero within none = let same : from + 0 ≡ from = omega arith in ap (λ n. filter (list_any (in_window e l)) (map spans (take n ids))) same
+-- ---- a test of what the traces of a ring have
+module _ {X : Type 0} (p : X → Bool) (f : TraceId → X) (ids : List TraceId) where
+  so_many : (from more : ℕ) → from + more ≤ length ids → ((k : ℕ) → from ≤ k → k < from + more → p (f (get_or ids k no_id)) ≡ false)
+      → filter p (map f (take (from + more) ids)) ≡ filter p (map f (take from ids))
+  so_many from zero within none = let same : from + 0 ≡ from = omega arith in ap (λ n. filter p (map f (take n ids))) same
   so_many from (suc more) within none =
       let last : ℕ = from + more in
       let next : from + suc more ≡ last + 1 = omega arith in
-      ap (λ n. filter (list_any (in_window e l)) (map spans (take n ids))) next
-      ∙ left_out (list_any (in_window e l)) spans ids last no_id (omega arith) (none_at last (omega arith) (none last (omega arith) (omega arith)))
+      ap (λ n. filter p (map f (take n ids))) next
+      ∙ left_out p f ids last no_id (omega arith) (none last (omega arith) (omega arith))
       ∙ so_many from more (omega arith) (λ k low high. none k low (omega arith))
 
-  -- the traces from one place to another one are skipped
-  pub skipped : (w : Window) → w ≡ window_of e l → (from to : ℕ) → from ≤ to → to ≤ length ids → ((k : ℕ) → from ≤ k → k < to → reaches w (range_at starts k) ≡ false)
-      → filter (list_any (in_window e l)) (map spans (take to ids)) ≡ filter (list_any (in_window e l)) (map spans (take from ids))
-  skipped w is from to up within none =
+  -- it is passed by the same where the traces from one place to another one fail it
+  all_fail : (from to : ℕ) → from ≤ to → to ≤ length ids → ((k : ℕ) → from ≤ k → k < to → p (f (get_or ids k no_id)) ≡ false)
+      → filter p (map f (take to ids)) ≡ filter p (map f (take from ids))
+  all_fail from to up within none =
       let all : from + (to - from) ≡ to = omega arith in
-      ap (λ n. filter (list_any (in_window e l)) (map spans (take n ids))) (sym all)
-      ∙ so_many from (to - from) (omega arith) (λ k low high. ap (λ v. reaches v (range_at starts k)) (sym is) ∙ none k low (omega arith))
+      ap (λ n. filter p (map f (take n ids))) (sym all) ∙ so_many from (to - from) (omega arith) (λ k low high. none k low (omega arith))
+
+-- no trace from one place to another one has a span in the window
+pub skipped : (e l : ℤ) (starts : Starts) (ids : List TraceId) (spans : TraceId → List Placed) → AreRanged starts ids spans → (w : Window) → w ≡ window_of e l
+    → (from to : ℕ) → from ≤ to → to ≤ length ids → ((k : ℕ) → from ≤ k → k < to → reaches w (range_at starts k) ≡ false)
+    → filter (list_any (in_window e l)) (map spans (take to ids)) ≡ filter (list_any (in_window e l)) (map spans (take from ids))
+skipped e l starts ids spans ranged w is from to up within none =
+    all_fail (list_any (in_window e l)) spans ids from to up within (λ k low high.
+    none_starts e l (range_at starts k) (spans (get_or ids k no_id)) (ap (λ v. reaches v (range_at starts k)) (sym is) ∙ none k low high)
+    (ranged k (get_or ids k no_id) (slice_get-get_or ids k no_id (omega arith))))
+
+-- their spots fail the test
+pub spots_skipped : (w : Window) (starts : Starts) (shown : Assembled) (p : List Spot → Bool) → FailsOutside w starts shown p
+    → (from to : ℕ) → from ≤ to → to ≤ length shown.newest.ids → ((k : ℕ) → from ≤ k → k < to → reaches w (range_at starts k) ≡ false)
+    → filter p (map (spots_of shown) (take to shown.newest.ids)) ≡ filter p (map (spots_of shown) (take from shown.newest.ids))
+spots_skipped w starts shown p fails from to up within none =
+    all_fail p (spots_of shown) shown.newest.ids from to up within (λ k low high.
+    fails k (get_or shown.newest.ids k no_id) (slice_get-get_or shown.newest.ids k no_id (omega arith)) (none k low high))
+
+-- one more trace
+pub spots_more : (shown : Assembled) (p : List Spot → Bool) (found : List (List Spot)) (spots : List Spot) (i : ℕ) → i < length shown.newest.ids → spots ≡ spots_of shown (get_or shown.newest.ids i no_id)
+    → filter p found ≡ filter p (map (spots_of shown) (take i shown.newest.ids)) → filter p (found ++ spots ∷ []) ≡ filter p (map (spots_of shown) (take (i + 1) shown.newest.ids))
+spots_more shown p found spots i below is before =
+    let f = spots_of shown in
+    let ids = shown.newest.ids in
+    filter-append p found (spots ∷ [])
+    ∙ (λ j. before j ++ filter p (is j ∷ []))
+    ∙ sym (filter-append p (map f (take i ids)) (f (get_or ids i no_id) ∷ []))
+    ∙ sym (ap (λ ts. filter p (map f ts)) (take_more ids i no_id below) ∙ ap (filter p) (map_push f (take i ids) (get_or ids i no_id)))

@@ -137,7 +137,7 @@ pub links_chosen : (end_ms lookback_ms : ℤ) (ts : List (List Placed)) → link
 links_chosen e l ts = ap counted (calls_chosen e l ts)
 
 -- ---- traces that pass a test, one by one
-module _ (w : List Placed → Bool) (f : TraceId → List Placed) (ids : List TraceId) (i : ℕ) (d : TraceId) (le : i < length ids) where
+module _ {X : Type 0} (w : X → Bool) (f : TraceId → X) (ids : List TraceId) (i : ℕ) (d : TraceId) (le : i < length ids) where
   pub kept_more : w (f (get_or ids i d)) ≡ true → filter w (map f (take (i + 1) ids)) ≡ filter w (map f (take i ids)) ++ f (get_or ids i d) ∷ []
   kept_more e = sym (map_filter f w (take (i + 1) ids)) ∙ picked f (λ t. w (f t)) ids i d le e ∙ ap (λ ts. ts ++ f (get_or ids i d) ∷ []) (map_filter f w (take i ids))
 

@@ -1,11 +1,15 @@
 -- The traces of a ring, whose spans start in the ranges of their places.
-use Rattle.std.specs.Prelude.{◌≡◌, ℕ, List, Some, slice_get}
+use Rattle.std.specs.Prelude.{◌≡◌, ℕ, ℤ, pos, ◌+ℤ◌, ◌-ℤ◌, Bool, false, List, Some, option_map, slice_get}
 use Rattle.std.specs.List.{AllByRecursion}
 use Rattle.jaeger_model.specs.declared.ids.TraceId.{TraceId}
 use Rattle.jaeger_model.specs.declared.placed.Placed.{Placed}
+use Rattle.trace_model.specs.declared.query.Find.{Find}
+use Rattle.trace_assembly.specs.declared.spot.Spot.{Spot}
+use Rattle.trace_assembly.specs.Rows.{Assembled, spots_of}
 use Rattle.first_starts.specs.declared.ranges.Range.{Range}
+use Rattle.first_starts.specs.declared.ranges.Window.{Window}
 use Rattle.first_starts.specs.Starting.{Starts}
-use Rattle.first_starts.specs.Ranges.{IsIn, range_at}
+use Rattle.first_starts.specs.Ranges.{IsIn, range_at, reaches}
 
 abbrev pub StartsIn : Range → Placed → Type 0
 StartsIn r p = IsIn r p.span.start
@@ -13,3 +17,11 @@ StartsIn r p = IsIn r p.span.start
 -- each of these spans of a trace starts in the range of the place at which the trace stands
 abbrev pub AreRanged : Starts → List TraceId → (TraceId → List Placed) → Type 0
 AreRanged starts ids spans = (k : ℕ) (t : TraceId) → slice_get ids k ≡ Some t → AllByRecursion (StartsIn (range_at starts k)) (spans t)
+
+-- the spots of no trace whose range doesn't reach into the window pass the test
+abbrev pub FailsOutside : Window → Starts → Assembled → (List Spot → Bool) → Type 0
+FailsOutside w starts shown p = (k : ℕ) (t : TraceId) → slice_get shown.newest.ids k ≡ Some t → reaches w (range_at starts k) ≡ false → p (spots_of shown t) ≡ false
+
+-- the times strictly between the bounds of a search's starts, which may be at the bounds
+abbrev pub asked_window : Find → Window
+asked_window q = record { after = option_map (λ (t : ℤ). t -ℤ pos 1) q.start_min; before = option_map (λ (t : ℤ). t +ℤ pos 1) q.start_max }

@@ -11,6 +11,7 @@
 //! * `judging`: spans judged one after the other.
 //! * `candidates`: these traces, as a search looks at them.
 //! * `window`: a window of time in microseconds.
+//! * `reaching`: the traces that may have a span in a window.
 //! * `seeing`: the traces in a window of time, taken with the numbers of their services.
 //! * `taken`: traces whose spans were taken out, to be read after the journal is left.
 //! * `taken_search`: a search over such traces, which judges each process once.
@@ -24,6 +25,7 @@ mod judging;
 mod latest;
 mod meeting;
 mod pruning;
+mod reaching;
 mod reporting;
 mod searching;
 mod seeing;
@@ -37,6 +39,7 @@ mod window;
 pub use candidates::Candidates;
 pub use gathering::gather;
 pub use latest::spots_after;
+pub use reaching::spots_within;
 pub use reporting::spots_reported;
 pub use searching::spots_along;
 pub use seeing::{ring_ids, take_within};
@@ -44,3 +47,4 @@ pub use taken::TakenTraces;
 pub use taken_answer::{find_kept, find_kept_ids, keep_all};
 pub use taken_search::TakenSearch;
 pub use taking::{take_all, take_trace};
+pub use window::asked_window;

@@ -1,8 +1,10 @@
 //! Windows of time in microseconds.
 
-ghost use Rattle.std.specs.Prelude.{◌≡◌, Some, pos, ◌-ℤ◌, ◌*ℤ◌, ◌≤ℤ◌, ◌<ℤ◌, ◌^◌};
+ghost use Rattle.std.specs.Prelude.{◌≡◌, Some, pos, ◌+ℤ◌, ◌-ℤ◌, ◌*ℤ◌, ◌≤ℤ◌, ◌<ℤ◌, ◌^◌, option_map};
+ghost use Rattle.journal_traces.specs.Ranged.{asked_window};
 
 use first_starts::Window;
+use trace_model::Find;
 
 /// Milliseconds as microseconds.
 fn micros(ms: i128) -> i128
@@ -32,5 +34,35 @@ pub(crate) fn window_of(end_ms: i64, lookback_ms: i64) -> Window
     Window {
         after: Some(micros(wide(end_ms) - wide(lookback_ms))),
         before: Some(micros(wide(end_ms))),
+    }
+}
+
+/// The last time before this one, if there is one.
+fn just_before(time: Option<i64>) -> Option<i128>
+    ensures { result ≡ option_map (λ t. t -ℤ pos 1) time }
+{
+    match time {
+        Some(time) => Some(wide(time) - 1),
+        None => None,
+    }
+}
+
+/// The first time after this one, if there is one.
+fn just_after(time: Option<i64>) -> Option<i128>
+    ensures { result ≡ option_map (λ t. t +ℤ pos 1) time }
+{
+    match time {
+        Some(time) => Some(wide(time) + 1),
+        None => None,
+    }
+}
+
+/// The window of the starts that a search asks for.
+pub fn asked_window(query: &Find) -> Window
+    ensures { result ≡ asked_window query.now }
+{
+    Window {
+        after: just_before(query.start_min),
+        before: just_after(query.start_max),
     }
 }
