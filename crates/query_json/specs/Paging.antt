@@ -1,6 +1,7 @@
 -- What the parts of an answer say.
-use Rattle.std.specs.Prelude.{◌≡◌, ◌+◌, ◌≤◌, ◌⊎◌, ℕ, false, List, [], length, vec_capacity}
+use Rattle.std.specs.Prelude.{◌≡◌, ◌+◌, ◌≤◌, ◌⊎◌, ℕ, false, List, [], length, unwrap_or, vec_capacity}
 use Rattle.query_json.specs.declared.paging.PagedAnswer.{PagedAnswer}
+use Rattle.query_json.specs.declared.writing.page.Page.{Page}
 use Rattle.query_json.specs.Pieces.{AreWritable, runs_of}
 use Rattle.query_json.specs.Runs.{AllFit, left_at, text_of}
 
@@ -16,15 +17,19 @@ left_of p = left_at (runs_of p.items) p.next.run p.next.piece
 abbrev pub rest_of : PagedAnswer → List ℕ
 rest_of p = text_of (left_of p)
 
--- the page has room for a part of pieces that are no larger
+-- the page that the parts behind it are put on
+abbrev pub next_page : PagedAnswer → Page
+next_page p = unwrap_or p.later p.page
+
+-- that page has room for a part of pieces that are no larger
 pub record HasRoom (p : PagedAnswer) : Type 0 where
   pub most : ℕ
   pub fit : AllFit most (left_of p)
-  pub room : 16384 + most ≤ vec_capacity p.page.bytes
+  pub room : 16384 + most ≤ vec_capacity (next_page p).bytes
 
 -- what comes can be made, and there is room for each part of it
 pub record IsReady (p : PagedAnswer) : Type 0 where
-  pub open_page : p.page.full ≡ false
+  pub open_page : (next_page p).full ≡ false
   pub writable : AreWritable p.items
   pub fits : (left_of p ≡ []) ⊎ HasRoom p
   pub left : p.left ≡ length (rest_of p)

@@ -1,5 +1,5 @@
 //! The text of an answer, made part by part on one page.
-ghost use Rattle.std.specs.Prelude.{◌≡◌, ◌+◌, ◌^◌, ◌≤◌, ◌<◌, ◌⊎◌, ◌++◌, [], false, true, IfOk, OnOk, get_or, length, vec_capacity};
+ghost use Rattle.std.specs.Prelude.{◌≡◌, ◌+◌, ◌^◌, ◌≤◌, ◌<◌, ◌⊎◌, ◌++◌, [], None, false, true, IfOk, OnOk, get_or, length, vec_capacity};
 ghost use Rattle.serde_json.specs.Written.{compact_text};
 ghost use Rattle.query_json.specs.Page.{Puts};
 ghost use Rattle.query_json.specs.Pieces.{AreWritable, item_trees, runs_of};
@@ -12,10 +12,10 @@ use crate::writing::{Page, begin_items, end_items, put_separator};
 use std::alloc::{AllocError, Global};
 use trace_model::Answer;
 
-/// The most bytes of an answer that is one part, but for its last piece.
+/// The bytes from which on the first part takes no further piece.
 const WHOLE: usize = 1_048_576;
 
-/// The bytes from which on a part takes no further piece.
+/// The bytes from which on a later part takes no further piece.
 const FILLED: usize = 16_384;
 
 /// Which piece comes next. The pieces stand in runs: one run for each item, which has what separates it from the
@@ -36,10 +36,12 @@ impl Position {
 }
 
 /// The compact text of an answer's tree, given out in parts: the one that is on the page, and the pieces after it.
-/// Each part is made where the one before it was, and takes no memory.
+/// The first part has a large page of its own. The later ones share one page, whose memory is taken with the first.
 #[derive(Drop)]
 pub(crate) struct PagedAnswer {
     page: Page,
+    /// The page of the later parts, while the first part is on the other one.
+    later: Option<Page>,
     items: Items,
     next: Position,
     /// The number of bytes after the part.
@@ -135,27 +137,29 @@ fn larger(size: usize, other: usize) -> usize
     if size < other { other } else { size }
 }
 
-/// The number of bytes of the pieces, and that of the largest one.
-fn measure(page: &mut Page, items: &Items) -> Result<(u64, usize), AllocError>
-    requires writable { AreWritable items.now }
-    requires room { page.old.full ≡ false }
-    ensures left { IfOk result (λ r. r.0 ≡ length (text_of (runs_of items.now))) }
-    ensures fit { IfOk result (λ r. AllFit r.1 (runs_of items.now)) }
+/// The number of bytes of the pieces from a position on, and that of the largest of them.
+fn measure(alloc: Global, items: &Items, from: Position) -> Result<(u64, usize), AllocError>
+    requires { AreWritable items.now }
+    ensures left { IfOk result (λ r.
+        r.0 ≡ length (text_of (left_at (runs_of items.now) from.run from.piece))) }
+    ensures fit { IfOk result (λ r.
+        AllFit r.1 (left_at (runs_of items.now) from.run from.piece)) }
 {
+    let mut scratch = Page::new(Vec::with_capacity(alloc, FILLED)?);
     let mut left = 0u64;
     let mut largest = 0;
-    let mut at = Position::first();
+    let mut at = from;
     while at.run <= items.count() {
-        page.clear();
-        at = put_next(page, items, at);
-        if page.is_full() {
+        scratch.clear();
+        at = put_next(&mut scratch, items, at);
+        if scratch.is_full() {
             return Err(AllocError);
         }
-        let Some(more) = left.checked_add(page.len() as u64) else {
+        let Some(more) = left.checked_add(scratch.len() as u64) else {
             return Err(AllocError);
         };
         left = more;
-        largest = larger(largest, page.len());
+        largest = larger(largest, scratch.len());
     }
     Ok((left, largest))
 }
@@ -184,37 +188,35 @@ impl PagedAnswer {
     {
         PagedAnswer {
             page: Page::new(text),
+            later: None,
             items: Items::none(alloc),
             next: Position { run: 1, piece: 0 },
             left: 0,
         }
     }
 
-    /// The text in parts, each made of pieces.
-    fn in_parts(alloc: Global, mut scratch: Page, items: Items) -> Result<PagedAnswer, AllocError>
-        requires writable { AreWritable items }
-        requires room { scratch.full ≡ false }
+    /// The text in parts: the first one, which is made already, and those of the pieces from a position on.
+    fn in_parts(
+        alloc: Global,
+        first: Page,
+        items: Items,
+        next: Position,
+    ) -> Result<PagedAnswer, AllocError>
+        requires { AreWritable items }
         ensures ready { IfOk result IsReady }
+        ensures part { IfOk result (λ p. part_of p ≡ first.bytes.items) }
         ensures text { IfOk result (λ p. part_of p ++ rest_of p
-            ≡ compact_text (items_tree (item_trees items))) }
-        ensures some { IfOk result (λ p. IsSome (part_of p) (rest_of p)) }
+            ≡ first.bytes.items ++ text_of (left_at (runs_of items) next.run next.piece)) }
     {
-        let (left, largest) = measure(&mut scratch, &items)?;
-        drop(scratch);
-        let mut page = page_for(alloc, largest)?;
-        put_front(&mut page);
-        if page.is_full() {
-            return Err(AllocError);
-        }
-        let next = Position::first();
-        let mut paged = PagedAnswer {
-            page,
+        let (left, largest) = measure(alloc, &items, next)?;
+        let later = page_for(alloc, largest)?;
+        Ok(PagedAnswer {
+            page: first,
+            later: Some(later),
             items,
             next,
             left,
-        };
-        paged.extend();
-        Ok(paged)
+        })
     }
 
     fn of_items(alloc: Global, items: Items) -> Result<PagedAnswer, AllocError>
@@ -234,7 +236,7 @@ impl PagedAnswer {
             let text = page.finish()?;
             return Ok(PagedAnswer::whole(alloc, text));
         }
-        PagedAnswer::in_parts(alloc, page, items)
+        PagedAnswer::in_parts(alloc, page, items, end)
     }
 
     /// Takes all the memory that giving out the answer's text needs: for a text of more than about 1 MB what is made
@@ -273,7 +275,8 @@ impl PagedAnswer {
 
     /// Moves pieces from the rest to the part until that is large enough, and takes no memory.
     fn extend(&mut self)
-        requires { IsReady self.old }
+        requires ready { IsReady self.old }
+        requires later { self.old.later ≡ None }
         ensures ready { IsReady self.new }
         ensures gives { part_of self.new ++ rest_of self.new
             ≡ part_of self.old ++ rest_of self.old }
@@ -284,6 +287,18 @@ impl PagedAnswer {
         self.left -= (self.page.len() - before) as u64;
     }
 
+    /// Puts the page of the later parts in the place of the first one, which is dropped.
+    fn turn(&mut self)
+        requires { IsReady self.old }
+        ensures ready { IsReady self.new }
+        ensures later { self.new.later ≡ None }
+        ensures rest { rest_of self.new ≡ rest_of self.old }
+    {
+        if let Some(later) = self.later.take() {
+            self.page = later;
+        }
+    }
+
     /// Makes the next part in place of the one that is there, and takes no memory. It is empty only if nothing is
     /// left.
     pub(crate) fn advance(&mut self)
@@ -292,6 +307,7 @@ impl PagedAnswer {
         ensures gives { part_of self.new ++ rest_of self.new ≡ rest_of self.old }
         ensures some { IsSome (part_of self.new) (rest_of self.new) }
     {
+        self.turn();
         self.page.clear();
         self.extend();
     }

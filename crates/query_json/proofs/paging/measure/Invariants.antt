@@ -5,10 +5,10 @@ use Rattle.query_json.proofs.paging.measure.Given as goal
 
 abbrev pub invariant-loop-at : goal.invariant-loop-at
 invariant-loop-at l =
-    let rs = runs_of l.items in
-    let now = left_at rs l.at.run l.at.piece in
+    let rs = left_at (runs_of l.items) l.fn.from.run l.fn.from.piece in
+    let now = left_at (runs_of l.items) l.at.run l.at.piece in
     record {
-      room : l.page.full ≡ false;
+      room : l.scratch.full ≡ false;
       left : l.left + length (text_of now) ≡ length (text_of rs);
       bounds : (most : ℕ) → l.largest ≤ most → AllFit most now → AllFit most rs;
     }
