@@ -22,11 +22,20 @@ Adds-nothing a = record {
   behind = λ h. sym (append-nil a.bytes.items);
   capacity = omega arith;
   lacks = λ had full. absurd (clash a.full had full);
+  counts = λ full small. omega arith;
 }
   where
     clash : (t : Bool) → t ≡ false → t ≡ true → ⊥
     clash true e f = absurd (true≢false e)
     clash false e f = absurd (true≢false (sym f))
+
+-- a full page stays full
+stays_full : {a b : Page} {xs : List ℕ} → Adds a b xs → a.full ≡ true → b.full ≡ true
+stays_full {a = a} {b = b} p full = by b.full refl
+  where
+    by : (t : Bool) → b.full ≡ t → b.full ≡ true
+    by true e = e
+    by false e = absurd (true≢false (sym full ∙ p.before e))
 
 pub Adds-then : {a b c : Page} {xs ys : List ℕ} → Adds a b xs → Adds b c ys → Adds a c (xs ++ ys)
 Adds-then {a = a} {b = b} {c = c} {xs = xs} {ys = ys} p q = record {
@@ -34,6 +43,10 @@ Adds-then {a = a} {b = b} {c = c} {xs = xs} {ys = ys} p q = record {
   behind = λ room. q.behind room ∙ ap (λ l. l ++ ys) (p.behind (q.before room)) ∙ append_assoc a.bytes.items xs ys;
   capacity = omega (arith, p.capacity, q.capacity);
   lacks = λ had full. by had full b.full refl;
+  counts = λ full small.
+      let last : c.lost ≡ b.lost + length ys = q.counts (stays_full p full) small in
+      let first : b.lost ≡ a.lost + length xs = p.counts full (omega (arith, last, small)) in
+      omega (arith, first, last, length-append xs ys);
 }
   where
     by : a.full ≡ false → c.full ≡ true → (t : Bool) → b.full ≡ t → vec_capacity a.bytes < length a.bytes.items + length (xs ++ ys)

@@ -1,14 +1,16 @@
 -- What is put on a page.
-use Rattle.std.specs.Prelude.{◌≡◌, ◌+◌, ◌<◌, ◌≤◌, ℕ, true, false, List, ◌++◌, length, vec_capacity}
+use Rattle.std.specs.Prelude.{◌≡◌, ◌+◌, ◌<◌, ◌≤◌, ◌^◌, ℕ, true, false, List, ◌++◌, length, vec_capacity}
 use Rattle.std.specs.Str.{IsUtf8}
 use Rattle.query_json.specs.declared.writing.page.Page.{Page}
 
--- the bytes are added behind the others, unless the page is full; it gets full only where there was no room for them
+-- the bytes are added behind the others, unless the page is full; it gets full only where there was no room for them,
+-- and from then on they are counted
 pub record Adds (old new : Page) (bytes : List ℕ) : Type 0 where
   pub before : new.full ≡ false → old.full ≡ false
   pub behind : new.full ≡ false → new.bytes.items ≡ old.bytes.items ++ bytes
   pub capacity : vec_capacity old.bytes ≤ vec_capacity new.bytes
   pub lacks : old.full ≡ false → new.full ≡ true → vec_capacity old.bytes < length old.bytes.items + length bytes
+  pub counts : old.full ≡ true → new.lost + 1 < 2 ^ 64 → new.lost ≡ old.lost + length bytes
 
 -- and they are text
 pub record Puts (old new : Page) (bytes : List ℕ) : Type 0 where

@@ -137,7 +137,7 @@ fn larger(size: usize, other: usize) -> usize
     if size < other { other } else { size }
 }
 
-/// The number of bytes of the pieces from a position on, and that of the largest of them.
+/// The number of bytes of the pieces from a position on, and that of the largest of them. None is stored.
 fn measure(alloc: Global, items: &Items, from: Position) -> Result<(u64, usize), AllocError>
     requires { AreWritable items.now }
     ensures left { IfOk result (λ r.
@@ -145,21 +145,18 @@ fn measure(alloc: Global, items: &Items, from: Position) -> Result<(u64, usize),
     ensures fit { IfOk result (λ r.
         AllFit r.1 (left_at (runs_of items.now) from.run from.piece)) }
 {
-    let mut scratch = Page::new(Vec::with_capacity(alloc, FILLED)?);
     let mut left = 0u64;
     let mut largest = 0;
     let mut at = from;
     while at.run <= items.count() {
-        scratch.clear();
-        at = put_next(&mut scratch, items, at);
-        if scratch.is_full() {
-            return Err(AllocError);
-        }
-        let Some(more) = left.checked_add(scratch.len() as u64) else {
+        let mut page = Page::without_room(alloc);
+        at = put_next(&mut page, items, at);
+        let size = page.lost()?;
+        let Some(more) = left.checked_add(size as u64) else {
             return Err(AllocError);
         };
         left = more;
-        largest = larger(largest, scratch.len());
+        largest = larger(largest, size);
     }
     Ok((left, largest))
 }

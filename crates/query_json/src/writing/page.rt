@@ -1,5 +1,5 @@
 //! A text that is written piece by piece.
-ghost use Rattle.std.specs.Prelude.{◌≡◌, ◌+◌, ◌<◌, ◌≤◌, ◌-◌, ◌∷◌, [], false, true, IfOk, OnErr, decimal, drop, length, take, vec_capacity};
+ghost use Rattle.std.specs.Prelude.{◌≡◌, ◌+◌, ◌<◌, ◌≤◌, ◌-◌, ◌^◌, ◌∷◌, [], false, true, IfOk, OnErr, decimal, drop, length, take, vec_capacity};
 ghost use Rattle.std.specs.Fmt.{signed_decimal};
 ghost use Rattle.std.specs.List.{prefix_len};
 ghost use Rattle.std.specs.Str.{IsAscii};
@@ -9,15 +9,17 @@ ghost use Rattle.jaeger_model.specs.Ids.{low_digits};
 ghost use Rattle.jaeger_model.specs.Tags.{flag_text, hex_text};
 
 use super::plain::is_plain;
-use std::alloc::AllocError;
+use std::alloc::{AllocError, Global};
 use std::str;
 
 /// A text that is written piece by piece. Where there is no room for a piece the page is full, and what is put
-/// on it from then on is lost: that it was full is said once, by [`Page::finish`].
+/// on it from then on is lost, and only counted: that it was full is said once, by [`Page::finish`].
 #[derive(Drop)]
 pub(crate) struct Page {
     bytes: Vec<u8>,
     full: bool,
+    /// The number of bytes that were put on it while it was full.
+    lost: usize,
 }
 
 impl Page {
@@ -28,7 +30,34 @@ impl Page {
         ensures bytes { result.bytes ≡ bytes }
         ensures full { result.full ≡ false }
     {
-        Page { bytes, full: false }
+        Page {
+            bytes,
+            full: false,
+            lost: 0,
+        }
+    }
+
+    /// A page that is full, so that bytes are only counted on it. Takes no memory.
+    pub(crate) fn without_room(alloc: Global) -> Page
+        ensures full { result.full ≡ true }
+        ensures lost { result.lost ≡ 0 }
+    {
+        Page {
+            bytes: Vec::new(alloc),
+            full: true,
+            lost: 0,
+        }
+    }
+
+    /// The number of bytes that were put on it while it was full. More than can be counted count as out of memory.
+    pub(crate) fn lost(&self) -> Result<usize, AllocError>
+        ensures lost { IfOk result (λ n. n ≡ self.now.lost) }
+        ensures bound { IfOk result (λ n. n + 1 < 2 ^ 64) }
+    {
+        if self.lost == usize::MAX {
+            return Err(AllocError);
+        }
+        Ok(self.lost)
     }
 
     /// The text, unless the page got full.
@@ -75,7 +104,9 @@ impl Page {
     fn add(&mut self, bytes: &[u8])
         ensures { Adds self.old self.new bytes.now }
     {
-        if !self.full {
+        if self.is_full() {
+            self.lost = self.lost.saturating_add(bytes.len());
+        } else {
             self.full = self.bytes.extend_from_slice(bytes).is_err();
         }
     }

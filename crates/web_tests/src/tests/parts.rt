@@ -10,16 +10,21 @@ use trace_model::{
 };
 use trace_samples::{again, handed_in, kept, process, span};
 
-/// The bytes of a long name, and how many of them make an answer of more than 1 MB.
-const LETTERS: usize = 2_000;
+/// The bytes of a long name, and how many of them make an answer of more than 2 MB.
+const LETTERS: usize = 4_000;
 
 const MANY: u32 = 600;
 
 /// The bytes of a name of which two make an answer of more than 1 MB.
 const VERY_MANY: usize = 600_000;
 
-/// The most bytes of a part: those from which on it takes no further item, and the largest item.
-const MOST: usize = 16_384 + 5_000;
+/// The bytes from which on the first part takes no further item, and those from which on a later one takes none.
+const FIRST_FILLED: usize = 1_048_576;
+
+const FILLED: usize = 16_384;
+
+/// The most bytes of an item.
+const LARGEST: usize = 9_000;
 
 fn long_name(alloc: Global, letters: usize) -> Result<Text, AllocError> {
     let letters = "n".repeat(alloc, letters)?;
@@ -46,7 +51,7 @@ fn operations(alloc: Global) -> Result<Answer, AllocError> {
 
 fn ids(alloc: Global) -> Result<Answer, AllocError> {
     let mut ids = Vec::new(alloc);
-    for low in 0..60_000u64 {
+    for low in 0..110_000u64 {
         ids.push(TraceId { high: 0, low })?;
     }
     Ok(Answer::Ids(Seq::from_vec(ids)))
@@ -131,8 +136,14 @@ fn traces(alloc: Global, limits: Limits) -> Result<Answer, AllocError> {
     Ok(Answer::Traces(Seq::from_vec(traces)))
 }
 
-/// What is left of the text when the parts, each of at most [`MOST`] bytes, have been taken from its front; None if
-/// one of them is larger or something else. And the number of the parts.
+/// The most bytes of the part that so many precede.
+fn most(number: usize) -> usize {
+    let filled = if number == 0 { FIRST_FILLED } else { FILLED };
+    filled + LARGEST
+}
+
+/// What is left of the text when the parts have been taken from its front; None if one of them is larger than it may
+/// be or something else. And the number of the parts.
 fn taken_from<'t>(text: &'t [u8], mut parts: AnswerParts) -> (Option<&'t [u8]>, usize) {
     let mut left = text;
     for number in 0..1_000usize {
@@ -140,7 +151,7 @@ fn taken_from<'t>(text: &'t [u8], mut parts: AnswerParts) -> (Option<&'t [u8]>, 
         if part.is_empty() {
             return (Some(left), number);
         }
-        if part.len() > MOST || !left.starts_with(part) {
+        if part.len() > most(number) || !left.starts_with(part) {
             return (None, number);
         }
         left = left.get(part.len()..).unwrap_or(&[]);

@@ -1,7 +1,7 @@
-use Rattle.std.proofs.Common.{◌≡◌, [], false, length, length-append, ap, sym, subst, arith}
+use Rattle.std.proofs.Common.{◌≡◌, [], length, length-append, ap, sym, subst, arith}
 use Rattle.query_json.specs.Pieces.{item_pieces, runs_of}
 use Rattle.query_json.specs.Runs.{AllFit, left_at, text_of}
-use Rattle.query_json.proofs.Runs.{left_none, length_runs, put_items}
+use Rattle.query_json.proofs.Runs.{left_none, length_runs}
 use Rattle.query_json.proofs.paging.measure.Goals as goal
 
 pub put_next-at-requires-clause-run : goal.put_next-at-requires-clause-run
@@ -13,14 +13,14 @@ loop-at-preserved c =
     let next = c.put_next-at.ensures in
     let at = c.put_next-at.result in
     let rs = runs_of c.args.items.now in
-    let room : c.put_next-at.new.page.full ≡ false = sym c.if-is_full.ensures in
-    let long = ap length (put_items next.puts room c.clear.ensures.items) in
+    let none = c.without_room-page.ensures in
+    let size = c.in_ok-size.ensures in
+    let long : c.in_ok-size.size ≡ length next.piece = omega (arith, size.lost, none.lost, next.puts.adds.counts none.full (omega (arith, size.lost, size.bound))) in
     let both = length-append next.piece (text_of (left_at rs at.run at.piece)) in
     let larger = c.larger-largest.ensures in
     record {
-      room = room;
-      left = omega (arith, l.invariant.left, ap length next.text, both, long, c.len.ensures, c.in-Some.ensures);
-      bounds = λ most h fit. l.invariant.bounds most (omega (arith, h, larger.size)) (next.bounds most (omega (arith, h, larger.other, c.len-in-loop-at.ensures, long)) fit);
+      left = omega (arith, l.invariant.left, ap length next.text, both, long, c.in-Some.ensures);
+      bounds = λ most h fit. l.invariant.bounds most (omega (arith, h, larger.size)) (next.bounds most (omega (arith, h, larger.other, long)) fit);
     }
 
 pub returns-clause-left : goal.returns-clause-left
