@@ -13,7 +13,7 @@ use std::alloc::{AllocError, Global};
 use trace_model::Answer;
 
 /// The bytes from which on the first part takes no further piece.
-const WHOLE: usize = 1_048_576;
+const FIRST_FILLED: usize = 262_144;
 
 /// The bytes from which on a later part takes no further piece.
 const FILLED: usize = 16_384;
@@ -225,7 +225,7 @@ impl PagedAnswer {
     {
         let mut page = Page::new(Vec::with_capacity(alloc, ROOM)?);
         put_front(&mut page);
-        let end = fill(&mut page, &items, Position::first(), WHOLE);
+        let end = fill(&mut page, &items, Position::first(), FIRST_FILLED);
         if page.is_full() {
             return Err(AllocError);
         }
@@ -236,7 +236,7 @@ impl PagedAnswer {
         PagedAnswer::in_parts(alloc, page, items, end)
     }
 
-    /// Takes all the memory that giving out the answer's text needs: for a text of more than about 1 MB what is made
+    /// Takes all the memory that giving out the answer's text needs: for a text of more than about 256 KB what is made
     /// to show its traces, and room for a part.
     ///
     /// # Errors

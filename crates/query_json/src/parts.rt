@@ -45,9 +45,9 @@ fn total(part: usize, left: u64) -> Result<usize, AllocError>
 }
 
 impl AnswerParts {
-    /// Goes through the answer once, and takes all the memory that giving it out needs. A text of at most about 1 MB
-    /// is one part. A part of a larger one has about 16 KB and at most one item more, where an item is a name, an
-    /// operation, an id, a link, or a span or a process of a trace.
+    /// Goes through the answer once, and takes all the memory that giving it out needs. A text of at most about 256 KB
+    /// is one part. The first part of a larger one has about 256 KB, a later one about 16 KB, and at most one item more,
+    /// where an item is a name, an operation, an id, a link, or a span or a process of a trace.
     ///
     /// # Errors
     ///

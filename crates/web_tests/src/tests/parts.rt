@@ -15,11 +15,11 @@ const LETTERS: usize = 4_000;
 
 const MANY: u32 = 600;
 
-/// The bytes of a name of which two make an answer of more than 1 MB.
+/// The bytes of a name of which one makes a part.
 const VERY_MANY: usize = 600_000;
 
 /// The bytes from which on the first part takes no further item, and those from which on a later one takes none.
-const FIRST_FILLED: usize = 1_048_576;
+const FIRST_FILLED: usize = 262_144;
 
 const FILLED: usize = 16_384;
 
