@@ -7,3 +7,4 @@ pub mod Picking
 pub mod Sharing
 pub mod Collecting
 pub mod Ranging
+pub mod Windowing

@@ -20,6 +20,11 @@ pub(crate) fn asks_service_alone(query: &Find) -> bool {
         && query.duration_max == 0
 }
 
+/// Whether a search asks for a window of starts.
+pub(crate) fn asks_window(query: &Find) -> bool {
+    query.start_min.is_some() || query.start_max.is_some()
+}
+
 /// How many times more traces each try looks at than the one before.
 pub(crate) const GROWTH: usize = 8;
 
@@ -31,6 +36,9 @@ const SHARE: usize = 16;
 
 /// A try among so many traces is worth its time where the service has more than one entry for so many of them.
 pub(crate) const PER_ENTRY: usize = 8;
+
+/// A look at the traces of a window is worth its time where the service has more than so many entries for each of them.
+pub(crate) const ENTRIES_PER_TRACE: usize = 4;
 
 /// Among how many of the traces that start last a search looks first: a few for each that it asks for.
 pub(crate) fn first_try(limit: u64) -> usize {

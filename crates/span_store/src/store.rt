@@ -23,7 +23,8 @@ ghost use Rattle.span_store.specs.NextEntry.{next_entry};
 use crate::arrange::follow;
 use crate::collected::{Collected, Form};
 use crate::common::{
-    COMMON, GROWTH, PER_ENTRY, TRIES, are_few, asks_service_alone, first_try, is_full, is_promising,
+    COMMON, ENTRIES_PER_TRACE, GROWTH, PER_ENTRY, TRIES, are_few, asks_service_alone, asks_window,
+    first_try, is_full, is_promising,
 };
 use crate::finding;
 use crate::found_traces::FoundTraces;
@@ -35,8 +36,8 @@ use find_traces::Wanted;
 use first_starts::FirstStarts;
 use jaeger_model::{Batch, Seq, Text, TraceId};
 use journal_traces::{
-    Candidates, TakenTraces, gather, ring_ids, spots_after, spots_along, spots_reported, take_all,
-    take_within,
+    Candidates, TakenTraces, asked_window, gather, ring_ids, spots_after, spots_along,
+    spots_reported, spots_within, take_all, take_within,
 };
 use service_places::ServicePlaces;
 use std::alloc::{AllocError, Global};
@@ -384,6 +385,42 @@ impl SpanStore {
         }
     }
 
+    /// Whether a search asks for a window of starts in which few traces may have a span, so that a look at these is worth its
+    /// time: the search's service has more entries.
+    fn is_worth_a_window(&self, query: &Find) -> bool {
+        if !asks_window(query) || !self.may_find(query) {
+            return false;
+        }
+        let count = self.starts.count_within(asked_window(query));
+        let entries = self.journal.entries();
+        let mut places = self.reported.places_of(entries, query.service.as_str());
+        places
+            .nth(count.saturating_mul(ENTRIES_PER_TRACE))
+            .is_some()
+    }
+
+    /// The spots of the shown traces that may have a span in the window of a search.
+    fn candidates_within(&self, query: &Find) -> Result<Vec<Spots<'_>>, AllocError>
+        ensures { IfOk result (λ v. found_in query.now (traces_named self.now.entries v.items) ≡
+            found_in query.now (traces self.now.limits.traces (events self.now.entries))) }
+    {
+        let window = asked_window(query);
+        let spots = spots_within(self.alloc, &self.shown, &self.starts, window)?;
+        Ok(spots)
+    }
+
+    /// The spots of the shown traces that a search without tags looks at where it isn't worth a look at those that start last:
+    /// those of its window if they are few.
+    fn candidates_timed(&self, query: &Find) -> Result<Vec<Spots<'_>>, AllocError>
+        ensures { IfOk result (λ v. found_in query.now (traces_named self.now.entries v.items) ≡
+            found_in query.now (traces self.now.limits.traces (events self.now.entries))) }
+    {
+        if self.is_worth_a_window(query) {
+            return self.candidates_within(query);
+        }
+        self.candidates(query)
+    }
+
     /// Whether the traces that start last may hold all that a search asks for, so that a look at so many of them is worth its
     /// time: they are few, and the search's service has many entries.
     fn is_worth_a_try(&self, query: &Find, count: usize) -> bool {
@@ -443,7 +480,7 @@ impl SpanStore {
             found_in query.now (traces self.now.limits.traces (events self.now.entries))) }
     {
         if query.limit == 0 {
-            return self.candidates(query);
+            return self.candidates_timed(query);
         }
         let mut count = first_try(query.limit);
         for _ in 0..TRIES {
@@ -459,7 +496,7 @@ impl SpanStore {
             }
             count = count.saturating_mul(GROWTH);
         }
-        self.candidates(query)
+        self.candidates_timed(query)
     }
 
     /// A search by tags, with its candidates taken out.
