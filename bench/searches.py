@@ -41,7 +41,7 @@ MAIN = """//! Asks a store that holds the bodies of standard input each question
 use anyhow::{Result, bail};
 use batch_codec::decode;
 use jaeger_model::{Seq, Text};
-use query_json::answer_bytes;
+use query_json::AnswerParts;
 use span_store::SpanStore;
 use std::alloc::Global;
 use std::env::{self, Env};
@@ -129,6 +129,20 @@ fn size_of(answer: &Answer) -> usize {
     }
 }
 
+/// The bytes of an answer's JSON, which is given out part by part.
+fn json_bytes(alloc: Global, answer: Answer) -> Result<usize> {
+    let mut parts = AnswerParts::new(alloc, answer)?;
+    let mut bytes: usize = 0;
+    for _ in 0..parts.remaining() {
+        if parts.part().is_empty() {
+            break;
+        }
+        bytes = bytes.saturating_add(parts.part().len());
+        parts.advance();
+    }
+    Ok(bytes)
+}
+
 /// Nanoseconds of one answer, how much was found, and the bytes of its JSON, where that is wanted.
 fn asked<R: Clock>(rt: &R, alloc: Global, store: &SpanStore, query: &Query, json: bool) -> Result<(u64, usize, usize)> {
     let begin = now(rt);
@@ -136,15 +150,16 @@ fn asked<R: Clock>(rt: &R, alloc: Global, store: &SpanStore, query: &Query, json
         Ok(answer) => answer,
         Err(why) => bail!("{why}"),
     };
+    let found = size_of(&answer);
     let mut bytes = 0;
     if json {
-        bytes = answer_bytes(alloc, &answer)?.len();
+        bytes = json_bytes(alloc, answer)?;
     }
     let took = now(rt).saturating_sub(begin);
     if json && bytes == 0 {
         bail!("no text");
     }
-    Ok((took, size_of(&answer), bytes))
+    Ok((took, found, bytes))
 }
 
 /// Prints what a question took and found, and the bytes of its JSON, so many times.
