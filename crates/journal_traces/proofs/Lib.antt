@@ -5,6 +5,7 @@ pub mod Numbers
 pub mod Placing
 pub mod Processes
 pub mod Spots
+pub mod Spotting
 pub mod Cuts
 pub mod TakingSpans
 pub mod TakenSpans
@@ -15,3 +16,4 @@ pub mod Windows
 pub mod Keeping
 pub mod Telling
 pub mod Skipping
+pub mod Classes

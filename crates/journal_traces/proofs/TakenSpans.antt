@@ -16,6 +16,8 @@ use Rattle.trace_model.specs.Sharing.{ShareProcesses}
 use Rattle.trace_model.proofs.KeptSpans.{one_more}
 use Rattle.trace_model.specs.Seeing.{seen, placed_by_its_entry}
 use Rattle.trace_model.specs.Taking.{Taken}
+use Rattle.journal_traces.specs.declared.process_classes.ProcessClasses.{ProcessClasses}
+use Rattle.journal_traces.specs.Classes.{Leads}
 use Rattle.journal_traces.specs.Taking.{placed_taken, HasProcess, HaveProcesses}
 use Rattle.journal_traces.proofs.Adopting.{matches-adopted}
 use Rattle.journal_traces.proofs.Marking.{or_same}
@@ -66,29 +68,31 @@ processes_got process_of (t ∷ ts) zero all = all 0 t (omega arith)
 processes_got process_of (t ∷ ts) (suc k) all = processes_got process_of ts k (λ j d le. all (suc j) d (omega arith))
 
 -- ---- the trace of an answer, span by span
--- the spans up to the index are kept, and those with one number have one process
-pub record IsKeptUpto (xs : List Taken) (i : ℕ) (kept : List (Option Placed)) (numbers : List ℕ) : Type 0 where
+-- the spans up to the index are kept, and where the classes lead to their processes, so do the numbers
+pub record IsKeptUpto (old : ProcessClasses) (xs : List Taken) (i : ℕ) (kept : List (Option Placed)) (numbers : List ℕ) : Type 0 where
   pub spans : spans_there kept ≡ placed_taken (take i xs)
-  pub processes : (process_of : ℕ → Option Process) → HaveProcesses process_of xs → map (λ (p : Placed). Some p.process) (spans_there kept) ≡ map process_of numbers
+  pub processes : (process_of : ℕ → Option Process) → HaveProcesses process_of xs → Leads process_of old → map (λ (p : Placed). Some p.process) (spans_there kept) ≡ map process_of numbers
 
-module _ (xs : List Taken) (i : ℕ) (x : Taken) (le : i < length xs) (is : x ≡ get_or xs i x) (kept : List (Option Placed)) (numbers : List ℕ) (before : IsKeptUpto xs i kept numbers) where
-  pub kept_none : (one : Option Placed) → one ≡ x.span → is_some one ≡ false → IsKeptUpto xs (i + 1) kept numbers
+module _ (xs : List Taken) (i : ℕ) (x : Taken) (le : i < length xs) (is : x ≡ get_or xs i x) (old : ProcessClasses) (kept : List (Option Placed)) (numbers : List ℕ) (before : IsKeptUpto old xs i kept numbers) where
+  pub kept_none : (one : Option Placed) → one ≡ x.span → is_some one ≡ false → IsKeptUpto old xs (i + 1) kept numbers
   kept_none (Some p) at there = absurd (false≢true (sym there))
   kept_none None at there = record {
     spans = before.spans ∙ sym (append-nil (placed_taken (take i xs))) ∙ ap (λ o. placed_taken (take i xs) ++ cons_option o []) at ∙ sym (taken_more xs i x le is);
     processes = before.processes;
   }
 
-  pub kept_more : (one : Option Placed) (more : List (Option Placed)) (number : ℕ) (next : List ℕ) → one ≡ x.span → is_some one ≡ true → more ≡ kept ++ one ∷ [] → number ≡ x.number → next ≡ numbers ++ number ∷ [] → IsKeptUpto xs (i + 1) more next
+  pub kept_more : (one : Option Placed) (more : List (Option Placed)) (number : ℕ) (next : List ℕ) → one ≡ x.span → is_some one ≡ true → more ≡ kept ++ one ∷ []
+      → ((process_of : ℕ → Option Process) → HaveProcesses process_of xs → Leads process_of old → process_of number ≡ process_of x.number)
+      → next ≡ numbers ++ number ∷ [] → IsKeptUpto old xs (i + 1) more next
   kept_more None more number next at there put same put_number = absurd (false≢true there)
   kept_more (Some p) more number next at there put same put_number =
       let all : spans_there more ≡ spans_there kept ++ p ∷ [] = one_more kept more (Some p) p put refl in
       record {
         spans = all ∙ ap (λ l. l ++ p ∷ []) before.spans ∙ ap (λ o. placed_taken (take i xs) ++ cons_option o []) at ∙ sym (taken_more xs i x le is);
-        processes = λ process_of has.
+        processes = λ process_of has known.
             let own : Some p.process ≡ process_of x.number = subst (λ (o : Option Placed). IfSome o (λ (q : Placed). Some q.process ≡ process_of x.number)) (sym at) (has_process xs i x le is process_of has) in
             ap (map (λ (q : Placed). Some q.process)) all ∙ map_push (λ (q : Placed). Some q.process) (spans_there kept) p
-            ∙ (λ j. before.processes process_of has j ++ (own ∙ ap process_of (sym same)) j ∷ [])
+            ∙ (λ j. before.processes process_of has known j ++ (own ∙ sym (same process_of has known)) j ∷ [])
             ∙ sym (ap (map process_of) put_number ∙ map_push process_of numbers number);
       }
 

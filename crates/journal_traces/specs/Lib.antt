@@ -7,6 +7,8 @@ pub mod Lasting
 pub mod Reporting
 pub mod Cutting
 pub mod Taking
+pub mod Spotted
+pub mod Classes
 pub mod TakenSearch
 pub mod Meeting
 pub mod Ranged

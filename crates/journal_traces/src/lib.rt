@@ -13,8 +13,12 @@
 //! * `window`: a window of time in microseconds.
 //! * `reaching`: the traces that may have a span in a window.
 //! * `seeing`: the traces in a window of time, taken with the numbers of their services.
+//! * `tag_candidates`: the traces that a search by tags looks at, with each of their entries taken once.
+//! * `tag_taking`: takes them out of the journal, by numbers alone.
 //! * `taken`: traces whose spans were taken out, to be read after the journal is left.
 //! * `taken_search`: a search over such traces, which judges each process once.
+//! * `process_classes`: equal processes of such traces, found once for each entry.
+//! * `recurring`: which entries stand in several traces, so that this is worth a comparison.
 //! * `taken_answer`: what such a search finds, as it is to be shown.
 //! * `taking`: takes traces out of the journal.
 #![tactic(auto)]
@@ -24,12 +28,16 @@ mod gathering;
 mod judging;
 mod latest;
 mod meeting;
+mod process_classes;
 mod pruning;
 mod reaching;
+mod recurring;
 mod reporting;
 mod searching;
 mod seeing;
 mod standing;
+mod tag_candidates;
+mod tag_taking;
 mod taken;
 mod taken_answer;
 mod taken_search;
@@ -43,8 +51,10 @@ pub use reaching::spots_within;
 pub use reporting::spots_reported;
 pub use searching::spots_along;
 pub use seeing::{ring_ids, take_within};
+pub use tag_candidates::TagCandidates;
+pub use tag_taking::take_candidates;
 pub use taken::TakenTraces;
 pub use taken_answer::{find_kept, find_kept_ids, keep_all};
 pub use taken_search::TakenSearch;
-pub use taking::{take_all, take_trace};
+pub use taking::take_trace;
 pub use window::asked_window;

@@ -1,57 +1,115 @@
 //! What a search finds among traces that were taken out of a store.
 
-ghost use Rattle.std.specs.Prelude.{◌≡◌, false, ℕ, Option, [], IfOk, map, slice_index_or};
+ghost use Rattle.std.specs.Prelude.{◌≡◌, false, ℕ, Option, [], IfOk, OnOk, map, slice_index_or};
 ghost use Rattle.jaeger_model.specs.declared.batch.Process.{Process as ProcessValue};
 ghost use Rattle.trace_model.specs.Adjusting.{adjusted};
 ghost use Rattle.trace_model.specs.Keeping.{spans_there};
 ghost use Rattle.trace_model.specs.Searching.{found_in, ids_of};
 ghost use Rattle.trace_model.specs.Sharing.{ShareProcesses};
-ghost use Rattle.journal_traces.specs.Taking.{placed_taken, HaveProcesses, ShareByNumber};
+ghost use Rattle.journal_traces.specs.Classes.{Leads, ShareByClass};
+ghost use Rattle.journal_traces.specs.Taking.{placed_taken, HasProcess, HaveProcesses, ShareByNumber};
 ghost use Rattle.journal_traces.specs.TakenSearch.{traces_taken, query_taken};
 
+use crate::process_classes::ProcessClasses;
+use crate::recurring::{Recurring, are_of_one_entry};
 use crate::taken::TakenTraces;
 use crate::taken_search::TakenSearch;
 use jaeger_model::TraceId;
 use std::alloc::{AllocError, Global};
 use trace_model::{AnsweredTrace, KeptTrace, Limits, TakenSpan};
 
-/// The trace of these spans, which their entries keep, to be shown adjusted.
-fn kept_trace(alloc: Global, spans: &[TakenSpan], limits: Limits) -> Result<KeptTrace, AllocError>
+/// The place under which a span is shown: the class of its number, or the number itself where the trace has no other.
+fn place_of<'a>(
+    classes: &mut ProcessClasses<'a>,
+    span: &'a TakenSpan,
+    alone: bool,
+) -> Result<u32, AllocError>
+    ensures place { (process_of : ℕ → Option ProcessValue) →
+        HasProcess process_of span.now → Leads process_of classes.old →
+        IfOk result (λ place. process_of place ≡ process_of span.now.number) }
+    ensures leads { (process_of : ℕ → Option ProcessValue) →
+        HasProcess process_of span.now → Leads process_of classes.old →
+        OnOk result (Leads process_of classes.new) }
+{
+    if alone {
+        return Ok(span.number());
+    }
+    classes.class_of(span)
+}
+
+/// The trace of these spans, which their entries keep, to be shown adjusted. Spans whose processes are equal get one
+/// place, that of the first entry of the answer that has the process. So whatever goes through the traces of the
+/// answer compares a process once for each trace, however many entries brought it.
+fn kept_trace<'a>(
+    alloc: Global,
+    spans: &'a [TakenSpan],
+    limits: Limits,
+    classes: &mut ProcessClasses<'a>,
+) -> Result<KeptTrace, AllocError>
     ensures spans { IfOk result (λ t. spans_there t.spans.items ≡ placed_taken spans.now) }
     ensures shared { (process_of : ℕ → Option ProcessValue) → HaveProcesses process_of spans.now →
+        Leads process_of classes.old →
         IfOk result (λ t. ShareProcesses (spans_there t.spans.items) t.places.items) }
+    ensures leads { (process_of : ℕ → Option ProcessValue) → HaveProcesses process_of spans.now →
+        Leads process_of classes.old → OnOk result (Leads process_of classes.new) }
     ensures form { IfOk result (λ t. (t.limits ≡ limits) × (t.raw ≡ false)) }
 {
     let mut kept = Vec::with_capacity(alloc, spans.len())?;
-    let mut numbers = Vec::with_capacity(alloc, spans.len())?;
+    let mut places = Vec::with_capacity(alloc, spans.len())?;
+    let alone = are_of_one_entry(spans);
     for span in spans {
         let one = span.kept()?;
+        let place = place_of(classes, span, alone)?;
         if one.is_there() {
             kept.push(one)?;
-            numbers.push(u64::from(span.number()))?;
+            places.push(u64::from(place))?;
         }
     }
     Ok(KeptTrace {
         spans: kept,
-        places: numbers,
+        places,
         limits,
         raw: false,
     })
 }
 
 /// The trace at a place as it is to be shown, without spans where there is none.
-fn kept_at(
+fn kept_at<'a>(
     alloc: Global,
-    traces: &TakenTraces,
+    traces: &'a TakenTraces,
     place: usize,
     limits: Limits,
+    classes: &mut ProcessClasses<'a>,
 ) -> Result<AnsweredTrace, AllocError>
-    requires { ShareByNumber traces.now }
-    ensures { IfOk result (λ s. s ≡ adjusted limits.max_skew
+    requires { ShareByClass traces.now classes.old }
+    ensures trace { IfOk result (λ s. s ≡ adjusted limits.max_skew
         (slice_index_or (map placed_taken traces.now) place [])) }
+    ensures classes { OnOk result (ShareByClass traces.now classes.new) }
 {
-    let trace = kept_trace(alloc, traces.trace(place), limits)?;
+    let trace = kept_trace(alloc, traces.trace(place), limits, classes)?;
     Ok(AnsweredTrace::kept(trace))
+}
+
+/// The numbers that stand in several of the traces at the places.
+fn recurring_at(
+    alloc: Global,
+    traces: &TakenTraces,
+    places: &[usize],
+) -> Result<Recurring, AllocError> {
+    let mut recurring = Recurring::new(alloc);
+    for place in places {
+        recurring.add(traces.trace(*place), *place)?;
+    }
+    Ok(recurring)
+}
+
+/// The numbers that stand in several of the traces.
+fn recurring_in(alloc: Global, traces: &TakenTraces) -> Result<Recurring, AllocError> {
+    let mut recurring = Recurring::new(alloc);
+    for place in 0..traces.count() {
+        recurring.add(traces.trace(place), place)?;
+    }
+    Ok(recurring)
 }
 
 /// The traces at the places as they are to be shown.
@@ -66,9 +124,11 @@ fn all_kept(
     ensures { IfOk result (λ v. v.items ≡ map (λ i. adjusted limits.max_skew
         (slice_index_or (map placed_taken traces.now) i [])) places.now) }
 {
+    let recurring = recurring_at(alloc, traces, places)?;
+    let mut classes = ProcessClasses::new(alloc, recurring);
     let mut kept = Vec::with_capacity(alloc, places.len())?;
     for place in places {
-        kept.push(kept_at(alloc, traces, *place, limits)?)?;
+        kept.push(kept_at(alloc, traces, *place, limits, &mut classes)?)?;
     }
     Ok(kept)
 }
@@ -122,9 +182,11 @@ pub fn keep_all(
     ensures { IfOk result (λ v. v.items ≡
         map (adjusted limits.max_skew) (map placed_taken traces.now)) }
 {
+    let recurring = recurring_in(alloc, traces)?;
+    let mut classes = ProcessClasses::new(alloc, recurring);
     let mut kept = Vec::with_capacity(alloc, traces.count())?;
     for place in 0..traces.count() {
-        kept.push(kept_at(alloc, traces, place, limits)?)?;
+        kept.push(kept_at(alloc, traces, place, limits, &mut classes)?)?;
     }
     Ok(kept)
 }

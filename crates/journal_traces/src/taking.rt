@@ -3,12 +3,12 @@
 ghost use Rattle.std.specs.Prelude.{◌≡◌, ◌<◌, ◌^◌, ◌++◌, ◌∷◌, [], length, map, IfOk, IfSome, OnOk};
 ghost use Rattle.std.specs.Option.{option_and_then};
 ghost use Rattle.trace_assembly.specs.Located.{span_at};
-ghost use Rattle.journal_traces.specs.Standing.{process_at, spans_named, traces_named};
+ghost use Rattle.journal_traces.specs.Standing.{process_at, spans_named};
 ghost use Rattle.journal_traces.specs.Taking.{placed_taken, HasProcess, AreNumberedByPlace};
 
 use crate::taken::TakenTraces;
 use arrival_journal::Journal;
-use std::alloc::{AllocError, Global};
+use std::alloc::AllocError;
 use trace_assembly::{Spot, Spots};
 use trace_model::TakenSpan;
 
@@ -50,26 +50,4 @@ pub fn take_trace(
         }
     }
     Ok(())
-}
-
-/// Takes the trace of each of these lists of spots, in their order.
-///
-/// # Errors
-///
-/// Out of memory, and nothing else.
-pub fn take_all(
-    alloc: Global,
-    journal: &Journal,
-    spots: &[Spots<'_>],
-) -> Result<TakenTraces, AllocError>
-    requires few { length journal.now.held.entries < 2 ^ 32 }
-    ensures spans { IfOk result (λ traces. map placed_taken traces ≡
-        traces_named journal.now.held.entries spots.now) }
-    ensures numbers { IfOk result (AreNumberedByPlace journal.now.held.entries) }
-{
-    let mut traces = TakenTraces::new(alloc);
-    for trace in spots {
-        take_trace(&mut traces, journal, trace.again())?;
-    }
-    Ok(traces)
 }

@@ -7,11 +7,9 @@ use Rattle.serde_json.specs.Data.{Data, object, string}
 use Rattle.serde_json.specs.Written.{compact_text}
 use Rattle.trace_model.specs.declared.answer.Shown.{Shown}
 use Rattle.query_json.specs.declared.writing.processes.NamedProcess.{NamedProcess}
-use Rattle.query_json.specs.declared.writing.trace.LentTrace.{LentTrace}
-use Rattle.query_json.specs.LentTraces.{IsNumbered}
-use Rattle.query_json.specs.Named.{name_of, named_members, named_text, process_tree_at}
+use Rattle.query_json.specs.Named.{AreNamed, name_of, named_members, named_text, process_tree_at}
 use Rattle.query_json.specs.Runs.{joined, separator}
-use Rattle.query_json.specs.TracePieces.{between_text, close_text, lent_pieces, open_text, span_pieces, span_text_in, with_commas}
+use Rattle.query_json.specs.TracePieces.{between_text, close_text, open_text, pieces_of, span_pieces, span_text_in, with_commas}
 use Rattle.query_json.specs.Trees.{list, processes_of, processes_tree, span_tree, trace_id_text, trace_tree}
 use Rattle.query_json.proofs.Pages.{items_rest, members_rest, put_tree-text, rest_text}
 
@@ -97,16 +95,15 @@ tree_text : (ss : List Shown) → tail_of ((((before_processes ++ compact_text (
 unfolding escape_byte
 tree_text ss = put_tree-text (trace_tree ss)
 
-pub trace_text : (t : LentTrace) → IsNumbered t → joined (lent_pieces t) ≡ compact_text (trace_tree t.spans)
-trace_text t known =
-    let ss : List Shown = t.spans in
-    let p : List ℕ = joined (with_commas (map (named_text ss) t.processes.items)) in
+pub trace_text : (ss : List Shown) (ps : List NamedProcess) → AreNamed ss (processes_of ss) ps → joined (pieces_of ps ss) ≡ compact_text (trace_tree ss)
+trace_text ss ps named =
+    let p : List ℕ = joined (with_commas (map (named_text ss) ps)) in
     let s : List ℕ = joined (with_commas (map (span_text_in ss) ss)) in
     let id : List ℕ = compact_text (string (trace_id_text ss)) in
-    let obj : 123 ∷ (p ++ 125 ∷ []) ≡ compact_text (processes_tree (processes_of ss)) = object_pieces ss t.processes.items ∙ ap (λ ms. compact_text (object ms)) known.named.members in
+    let obj : 123 ∷ (p ++ 125 ∷ []) ≡ compact_text (processes_tree (processes_of ss)) = object_pieces ss ps ∙ ap (λ ms. compact_text (object ms)) named.members in
     let spans : 91 ∷ (s ++ 93 ∷ []) ≡ compact_text (list (map (span_tree (processes_of ss)) ss)) = list_pieces (span_tree (processes_of ss)) ss in
     let behind : joined (span_pieces ss) ≡ between_text ++ (s ++ (close_text ss ++ [])) = ap (λ (l : List ℕ). between_text ++ l) (joined_parts (with_commas (map (span_text_in ss) ss)) (close_text ss ∷ [])) in
-    ap (λ (l : List ℕ). open_text ++ l) (joined_parts (with_commas (map (named_text ss) t.processes.items)) (span_pieces ss) ∙ ap (λ (l : List ℕ). p ++ l) behind)
+    ap (λ (l : List ℕ). open_text ++ l) (joined_parts (with_commas (map (named_text ss) ps)) (span_pieces ss) ∙ ap (λ (l : List ℕ). p ++ l) behind)
     ∙ one_by_one open_text p between_text s (close_text ss)
     ∙ ap (λ (l : List ℕ). (l ++ s) ++ close_text ss) (processes_in before_processes p before_spans)
     ∙ close_in ((((before_processes ++ (123 ∷ (p ++ 125 ∷ []))) ++ before_spans) ++ 91 ∷ []) ++ s) id

@@ -3,8 +3,6 @@ pub mod LentTraces
 pub mod Named
 pub mod Naming
 pub mod Numbering
-pub mod Order
-pub mod OrderLaws
 pub mod Page
 pub mod Paging
 pub mod Parts

@@ -12,6 +12,10 @@ use Rattle.query_json.specs.Trees.{named, process_of, process_tree}
 abbrev pub name_of : NamedProcess → List ℕ
 name_of p = 112 ∷ decimal p.number
 
+-- the process of the first span
+abbrev pub first_named : NamedProcess
+first_named = record { number = 1; span = 0 }
+
 -- the tree of the process of a span
 abbrev pub shown_process_tree : Shown → Data
 shown_process_tree s = process_tree (process_of s)

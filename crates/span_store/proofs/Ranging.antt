@@ -1,6 +1,6 @@
 -- The ranges of the places follow the events.
 use Rattle.std.proofs.Common.{◌≡◌, ℕ, ℤ, zero, suc, ◌+◌, ◌<◌, Bool, true, false, cond, List, [], ◌∷◌, ◌++◌, length, drop, refl, sym, ap, subst, ◌∙◌, arith, inl, inr, Some, None, length-append, length-drop}
-use Rattle.std.specs.Prelude.{Option, ◌⊎◌, int_lt, not, is_some, option_to_list, slice_get, position, if◌then◌else◌}
+use Rattle.std.specs.Prelude.{Option, ◌⊎◌, int_lt, not, is_some, option_to_list, slice_get, if◌then◌else◌}
 use Rattle.std.specs.List.{AllByRecursion}
 use Rattle.std.proofs.lemmas.Bool.{false≢true}
 use Rattle.std.proofs.lemmas.Int.{ints}
@@ -14,7 +14,6 @@ use Rattle.trace_model.specs.declared.entry.Work.TheVariants as brings
 use Rattle.trace_model.specs.Events.{Event, came, limited}
 use Rattle.trace_model.specs.Rings.{holds, newest}
 use Rattle.trace_model.specs.Showing.{trace_of, ring, of_trace, spans_of_trace}
-use Rattle.trace_model.proofs.Admissions.{none_passes}
 use Rattle.trace_model.proofs.Lists.{each_append}
 use Rattle.trace_model.proofs.Traces.{same_is, spans_gone, spans_limited, spans_push}
 use Rattle.trace_ring.specs.declared.ring.Gone.{Gone}
@@ -29,7 +28,7 @@ use Rattle.first_starts.specs.Starting.{Starts}
 use Rattle.first_starts.specs.Ranges.{IsIn, IsWider, range_at}
 use Rattle.journal_traces.specs.Ranged.{AreRanged, StartsIn}
 use Rattle.journal_traces.specs.Standing.{trace_named}
-use Rattle.journal_traces.proofs.Marking.{held, placed_at}
+use Rattle.journal_traces.proofs.Marking.{held}
 use Rattle.span_store.specs.Opening.{IsRanged}
 use Rattle.span_store.proofs.Following.{trace_stands}
 
@@ -45,19 +44,12 @@ each_wider r s w (p ∷ ps) all = (
 )
 
 -- ---- places in a ring
-one_place : (r : List TraceId) (i j : ℕ) (t : TraceId) → NoneTwice r → slice_get r i ≡ Some t → slice_get r j ≡ Some t → i ≡ j
+pub one_place : (r : List TraceId) (i j : ℕ) (t : TraceId) → NoneTwice r → slice_get r i ≡ Some t → slice_get r j ≡ Some t → i ≡ j
 one_place [] i j t once a b = absurd cc
 one_place (x ∷ xs) zero zero t once a b = refl
 one_place (x ∷ xs) zero (suc j) t once a b = let same : x ≡ t = cc a in absurd (false≢true (sym once.0 ∙ ap (holds xs) same ∙ held xs j t b))
 one_place (x ∷ xs) (suc i) zero t once a b = let same : x ≡ t = cc b in absurd (false≢true (sym once.0 ∙ ap (holds xs) same ∙ held xs i t a))
 one_place (x ∷ xs) (suc i) (suc j) t once a b = ap suc (one_place xs i j t once.1 a b)
-
--- the place that was found is the one at which the trace stands
-pub place_found : (r : List TraceId) (t : TraceId) (place k : ℕ) → NoneTwice r → position (same_trace t) r ≡ Some place → slice_get r k ≡ Some t → place ≡ k
-place_found r t place k once found at = one_place r place k t once (placed_at r t place found) at
-
-pub no_place : {P : Type 0} (r : List TraceId) (t : TraceId) (k : ℕ) → position (same_trace t) r ≡ None → slice_get r k ≡ Some t → P
-no_place r t k none at = absurd (false≢true (sym (none_passes (same_trace t) r none) ∙ held r k t at))
 
 -- a trace of the ring stood in it before, or is the one that was opened
 in_opened : (ids : List TraceId) (t u : TraceId) (j : ℕ) → slice_get (ids ++ t ∷ []) j ≡ Some u → (slice_get ids j ≡ Some u) ⊎ (u ≡ t)

@@ -1,6 +1,6 @@
 //! What is shown follows what one more entry brings.
 
-ghost use Rattle.std.specs.Prelude.{◌≡◌, ℕ, ℤ, ◌+◌, ◌^◌, ◌<◌, ◌≤◌, List, [], ◌∷◌, ◌++◌, Some, length, map, drop, position, is_some, slice_get, if◌then◌else◌};
+ghost use Rattle.std.specs.Prelude.{◌≡◌, ℕ, ℤ, ◌+◌, ◌^◌, ◌<◌, ◌≤◌, List, [], ◌∷◌, ◌++◌, Some, length, map, drop, position, is_some, if◌then◌else◌};
 ghost use Rattle.jaeger_model.specs.Parents.{same_trace};
 ghost use Rattle.jaeger_model.specs.declared.ids.TraceId.{TraceId as TraceIdValue};
 ghost use Rattle.jaeger_model.specs.declared.placed.Placed.{Placed as PlacedValue};
@@ -12,7 +12,7 @@ ghost use Rattle.trace_model.specs.Works.{spans_brought};
 ghost use Rattle.trace_assembly.specs.declared.spot.Spot.{Spot as SpotValue};
 ghost use Rattle.trace_assembly.specs.Rows.{spots_of};
 ghost use Rattle.trace_assembly.specs.Located.{located_events, located_upto, without_left};
-ghost use Rattle.first_starts.specs.Ranges.{IsIn, IsWider, range_at};
+ghost use Rattle.first_starts.specs.Ranges.{IsWider, range_at};
 ghost use Rattle.journal_traces.specs.Ranged.{AreRanged};
 ghost use Rattle.span_store.specs.Kept.{Follows, IsWithin};
 ghost use Rattle.span_store.specs.Opening.{AreFirst, IsCounted, IsRanged, first_with};
@@ -21,7 +21,7 @@ use first_starts::FirstStarts;
 use jaeger_model::{Batch, Span};
 use trace_assembly::{Assembly, Spot};
 use trace_model::{Entry, Work};
-use trace_ring::{Gone, Ring};
+use trace_ring::Gone;
 
 /// Adds the start of the span that opened a trace, if it did.
 fn add_opened(starts: &mut FirstStarts, opened: bool, start: i64)
@@ -49,24 +49,6 @@ fn drop_left(starts: &mut FirstStarts, left: Option<Gone>)
 {
     if left.is_some() {
         starts.drop_oldest();
-    }
-}
-
-/// The range of the place of a span's trace in the ring has its start from now on. The row is a guess of how many traces
-/// were seen before this one.
-fn add_start(starts: &mut FirstStarts, ring: &Ring, row: u32, span: &Span)
-    requires { length starts.old.starts ≡ length ring.now.ids }
-    ensures starts { starts.new.starts ≡ starts.old.starts }
-    ensures used { starts.new.used ≡ starts.old.used }
-    ensures room { starts.new.room ≡ starts.old.room }
-    ensures none_narrows { (k : ℕ) → k < length starts.old.starts →
-        IsWider (range_at starts.old k) (range_at starts.new k) }
-    ensures own { (k : ℕ) → slice_get ring.now.ids k ≡ Some span.now.trace →
-        IsIn (range_at starts.new k) span.now.start }
-{
-    let _once = ring.len();
-    if let Some(place) = ring.place_near(row, span.trace) {
-        starts.widen(place as usize, span.start);
     }
 }
 
@@ -98,7 +80,8 @@ fn let_in(shown: &mut Assembly, starts: &mut FirstStarts, row: u32, span: &Span,
     let arrived = shown.arrive_near(row, span.trace, spot);
     add_opened(starts, arrived.opened, span.start);
     drop_left(starts, arrived.left);
-    add_start(starts, shown.ring(), arrived.row, span);
+    let _once = shown.ring().len();
+    starts.widen(arrived.place, span.start);
     arrived.row
 }
 

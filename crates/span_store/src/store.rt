@@ -37,7 +37,7 @@ use first_starts::FirstStarts;
 use jaeger_model::{Batch, Seq, Text, TraceId};
 use journal_traces::{
     Candidates, TakenTraces, asked_window, gather, ring_ids, spots_after, spots_along,
-    spots_reported, spots_within, take_all, take_within,
+    spots_reported, spots_within, take_candidates, take_within,
 };
 use service_places::ServicePlaces;
 use std::alloc::{AllocError, Global};
@@ -506,8 +506,16 @@ impl SpanStore {
     {
         let _legal = self.journal.len();
         let spots = self.candidates(query)?;
-        let traces = take_all(self.alloc, &self.journal, &spots)?;
-        Ok(TagSearch::new(query, ids_alone, self.limits(), traces))
+        let service = self.asked_service(query);
+        let traces = take_candidates(
+            self.alloc,
+            &self.journal,
+            &self.reported,
+            service,
+            query,
+            &spots,
+        )?;
+        Ok(TagSearch::new(ids_alone, self.limits(), traces))
     }
 
     /// The ids of the traces that a search without tags finds.

@@ -1,52 +1,41 @@
 //! A search by tags, once its candidates were taken out of the store.
-ghost use Rattle.std.specs.Prelude.{◌≡◌, IfOk, map};
-ghost use Rattle.journal_traces.specs.Taking.{placed_taken, ShareByNumber};
+ghost use Rattle.std.specs.Prelude.{◌≡◌, IfOk};
+ghost use Rattle.journal_traces.specs.Spotted.{traces_spotted};
 ghost use Rattle.span_store.specs.Found.{found_answer};
 
 use find_traces::Wanted;
 use jaeger_model::Seq;
-use journal_traces::{TakenSearch, TakenTraces, find_kept, find_kept_ids};
+use journal_traces::{TagCandidates, TakenSearch, find_kept, find_kept_ids};
 use std::alloc::{AllocError, Global};
 use std::marker::Model;
-use trace_model::{Answer, Find, Limits};
+use trace_model::{Answer, Limits};
 
 /// A search, and the traces among which it finds what it finds among all. Contracts see its answer.
 #[derive(Drop)]
 pub(crate) struct TagSearch<'q> {
-    query: &'q Find,
     /// Whether only the ids of the traces are asked.
     ids_alone: bool,
     /// Those of the store.
     limits: Limits,
-    traces: TakenTraces,
+    traces: TagCandidates<'q>,
 }
 
 impl<'q> Model for TagSearch<'q> {
-    ghost use Rattle.std.specs.Prelude.{map};
     ghost use Rattle.trace_model.specs.declared.answer.Answer.{Answer};
-    ghost use Rattle.journal_traces.specs.Taking.{placed_taken, ShareByNumber};
+    ghost use Rattle.journal_traces.specs.Spotted.{traces_spotted};
     ghost use Rattle.span_store.specs.Found.{found_answer};
 
     ghost Value = { Answer };
 
-    ghost view = { λ s. found_answer s.limits s.query.now s.ids_alone (map placed_taken s.traces) };
-
-    ghost invariant = { λ s. ShareByNumber s.traces };
+    ghost view = { λ s. found_answer s.limits s.traces.query s.ids_alone (traces_spotted s.traces) };
 }
 
 impl<'q> TagSearch<'q> {
-    pub(crate) fn new(
-        query: &'q Find,
-        ids_alone: bool,
-        limits: Limits,
-        traces: TakenTraces,
-    ) -> TagSearch<'q>
-        requires { ShareByNumber traces }
+    pub(crate) fn new(ids_alone: bool, limits: Limits, traces: TagCandidates<'q>) -> TagSearch<'q>
         ensures { result ≡
-            found_answer limits query.now ids_alone (map placed_taken traces) }
+            found_answer limits traces.entry.query ids_alone (traces_spotted traces.entry) }
     {
         TagSearch {
-            query,
             ids_alone,
             limits,
             traces,
@@ -57,8 +46,9 @@ impl<'q> TagSearch<'q> {
     pub(crate) fn answer(self, alloc: Global) -> Result<Answer, AllocError>
         ensures { IfOk result (λ a. a ≡ self.entry) }
     {
-        let wanted = Wanted::new(alloc, self.query)?;
-        let mut search = TakenSearch::new(alloc, &self.traces, &wanted);
+        let wanted = Wanted::new(alloc, self.traces.query())?;
+        let traces = self.traces.met_traces(alloc, &wanted)?;
+        let mut search = TakenSearch::new(alloc, &traces, &wanted);
         if self.ids_alone {
             let ids = find_kept_ids(alloc, &mut search)?;
             return Ok(Answer::Ids(Seq::from_vec(ids)));

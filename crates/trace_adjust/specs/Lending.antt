@@ -35,6 +35,10 @@ abbrev pub shifted_all : ℕ → List ℤ → List Placed → List Shown
 shifted_all max_skew deltas [] = []
 shifted_all max_skew deltas (p ∷ ps) = shifted max_skew (get_or deltas 0 (pos 0)) p ∷ shifted_all max_skew (drop 1 deltas) ps
 
--- the spans of a trace that are there, shown so
+-- the spans that are there, shown so
+abbrev pub shown_spans : Bool → ℕ → List (Option Placed) → List ℤ → List Shown
+shown_spans raw max_skew spans deltas = shifted_all max_skew deltas (map (placed_as raw) (spans_there spans))
+
+-- those of a trace
 abbrev pub shown_by_deltas : KeptTrace → List ℤ → List Shown
-shown_by_deltas t deltas = shifted_all t.limits.max_skew deltas (map (placed_as t.raw) (spans_there t.spans.items))
+shown_by_deltas t deltas = shown_spans t.raw t.limits.max_skew t.spans.items deltas

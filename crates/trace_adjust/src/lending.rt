@@ -4,8 +4,9 @@ ghost use Rattle.std.specs.Prelude.{◌≡◌, ℕ, List, pos, false, IfOk, map}
 ghost use Rattle.std.specs.List.{list_all};
 ghost use Rattle.std.specs.Ordering.{int_eq};
 ghost use Rattle.jaeger_model.specs.declared.placed.Placed.{Placed as PlacedValue};
-ghost use Rattle.trace_model.specs.Adjusting.{skew_adjusted, with_parent_first, adjusted};
+ghost use Rattle.trace_model.specs.Adjusting.{skew_adjusted, spans_of, with_parent_first, adjusted};
 ghost use Rattle.trace_model.specs.Keeping.{spans_there, kept_value, KeptShares};
+ghost use Rattle.trace_model.specs.Sharing.{ShareProcesses};
 ghost use Rattle.trace_adjust.specs.Lending.{AreThere, shifted_all, shown_by_deltas};
 ghost use Rattle.trace_adjust.specs.Skewing.{AreTraceClocks};
 
@@ -104,16 +105,24 @@ fn without_missing(trace: KeptTrace) -> KeptTrace
     }
 }
 
-/// The spans of a trace as they are shown, each lent by the entry that keeps it.
+/// The spans of a trace as they are shown, each lent by the entry that keeps it, and the places of the entries that
+/// brought the first spans: spans with one place have one process.
 ///
 /// # Errors
 ///
 /// Out of memory, and nothing else.
-pub fn lend(alloc: Global, trace: KeptTrace) -> Result<LentSpans, AllocError>
+pub fn lend(alloc: Global, trace: KeptTrace) -> Result<(LentSpans, Vec<u64>), AllocError>
     requires { KeptShares trace }
-    ensures { IfOk result (λ v. v ≡ kept_value trace) }
+    ensures spans { IfOk result (λ r. r.0 ≡ kept_value trace) }
+    ensures shares { IfOk result (λ r. ShareProcesses (spans_of r.0) r.1.items) }
 {
     let kept = without_missing(trace);
     let deltas = shown_deltas(alloc, &kept)?;
-    Ok(LentSpans { kept, deltas })
+    let spans = LentSpans {
+        spans: kept.spans,
+        raw: kept.raw,
+        max_skew: kept.limits.max_skew,
+        deltas,
+    };
+    Ok((spans, kept.places))
 }

@@ -1,8 +1,6 @@
 //! The spans of a trace of an answer as they are shown, lent one by one by the entries that keep them.
 
 ghost use Rattle.std.specs.Prelude.{◌≡◌, ◌<◌, pos, get_or, length, slice_get, Some, None, option_map};
-ghost use Rattle.trace_model.specs.Adjusting.{spans_of};
-ghost use Rattle.trace_model.specs.Sharing.{ShareProcesses};
 ghost use Rattle.trace_model.specs.Seeing.{placed_by_its_entry};
 ghost use Rattle.trace_adjust.specs.Lending.{placed_as, AreThere};
 
@@ -10,13 +8,17 @@ use crate::lent_placed::LentPlaced;
 use crate::lent_span::LentSpan;
 use jaeger_model::Seen;
 use std::marker::Model;
-use trace_model::{KeptSpan, KeptTrace};
+use trace_model::KeptSpan;
 
 /// The spans of a trace, lent by the entries that keep them. Of each span it holds where it is and the delta of its
 /// clock; all else is found when the span is looked at. Contracts see the spans as they are shown.
 #[derive(Drop)]
 pub struct LentSpans {
-    pub(crate) kept: KeptTrace,
+    pub(crate) spans: Vec<KeptSpan>,
+    /// Whether the spans are shown as they came, and not adjusted.
+    pub(crate) raw: bool,
+    /// The most clock skew that is taken away, in microseconds.
+    pub(crate) max_skew: u64,
     /// The deltas of the spans, in microseconds; 0 for the spans after the last delta.
     pub(crate) deltas: Vec<i128>,
 }
@@ -24,16 +26,13 @@ pub struct LentSpans {
 impl Model for LentSpans {
     ghost use Rattle.std.specs.Prelude.{List};
     ghost use Rattle.trace_model.specs.declared.answer.Shown.{Shown};
-    ghost use Rattle.trace_model.specs.Adjusting.{spans_of};
-    ghost use Rattle.trace_model.specs.Sharing.{ShareProcesses};
-    ghost use Rattle.trace_adjust.specs.Lending.{shown_by_deltas, AreThere};
+    ghost use Rattle.trace_adjust.specs.Lending.{shown_spans, AreThere};
 
     ghost Value = { List Shown };
 
-    ghost view = { λ l. shown_by_deltas l.kept l.deltas.items };
+    ghost view = { λ l. shown_spans l.raw l.max_skew l.spans.items l.deltas.items };
 
-    ghost invariant = { λ l. AreThere l.kept.spans.items
-        × ShareProcesses (spans_of (shown_by_deltas l.kept l.deltas.items)) l.kept.places.items };
+    ghost invariant = { λ l. AreThere l.spans.items };
 }
 
 /// A span that was reported so: as a store keeps it where `raw` is asked, else the reference to its parent in front.
@@ -71,14 +70,7 @@ impl LentSpans {
     pub fn len(&self) -> usize
         ensures { result ≡ length self.now }
     {
-        self.kept.spans.len()
-    }
-
-    /// The places of the entries that brought the first spans: spans with one place have one process.
-    pub fn places(&self) -> &[u64]
-        ensures { ShareProcesses (spans_of self.now) result.now }
-    {
-        &self.kept.places
+        self.spans.len()
     }
 
     /// The span at the index. Takes no memory.
@@ -87,7 +79,7 @@ impl LentSpans {
         ensures { slice_get self.now index ≡ Some result }
     {
         let delta = delta_at(&self.deltas, index);
-        let placed = lent_at(self.kept.raw, &self.kept.spans, index);
-        LentSpan::shifted(placed, delta, self.kept.limits.max_skew)
+        let placed = lent_at(self.raw, &self.spans, index);
+        LentSpan::shifted(placed, delta, self.max_skew)
     }
 }

@@ -1,10 +1,11 @@
 ghost use Rattle.std.specs.Prelude.{◌≡◌, ◌<◌, ◌∷◌, List, [], All, IfOk, decimal, get_or, length, map, string_bytes};
+ghost use Rattle.std.specs.Bool.{OnTrue};
 ghost use Rattle.serde_json.specs.Data.{string};
 ghost use Rattle.serde_json.specs.Written.{compact_text};
 ghost use Rattle.trace_model.specs.declared.answer.Shown.{Shown};
 ghost use Rattle.query_json.specs.Page.{Puts};
 ghost use Rattle.query_json.specs.Trees.{process_tree};
-ghost use Rattle.query_json.specs.Named.{AreNamed, HasSpan, named_text};
+ghost use Rattle.query_json.specs.Named.{AreNamed, HasSpan, first_named, named_text};
 ghost use Rattle.query_json.specs.Numbering.{IsFirst, first_process};
 ghost use Rattle.query_json.specs.Writing.{process_names};
 
@@ -32,6 +33,25 @@ impl WriteJson for Process {
 pub(crate) struct NamedProcess {
     number: u64,
     span: usize,
+}
+
+impl NamedProcess {
+    /// The process of the first span.
+    pub(super) fn first() -> NamedProcess
+        ensures { result ≡ first_named }
+    {
+        NamedProcess { number: 1, span: 0 }
+    }
+}
+
+/// Whether the process of the first span is the only one.
+pub(super) fn is_first_alone(processes: &[NamedProcess]) -> bool
+    ensures { OnTrue result (processes.now ≡ first_named ∷ []) }
+{
+    match processes {
+        [only] => only.number == 1 && only.span == 0,
+        _ => false,
+    }
 }
 
 /// The processes by their names.

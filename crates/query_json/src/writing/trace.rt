@@ -1,14 +1,18 @@
-ghost use Rattle.std.specs.Prelude.{◌≡◌, ◌+◌, ◌<◌, ◌^◌, [], IfOk, OnOk, get_or, length, map, string_bytes};
+ghost use Rattle.std.specs.Prelude.{◌≡◌, ◌==◌, ◌+◌, ◌<◌, ◌^◌, ◌∷◌, [], IfOk, OnOk, get_or, length, map, string_bytes};
+ghost use Rattle.std.specs.List.{list_all};
 ghost use Rattle.serde_json.specs.Data.{string};
 ghost use Rattle.serde_json.specs.Written.{compact_text};
+ghost use Rattle.trace_model.specs.Adjusting.{spans_of};
 ghost use Rattle.trace_model.specs.Keeping.{kept_value, KeptShares};
-ghost use Rattle.query_json.specs.Named.{AreNamed};
+ghost use Rattle.trace_model.specs.Sharing.{ShareProcesses};
+ghost use Rattle.query_json.specs.LentTraces.{IsNumbered, IsWritable};
+ghost use Rattle.query_json.specs.Named.{AreNamed, first_named};
 ghost use Rattle.query_json.specs.Page.{Puts};
-ghost use Rattle.query_json.specs.TracePieces.{close_text, item_spans, lent_pieces, span_pieces, span_text_in, trace_pieces};
+ghost use Rattle.query_json.specs.TracePieces.{close_text, item_spans, pieces_of, span_pieces, span_text_in, trace_pieces};
 ghost use Rattle.query_json.specs.Trees.{processes_of, trace_id_text, trace_tree};
 ghost use Rattle.query_json.specs.Writing.{process_place};
 
-use super::processes::{NamedProcess, in_order, write_process};
+use super::processes::{NamedProcess, in_order, is_first_alone, write_process};
 use super::span::write_span;
 use super::{Page, WriteJson, put_separator};
 use crate::naming::lent_places;
@@ -54,15 +58,98 @@ fn few(processes: usize, spans: usize) -> Result<(), AllocError>
 fn named_processes(
     alloc: Global,
     spans: &LentSpans,
+    entries: &[u64],
 ) -> Result<(Vec<u32>, Vec<NamedProcess>), AllocError>
+    requires { ShareProcesses (spans_of spans.now) entries.now }
     ensures places { IfOk result (λ r.
         r.0.items ≡ map (process_place (processes_of spans.now)) spans.now) }
     ensures processes { IfOk result (λ r.
         AreNamed spans.now (processes_of spans.now) r.1.items) }
 {
-    let (places, processes) = lent_places(alloc, spans)?;
+    let (places, processes) = lent_places(alloc, spans, entries)?;
     let named = in_order(alloc, &processes)?;
     Ok((places, named))
+}
+
+/// How many processes stand before that of the span at the index.
+fn place_at(places: &[u32], index: usize) -> u32
+    ensures { result ≡ get_or places.now index 0 }
+{
+    places.get(index).copied().unwrap_or(0)
+}
+
+/// What the text of a trace is written from: its spans, with what is known of their processes.
+#[derive(Clone, Copy)]
+struct NumberedSpans<'a> {
+    spans: &'a LentSpans,
+    /// For each span how many processes stand before its own; 0 for the spans after the last place.
+    places: &'a [u32],
+    /// In the order of their names.
+    processes: &'a [NamedProcess],
+}
+
+impl<'a> NumberedSpans<'a> {
+    /// The number of pieces: the processes and spans, and what stands before, between and behind them.
+    fn piece_count(&self) -> usize
+        requires { IsNumbered self.now.spans.now self.now.places.now self.now.processes.now }
+        ensures count { result ≡ length (pieces_of self.now.processes.now self.now.spans.now) }
+        ensures bound { result < 2 ^ 63 }
+    {
+        self.processes.len() + self.spans.len() + 3
+    }
+
+    /// Puts a piece.
+    fn put_piece(&self, out: &mut Page, piece: usize)
+        requires numbered { IsNumbered self.now.spans.now self.now.places.now
+            self.now.processes.now }
+        requires piece { piece < length (pieces_of self.now.processes.now self.now.spans.now) }
+        ensures { Puts out.old out.new
+            (get_or (pieces_of self.now.processes.now self.now.spans.now) piece []) }
+    {
+        if piece == 0 {
+            out.put(r#"{"processes":{"#);
+            return;
+        }
+        let index = piece - 1;
+        if index >= self.processes.len() {
+            self.put_behind(out, index - self.processes.len());
+            return;
+        }
+        put_separator(out, index);
+        write_process(out, self.spans, self.processes, index);
+    }
+
+    /// Puts a piece of those behind the processes.
+    fn put_behind(&self, out: &mut Page, piece: usize)
+        requires numbered { IsNumbered self.now.spans.now self.now.places.now
+            self.now.processes.now }
+        requires piece { piece < length (span_pieces self.now.spans.now) }
+        ensures { Puts out.old out.new (get_or (span_pieces self.now.spans.now) piece []) }
+    {
+        if piece == 0 {
+            out.put(r#"},"spans":["#);
+            return;
+        }
+        let index = piece - 1;
+        if index >= self.spans.len() {
+            put_close(out, self.spans);
+            return;
+        }
+        put_separator(out, index);
+        self.put_span(out, index);
+    }
+
+    /// Puts the span at the index, with the name of its process.
+    fn put_span(&self, out: &mut Page, index: usize)
+        requires numbered { IsNumbered self.now.spans.now self.now.places.now
+            self.now.processes.now }
+        requires within { index < length self.now.spans.now }
+        ensures { Puts out.old out.new
+            (get_or (map (span_text_in self.now.spans.now) self.now.spans.now) index []) }
+    {
+        let number = u64::from(place_at(self.places, index)) + 1;
+        write_span(out, number, &self.spans.at(index));
+    }
 }
 
 /// A trace whose spans are lent by their entries, with what is to be known of its processes before it is written.
@@ -75,80 +162,65 @@ pub(crate) struct LentTrace {
 }
 
 impl LentTrace {
-    ghost use Rattle.query_json.specs.LentTraces.{IsNumbered};
-
-    pub(crate) fn new(alloc: Global, kept: KeptTrace) -> Result<LentTrace, AllocError>
-        requires { KeptShares kept }
-        ensures spans { IfOk result (λ t. t.spans ≡ kept_value kept) }
-        ensures numbered { IfOk result IsNumbered }
-    {
-        let spans = lend(alloc, kept)?;
-        let (places, processes) = named_processes(alloc, &spans)?;
-        few(processes.len(), spans.len())?;
-        Ok(LentTrace {
-            spans,
-            places,
-            processes,
-        })
-    }
-
-    /// The number of its pieces: its processes and spans, and what stands before, between and behind them.
-    pub(crate) fn piece_count(&self) -> usize
-        requires { IsNumbered self.now }
-        ensures count { result ≡ length (lent_pieces self.now) }
+    /// The number of its pieces.
+    fn piece_count(&self) -> usize
+        requires { IsNumbered self.now.spans self.now.places.items self.now.processes.items }
+        ensures count { result ≡ length (pieces_of self.now.processes.items self.now.spans) }
         ensures bound { result < 2 ^ 63 }
     {
-        self.processes.len() + self.spans.len() + 3
+        let numbered = NumberedSpans {
+            spans: &self.spans,
+            places: &self.places,
+            processes: &self.processes,
+        };
+        numbered.piece_count()
     }
 
     /// Puts a piece.
-    pub(crate) fn put_piece(&self, out: &mut Page, piece: usize)
-        requires numbered { IsNumbered self.now }
-        requires piece { piece < length (lent_pieces self.now) }
-        ensures { Puts out.old out.new (get_or (lent_pieces self.now) piece []) }
-    {
-        if piece == 0 {
-            out.put(r#"{"processes":{"#);
-            return;
-        }
-        let index = piece - 1;
-        if index >= self.processes.len() {
-            self.put_behind(out, index - self.processes.len());
-            return;
-        }
-        put_separator(out, index);
-        write_process(out, &self.spans, &self.processes, index);
-    }
-
-    /// Puts a piece of those behind the processes.
-    fn put_behind(&self, out: &mut Page, piece: usize)
-        requires numbered { IsNumbered self.now }
-        requires piece { piece < length (span_pieces self.now.spans) }
-        ensures { Puts out.old out.new (get_or (span_pieces self.now.spans) piece []) }
-    {
-        if piece == 0 {
-            out.put(r#"},"spans":["#);
-            return;
-        }
-        let index = piece - 1;
-        if index >= self.spans.len() {
-            put_close(out, &self.spans);
-            return;
-        }
-        put_separator(out, index);
-        self.put_span(out, index);
-    }
-
-    /// Puts the span at the index, with the name of its process.
-    fn put_span(&self, out: &mut Page, index: usize)
-        requires numbered { IsNumbered self.now }
-        requires within { index < length self.now.spans }
+    fn put_piece(&self, out: &mut Page, piece: usize)
+        requires numbered { IsNumbered self.now.spans self.now.places.items
+            self.now.processes.items }
+        requires piece { piece < length (pieces_of self.now.processes.items self.now.spans) }
         ensures { Puts out.old out.new
-            (get_or (map (span_text_in self.now.spans) self.now.spans) index []) }
+            (get_or (pieces_of self.now.processes.items self.now.spans) piece []) }
     {
-        let number = u64::from(self.places[index]) + 1;
-        write_span(out, number, &self.spans.at(index));
+        let numbered = NumberedSpans {
+            spans: &self.spans,
+            places: &self.places,
+            processes: &self.processes,
+        };
+        numbered.put_piece(out, piece);
     }
+}
+
+/// The number of pieces of a trace whose spans have one process.
+fn piece_count_of_one(spans: &LentSpans) -> usize
+    requires { IsNumbered spans.now [] (first_named ∷ []) }
+    ensures count { result ≡ length (pieces_of (first_named ∷ []) spans.now) }
+    ensures bound { result < 2 ^ 63 }
+{
+    let processes = [NamedProcess::first()];
+    let numbered = NumberedSpans {
+        spans,
+        places: &[],
+        processes: &processes,
+    };
+    numbered.piece_count()
+}
+
+/// Puts a piece of a trace whose spans have one process.
+fn put_piece_of_one(out: &mut Page, spans: &LentSpans, piece: usize)
+    requires numbered { IsNumbered spans.now [] (first_named ∷ []) }
+    requires piece { piece < length (pieces_of (first_named ∷ []) spans.now) }
+    ensures { Puts out.old out.new (get_or (pieces_of (first_named ∷ []) spans.now) piece []) }
+{
+    let processes = [NamedProcess::first()];
+    let numbered = NumberedSpans {
+        spans,
+        places: &[],
+        processes: &processes,
+    };
+    numbered.put_piece(out, piece);
 }
 
 /// A trace whose spans are made: the text of its tree. The spans are there for contracts alone.
@@ -175,20 +247,48 @@ impl MadeTrace {
 /// A trace of an answer, written in pieces. One whose spans are made is one piece.
 #[derive(Drop)]
 pub(crate) enum TraceItem {
-    Lent(LentTrace),
+    /// Its spans are lent, and have one process. Nothing else is to be known of them, since many answers are of such
+    /// traces, small ones.
+    One(LentSpans),
+    Lent(Box<LentTrace>),
     Made(MadeTrace),
 }
 
-impl TraceItem {
-    ghost use Rattle.query_json.specs.LentTraces.{IsWritable};
+/// Whether each place is 0.
+fn are_zero(places: &[u32]) -> bool
+    ensures { result ≡ list_all (λ p. p == 0) places.now }
+{
+    places.iter().all(|place| *place == 0)
+}
 
+/// A trace whose spans their entries keep.
+fn lent_item(alloc: Global, kept: KeptTrace) -> Result<TraceItem, AllocError>
+    requires { KeptShares kept }
+    ensures spans { IfOk result (λ t. item_spans t ≡ kept_value kept) }
+    ensures writable { IfOk result IsWritable }
+{
+    let (spans, entries) = lend(alloc, kept)?;
+    let (places, processes) = named_processes(alloc, &spans, &entries)?;
+    few(processes.len(), spans.len())?;
+    if is_first_alone(&processes) && are_zero(&places) {
+        return Ok(TraceItem::One(spans));
+    }
+    let lent = LentTrace {
+        spans,
+        places,
+        processes,
+    };
+    Ok(TraceItem::Lent(Box::new(alloc, lent)?))
+}
+
+impl TraceItem {
     /// Takes all the memory that writing it needs.
     pub(crate) fn new(alloc: Global, trace: AnsweredTrace) -> Result<TraceItem, AllocError>
         ensures spans { IfOk result (λ t. item_spans t ≡ trace) }
         ensures writable { IfOk result IsWritable }
     {
         match trace.into_form() {
-            TraceForm::Kept(kept) => Ok(TraceItem::Lent(LentTrace::new(alloc, kept)?)),
+            TraceForm::Kept(kept) => lent_item(alloc, kept),
             TraceForm::Ready(made) => Ok(TraceItem::Made(MadeTrace::new(alloc, &made)?)),
         }
     }
@@ -200,6 +300,7 @@ impl TraceItem {
         ensures bound { result < 2 ^ 63 }
     {
         match self {
+            TraceItem::One(spans) => piece_count_of_one(spans),
             TraceItem::Lent(lent) => lent.piece_count(),
             TraceItem::Made(_) => 1,
         }
@@ -212,6 +313,7 @@ impl TraceItem {
         ensures { Puts out.old out.new (get_or (trace_pieces self.now) piece []) }
     {
         match self {
+            TraceItem::One(spans) => put_piece_of_one(out, spans, piece),
             TraceItem::Lent(lent) => lent.put_piece(out, piece),
             TraceItem::Made(made) => out.put(made.text.as_str()),
         }

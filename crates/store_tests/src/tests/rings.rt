@@ -29,15 +29,24 @@ fn gone(trace: u64, row: u32) -> Gone {
 #[test]
 fn late_spans_renew_nothing(rt: HostRuntime) -> Result<(), Fail> {
     let mut ring = Ring::with_room(rt.alloc(), RandomState::new(&rt)?, 2, 4)?;
-    for (trace, opened, left, row) in [
-        (1, true, None, 0),
-        (2, true, None, 1),
-        (1, false, None, 0),
-        (3, true, Some(gone(1, 0)), 2),
-        (1, true, Some(gone(2, 1)), 0),
+    for (trace, opened, left, row, place) in [
+        (1, true, None, 0, 0),
+        (2, true, None, 1, 1),
+        (1, false, None, 0, 0),
+        (3, true, Some(gone(1, 0)), 2, 1),
+        (1, true, Some(gone(2, 1)), 0, 1),
     ] {
         let arrived = arrive(&rt, &mut ring, id(trace));
-        assert_eq!(rt; arrived, Arrived { opened, left, row }, "trace {trace}");
+        assert_eq!(rt;
+            arrived,
+            Arrived {
+                opened,
+                left,
+                row,
+                place
+            },
+            "trace {trace}"
+        );
     }
     assert_eq!(rt; ring.place(id(3)), Some(0));
     assert_eq!(rt; ring.place(id(1)), Some(1));

@@ -102,9 +102,10 @@ fn are_lent(
         raw,
     };
     let shown = show(alloc, &trace)?;
-    let lent = lend(alloc, trace)?;
+    let (lent, places) = lend(alloc, trace)?;
     let same = are_shown_so(alloc, &lent, shown.as_slice());
     drop(lent);
+    drop(places);
     drop(shown);
     same
 }

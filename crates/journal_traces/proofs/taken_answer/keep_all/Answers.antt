@@ -13,13 +13,16 @@ loop-place-preserved c =
     let i = c.loop-place.place in
     let long = length-map c.args.traces.now placed_taken in
     let within : i < length xs = omega (arith, c.loop-place-test.true, c.count-place-end.ensures) in
-    c.in_ok-push.ensures.items
-    ∙ (λ j. c.loop-place.invariant j ++ c.in_ok-kept_at.ensures j ∷ [])
-    ∙ sym (ap (map f) (take_more xs i [] within) ∙ map_push f (take i xs) _)
+    record {
+      kept = c.in_ok-push.ensures.items
+          ∙ (λ j. c.loop-place.invariant.kept j ++ c.in_ok-kept_at.ensures.trace j ∷ [])
+          ∙ sym (ap (map f) (take_more xs i [] within) ∙ map_push f (take i xs) _);
+      classes = c.in_ok-kept_at.ensures.classes;
+    }
 
 pub returns : goal.returns
 returns c =
     let xs : List (List Placed) = map placed_taken c.args.traces.now in
     let long = length-map c.args.traces.now placed_taken in
     let all : length xs ≤ c.loop-place.place = omega (arith, c.loop-place-test.false, c.count-place-end.ensures) in
-    c.loop-place.invariant ∙ ap (map (adjusted c.args.limits.max_skew)) (take_all c.loop-place.place xs all)
+    c.loop-place.invariant.kept ∙ ap (map (adjusted c.args.limits.max_skew)) (take_all c.loop-place.place xs all)

@@ -1,7 +1,11 @@
 use Rattle.std.proofs.Common.{◌≡◌, map, take}
 use Rattle.trace_model.specs.Adjusting.{adjusted}
+use Rattle.journal_traces.specs.Classes.{ShareByClass}
 use Rattle.journal_traces.specs.Taking.{placed_taken}
 use Rattle.journal_traces.proofs.taken_answer.keep_all.Given as goal
 
 abbrev pub invariant-loop-place : goal.invariant-loop-place
-invariant-loop-place l = l.kept.items ≡ map (adjusted l.limits.max_skew) (take l.place (map placed_taken l.traces))
+invariant-loop-place l = record {
+  kept : l.kept.items ≡ map (adjusted l.limits.max_skew) (take l.place (map placed_taken l.traces));
+  classes : ShareByClass l.traces l.classes;
+}

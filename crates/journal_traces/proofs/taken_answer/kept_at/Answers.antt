@@ -1,4 +1,5 @@
-use Rattle.std.proofs.Common.{sym, subst}
+use Rattle.std.proofs.Common.{ℕ, Option, sym, subst}
+use Rattle.jaeger_model.specs.declared.batch.Process.{Process}
 use Rattle.journal_traces.specs.Taking.{HaveProcesses}
 use Rattle.journal_traces.proofs.TakenSpans.{processes_got}
 use Rattle.journal_traces.proofs.taken_answer.kept_at.Goals as goal
@@ -6,4 +7,13 @@ use Rattle.journal_traces.proofs.taken_answer.kept_at.Goals as goal
 pub kept-requires : goal.kept-requires
 kept-requires c =
     let process_of = c.requires.process_of in
-    c.in_ok-trace.ensures.shared process_of (subst (HaveProcesses process_of) (sym c.trace.ensures) (processes_got process_of c.args.traces.now c.args.place c.requires.each))
+    c.in_ok-trace.ensures.shared process_of (subst (HaveProcesses process_of) (sym c.trace.ensures) (processes_got process_of c.args.traces.now c.args.place c.requires.each)) c.requires.leads
+
+pub returns-clause-classes : goal.returns-clause-classes
+returns-clause-classes c =
+    let process_of = c.requires.process_of in
+    record {
+      process_of = process_of;
+      each = c.requires.each;
+      leads = c.in_ok-trace.ensures.leads process_of (subst (HaveProcesses process_of) (sym c.trace.ensures) (processes_got process_of c.args.traces.now c.args.place c.requires.each)) c.requires.leads;
+    }

@@ -1,5 +1,12 @@
+use Rattle.std.proofs.Common.{ℕ, Option}
+use Rattle.jaeger_model.specs.declared.batch.Process.{Process}
+use Rattle.journal_traces.specs.Classes.{Leads}
+use Rattle.journal_traces.specs.Taking.{HaveProcesses}
 use Rattle.journal_traces.proofs.TakenSpans.{IsKeptUpto}
 use Rattle.journal_traces.proofs.taken_answer.kept_trace.Given as goal
 
 abbrev pub invariant-loop-span : goal.invariant-loop-span
-invariant-loop-span l = IsKeptUpto l.spans l.span-index l.kept.items l.numbers.items
+invariant-loop-span l = record {
+  kept : IsKeptUpto l.fn.classes l.spans l.span-index l.kept.items l.places.items;
+  leads : (process_of : ℕ → Option Process) → HaveProcesses process_of l.spans → Leads process_of l.fn.classes → Leads process_of l.classes;
+}

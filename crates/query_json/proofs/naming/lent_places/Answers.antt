@@ -9,7 +9,7 @@ use Rattle.query_json.specs.Writing.{process_place}
 use Rattle.query_json.proofs.naming.lent_places.Goals as goal
 
 pub loop-index-init : goal.loop-index-init
-loop-index-init c = c.in_ok-placing.ensures.placed c.args.spans.now c.places-entries.result.now
+loop-index-init c = c.in_ok-placing.ensures.placed c.args.spans.now c.args.entries.now
 
 pub loop-index-preserved : goal.loop-index-preserved
 loop-index-preserved c =
@@ -18,8 +18,8 @@ loop-index-preserved c =
     let s = c.at.result in
     let within : i < length spans = search rules in
     let is : s ≡ get_or spans i s = sym (get_or_from_slice_get spans i s s c.at.ensures) in
-    let entries = c.places-entries.result.now in
-    let next : ComesNext spans entries i s c.entry_at.result = record { within = within; is = is; stands = c.entry_at.ensures; shares = c.places-entries.ensures } in
+    let entries = c.args.entries.now in
+    let next : ComesNext spans entries i s c.entry_at.result = record { within = within; is = is; stands = c.entry_at.ensures; shares = c.requires } in
     c.in_ok-add.ensures spans entries i s c.process.ensures next c.loop-index.invariant
 
 pub returns-clause-places : goal.returns-clause-places

@@ -14,8 +14,16 @@ shown_deltas-requires c =
     subst (λ places. ShareProcesses (spans_there kept.result.spans.items) places.items) (sym kept.ensures.places)
     (subst (λ (ps : List Placed). ShareProcesses ps was.places.items) (sym kept.ensures.spans) c.requires)
 
-pub invariant_of-result : goal.invariant_of-result
-invariant_of-result c =
+pub invariant_of-spans : goal.invariant_of-spans
+invariant_of-spans c = c.without_missing-kept.ensures.there
+
+pub returns-clause-spans : goal.returns-clause-spans
+returns-clause-spans c =
+    let kept = c.without_missing-kept.ensures in
+    c.in_ok-deltas.ensures ∙ (λ i. shown_as (kept.limits i) (kept.raw i) (kept.spans i))
+
+pub returns-clause-shares : goal.returns-clause-shares
+returns-clause-shares c =
     let was = c.args.trace in
     let kept = c.without_missing-kept in
     let t = kept.result in
@@ -23,9 +31,4 @@ invariant_of-result c =
     subst (λ places. ShareProcesses (spans_there t.spans.items) places.items) (sym kept.ensures.places)
     (subst (λ (ps : List Placed). ShareProcesses ps was.places.items) (sym kept.ensures.spans) c.requires) in
     let shown = shown_shares t.limits t.raw (spans_there t.spans.items) t.places.items shares in
-    (kept.ensures.there, subst (λ (ss : List Shown). ShareProcesses (spans_of ss) t.places.items) (sym c.in_ok-deltas.ensures) shown)
-
-pub returns : goal.returns
-returns c =
-    let kept = c.without_missing-kept.ensures in
-    c.in_ok-deltas.ensures ∙ (λ i. shown_as (kept.limits i) (kept.raw i) (kept.spans i))
+    subst (λ (ss : List Shown). ShareProcesses (spans_of ss) t.places.items) (sym c.in_ok-deltas.ensures) shown

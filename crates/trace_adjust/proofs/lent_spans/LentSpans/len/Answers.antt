@@ -8,7 +8,7 @@ use Rattle.trace_adjust.proofs.lent_spans.LentSpans.len.Goals as goal
 
 pub returns : goal.returns
 returns c =
-    let t = c.self.inside.kept in
+    let t = c.self.inside in
     let ps = spans_there t.spans.items in
-    let long = length_shifted t.limits.max_skew c.self.inside.deltas.items (map (placed_as t.raw) ps) in
-    omega (arith, c.len.ensures, t.spans.ok.0, there_count t.spans.items c.self.invariant.0, length-map ps (placed_as t.raw), long, ap length c.self.view_is)
+    let long = length_shifted t.max_skew c.self.inside.deltas.items (map (placed_as t.raw) ps) in
+    omega (arith, c.len.ensures, t.spans.ok.0, there_count t.spans.items c.self.invariant, length-map ps (placed_as t.raw), long, ap length c.self.view_is)

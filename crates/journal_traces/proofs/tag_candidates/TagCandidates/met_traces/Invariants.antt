@@ -1,0 +1,11 @@
+use Rattle.std.proofs.Common.{◌≡◌, map, take}
+use Rattle.trace_model.specs.Searching.{matching}
+use Rattle.journal_traces.specs.Spotted.{AreNumbered, traces_spotted}
+use Rattle.journal_traces.specs.Taking.{placed_taken}
+use Rattle.journal_traces.proofs.tag_candidates.TagCandidates.met_traces.Given as goal
+
+abbrev pub invariant-loop-place : goal.invariant-loop-place
+invariant-loop-place l = record {
+  matching : matching l.wanted (map placed_taken l.traces) ≡ matching l.wanted (take l.place (traces_spotted l.self));
+  numbers : AreNumbered l.self.entries l.traces;
+}

@@ -1,0 +1,11 @@
+use Rattle.std.proofs.Common.{◌≡◌, false, take}
+use Rattle.std.specs.List.{list_any}
+use Rattle.journal_traces.specs.Meeting.{IsJudgedAs}
+use Rattle.journal_traces.specs.Picked.{meets}
+use Rattle.journal_traces.proofs.tag_candidates.is_batch_met.Given as goal
+
+abbrev pub invariant-loop-span : goal.invariant-loop-span
+invariant-loop-span l = record {
+  none : list_any (meets l.wanted l.process) (take l.span-index l.spans) ≡ false;
+  judged : IsJudgedAs l.wanted l.process l.judged;
+}

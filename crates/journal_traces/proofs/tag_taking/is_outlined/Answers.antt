@@ -1,0 +1,9 @@
+use Rattle.std.proofs.Common.{◌∙◌, sym}
+use Rattle.trace_model.specs.Places.{entry_at}
+use Rattle.journal_traces.proofs.Spotting.{unoutlined}
+use Rattle.journal_traces.proofs.tag_taking.is_outlined.Goals as goal
+
+pub returns-in-Some : goal.returns-in-Some
+returns-in-Some c = λ e at none.
+    let t = c.args.teller.now in
+    unoutlined t.filter e (entry_at t.journal.now.held.entries c.args.place) c.in-Some.outline at (sym c.in-Some.is ∙ c.outline.ensures) (sym c.may_meet.ensures ∙ none)

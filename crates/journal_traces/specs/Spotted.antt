@@ -1,0 +1,96 @@
+-- Traces by the spots of their spans among entries that are taken once each.
+use Rattle.std.specs.Prelude.{◌≡◌, ◌<◌, ℕ, suc, Bool, false, List, [], ◌∷◌, ◌++◌, map, length, get_or, slice_get, Option, Some}
+use Rattle.std.specs.Arc.{arc_value}
+use Rattle.std.specs.List.{list_any, cons_option, All}
+use Rattle.jaeger_model.specs.declared.batch.Process.{Process}
+use Rattle.jaeger_model.specs.declared.placed.Placed.{Placed}
+use Rattle.trace_model.specs.declared.entry.Entry.{Entry}
+use Rattle.trace_model.specs.declared.query.Find.{Find}
+use Rattle.trace_model.specs.Searching.{matches}
+use Rattle.trace_model.specs.Taking.{Taken}
+use Rattle.trace_model.specs.Works.{placed_brought}
+use Rattle.trace_assembly.specs.declared.spot.Spot.{Spot}
+use Rattle.trace_assembly.specs.Located.{span_at}
+use Rattle.journal_traces.specs.declared.tag_candidates.TakenEntry.{TakenEntry}
+use Rattle.journal_traces.specs.declared.tag_candidates.TakenSpot.{TakenSpot}
+use Rattle.journal_traces.specs.Cutting.{AreStarts}
+use Rattle.journal_traces.specs.Standing.{process_at}
+use Rattle.journal_traces.specs.Taking.{placed_taken, HaveProcesses}
+
+-- a search, the entries that are taken, and the traces that the search looks at, whose spans have the numbers of their entries
+pub record Spotted : Type 0 where
+  pub query : Find
+  pub entries : List Entry
+  pub traces : List (List Taken)
+
+-- ---- spans by their spots among the entries
+-- its place among the entries
+abbrev pub spot_of : TakenSpot → Spot
+spot_of s = record { place = suc s.number; index = s.index }
+
+abbrev pub taken_spotted : List Entry → TakenSpot → Taken
+taken_spotted es s = record { span = span_at es (spot_of s); number = s.number }
+
+abbrev pub trace_spotted : List Entry → List TakenSpot → List Taken
+trace_spotted es ss = map (taken_spotted es) ss
+
+-- the spans that the traces have
+abbrev pub traces_spotted : Spotted → List (List Placed)
+traces_spotted s = map placed_taken s.traces
+
+-- ---- entries whose spans meet a search
+-- one of the entry's spans does
+abbrev pub is_entry_met : Find → Entry → Bool
+is_entry_met q e = list_any (matches q) (placed_brought e.work)
+
+-- none does unless one may
+abbrev pub IsToldBy : Find → Entry → Bool → Type 0
+IsToldBy q e may_match = may_match ≡ false → is_entry_met q e ≡ false
+
+abbrev pub IsTold : Find → TakenEntry → Type 0
+IsTold q t = IsToldBy q (arc_value t.entry) t.may_match
+
+-- the same of what is known of an entry
+abbrev pub IsTellingOf : Find → TakenEntry → Bool → Type 0
+IsTellingOf q t may_match = IsToldBy q (arc_value t.entry) may_match
+
+-- so of the entry of the spot, by what is known of each entry
+abbrev pub is_spot_met : List Bool → TakenSpot → Bool
+is_spot_met met s = get_or met s.number false
+
+abbrev pub are_spots_met : List Bool → List TakenSpot → Bool
+are_spots_met met ss = list_any (is_spot_met met) ss
+
+-- ---- processes by the numbers of their entries
+abbrev pub process_numbered : List Entry → ℕ → Option Process
+process_numbered es n = process_at es (suc n)
+
+-- the number of each span of the traces leads to its process
+abbrev pub AreNumbered : List Entry → List (List Taken) → Type 0
+AreNumbered es traces = All (HaveProcesses (process_numbered es)) traces
+
+-- ---- what is kept of them
+abbrev pub entry_shared : TakenEntry → Entry
+entry_shared t = arc_value t.entry
+
+abbrev pub entries_shared : List TakenEntry → List Entry
+entries_shared ts = map entry_shared ts
+
+abbrev pub IsWithin : ℕ → TakenSpot → Type 0
+IsWithin count s = s.number < count
+
+pub record IsSpotted (q : Find) (entries : List TakenEntry) (spots : List TakenSpot) (starts : List ℕ) : Type 0 where
+  pub ordered : AreStarts (length spots) starts
+  pub told : All (IsTold q) entries
+  pub within : All (IsWithin (length entries)) spots
+
+-- ---- entries by their numbers
+-- of each entry of a history the number among the entries that are taken, and one more; 0 where it isn't taken
+pub record AreNumbers (h es : List Entry) (numbers : List ℕ) : Type 0 where
+  pub as_many : length numbers ≡ length h
+  pub each : (k n : ℕ) (e : Entry) → get_or numbers k 0 ≡ suc n → slice_get h k ≡ Some e → slice_get es n ≡ Some e
+
+-- ---- the last trace grows
+-- it gets this span, if there is one
+abbrev pub AddsSpan : Option Placed → List (List Taken) → List (List Taken) → Type 0
+AddsSpan o old new = (ts : List (List Taken)) (t : List Taken) → old ≡ ts ++ t ∷ [] → (more : List Taken) × (placed_taken more ≡ cons_option o []) × (new ≡ ts ++ (t ++ more) ∷ [])

@@ -1,0 +1,93 @@
+//! The numbers of entries whose processes are equal, made one.
+
+ghost use Rattle.std.specs.Prelude.{◌≡◌, ◌==◌, ℕ, Option, Some, IfOk, OnOk, if◌then◌else◌};
+ghost use Rattle.std.specs.BTreeMap.{get};
+ghost use Rattle.std.specs.Ordering.{nat_cmp};
+ghost use Rattle.jaeger_model.specs.declared.batch.Process.{Process as ProcessValue};
+ghost use Rattle.journal_traces.specs.Classes.{Leads};
+ghost use Rattle.journal_traces.specs.Taking.{HasProcess};
+
+use crate::recurring::Recurring;
+use jaeger_model::Process;
+use process_order::ByContent;
+use std::alloc::{AllocError, Global};
+use std::collections::BTreeMap;
+use trace_model::TakenSpan;
+
+/// The classes of the numbers of taken spans: numbers whose processes are equal are of one class, which is the first
+/// of them. A process is compared with the others once for each number. A number that doesn't recur is a class of its
+/// own, and its process isn't compared: that is done in its one trace.
+#[derive(Drop)]
+pub(crate) struct ProcessClasses<'a> {
+    recurring: Recurring,
+    /// The class of each process.
+    by_process: BTreeMap<ByContent<'a>, u32>,
+    /// The class of each number.
+    by_number: BTreeMap<u32, u32>,
+}
+
+/// The class of a number, if it is known.
+fn known(by_number: &BTreeMap<u32, u32>, number: u32) -> Option<u32>
+    ensures { result ≡ get nat_cmp by_number.now number }
+{
+    by_number.get(&number).copied()
+}
+
+/// Keeps the class of a number.
+fn keep(by_number: &mut BTreeMap<u32, u32>, number: u32, class: u32) -> Result<(), AllocError>
+    ensures { OnOk result ((n : ℕ) → get nat_cmp by_number.new n ≡
+        (if number == n then Some class else get nat_cmp by_number.old n)) }
+{
+    by_number.insert(number, class)?;
+    Ok(())
+}
+
+impl<'a> ProcessClasses<'a> {
+    pub(crate) fn new(alloc: Global, recurring: Recurring) -> Self
+        ensures { (process_of : ℕ → Option ProcessValue) → Leads process_of result }
+    {
+        ProcessClasses {
+            recurring,
+            by_process: BTreeMap::new(alloc),
+            by_number: BTreeMap::new(alloc),
+        }
+    }
+
+    /// The class of a process, which is this number if no equal one has a class yet.
+    fn class_of_process(&mut self, process: &'a Process, number: u32) -> Result<u32, AllocError>
+        ensures class { (process_of : ℕ → Option ProcessValue) →
+            process_of number ≡ Some process.now → Leads process_of self.old →
+            IfOk result (λ class. process_of class ≡ process_of number) }
+        ensures leads { (process_of : ℕ → Option ProcessValue) →
+            process_of number ≡ Some process.now → Leads process_of self.old →
+            OnOk result (Leads process_of self.new) }
+    {
+        let key = ByContent(process);
+        if let Some(class) = self.by_process.get(&key).copied() {
+            return Ok(class);
+        }
+        self.by_process.insert(key, number)?;
+        Ok(number)
+    }
+
+    /// The class of the number of a span.
+    pub(crate) fn class_of(&mut self, span: &'a TakenSpan) -> Result<u32, AllocError>
+        ensures class { (process_of : ℕ → Option ProcessValue) →
+            HasProcess process_of span.now → Leads process_of self.old →
+            IfOk result (λ class. process_of class ≡ process_of span.now.number) }
+        ensures leads { (process_of : ℕ → Option ProcessValue) →
+            HasProcess process_of span.now → Leads process_of self.old →
+            OnOk result (Leads process_of self.new) }
+    {
+        let number = span.number();
+        if !self.recurring.has(number) {
+            return Ok(number);
+        }
+        if let Some(class) = known(&self.by_number, number) {
+            return Ok(class);
+        }
+        let class = self.class_of_process(span.seen().process, number)?;
+        keep(&mut self.by_number, number, class)?;
+        Ok(class)
+    }
+}

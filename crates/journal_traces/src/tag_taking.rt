@@ -1,0 +1,178 @@
+//! Takes the traces that a search by tags looks at out of the journal: by numbers alone, so that no span is looked at.
+
+ghost use Rattle.std.specs.Prelude.{◌≡◌, ◌<◌, ◌++◌, ◌∷◌, [], length, map, slice_get, IfOk, IsSome, OnOk, Some};
+ghost use Rattle.std.specs.Arc.{arc_value};
+ghost use Rattle.std.proofs.Props.{props};
+ghost use Rattle.trace_model.specs.declared.entry.Entry.{Entry as EntryValue};
+ghost use Rattle.trace_model.specs.Places.{entry_at};
+ghost use Rattle.trace_assembly.specs.Located.{span_at};
+ghost use Rattle.journal_traces.specs.Lasting.{AreTold};
+ghost use Rattle.journal_traces.specs.Spotted.{traces_spotted, AddsSpan, IsToldBy, AreNumbers};
+ghost use Rattle.journal_traces.specs.Standing.{spans_named, traces_named};
+
+use crate::pruning::EntryFilter;
+use crate::tag_candidates::{TagCandidates, TakenSpot};
+use arrival_journal::Journal;
+use service_places::ServicePlaces;
+use std::alloc::{AllocError, Global};
+use std::sync::Arc;
+use trace_assembly::{Spot, Spots};
+use trace_model::{Entry, Find};
+
+/// A search, and what tells by numbers alone which entries of the journal may have a span that meets it.
+#[derive(Drop)]
+struct Teller<'a> {
+    journal: &'a Journal,
+    /// The numbers of the services of the journal's entries.
+    reported: &'a ServicePlaces,
+    /// The number of the service that the search asks for; none where no entry is of it.
+    service: Option<u32>,
+    filter: EntryFilter<'a>,
+    ghost told: { AreTold filter journal.now.held.entries reported.now.groups service } by { Prim.hlevel props },
+}
+
+/// Whether the entry at a place is of the service that the search asks for.
+fn is_asked(teller: &Teller<'_>, place: u64) -> bool
+    requires { IsSome (entry_at teller.now.journal.now.held.entries place) }
+    ensures { (e : EntryValue) → Some e ≡ entry_at teller.now.journal.now.held.entries place →
+        IsToldBy teller.now.filter e result }
+{
+    match teller.service {
+        Some(service) => teller.reported.group_at((place - 1) as u32) == service,
+        None => false,
+    }
+}
+
+/// Whether the outline of the entry at a place meets the search.
+fn is_outlined(teller: &Teller<'_>, place: u64) -> bool
+    ensures { (e : EntryValue) → Some e ≡ entry_at teller.now.journal.now.held.entries place →
+        IsToldBy teller.now.filter e result }
+{
+    match teller.journal.outline(place) {
+        Some(outline) => teller.filter.may_meet(outline),
+        None => false,
+    }
+}
+
+/// Whether a span of the entry at a place may meet the search.
+fn may_match(teller: &Teller<'_>, place: u64) -> bool
+    requires { IsSome (entry_at teller.now.journal.now.held.entries place) }
+    ensures { (e : EntryValue) → Some e ≡ entry_at teller.now.journal.now.held.entries place →
+        IsToldBy teller.now.filter e result }
+{
+    is_asked(teller, place) && is_outlined(teller, place)
+}
+
+/// The number of the entry at a place, which is taken unless it was before.
+fn number_of(
+    taken: &mut TagCandidates<'_>,
+    numbers: &mut [u32],
+    teller: &Teller<'_>,
+    entry: &Arc<Entry>,
+    place: u64,
+) -> Result<u32, AllocError>
+    requires there { Some (arc_value entry.now) ≡
+        entry_at teller.now.journal.now.held.entries place }
+    requires query { taken.old.query ≡ teller.now.filter }
+    requires numbers { AreNumbers teller.now.journal.now.held.entries taken.old.entries numbers.old }
+    ensures number { IfOk result (λ n. slice_get taken.new.entries n ≡ Some (arc_value entry.now)) }
+    ensures numbers { OnOk result
+        (AreNumbers teller.now.journal.now.held.entries taken.new.entries numbers.new) }
+    ensures query { taken.new.query ≡ taken.old.query }
+    ensures traces { taken.new.traces ≡ taken.old.traces }
+{
+    let before = (place - 1) as usize;
+    let known = numbers[before];
+    if known > 0 {
+        return Ok(known - 1);
+    }
+    let Ok(number) = u32::try_from(taken.entry_count()) else {
+        return Err(AllocError);
+    };
+    let Some(next) = number.checked_add(1) else {
+        return Err(AllocError);
+    };
+    taken.share(entry, may_match(teller, place))?;
+    numbers[before] = next;
+    Ok(number)
+}
+
+/// Adds the span at a spot to the last trace.
+fn take_spot(
+    taken: &mut TagCandidates<'_>,
+    numbers: &mut [u32],
+    teller: &Teller<'_>,
+    spot: Spot,
+) -> Result<(), AllocError>
+    requires query { taken.old.query ≡ teller.now.filter }
+    requires numbers { AreNumbers teller.now.journal.now.held.entries taken.old.entries numbers.old }
+    ensures numbers { OnOk result
+        (AreNumbers teller.now.journal.now.held.entries taken.new.entries numbers.new) }
+    ensures query { taken.new.query ≡ taken.old.query }
+    ensures traces { OnOk result (AddsSpan (span_at teller.now.journal.now.held.entries spot)
+        taken.old.traces taken.new.traces) }
+{
+    if let Some(entry) = teller.journal.entry(spot.place) {
+        let number = number_of(taken, numbers, teller, entry, spot.place)?;
+        taken.push(TakenSpot {
+            number,
+            index: spot.index,
+        })?;
+    }
+    Ok(())
+}
+
+/// Takes the trace of the spans at these spots, in their order.
+fn take_spots(
+    taken: &mut TagCandidates<'_>,
+    numbers: &mut [u32],
+    teller: &Teller<'_>,
+    spots: Spots<'_>,
+) -> Result<(), AllocError>
+    requires query { taken.old.query ≡ teller.now.filter }
+    requires numbers { AreNumbers teller.now.journal.now.held.entries taken.old.entries numbers.old }
+    ensures numbers { OnOk result
+        (AreNumbers teller.now.journal.now.held.entries taken.new.entries numbers.new) }
+    ensures query { taken.new.query ≡ taken.old.query }
+    ensures spans { OnOk result (traces_spotted taken.new ≡ traces_spotted taken.old
+        ++ spans_named teller.now.journal.now.held.entries spots.entry ∷ []) }
+{
+    taken.begin()?;
+    for spot in spots {
+        take_spot(taken, numbers, teller, spot)?;
+    }
+    Ok(())
+}
+
+/// Takes the trace of each of these lists of spots, in their order, for a search by tags. Each entry is taken once.
+/// Which of them are of the search's service is told by its number.
+///
+/// # Errors
+///
+/// Out of memory, and nothing else.
+pub fn take_candidates<'q>(
+    alloc: Global,
+    journal: &Journal,
+    reported: &ServicePlaces,
+    service: Option<u32>,
+    query: &'q Find,
+    spots: &[Spots<'_>],
+) -> Result<TagCandidates<'q>, AllocError>
+    requires { AreTold query.now journal.now.held.entries reported.now.groups service }
+    ensures query { IfOk result (λ taken. taken.query ≡ query.now) }
+    ensures spans { IfOk result (λ taken. traces_spotted taken ≡
+        traces_named journal.now.held.entries spots.now) }
+{
+    let mut taken = TagCandidates::new(alloc, query);
+    let mut numbers = vec![in alloc; 0u32; journal.entries().len()]?;
+    let teller = Teller {
+        journal,
+        reported,
+        service,
+        filter: EntryFilter::new(query),
+    };
+    for trace in spots {
+        take_spots(&mut taken, &mut numbers, &teller, trace.again())?;
+    }
+    Ok(taken)
+}

@@ -1,0 +1,35 @@
+use Rattle.std.proofs.Common.{◌≡◌, ◌∙◌, List, map, ap, sym}
+use Rattle.jaeger_model.specs.declared.placed.Placed.{Placed}
+use Rattle.trace_model.specs.Adjusting.{adjusted}
+use Rattle.trace_model.specs.declared.answer.Answer.TheVariants as say
+use Rattle.trace_model.specs.declared.query.Find.{Find}
+use Rattle.trace_model.specs.Searching.{found_in, ids_of}
+use Rattle.trace_model.specs.Taking.{Taken}
+use Rattle.journal_traces.specs.Spotted.{traces_spotted}
+use Rattle.journal_traces.specs.TakenSearch.{traces_taken, query_taken}
+use Rattle.span_store.specs.Found.{found_answer}
+use Rattle.span_store.proofs.tag_search.TagSearch.answer.Goals as goal
+
+pub returns-then-self : goal.returns-then-self
+returns-then-self c =
+    let was = c.self.inside in
+    let q : Find = was.traces.query in
+    let ts : List (List Placed) = traces_spotted was.traces in
+    let asked : c.in_ok-wanted.wanted ≡ q = c.in_ok-wanted.ensures ∙ c.query.ensures in
+    let found =
+    ap (λ (s : Find × List (List Taken)). found_in (query_taken s) (traces_taken s)) c.new-search.ensures
+    ∙ c.in_ok-traces.ensures.found ∙ ap (λ (f : Find). found_in f ts) asked in
+    ap say.Ids (c.from_vec.ensures ∙ c.in_ok-ids.ensures ∙ ap ids_of found)
+    ∙ ap (λ b. found_answer was.limits q b ts) (sym c.if-self.true) ∙ c.self.view_is
+
+pub returns : goal.returns
+returns c =
+    let was = c.self.inside in
+    let q : Find = was.traces.query in
+    let ts : List (List Placed) = traces_spotted was.traces in
+    let asked : c.in_ok-wanted.wanted ≡ q = c.in_ok-wanted.ensures ∙ c.query.ensures in
+    let found =
+    ap (λ (s : Find × List (List Taken)). found_in (query_taken s) (traces_taken s)) c.new-search.ensures
+    ∙ c.in_ok-traces.ensures.found ∙ ap (λ (f : Find). found_in f ts) asked in
+    ap say.Traces (c.from_vec-2.ensures ∙ c.in_ok-found.ensures ∙ ap (map (adjusted was.limits.max_skew)) found)
+    ∙ ap (λ b. found_answer was.limits q b ts) (sym c.if-self.false) ∙ c.self.view_is
