@@ -17,7 +17,6 @@ use Rattle.trace_model.proofs.Admissions.{IsSaid, admission_says}
 use Rattle.trace_model.proofs.Prefixes.{prefix_get}
 use Rattle.read_side.specs.Keepers.{Lists, Answers, accepted, after_admission, admission_after, refusal_after, TurnsAway}
 use Rattle.read_side.specs.Receipts.{StandsAt, AnsweredAt}
-use Rattle.intake.specs.Seats.{IsUnacknowledged}
 use Rattle.intake.specs.Books.{is_accepted, AnsweredIfPlaced}
 use Rattle.read_side.proofs.Admitting.{last_stands, entry_stands}
 
@@ -31,12 +30,6 @@ one-of-four P limits k e memory stale full conflict = go (admission_after limits
     go (Err (JournalFull batches spans)) s = full batches spans
     go (Err (Conflict place)) s = conflict place
     go (Err why) s = absurd s
-
-pub turned-unacknowledged : (limits : Limits) (k : Lists) (e : Entry) (why : Refusal) (m : Lists) → TurnsAway limits k e why m → IsUnacknowledged why
-turned-unacknowledged limits k e why m t = ⊎_elim
-    (λ p. subst IsUnacknowledged (sym p.0) tt)
-    (λ q. subst IsUnacknowledged (sym q.1) (one-of-four IsUnacknowledged limits k e tt (λ l. tt) (λ b s. tt) (λ place. tt)))
-    t
 
 -- what was said of an entry that is taken
 said : (limits : Limits) (k : Lists) (j : Entry) (a : Admission) → admission_after limits k j ≡ Ok a → IsSaid limits (accepted k) j (Ok a)

@@ -1,5 +1,6 @@
 pub mod Steps
 pub mod Judging
+pub mod Denying
 pub mod Accounting
 pub mod Ends
 pub mod Runs

@@ -1,4 +1,5 @@
 pub mod Queues
 pub mod Seats
+pub mod Denials
 pub mod Turns
 pub mod Books

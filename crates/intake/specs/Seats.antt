@@ -1,5 +1,5 @@
 -- What contracts see of seats, jobs and tickets.
-use Rattle.std.specs.Prelude.{◌≡◌, ℕ, ◌+◌, ◌⊎◌, Bool, true, false, List, [], ◌∷◌, ◌++◌, length}
+use Rattle.std.specs.Prelude.{◌≡◌, ℕ, ◌+◌, ◌-◌, ◌<◌, ◌^◌, ◌⊎◌, Bool, true, false, List, [], ◌∷◌, ◌++◌, length}
 use Rattle.atomic_table.specs.Seated.{TableId}
 use Rattle.crossbeam_queue.specs.Passes.{Pass, view}
 use Rattle.trace_model.specs.declared.entry.Entry.{Entry}
@@ -41,12 +41,16 @@ abbrev pub WasFull : SeatValue → Type 0
 WasFull s = (items : List Entry) × (length items ≡ s.capacity)
     × (taken : List Entry) × (jobs_of s.seat (taken ++ items) ≡ s.jobs)
 
--- why a batch was not handed in; a seat that has ended says only that the desk is closed
+-- the seat has not ended, and has a number left
+abbrev pub HasNextNumber : SeatValue → Type 0
+HasNextNumber s = (s.hands_in ≡ true) × (length s.jobs < 2 ^ 64 - 1)
+
+-- why a batch was not handed in; a seat that has ended, or has no number left, says only that the desk is closed
 abbrev pub IsNotTaken : SeatValue → Refusal → Type 0
 IsNotTaken s why =
     (why ≡ Closed)
-    ⊎ ((why ≡ NoMemory) × (s.hands_in ≡ true))
-    ⊎ ((why ≡ Busy) × (s.hands_in ≡ true) × WasFull s)
+    ⊎ ((why ≡ NoMemory) × HasNextNumber s)
+    ⊎ ((why ≡ Busy) × HasNextNumber s × WasFull s)
 
 -- why a job that was handed in was not acknowledged: its keeper's refusal, or there is no reply
 abbrev pub IsUnacknowledged : Refusal → Type 0

@@ -49,9 +49,9 @@ Accounted (j ∷ js) (a ∷ rest) = (a.seat ≡ j.seat) × (a.number ≡ j.numbe
 Accounted _ _ = ⊥
 
 -- the place alone, or the refusal
-abbrev pub place_or_refusal : {A : Type 0} → (A → ℕ) → Result A Refusal → Result ℕ Refusal
-place_or_refusal place (Ok a) = Ok (place a)
-place_or_refusal place (Err why) = Err why
+abbrev pub place_or_refusal : {A B : Type 0} → (A → ℕ) → (B → Refusal) → Result A B → Result ℕ Refusal
+place_or_refusal place why (Ok a) = Ok (place a)
+place_or_refusal place why (Err d) = Err (why d)
 
 abbrev pub account_of : Entry → Result ℕ Refusal → Account
 account_of job answer = record { seat = job.seat; number = job.number; answer = answer }

@@ -3,33 +3,35 @@
 ghost use Rattle.std.specs.Prelude.{◌≡◌, IfOk, IfErr, IfSome};
 ghost use Rattle.std.specs.Arc.{arc_value};
 ghost use Rattle.read_side.specs.Receipts.{AnsweredAt};
-ghost use Rattle.intake.specs.Seats.{IsUnacknowledged};
+ghost use Rattle.intake.specs.Denials.{IsDenied};
 
+use crate::denial::Denial;
 use crate::ticket::Ack;
 use counted_slot::{Counted, FREE, Fits, PRESENT, TAKEN};
 use read_side::{Receipt, StoreName};
 use std::marker::Model;
 use std::sync::Arc;
-use trace_model::{Entry, Refusal};
+use trace_model::Entry;
 
 /// What became of an entry.
 #[derive(Drop)]
 pub(crate) struct JobOutcome<N: StoreName> {
-    pub(crate) answer: Result<Ack<N>, Refusal>,
+    pub(crate) answer: Result<Ack<N>, Denial<N>>,
 }
 
-/// It is the outcome of this entry: an acknowledgement's list has at its place an entry that answers for it.
+/// It is the outcome of this entry: an acknowledgement's list has at its place an entry that answers for it, and a denial's list
+/// leaves it out for the reason that is given.
 impl<N: StoreName> Fits for JobOutcome<N> {
     ghost use Rattle.std.specs.Prelude.{IfOk, IfErr};
     ghost use Rattle.std.specs.Arc.{arc_value};
     ghost use Rattle.read_side.specs.Receipts.{AnsweredAt};
-    ghost use Rattle.intake.specs.Seats.{IsUnacknowledged};
+    ghost use Rattle.intake.specs.Denials.{IsDenied};
 
     type Tag = Entry;
 
     ghost fits = { λ entry o.
         IfOk o.answer (λ a. AnsweredAt (arc_value a.receipt).entries a.place entry)
-        × IfErr o.answer IsUnacknowledged };
+        × IfErr o.answer (λ d. IsDenied N.limits entry d.refusal d.list) };
 }
 
 impl<N: StoreName> JobOutcome<N> {
@@ -70,7 +72,8 @@ impl<N: StoreName> Cell<N> {
     pub(crate) fn lay_down(&self, outcome: JobOutcome<N>)
         requires answered { IfOk outcome.answer (λ a.
             AnsweredAt (arc_value a.receipt).entries a.place self.now) }
-        requires reason { IfErr outcome.answer IsUnacknowledged }
+        requires denied { IfErr outcome.answer (λ d.
+            IsDenied N.limits self.now d.refusal d.list) }
     {
         let (found, claim) = self.slot.turn(FREE, TAKEN);
         if found != FREE {
@@ -81,10 +84,11 @@ impl<N: StoreName> Cell<N> {
     }
 
     /// The answer, if it lies there.
-    pub(crate) fn take(&self) -> Option<Result<Ack<N>, Refusal>>
+    pub(crate) fn take(&self) -> Option<Result<Ack<N>, Denial<N>>>
         ensures answered { IfSome result (λ r. IfOk r (λ a.
             AnsweredAt (arc_value a.receipt).entries a.place self.now)) }
-        ensures reason { IfSome result (λ r. IfErr r IsUnacknowledged) }
+        ensures denied { IfSome result (λ r. IfErr r (λ d.
+            IsDenied N.limits self.now d.refusal d.list)) }
     {
         if self.slot.load() != PRESENT {
             return None;

@@ -5,7 +5,7 @@ ghost use Rattle.std.specs.Arc.{arc_value};
 ghost use Rattle.trace_model.specs.declared.refusal.Refusal.TheVariants.{NoMemory};
 ghost use Rattle.read_side.specs.Keepers.{Answers};
 ghost use Rattle.read_side.specs.Receipts.{AnsweredAt};
-ghost use Rattle.intake.specs.Seats.{IsUnacknowledged};
+ghost use Rattle.intake.specs.Denials.{IsDenied};
 ghost use Rattle.intake.specs.Turns.{IsNewInbox, IsNewClerk, Accounted, place_or_refusal, Serves, IfServed, IfNotServed, IfNoJob, WasEmpty};
 ghost use Rattle.intake.specs.Books.{Ran, Balances, acknowledged, refused};
 
@@ -13,6 +13,7 @@ use crate::account::Account;
 use crate::accounts::Accounts;
 use crate::books::Books;
 use crate::cell::JobOutcome;
+use crate::denial::Denial;
 use crate::inbox::Inbox;
 use crate::shared::Shared;
 use crate::ticket::Ack;
@@ -99,17 +100,29 @@ fn judge_entry<N: StoreName, R: Wait>(
     alloc: Global,
     keeper: &mut Keeper<N>,
     entry: Record,
-) -> Result<Ack<N>, Refusal>
+) -> Result<Ack<N>, Denial<N>>
     ensures judged { Answers N.limits keeper.old entry
-        (place_or_refusal (λ a. a.place) result) keeper.new }
+        (place_or_refusal (λ a. a.place) (λ d. d.refusal) result) keeper.new }
     ensures answered { IfOk result (λ a.
         AnsweredAt (arc_value a.receipt).entries a.place entry) }
-    ensures reason { IfErr result IsUnacknowledged }
+    ensures denied { IfErr result (λ d. IsDenied N.limits entry d.refusal d.list) }
 {
+    let accepted = keeper.history();
     let Ok(room) = Arc::new(alloc, keeper.receipt()) else {
-        return Err(keeper.turn_away(&entry));
+        return Err(Denial {
+            refusal: keeper.turn_away(&entry),
+            list: Some(accepted),
+        });
     };
-    let receipt = keeper.admit_record(rt, entry)?;
+    let receipt = match keeper.admit_record(rt, entry) {
+        Ok(receipt) => receipt,
+        Err(refusal) => {
+            return Err(Denial {
+                refusal,
+                list: Some(accepted),
+            });
+        }
+    };
     let Some(place) = receipt.place() else {
         unreachable!()
     };
@@ -120,12 +133,12 @@ fn judge_entry<N: StoreName, R: Wait>(
 }
 
 /// The place alone, or the refusal.
-fn place_or_refusal<N: StoreName>(answer: &Result<Ack<N>, Refusal>) -> Result<u64, Refusal>
-    ensures { result ≡ place_or_refusal (λ a. a.place) answer.now }
+fn place_or_refusal<N: StoreName>(answer: &Result<Ack<N>, Denial<N>>) -> Result<u64, Refusal>
+    ensures { result ≡ place_or_refusal (λ a. a.place) (λ d. d.refusal) answer.now }
 {
     match answer {
         Ok(ack) => Ok(ack.place),
-        Err(refusal) => Err(*refusal),
+        Err(denial) => Err(denial.refusal),
     }
 }
 

@@ -4,7 +4,7 @@ ghost use Rattle.std.specs.Prelude.{◌≡◌, ◌≤◌, ◌+◌, true, false, 
 ghost use Rattle.std.specs.Arc.{arc_value};
 ghost use Rattle.crossbeam_queue.specs.Passes.{view, IsPassOf, ruled_capacity};
 ghost use Rattle.trace_model.specs.declared.entry.Work.TheVariants as brings;
-ghost use Rattle.intake.specs.Seats.{next_job, with_job, IsNotTaken, IsEndOf, IsNewSeat};
+ghost use Rattle.intake.specs.Seats.{next_job, with_job, HasNextNumber, IsNotTaken, IsEndOf, IsNewSeat};
 
 use crate::cell::Cell;
 use crate::job::Job;
@@ -123,7 +123,7 @@ impl<N: StoreName> Seat<N> {
         alloc: Global,
         batch: Batch,
     ) -> Result<Ticket<N>, (Refusal, Batch)>
-        ensures may { OnOk result (self.old.hands_in ≡ true) }
+        ensures may { OnOk result (HasNextNumber self.old) }
         ensures job { IfOk result (λ ticket. ticket ≡ next_job self.old (brings.Batch batch)) }
         ensures handed_in { OnOk result
             (self.new ≡ with_job self.old (next_job self.old (brings.Batch batch))) }
@@ -155,7 +155,7 @@ impl<N: StoreName> Seat<N> {
     ) -> Result<Ticket<N>, Refusal>
         requires limit { limit ≤ 1000000 }
 
-        ensures may { OnOk result (self.old.hands_in ≡ true) }
+        ensures may { OnOk result (HasNextNumber self.old) }
         ensures job { IfOk result (λ ticket. ticket ≡ next_job self.old (brings.TraceLimit limit)) }
         ensures handed_in { OnOk result
             (self.new ≡ with_job self.old (next_job self.old (brings.TraceLimit limit))) }
@@ -176,7 +176,7 @@ impl<N: StoreName> Seat<N> {
         alloc: Global,
         work: Work,
     ) -> Result<Ticket<N>, (Refusal, Work)>
-        ensures may { OnOk result (self.old.hands_in ≡ true) }
+        ensures may { OnOk result (HasNextNumber self.old) }
         ensures job { IfOk result (λ ticket. ticket ≡ next_job self.old work) }
         ensures handed_in { OnOk result (self.new ≡ with_job self.old (next_job self.old work)) }
 

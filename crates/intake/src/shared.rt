@@ -4,7 +4,7 @@ ghost use Rattle.std.specs.Prelude.{◌≡◌, ◌⊎◌, IfOk, IfErr};
 ghost use Rattle.std.specs.Arc.{arc_value};
 ghost use Rattle.trace_model.specs.declared.refusal.Refusal.TheVariants.{Closed, NoReply};
 ghost use Rattle.read_side.specs.Receipts.{AnsweredAt};
-ghost use Rattle.intake.specs.Seats.{IsUnacknowledged};
+ghost use Rattle.intake.specs.Denials.{IsDenied};
 
 use crate::bell::Bell;
 use crate::cell::{Cell, JobOutcome};
@@ -75,7 +75,8 @@ impl<N: StoreName> Shared<N> {
     )
         requires answered { IfOk outcome.answer (λ a.
             AnsweredAt (arc_value a.receipt).entries a.place cell.now) }
-        requires reason { IfErr outcome.answer IsUnacknowledged }
+        requires denied { IfErr outcome.answer (λ d.
+            IsDenied N.limits cell.now d.refusal d.list) }
     {
         if let Some(receipt) = outcome.receipt() {
             *self.last.lock(rt) = receipt;

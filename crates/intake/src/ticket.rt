@@ -4,8 +4,10 @@ ghost use Rattle.std.specs.Prelude.{◌≡◌, IfOk, IfErr};
 ghost use Rattle.std.specs.Arc.{arc_value};
 ghost use Rattle.read_side.specs.Receipts.{AnsweredAt};
 ghost use Rattle.intake.specs.Seats.{IsUnacknowledged};
+ghost use Rattle.intake.specs.Denials.{IsDenied};
 
 use crate::cell::Cell;
+use crate::denial::Denial;
 use crate::shared::Shared;
 use read_side::{Receipt, StoreName};
 use std::marker::Model;
@@ -72,6 +74,23 @@ impl<N: StoreName> Ticket<N> {
             AnsweredAt (arc_value a.receipt).entries a.place self) }
         ensures reason { IfErr result IsUnacknowledged }
     {
+        match self.answer(rt) {
+            Ok(ack) => Ok(ack),
+            Err(denial) => Err(denial.refusal),
+        }
+    }
+
+    /// Waits for the answer as [`wait`](Self::wait) does. A refusal of the keeper's comes with the list by which the job's
+    /// entry is refused for that reason, so it is true.
+    ///
+    /// # Errors
+    ///
+    /// Those of [`wait`](Self::wait).
+    pub fn answer<R: Wait>(self, rt: &R) -> Result<Ack<N>, Denial<N>>
+        ensures answered { IfOk result (λ a.
+            AnsweredAt (arc_value a.receipt).entries a.place self) }
+        ensures denied { IfErr result (λ d. IsDenied N.limits self d.refusal d.list) }
+    {
         for _ in rt.forever() {
             let rings = self.rings();
             let ended = self.shared.has_ended();
@@ -79,7 +98,11 @@ impl<N: StoreName> Ticket<N> {
                 return answer;
             }
             if ended {
-                return Err(self.shared.lost());
+                let refusal = self.shared.lost();
+                return Err(Denial {
+                    refusal,
+                    list: None,
+                });
             }
             self.await_ring(rt, rings);
         }

@@ -8,11 +8,12 @@ use Rattle.trace_model.specs.declared.limits.Limits.{Limits}
 use Rattle.trace_model.specs.declared.query.Query.{Query}
 use Rattle.trace_model.specs.declared.answer.Answer.{Answer}
 use Rattle.trace_model.specs.declared.refusal.Refusal.{Refusal}
-use Rattle.trace_model.specs.declared.refusal.Refusal.TheVariants.{NoMemory, Gone}
+use Rattle.trace_model.specs.declared.refusal.Refusal.TheVariants.{NoMemory, Gone, Closed, NoReply}
 use Rattle.trace_model.specs.Histories.{IsLegal}
 use Rattle.trace_model.specs.Answers.{answer}
 use Rattle.read_side.specs.Receipts.{AnsweredAt}
-use Rattle.intake.specs.Seats.{SeatValue, IsNotTaken, IsUnacknowledged, next_job, with_job}
+use Rattle.intake.specs.Seats.{SeatValue, IsNotTaken, next_job, with_job}
+use Rattle.intake.specs.Denials.{IsLeftOut}
 use Rattle.store_backend.specs.Knowing.{History}
 
 -- the seat, and the longest list that the pass knows
@@ -40,15 +41,25 @@ abbrev pub KnowsPlace : Limits → Entry → ℕ → List Entry → Type 0
 KnowsPlace limits e place known =
     (list : List Entry) × IsLegal limits list × AnsweredAt list place e × IsPrefix list known
 
+-- of two lists one begins the other
+abbrev pub OneBegins : List Entry → List Entry → Type 0
+OneBegins xs ys = IsPrefix xs ys ⊎ IsPrefix ys xs
+
+-- a legal list of the same history as what is known leaves the entry out for this reason; or the clerk has ended
+abbrev pub IsTurnedDown : Limits → Entry → Refusal → List Entry → Type 0
+IsTurnedDown limits e why known =
+    ((list : List Entry) × IsLegal limits list × OneBegins list known × IsLeftOut limits list e why)
+    ⊎ ((why ≡ Closed) ⊎ (why ≡ NoReply))
+
 -- the seat handed the batch in, and its entry is answered for at the place of a list that is known then; or,
--- at a refusal, it did not, for the seat's reason, or it did, for the reason that its ticket returned
+-- at a refusal, it did not, for the seat's reason, or it did, and the history leaves its entry out for this reason
 abbrev pub LiveSubmits : Limits → LiveValue → Batch → Result ℕ Refusal → LiveValue → Type 0
 LiveSubmits limits s b (Ok place) t =
     IsPrefix s.known t.known × HandsIn s.seat b t.seat
     × KnowsPlace limits (next_job s.seat (brings.Batch b)) place t.known
 LiveSubmits limits s b (Err why) t =
     (t.known ≡ s.known)
-    × (((t.seat ≡ s.seat) × IsNotTaken s.seat why) ⊎ (HandsIn s.seat b t.seat × IsUnacknowledged why))
+    × (((t.seat ≡ s.seat) × IsNotTaken s.seat why) ⊎ (HandsIn s.seat b t.seat × IsTurnedDown limits (next_job s.seat (brings.Batch b)) why t.known))
 
 -- the answer is the plain store's of the list that is known then, which is legal and begins with what was known;
 -- where memory ran out that list is legal too, and where the store is gone nothing has changed

@@ -11,13 +11,15 @@ ghost use Rattle.std.specs.Prelude.{◌≡◌, ◌⊎◌, OnOk, OnErr, IfOk, IfE
 ghost use Rattle.std.specs.Arc.{arc_value};
 ghost use mathlib.Core.List.{IsPrefix};
 ghost use Rattle.trace_model.specs.declared.entry.Work.TheVariants as brings;
+ghost use Rattle.trace_model.specs.declared.entry.Entry.{Entry};
 ghost use Rattle.trace_model.specs.Histories.{IsLegal};
 ghost use Rattle.intake.specs.Seats.{IsNotTaken, next_job};
-ghost use Rattle.live_store.specs.Sharing.{HandsIn, LiveSubmits};
+ghost use Rattle.intake.specs.Denials.{IsDenied};
+ghost use Rattle.live_store.specs.Sharing.{HandsIn, IsTurnedDown, LiveSubmits};
 
 mod processes;
 
-use intake::{Ack, Seat, Ticket};
+use intake::{Ack, Denial, Seat, Ticket};
 use jaeger_model::{Batch, SharedProcess};
 use processes::share_process;
 use read_side::{Pass, Receipt, StoreName};
@@ -102,6 +104,20 @@ impl<N: StoreName> Live<N> {
         ack.place
     }
 
+    /// Why the entry was refused. The list by which it was is of the same history as the list that is known.
+    fn refusal_of(&self, denial: Denial<N>) -> Refusal
+        ensures refusal { result ≡ denial.refusal }
+        ensures history { (e : Entry) → IsDenied N.limits e denial.refusal denial.list →
+            IsTurnedDown N.limits e result self.now.known }
+    {
+        let Denial { refusal, list } = denial;
+        if let Some(list) = list {
+            let _legal = list.len();
+            let _one_begins = list.is_prefix_of(&self.pass.history());
+        }
+        refusal
+    }
+
     /// The seat, and the pass with all that it knew.
     pub fn into_parts(self) -> (Seat<N>, Pass<N>)
         ensures seat { result.0 ≡ self.seat }
@@ -130,8 +146,10 @@ impl<N: StoreName, R: Wait> Backend<R> for Live<N> {
 
     fn submit(&mut self, rt: &R, alloc: Global, batch: Batch) -> Result<u64, Refusal> {
         let ticket = self.hand_in(rt, alloc, batch)?;
-        let ack = ticket.wait(rt)?;
-        Ok(self.learn_ack(ack))
+        match ticket.answer(rt) {
+            Ok(ack) => Ok(self.learn_ack(ack)),
+            Err(denial) => Err(self.refusal_of(denial)),
+        }
     }
 
     fn read(&mut self, _alloc: Global, query: &Query) -> Result<Answer, Refusal> {

@@ -6,3 +6,4 @@ pub mod Receipts
 pub mod Naming
 pub mod Passes
 pub mod Holding
+pub mod OneHistory

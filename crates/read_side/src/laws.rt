@@ -1,10 +1,17 @@
 //! What follows from the keeper's clauses. Each function does nothing, and its contract is the fact.
 
-ghost use Rattle.std.specs.Prelude.{ℕ, List, Result};
+ghost use Rattle.std.specs.Prelude.{◌≡◌, ℕ, List, Result, Some};
 ghost use mathlib.Core.List.{IsPrefix};
 ghost use Rattle.trace_model.specs.declared.entry.Entry.{Entry};
 ghost use Rattle.trace_model.specs.declared.limits.Limits.{Limits};
 ghost use Rattle.trace_model.specs.declared.refusal.Refusal.{Refusal};
+ghost use Rattle.trace_model.specs.declared.query.Query.{Query};
+ghost use Rattle.trace_model.specs.declared.answer.Answer.{Answer};
+ghost use Rattle.trace_model.specs.Answers.{answer};
+ghost use Rattle.trace_model.specs.Histories.{IsLegal};
+ghost use Rattle.trace_model.specs.Refusals.{refusal_of};
+ghost use Rattle.read_side.specs.Receipts.{AnsweredAt};
+ghost use Rattle.read_side.specs.OneHistory.{IsAnswered, IsAcknowledged, IsRefused};
 ghost use Rattle.read_side.specs.Keepers.{Lists, Admissions};
 
 /// Whatever entries a keeper is asked to admit, and whatever it answers, the published list only grows at its
@@ -13,4 +20,19 @@ ghost use Rattle.read_side.specs.Keepers.{Lists, Admissions};
 pub fn a_receipts_list_begins_every_later_one()
     ensures { (limits : Limits) (old new : Lists) (calls : List (Entry × Result ℕ Refusal)) →
         Admissions limits old calls new → IsPrefix old.published new.published }
+{}
+
+/// One history stands for all that was done. Whatever was admitted, read, learnt and settled under one store name, by
+/// whichever threads, each call spoke of a list: a pass of the one it had entered, a receipt and a refusal of their own. The
+/// [`HistoryPrefix`](crate::HistoryPrefix)es of these lists have a longest, [`longest`](crate::longest), which is legal and of which each
+/// is a prefix. Of that one list each answer is the plain store's for a prefix, each acknowledged entry stands in it at the
+/// place that was named and nowhere else, and each refusal is true of a prefix.
+pub fn all_calls_have_one_history()
+    ensures answers { (limits : Limits) (list whole : List Entry) (q : Query) (a : Answer) →
+        IsPrefix list whole → a ≡ answer limits list q → IsAnswered limits whole q a }
+    ensures acknowledged { (limits : Limits) (list whole : List Entry) (place : ℕ) (e : Entry) →
+        IsLegal limits whole → IsPrefix list whole → AnsweredAt list place e →
+        IsAcknowledged whole place e }
+    ensures refused { (limits : Limits) (list whole : List Entry) (e : Entry) (why : Refusal) →
+        IsPrefix list whole → refusal_of limits list e ≡ Some why → IsRefused limits whole e why }
 {}

@@ -11,7 +11,7 @@
 //! * `history`: the name of a store, and a history that no store has yet.
 //! * `side`: one copy of the store, and what a publish changes in it.
 //! * `rule`: what holds of the copies and of their readers between any two steps.
-//! * `keeper`: the [`Keeper`]. `receipt`: the [`Receipt`].
+//! * `prefix`: the [`HistoryPrefix`]. `keeper`: the [`Keeper`]. `receipt`: the [`Receipt`].
 //! * `visitor`: what one reader knows, and its way into a copy and out. `pass`: the [`Pass`]. `held`: the [`Held`].
 //! * `opening`: [`open`]. `laws`: what follows from the clauses.
 #![tactic(auto)]
@@ -23,6 +23,7 @@ mod keeper;
 pub mod laws;
 mod opening;
 mod pass;
+mod prefix;
 mod receipt;
 mod rule;
 mod side;
@@ -34,4 +35,5 @@ pub use history::{Opened, StoreName};
 pub use keeper::Keeper;
 pub use opening::open;
 pub use pass::{Pass, Reading};
+pub use prefix::{HistoryPrefix, longest};
 pub use receipt::Receipt;

@@ -10,6 +10,7 @@ ghost use Rattle.read_side.specs.contracts.pass.Pass.{the_row};
 
 use crate::held::Held;
 use crate::history::StoreName;
+use crate::prefix::HistoryPrefix;
 use crate::receipt::Receipt;
 use crate::visitor::{Inside, Visitor};
 use span_store::Collected;
@@ -102,6 +103,13 @@ impl<N: StoreName> Pass<N> {
         ensures { result ≡ length self.now.known }
     {
         self.visitor.front()
+    }
+
+    /// The longest list that it knows, as a prefix of the store's history. After a read that is the list whose answer it was.
+    pub fn history(&self) -> HistoryPrefix<N>
+        ensures { result ≡ self.now.known }
+    {
+        self.visitor.history()
     }
 
     /// Takes in the list of a receipt, which it knows from then on.

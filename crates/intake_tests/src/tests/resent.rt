@@ -1,8 +1,7 @@
 //! A batch that a seat hands in once more.
 
 use crate::tests::fixture::{Fixture, batch};
-use crate::tests::rows::place_and_front;
-use intake::{Books, Clerk, Seat, Turn};
+use intake::{Books, Clerk, Denial, Seat, Ticket, Turn};
 use read_side::{Keeper, StoreName};
 use std::alloc::Global;
 use std::mem::drop;
@@ -62,6 +61,29 @@ const JOBS: [Job; 7] = [
     },
 ];
 
+/// The place and the receipt's front; or the refusal, if it comes with a list of the three entries that the store has room for.
+fn told<N: StoreName, R: Wait>(rt: &R, ticket: Ticket<N>) -> Result<(u64, u64), Refusal> {
+    match ticket.answer(rt) {
+        Ok(ack) => {
+            let said = (ack.place, ack.receipt.front());
+            drop(ack);
+            Ok(said)
+        }
+        Err(Denial { refusal, list }) => {
+            let entries = match &list {
+                Some(list) => list.len(),
+                None => 0,
+            };
+            drop(list);
+            Err(if entries == 3 {
+                refusal
+            } else {
+                Refusal::NoReply
+            })
+        }
+    }
+}
+
 /// Hands the batch in and has it served.
 fn answered<N: StoreName, R: Wait>(
     rt: &R,
@@ -75,7 +97,13 @@ fn answered<N: StoreName, R: Wait>(
     batch.seq_no = job.number;
     let answer = seat.submit(rt, alloc, batch);
     let served = matches!(clerk.turn(rt, keeper), Ok(Turn::Served { .. }));
-    let said = place_and_front(rt, answer);
+    let said = match answer {
+        Ok(ticket) => told(rt, ticket),
+        Err((why, batch)) => {
+            drop(batch);
+            Err(why)
+        }
+    };
     if served { said } else { Err(Refusal::Stranger) }
 }
 

@@ -148,7 +148,7 @@ fn came_back<N: StoreName>(alloc: Global, answer: Answer<N>, why: Refusal, id: u
 }
 
 /// The place that a ticket returns and the front of its receipt, or the refusal.
-pub(crate) fn place_and_front<N: StoreName, R: Wait>(
+fn place_and_front<N: StoreName, R: Wait>(
     rt: &R,
     answer: Result<Ticket<N>, (Refusal, Batch)>,
 ) -> Result<(u64, u64), Refusal> {

@@ -1,0 +1,26 @@
+-- What a denial says: by which list an entry is refused, and that the reason is true of it.
+use Rattle.std.specs.Prelude.{◌≡◌, ◌⊎◌, List, Option, Some, None, Ok}
+use Rattle.trace_model.specs.declared.admission.Admission.{Admission}
+use Rattle.trace_model.specs.declared.entry.Entry.{Entry}
+use Rattle.trace_model.specs.declared.limits.Limits.{Limits}
+use Rattle.trace_model.specs.declared.refusal.Refusal.{Refusal}
+use Rattle.trace_model.specs.declared.refusal.Refusal.TheVariants.{JournalFull, Stale, NoMemory, Deferred, Closed, NoReply, Conflict}
+use Rattle.trace_model.specs.Refusals.{admission, refusal_of}
+
+-- the list would take the entry, or has its batch already
+abbrev pub IsTaken : Limits → List Entry → Entry → Type 0
+IsTaken limits list e = (a : Admission) × (admission limits list e ≡ Ok a)
+
+-- the list leaves the entry out for this reason, or would take it and there was no memory
+abbrev pub IsLeftOut : Limits → List Entry → Entry → Refusal → Type 0
+IsLeftOut limits list e (JournalFull batches spans) = refusal_of limits list e ≡ Some (JournalFull batches spans)
+IsLeftOut limits list e (Stale last) = refusal_of limits list e ≡ Some (Stale last)
+IsLeftOut limits list e (Conflict place) = refusal_of limits list e ≡ Some (Conflict place)
+IsLeftOut limits list e NoMemory = IsTaken limits list e
+IsLeftOut limits list e Deferred = IsTaken limits list e
+IsLeftOut limits list e _ = ⊥
+
+-- the keeper judged by this list; or the clerk ended without judging
+abbrev pub IsDenied : Limits → Entry → Refusal → Option (List Entry) → Type 0
+IsDenied limits e why (Some list) = IsLeftOut limits list e why
+IsDenied limits e why None = (why ≡ Closed) ⊎ (why ≡ NoReply)

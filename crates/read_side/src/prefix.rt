@@ -1,0 +1,110 @@
+//! A prefix of the one history, in hand.
+ghost use Rattle.std.specs.Prelude.{◌≡◌, ◌≤◌, ◌<◌, ◌⊎◌, length, take, MatchBool, All};
+ghost use mathlib.Core.List.{IsPrefix};
+ghost use Rattle.trace_model.specs.Histories.{IsLegal};
+
+use crate::counted_log::CountedRule;
+use crate::history::StoreName;
+use logbook::Seen;
+use std::marker::{Model, PhantomData};
+use trace_model::Entry;
+
+/// A prefix of the one history of a store: what a receipt vouches for, what a pass knows, or all that a keeper has
+/// accepted. Whoever has one may keep it; it takes no memory but for a number.
+///
+/// Contracts see its entries, which are legal. Of any two of one store one is a prefix of the other.
+#[derive(Drop)]
+pub struct HistoryPrefix<N: StoreName> {
+    seen: Seen<Entry, u64, CountedRule>,
+    len: u64,
+    of: PhantomData<N>,
+}
+
+impl<N: StoreName> Model for HistoryPrefix<N> {
+    ghost use Rattle.std.specs.Prelude.{◌≡◌, ◌≤◌, List, take, length};
+    ghost use Rattle.trace_model.specs.declared.entry.Entry.{Entry};
+    ghost use Rattle.trace_model.specs.Histories.{IsLegal};
+
+    ghost Value = { List Entry };
+
+    ghost view = { λ p. take p.len p.seen.log };
+
+    ghost invariant = { λ p. (p.seen.book ≡ N.book) × (p.len ≤ length p.seen.log)
+        × IsLegal N.limits (take p.len p.seen.log) };
+}
+
+impl<N: StoreName> HistoryPrefix<N> {
+    /// The first entries of what was seen of the history.
+    pub(crate) fn new(seen: Seen<Entry, u64, CountedRule>, len: u64) -> HistoryPrefix<N>
+        requires book { seen.book ≡ N.book }
+        requires within { len ≤ length seen.log }
+        requires legal { IsLegal N.limits (take len seen.log) }
+        ensures { result ≡ take len seen.log }
+    {
+        HistoryPrefix {
+            seen,
+            len,
+            of: PhantomData,
+        }
+    }
+
+    /// How many entries it has. They are legal.
+    pub fn len(&self) -> u64
+        ensures length { result ≡ length self.now }
+        ensures legal { IsLegal N.limits self.now }
+    {
+        self.len
+    }
+
+    /// The same prefix.
+    pub fn again(&self) -> HistoryPrefix<N>
+        ensures { result ≡ self.now }
+    {
+        HistoryPrefix {
+            seen: self.seen.again(),
+            len: self.len,
+            of: PhantomData,
+        }
+    }
+
+    /// Whether it is a prefix of the other one. If it is not, the other one is a prefix of it, and shorter.
+    pub fn is_prefix_of(&self, other: &HistoryPrefix<N>) -> bool
+        ensures { MatchBool result (IsPrefix self.now other.now)
+            (IsPrefix other.now self.now × (length other.now < length self.now)) }
+    {
+        let mut both = self.seen.again();
+        both.learn(&other.seen);
+        self.len <= other.len
+    }
+
+    /// The longer one of the two. Both are prefixes of it.
+    pub fn longer(&self, other: &HistoryPrefix<N>) -> HistoryPrefix<N>
+        ensures own { IsPrefix self.now result }
+        ensures other { IsPrefix other.now result }
+        ensures one_of { (result ≡ self.now) ⊎ (result ≡ other.now) }
+    {
+        if self.is_prefix_of(other) {
+            other.again()
+        } else {
+            self.again()
+        }
+    }
+}
+
+/// The longest one: whatever was done under one store name, by whichever threads, every list that a call spoke of is a prefix
+/// of this one list, which is legal.
+pub fn longest<N: StoreName>(
+    first: &HistoryPrefix<N>,
+    others: &[HistoryPrefix<N>],
+) -> HistoryPrefix<N>
+    ensures first { IsPrefix first.now result }
+    ensures others { All (λ p. IsPrefix p result) others.now }
+    ensures legal { IsLegal N.limits result }
+{
+    let mut longest = first.again();
+    for other in others {
+        longest = longest.longer(other);
+    }
+    let _legal = longest.len();
+    longest
+}
