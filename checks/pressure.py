@@ -99,13 +99,15 @@ def told():
             for number in range(2, 5):
                 client.ask(post(number), 503)
         full = server.told()[len(begin):]
-        check(len(begin) == 2 and begin[0].startswith("holds at most 1 batches"), f"it began with {begin}")
-        check(len(full) == 1 and full[0].startswith("the journal is full"), f"when it was full it said {full}")
+        check(len(begin) == 3 and begin[0].startswith("holds at most 1 batches") and begin[2].startswith("at least 90% full: 1 of 1 batches"),
+              f"it began with {begin}")
+        check(len(full) == 1 and full[0].startswith("full: 1 of 1 batches"), f"when it was full it said {full}")
         server.shut_listener()
         status, output = server.ends()
         more = server.told()[len(begin) + len(full):]
         check(status == 4 and output.splitlines()[1:] == ["served 1", "books 1 3 0"], f"it ended with {status}: {output!r}")
-        check(len(more) == 2 and all("accepts no more connections: " in line for line in more), f"two workers ended and said {more}")
+        check(len(more) == 3 and all("accepts no more connections: " in line for line in more[:2]), f"two workers ended and said {more}")
+        check(more[2] == "ends with status 4: a worker could accept no more connections", f"it ended and said {more[2]!r}")
     return "; ".join([*begin, *full, *more])
 
 

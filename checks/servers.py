@@ -60,6 +60,11 @@ def run_cases(cases, only):
     sys.exit(1 if failed else 0)
 
 
+def in_url(host):
+    """The host as a URL has it in front of a port: an IPv6 address is in brackets."""
+    return f"[{host}]" if ":" in host else host
+
+
 def batch(trace, service="shop", operation="op"):
     """One span of the trace."""
     return wire.batch(service, [wire.span(trace, 7, operation=operation)])
@@ -98,14 +103,18 @@ class Response:
 class Client:
     """One connection. Every wait ends after so many seconds, as a failure; `room` is what the system may hold for it unread."""
 
-    def __init__(self, port, patience=PATIENCE, room=None):
+    def __init__(self, port, patience=PATIENCE, room=None, host="127.0.0.1"):
         self.input = b""
-        self.socket = socket.socket()
+        self.socket = socket.socket(socket.AF_INET6 if ":" in host else socket.AF_INET)
         self.socket.settimeout(patience)
         if room is not None:
             self.socket.setsockopt(socket.SOL_SOCKET, socket.SO_RCVBUF, room)
         self.socket.setsockopt(socket.IPPROTO_TCP, socket.TCP_NODELAY, 1)
-        self.socket.connect(("127.0.0.1", port))
+        try:
+            self.socket.connect((host, port))
+        except OSError:
+            self.socket.close()
+            raise
 
     def __enter__(self):
         return self
@@ -162,18 +171,19 @@ class Client:
 
 class Server:
     """A program that serves on a port, killed at the end unless it has ended by itself; or with `port` one that listens there already. It
-    may have a limit of address space, as `ulimit -v` sets it."""
+    may have a limit of address space, as `ulimit -v` sets it. With `host` that is its `--host`."""
 
     binary = None  # the program where no other one is named
 
-    def __init__(self, *words, binary=None, port=None, address_space=None):
+    def __init__(self, *words, binary=None, port=None, address_space=None, host=None):
         self.run = None
         self.output = b""
         self.port = port
         if port is None:
-            self.start([binary or self.binary, "serve", *map(str, words)], address_space)
+            more = ("--host", host) if host else ()
+            self.start([binary or self.binary, "serve", *map(str, words + more)], address_space, host or "127.0.0.1")
 
-    def start(self, command, address_space):
+    def start(self, command, address_space, host):
         def limited():
             resource.setrlimit(resource.RLIMIT_AS, (address_space, resource.RLIM_INFINITY))
 
@@ -186,7 +196,7 @@ class Server:
             raise Failed(f"{command[0]} can't be started: {fault}") from None
         self.await_line()
         line, line_feed, _ = self.output.partition(b"\n")
-        if not (line_feed and line.startswith(b"listening 127.0.0.1:")):
+        if not (line_feed and line.startswith(f"listening {in_url(host)}:".encode())):
             self.end()
             raise Failed(f"{command[0]} does not listen: {self.output!r}")
         self.port = int(line.rpartition(b":")[2])

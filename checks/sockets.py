@@ -4,8 +4,9 @@ responses, the ends of the program.
 
     checks/sockets.py [--bin PATH] [--only WORD]
 
-Each case starts the program anew on a free port of 127.0.0.1 and looks only at what the sockets, its standard output and its
-status say. Standard library alone. One line for each failing case; the last line is `N passed, M failed`.
+Each case starts the program anew on a free port, of 127.0.0.1 unless it is a case of `--host`, and looks only at what the sockets, its
+standard output and its status say; a case of `--host` looks at its standard error too. Standard library alone. One line for each failing
+case; the last line is `N passed, M failed`.
 """
 import contextlib
 import json
@@ -16,7 +17,7 @@ import threading
 import time
 
 from crates import asked_of
-from servers import PATIENCE, THRIFT, Client, Failed, Server, batch, check, get, head, post, post_body, run_cases
+from servers import PATIENCE, THRIFT, Client, Failed, Server, batch, check, get, head, in_url, post, post_body, run_cases
 import wire
 
 # A start that no query of long answers asks for, in microseconds.
@@ -211,16 +212,72 @@ def full_store():
         server.served(1, 2, 3)
 
 
-def port_in_use():
-    with socket.create_server(("127.0.0.1", 0)) as taken:
-        words = [Server.binary, "serve", "--port", str(taken.getsockname()[1])]
+def has_ipv6():
+    try:
+        socket.create_server(("::1", 0), family=socket.AF_INET6).close()
+    except OSError:
+        return False
+    return True
+
+
+def maps_ipv4():
+    """Whether a socket of every IPv6 address takes connections to IPv4 addresses too."""
+    with open("/proc/sys/net/ipv6/bindv6only") as file:
+        return file.read().strip() == "0"
+
+
+def reached_by(host):
+    """The loopback addresses by which a client reaches a server of this host, and those by which it doesn't."""
+    ipv4, ipv6 = ["127.0.0.1", "127.0.0.2"], ["::1"]
+    if host == "127.0.0.1":
+        return ipv4[:1], ipv4[1:] + ipv6
+    if host == "0.0.0.0":
+        return ipv4, ipv6
+    if host == "::1":
+        return ipv6, ipv4
+    return (ipv6 + ipv4, []) if maps_ipv4() else (ipv6, ipv4)
+
+
+def is_reached(server, address):
+    try:
+        server.client(host=address).socket.close()
+    except OSError:
+        return False
+    return True
+
+
+def listens_on(host, is_exposed):
+    """It is reached by the addresses of its host alone, and says so where they are more than this machine's own."""
+    if ":" in host and not has_ipv6():
+        return "not tried: this machine has no IPv6"
+    reached, unreached = reached_by(host)
+    with Server("--port", 0, host=host) as server:
+        for address in reached:
+            with server.client(host=address) as client:
+                client.ask(post(1), 202)
+                found(client, 1)
+        for address in unreached:
+            check(not is_reached(server, address), f"it is reached by {address}")
+        warnings = [line for line in server.told() if "other machines" in line]
+        check(len(warnings) == is_exposed, f"of other machines it says {warnings}")
+        check(all(line.startswith(f"{in_url(host)} ") for line in warnings), f"it says {warnings}")
+    return None
+
+
+def port_in_use(host):
+    if ":" in host and not has_ipv6():
+        return "not tried: this machine has no IPv6"
+    with socket.create_server((host, 0), family=socket.AF_INET6 if ":" in host else socket.AF_INET) as taken:
+        port = taken.getsockname()[1]
+        words = [Server.binary, "serve", "--host", host, "--port", str(port)]
         try:
             done = subprocess.run(words, stdin=subprocess.DEVNULL, stdout=subprocess.PIPE, stderr=subprocess.STDOUT, timeout=PATIENCE)
         except subprocess.TimeoutExpired:
             raise Failed("it does not end") from None
     lines = done.stdout.decode().splitlines()
     check(done.returncode == 4, f"the status is {done.returncode}, and it printed {lines}")
-    check(len(lines) == 1 and "listening" not in lines[0], f"it printed {lines}")
+    check(len(lines) == 1 and lines[0].startswith(f"cannot listen on {in_url(host)}:{port}: "), f"it printed {lines}")
+    return None
 
 
 def closing(request, status, rest=b"", workers=1):
@@ -567,6 +624,115 @@ def stopped_and_continued(idle):
         server.served(2, 2)
 
 
+def told_since(server, known):
+    """What it has told since these lines; each is written before the response that it goes with."""
+    return server.told()[len(known):]
+
+
+def spans_of(trace, count):
+    return post_body(wire.batch("shop", [wire.span(trace, number) for number in range(1, count + 1)]))
+
+
+def told_how_full():
+    with Server("--port", 0, "--workers", 2, "--batches", 10, "--spans", 1000) as server, server.client() as client:
+        client.ask(get("/api/services"), 200)
+        begin = server.told()
+        for trace in range(1, 11):
+            client.ask(post(trace), 202)
+        levels = [(50, 5), (75, 8), (90, 9)]
+        wanted = [f"at least {level}% full: {held} of 10 batches (--batches)" for level, held in levels]
+        check(told_since(server, begin) == wanted, f"up to 10 of 10 batches it told {told_since(server, begin)}")
+
+
+def told_of_spans():
+    with Server("--port", 0, "--workers", 2, "--batches", 1000, "--spans", 100) as server, server.client() as client:
+        client.ask(get("/api/services"), 200)
+        begin = server.told()
+        for trace, count in ((1, 49), (2, 1), (3, 45)):
+            client.ask(spans_of(trace, count), 202)
+        wanted = [f"at least {level}% full: {held} of 100 spans (--spans)" for level, held in ((50, 50), (90, 95))]
+        check(told_since(server, begin) == wanted, f"up to 95 of 100 spans it told {told_since(server, begin)}")
+
+
+def told_a_repeat_once():
+    """A batch that is sent again is held once."""
+    body = post_body(wire.batch("shop", [wire.span(1, 7)], number=4))
+    with Server("--port", 0, "--workers", 2, "--batches", 2) as server, server.client() as client:
+        begin = server.told()
+        for _ in range(3):
+            client.ask(body, 202)
+        told = [line for line in server.told() if "full" in line]
+        check(told == ["at least 50% full: 1 of 2 batches (--batches)"], f"for one batch sent three times it told {told} after {begin}")
+
+
+def told_that_it_is_full():
+    with Server("--port", 0, "--workers", 1, "--batches", 2, "--spans", 10) as server, server.client() as client:
+        client.ask(spans_of(1, 9), 202)
+        begin = server.told()
+        for _ in range(2):
+            client.ask(spans_of(2, 2), 503)
+            client.ask(spans_of(2, 11), 503)
+        client.ask(spans_of(3, 1), 202)
+        for _ in range(2):
+            client.ask(spans_of(4, 1), 503)
+        more = "what doesn't fit is answered 503; restart with a larger"
+        wanted = [
+            f"full: 1 of 2 batches and 9 of 10 spans: {more} --spans",
+            "a batch of 11 spans never fits: --spans 10",
+            "at least 90% full: 2 of 2 batches (--batches)",
+            f"full: 2 of 2 batches and 10 of 10 spans: {more} --batches",
+        ]
+        check(told_since(server, begin) == wanted, f"it told {told_since(server, begin)}")
+
+
+def told_that_all_are_taken():
+    with Server("--port", 0, "--workers", 2, "--connections", 1) as server, server.client() as first:
+        first.ask(get("/api/services"), 200)
+        begin = server.told()
+        with server.client() as second:
+            second.send(get("/api/services"))
+            time.sleep(0.5)
+            first.socket.close()
+            check(second.response().status == 200, "the one that waited isn't served")
+        told = told_since(server, begin)
+        check(len(told) == 1 and told[0].startswith("as many connections are open as --connections lets be"), f"it told {told}")
+
+
+def told_what_is_counted():
+    with Server("--port", 0, "--workers", 2, "--batches", 2, "--report", 1, "--sessions", 1) as server:
+        with server.client() as client:
+            for trace, status in ((1, 202), (2, 202), (3, 503)):
+                client.ask(post(trace), status)
+            client.ask(get("/api/services"), 200)
+            time.sleep(2.5)
+            counted = [line for line in server.told() if " held, " in line]
+        server.served(1, 2, 1)
+        check(len(counted) in (2, 3), f"in 2.5 seconds it told {counted}")
+        check(counted[-1] == "2 of 2 batches and 2 of 100000 spans held, 2 acknowledged, 1 queries, 1 refused 20", f"it told {counted[-1]!r}")
+
+
+def told_nothing_unless_asked():
+    with Server("--port", 0, "--workers", 1) as server:
+        time.sleep(1.5)
+        check(not any(" held, " in line for line in server.told()), f"without --report it told {server.told()}")
+
+
+def told_why_it_ends():
+    with Server("--port", 0, "--workers", 1) as server:
+        time.sleep(0.2)
+        server.shut_listener()
+        status, _ = server.ends()
+        check(status == 4, f"the status is {status}")
+        check(server.told()[-1] == "ends with status 4: a worker could accept no more connections", f"it told {server.told()}")
+    with Server("--port", 0, "--workers", 1, "--sessions", 1) as server:
+        server.run.stdout.close()
+        with server.client() as client:
+            client.ask(post(1), 202)
+        status = server.run.wait(PATIENCE)
+        check(status == 4, f"with its output shut the status is {status}")
+        check(server.told()[-1] == "ends with status 4: the output failed", f"it told {server.told()}")
+
+
 CASES = {
     "8 clients at once, 8 workers": lambda: eight_clients(8),
     "8 clients at once, 2 workers": lambda: eight_clients(2),
@@ -584,7 +750,20 @@ CASES = {
     "--sessions, the first ends last": last_session_is_whole,
     "--sessions 1": one_session,
     "books of a full store": full_store,
-    "a port in use": port_in_use,
+    "--host 127.0.0.1": lambda: listens_on("127.0.0.1", False),
+    "--host 0.0.0.0": lambda: listens_on("0.0.0.0", True),
+    "--host ::1": lambda: listens_on("::1", False),
+    "--host ::": lambda: listens_on("::", True),
+    "told how full it is": told_how_full,
+    "told how full it is of spans": told_of_spans,
+    "told of a repeat": told_a_repeat_once,
+    "told that it is full": told_that_it_is_full,
+    "told that all connections are taken": told_that_all_are_taken,
+    "told what is counted": told_what_is_counted,
+    "told no counts": told_nothing_unless_asked,
+    "told why it ends": told_why_it_ends,
+    "a port in use": lambda: port_in_use("127.0.0.1"),
+    "a port in use, ::1": lambda: port_in_use("::1"),
     "closing: body too large": body_too_large,
     "closing: bad head": bad_head,
     "closing: head too long": head_too_long,

@@ -5,8 +5,10 @@ use Rattle.clap.specs.Words.{Row, Text, rows_of, one_text, first_value}
 use Rattle.clap.specs.declared.parser.matches.Found.{Found}
 use Rattle.clap.proofs.WalkLemmas.{one_text-rows, first_value-rows}
 use Rattle.jaeger_model.specs.declared.ids.TraceId.{TraceId}
-use Rattle.command_words.specs.Words.{HasLimits, HasNumber, HasServeOptions, HasTrace, trace_in}
+use Rattle.command_words.specs.Words.{HasHost, HasLimits, HasNumber, HasServeOptions, HasTrace, trace_in}
+use Rattle.serve_options.specs.declared.host.Host.{Host}
 use Rattle.serve_options.specs.declared.options.ServeOptions.{ServeOptions}
+use Rattle.serve_options.specs.Hosts.{host_text}
 use Rattle.trace_model.specs.declared.limits.Limits.{Limits}
 
 -- what `get_one` reads is the number that the option's text spells
@@ -42,23 +44,38 @@ limits_read rows b s t k (Some l) hb hs ht hk same = record {
   max_skew = subst (HasNumber (codes "max-skew") rows) (sym same.3) hk;
 }
 
+-- the host that the option's text names
+pub host_named : (f : Found) (text : Text) (o : Option Host) → Some text ≡ first_value f (codes "host") → IfSome o (λ (h : Host). host_text h ≡ text) → IfSome o (HasHost (rows_of f))
+host_named f text None is named = tt
+host_named f text (Some h) is named = sym (first_value-rows f (codes "host")) ∙ sym is ∙ ap Some (sym named)
+
+pub host_there : (f : Found) (text : Text) (h : Host) → Some text ≡ first_value f (codes "host") → HasHost (rows_of f) h → host_text h ≡ text
+host_there f text h is has = let both : Some (host_text h) ≡ Some text = sym has ∙ sym (first_value-rows f (codes "host")) ∙ sym is in cc
+
+pub no_host : (f : Found) (h : Host) → None ≡ first_value f (codes "host") → HasHost (rows_of f) h → ⊥
+no_host f h none has = let both : None ≡ Some (host_text h) = none ∙ first_value-rows f (codes "host") ∙ has in cc
+
 -- the options of `serve` that have the numbers read
-pub serve_options_read : (rows : List Row) (l : Limits) (p w q s c i : ℕ) (o : Option ServeOptions)
-    → HasLimits rows l → HasNumber (codes "port") rows p → HasNumber (codes "workers") rows w
+pub serve_options_read : (rows : List Row) (l : Limits) (h : Host) (p w q s c i e : ℕ) (o : Option ServeOptions)
+    → HasLimits rows l → HasHost rows h → HasNumber (codes "port") rows p → HasNumber (codes "workers") rows w
     → HasNumber (codes "queue") rows q → HasNumber (codes "sessions") rows s
-    → HasNumber (codes "connections") rows c → HasNumber (codes "idle") rows i
-    → IfSome o (λ (v : ServeOptions). (v.limits ≡ l) × (v.port ≡ p)) → IfSome o (λ (v : ServeOptions). (v.workers ≡ w) × (v.queue ≡ q))
+    → HasNumber (codes "connections") rows c → HasNumber (codes "idle") rows i → HasNumber (codes "report") rows e
+    → IfSome o (λ (v : ServeOptions). v.limits ≡ l) → IfSome o (λ (v : ServeOptions). (v.host ≡ h) × (v.port ≡ p))
+    → IfSome o (λ (v : ServeOptions). (v.workers ≡ w) × (v.queue ≡ q))
     → IfSome o (λ (v : ServeOptions). v.connections ≡ c) → IfSome o (λ (v : ServeOptions). (v.sessions ≡ s) × (v.idle ≡ i))
+    → IfSome o (λ (v : ServeOptions). v.report ≡ e)
     → IfSome o (HasServeOptions rows)
-serve_options_read rows l p w q s c i None hl hp hw hq hs hc hi listens holds admits ends = tt
-serve_options_read rows l p w q s c i (Some v) hl hp hw hq hs hc hi listens holds admits ends = record {
-  limits = subst (HasLimits rows) (sym listens.0) hl;
+serve_options_read rows l h p w q s c i e None hl hh hp hw hq hs hc hi he keeps listens holds admits ends reports = tt
+serve_options_read rows l h p w q s c i e (Some v) hl hh hp hw hq hs hc hi he keeps listens holds admits ends reports = record {
+  limits = subst (HasLimits rows) (sym keeps) hl;
+  host = subst (HasHost rows) (sym listens.0) hh;
   port = subst (HasNumber (codes "port") rows) (sym listens.1) hp;
   workers = subst (HasNumber (codes "workers") rows) (sym holds.0) hw;
   queue = subst (HasNumber (codes "queue") rows) (sym holds.1) hq;
   sessions = subst (HasNumber (codes "sessions") rows) (sym ends.0) hs;
   connections = subst (HasNumber (codes "connections") rows) (sym admits) hc;
   idle = subst (HasNumber (codes "idle") rows) (sym ends.1) hi;
+  report = subst (HasNumber (codes "report") rows) (sym reports) he;
 }
 
 -- the id that was read is the one that the rows have

@@ -8,7 +8,9 @@ use Rattle.clap.specs.declared.builder.value_parser.ValueParser.TheVariants as p
 use Rattle.jaeger_model.specs.declared.ids.TraceId.{TraceId}
 use Rattle.jaeger_model.specs.Ids.{read_trace}
 use Rattle.trace_model.specs.declared.limits.Limits.{Limits}
+use Rattle.serve_options.specs.declared.host.Host.{Host}
 use Rattle.serve_options.specs.declared.options.ServeOptions.{ServeOptions}
+use Rattle.serve_options.specs.Hosts.{host_text}
 
 -- an option that takes a number, with the number that stands for it where it isn't given
 abbrev pub number_rule : Text → ValueParser → Text → Rule
@@ -34,6 +36,13 @@ traces_rule = number_rule (codes "traces") (parser.Signed (pos 0) (pos 1000000))
 abbrev pub skew_rule : Rule
 skew_rule = number_rule (codes "max-skew") (parser.Unsigned 0 9223372036854775807) (codes "0")
 
+abbrev pub host_rule : Rule
+host_rule = record (new_rule (codes "host")) {
+  long = Some (codes "host");
+  value_names = 1;
+  defaults = codes "127.0.0.1" ∷ [];
+}
+
 abbrev pub port_rule : Rule
 port_rule = number_rule (codes "port") (parser.Signed (pos 0) (pos 65535)) (codes "0")
 
@@ -52,6 +61,9 @@ connections_rule = number_rule (codes "connections") (parser.Signed (pos 1) (pos
 abbrev pub idle_rule : Rule
 idle_rule = number_rule (codes "idle") (parser.Signed (pos 0) (pos 86400)) (codes "300")
 
+abbrev pub report_rule : Rule
+report_rule = number_rule (codes "report") (parser.Signed (pos 0) (pos 86400)) (codes "0")
+
 -- the options that each subcommand has
 abbrev pub with_limits : App → App
 with_limits app = with_rule (with_rule (with_rule (with_rule app batches_rule) spans_rule) traces_rule) skew_rule
@@ -68,8 +80,8 @@ play_app = with_limits (new_app (codes "play"))
 -- the options that only `serve` has
 abbrev pub with_serving : App → App
 with_serving app =
-    with_rule (with_rule (with_rule (with_rule (with_rule (with_rule app port_rule) workers_rule) queue_rule) sessions_rule)
-    connections_rule) idle_rule
+    with_rule (with_rule (with_rule (with_rule (with_rule (with_rule (with_rule (with_rule app host_rule) port_rule) workers_rule) queue_rule)
+    sessions_rule) connections_rule) idle_rule) report_rule
 
 abbrev pub serve_app : App
 serve_app = with_limits (with_serving (new_app (codes "serve")))
@@ -84,14 +96,20 @@ pub record HasLimits (rows : List Row) (limits : Limits) : Type 0 where
   pub traces : HasNumber (codes "traces") rows limits.traces
   pub max_skew : HasNumber (codes "max-skew") rows limits.max_skew
 
+-- the option's text, which is the default where it isn't given, is the host's
+abbrev pub HasHost : List Row → Host → Type 0
+HasHost rows host = first_of (codes "host") rows ≡ Some (host_text host)
+
 pub record HasServeOptions (rows : List Row) (options : ServeOptions) : Type 0 where
   pub limits : HasLimits rows options.limits
+  pub host : HasHost rows options.host
   pub port : HasNumber (codes "port") rows options.port
   pub workers : HasNumber (codes "workers") rows options.workers
   pub queue : HasNumber (codes "queue") rows options.queue
   pub sessions : HasNumber (codes "sessions") rows options.sessions
   pub connections : HasNumber (codes "connections") rows options.connections
   pub idle : HasNumber (codes "idle") rows options.idle
+  pub report : HasNumber (codes "report") rows options.report
 
 abbrev pub HasTrace : List Row → TraceId → Type 0
 HasTrace rows id = (text : Text) × (first_of (codes "TRACE") rows ≡ Some text) × (read_trace text ≡ Some id)

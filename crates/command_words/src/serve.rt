@@ -1,24 +1,38 @@
 //! The subcommand `serve`: its options, and what its words ask for.
-ghost use Rattle.std.specs.Prelude.{◌≡◌, IfErr, IfOk, IfSome, IsSome, OnOk, false, map};
+ghost use Rattle.std.specs.Prelude.{◌≡◌, IfErr, IfOk, IfSome, IsOk, IsSome, OnOk, false, map};
 ghost use Rattle.clap.specs.Words.{app_of, found_of, rows_of, rule_of};
+ghost use Rattle.serve_options.specs.declared.host.Host.{Host as HostValue};
 ghost use Rattle.serve_options.specs.declared.options.ServeOptions.{ServeOptions as ServeOptionsValue};
 ghost use Rattle.command_words.specs.declared.words.Command.TheVariants.{Serve};
-ghost use Rattle.command_words.specs.Words.{HasServeOptions, IsFault, Makes, connections_rule, idle_rule, port_rule, queue_rule, serve_app, sessions_rule, with_serving as serving_on, workers_rule};
+ghost use Rattle.command_words.specs.Words.{HasHost, HasServeOptions, IsFault, Makes, connections_rule, host_rule, idle_rule, port_rule, queue_rule, report_rule, serve_app, sessions_rule, with_serving as serving_on, workers_rule};
 ghost use Rattle.command_words.specs.Asked.{Reads, Takes};
 
 use crate::words::{limits_of, matches_of, number, with_limits};
 use clap::{Arg, ArgMatches, value_parser};
-use serve_options::ServeOptions;
+use serve_options::{Host, ServeOptions};
 use std::alloc::{AllocError, Global};
 use std::convert::AsStr;
+use std::io;
 use std::io::Write;
+
+/// The option `--host`.
+fn host_option<'a>(alloc: Global) -> Arg<'a>
+    ensures rule { rule_of result ≡ host_rule }
+    ensures own { result.global ≡ false }
+{
+    Arg::new(alloc, "host")
+        .long("host")
+        .value_name("ADDRESS")
+        .default_value("127.0.0.1")
+        .help("Which address to listen on: 127.0.0.1, 0.0.0.0, ::1 or ::")
+}
 
 /// The option `--port`.
 fn port_option<'a>(alloc: Global) -> Arg<'a>
     ensures rule { rule_of result ≡ port_rule }
     ensures own { result.global ≡ false }
 {
-    let help = "Which port of 127.0.0.1 to listen on; 0 for any free one";
+    let help = "Which port to listen on; 0 for any free one";
     number(alloc, "port", value_parser!(u16), "0", help)
 }
 
@@ -72,17 +86,30 @@ fn idle_option<'a>(alloc: Global) -> Arg<'a>
     number(alloc, "idle", idle, "300", help).value_name("SECONDS")
 }
 
+/// The option `--report`.
+fn report_option<'a>(alloc: Global) -> Arg<'a>
+    ensures rule { rule_of result ≡ report_rule }
+    ensures own { result.global ≡ false }
+{
+    let report = value_parser!(u32).range(0..=86_400);
+    let help =
+        "Every how many seconds to say on standard error what was counted, up to 86400; 0 for never";
+    number(alloc, "report", report, "0", help).value_name("SECONDS")
+}
+
 /// The options that only `serve` has.
 fn with_serving(alloc: Global, command: clap::Command<'_>) -> Result<clap::Command<'_>, AllocError>
     ensures { IfOk result (λ c. app_of c ≡ serving_on (app_of command.entry)) }
 {
     command
+        .arg(host_option(alloc))?
         .arg(port_option(alloc))?
         .arg(workers_option(alloc))?
         .arg(queue_option(alloc))?
         .arg(sessions_option(alloc))?
         .arg(connections_option(alloc))?
-        .arg(idle_option(alloc))
+        .arg(idle_option(alloc))?
+        .arg(report_option(alloc))
 }
 
 /// The subcommand `serve`.
@@ -91,13 +118,51 @@ pub(crate) fn serve_command<'a>(alloc: Global) -> Result<clap::Command<'a>, Allo
 {
     let command = clap::Command::new(alloc, "serve")
         .bin_name("jaeger_one serve")?
-        .about("Takes batches and answers queries over HTTP on 127.0.0.1");
+        .about("Takes batches and answers queries over HTTP")
+        .after_help("Example:\n  jaeger_one serve --port 14268 --batches 1000000 --spans 2000000");
     let command = with_serving(alloc, command)?;
     with_limits(alloc, command)
 }
 
-/// What the options ask of a server.
-fn serve_options_of(matches: &ArgMatches<'_>) -> Option<ServeOptions>
+/// The host that is asked for, if the text names one.
+fn asked_host(matches: &ArgMatches<'_>) -> Option<Host>
+    ensures named { IfSome result (HasHost (rows_of (found_of matches.now))) }
+    ensures found { (host : HostValue) → HasHost (rows_of (found_of matches.now)) host →
+        IsSome result }
+{
+    Host::parse(matches.get_str("host")?)
+}
+
+/// Writes that the text names no host, as clap does of a value that is none of those that it knows.
+fn say_bad_host<W: Write>(writer: &mut W, text: &str) -> io::Result<()> {
+    writeln!(
+        writer,
+        "error: invalid value '{text}' for '--host <ADDRESS>'\n  \
+         [possible values: 127.0.0.1, 0.0.0.0, ::1, ::]\n\n\
+         For more information, try '--help'."
+    )
+}
+
+/// The host that is asked for, or the status once its fault is written.
+fn host_of<W: Write>(matches: &ArgMatches<'_>, writer: &mut W) -> Result<Host, u8>
+    ensures host { IfOk result (HasHost (rows_of (found_of matches.now))) }
+    ensures found { (host : HostValue) → HasHost (rows_of (found_of matches.now)) host →
+        IsOk result }
+    ensures silent { OnOk result (W.contents writer.new ≡ W.contents writer.old) }
+    ensures status { IfErr result IsFault }
+{
+    match asked_host(matches) {
+        Some(host) => Ok(host),
+        None => match say_bad_host(writer, matches.get_str("host").unwrap_or("")) {
+            Ok(()) => Err(2),
+            Err(_) => Err(4),
+        },
+    }
+}
+
+/// What the options ask of a server on this host.
+fn serve_options_of(matches: &ArgMatches<'_>, host: Host) -> Option<ServeOptions>
+    requires { HasHost (rows_of (found_of matches.now)) host }
     ensures given { IfSome result (HasServeOptions (rows_of (found_of matches.now))) }
     ensures found { (options : ServeOptionsValue)
         → HasServeOptions (rows_of (found_of matches.now)) options → IsSome result }
@@ -109,7 +174,18 @@ fn serve_options_of(matches: &ArgMatches<'_>) -> Option<ServeOptions>
     let sessions = matches.get_one::<u32>("sessions")?;
     let connections = matches.get_one::<u32>("connections")?;
     let idle = matches.get_one::<u32>("idle")?;
-    ServeOptions::new(limits, port, workers, queue, sessions, connections, idle)
+    let report = matches.get_one::<u32>("report")?;
+    ServeOptions::new(
+        limits,
+        host,
+        port,
+        workers,
+        queue,
+        sessions,
+        connections,
+        idle,
+        report,
+    )
 }
 
 /// The options of `serve`, whose own name is the first of the words.
@@ -125,5 +201,6 @@ pub(crate) fn read_serve<S: AsStr, W: Write>(
         Takes (Serve options) (map S.text words.now) → IfErr result (λ s. s ≡ 5) }
 {
     let matches = matches_of(serve_command(alloc), words, writer)?;
-    serve_options_of(&matches).ok_or(2)
+    let host = host_of(&matches, writer)?;
+    serve_options_of(&matches, host).ok_or(2)
 }

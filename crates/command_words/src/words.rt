@@ -23,6 +23,9 @@ use std::io::Write;
 use text_lines::say;
 use trace_model::Limits;
 
+/// The version of the program. `CHANGELOG.md` says what each version has.
+const VERSION: &str = "0.1.0";
+
 /// A subcommand with its options. A further subcommand is a variant of its own: it has a function that
 /// makes its `clap::Command`, one that reads its words, and its line in [`judge_words`] and in `program`.
 #[derive(Drop)]
@@ -110,6 +113,7 @@ fn get_command<'a>(alloc: Global) -> Result<clap::Command<'a>, AllocError>
         .about(
             "Reads batches from standard input, a line of hexadecimal text each, and prints the spans of a trace",
         )
+        .after_help("Example:\n  jaeger_one get 1 < samples/first.hex")
         .arg(trace)?;
     with_limits(alloc, command)
 }
@@ -120,7 +124,10 @@ fn pipe_command<'a>(alloc: Global) -> Result<clap::Command<'a>, AllocError>
 {
     let command = clap::Command::new(alloc, "pipe")
         .bin_name("jaeger_one pipe")?
-        .about("Answers the HTTP requests of standard input on standard output");
+        .about("Answers the HTTP requests of standard input on standard output")
+        .after_help(
+            "Example:\n  printf 'GET /api/services HTTP/1.1\\r\\n\\r\\n' | jaeger_one pipe",
+        );
     with_limits(alloc, command)
 }
 
@@ -130,7 +137,10 @@ fn play_command<'a>(alloc: Global) -> Result<clap::Command<'a>, AllocError>
 {
     let command = clap::Command::new(alloc, "play")
         .bin_name("jaeger_one play")?
-        .about("Plays the steps of standard input, a line each, and prints what came of each");
+        .about("Plays the steps of standard input, a line each, and prints what came of each")
+        .after_help(
+            "Example:\n  printf 'enter 0\\nread 0 /api/services\\nleave 0\\n' | jaeger_one play",
+        );
     with_limits(alloc, command)
 }
 
@@ -151,7 +161,9 @@ fn with_subcommand<'a>(
 /// The program with its subcommands, for the texts of help and faults.
 fn program<'a>(alloc: Global) -> Result<clap::Command<'a>, AllocError> {
     let program = clap::Command::new(alloc, "jaeger_one")
+        .version(VERSION)
         .about("Collects traces of Jaeger clients and answers queries on them")
+        .after_help("Example:\n  jaeger_one serve --port 14268")
         .subcommand_required(true);
     let program = with_subcommand(program, get_command(alloc))?;
     let program = with_subcommand(program, pipe_command(alloc))?;

@@ -18,7 +18,7 @@ abbrev pub Does : Command → (in0 in1 out0 out1 : Option (List ℕ)) → Bool �
 Does (Get limits id) in0 in1 out0 out1 in_failed out_failed status = RunsAs in0 in1 out0 out1 in_failed out_failed (get_output limits id) (get_status limits id) status
 Does (Pipe limits) in0 in1 out0 out1 in_failed out_failed status = Pipes in0 in1 out0 out1 in_failed out_failed limits status
 Does (Play limits) in0 in1 out0 out1 in_failed out_failed status = RunsAs in0 in1 out0 out1 in_failed out_failed (play_output limits) (play_status limits) status
-Does (Serve options) in0 in1 out0 out1 in_failed out_failed status = (in1 ≡ in0) × (in_failed ≡ false) × ServesOrNot options.limits options.workers out0 out1 out_failed status
+Does (Serve options) in0 in1 out0 out1 in_failed out_failed status = (in1 ≡ in0) × (in_failed ≡ false) × ServesOrNot options.host options.limits options.workers out0 out1 out_failed status
 
 -- the words ask for no command that was run: nothing was read, and the words were answered
 pub record TurnsAway (words : List Text) (in0 in1 out0 out1 : Option (List ℕ)) (in_failed out_failed : Bool) (status : ℕ) : Type 0 where

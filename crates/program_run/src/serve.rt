@@ -1,4 +1,4 @@
-//! `serve`: a server on a port of this machine.
+//! `serve`: a server on an address of this machine.
 ghost use Rattle.std.specs.Prelude.{◌≡◌, false};
 ghost use Rattle.program_run.specs.Serving.{ServesOrNot, TurnsDown};
 
@@ -7,20 +7,20 @@ use session_devices::Output;
 use std::alloc::Global;
 use std::hash::RandomState;
 use std::io;
-use std::net::{Ipv4Addr, Net, SocketAddr, SocketAddrV4, TcpListener, TcpStream};
+use std::net::{Net, SocketAddr, TcpListener, TcpStream};
 use std::sync::Wait;
 use std::thread::Threads;
 use std::time::Clock;
 use text_lines::say;
 use trace_server::{NoGate, ServerConfig, serve_with};
 
-/// Says why nothing can be served on a port, and gives the exit status.
-fn turn_down<W: Output>(alloc: Global, output: &mut W, port: u16, error: &io::Error) -> u8
+/// Says why nothing can be served on an address, and gives the exit status.
+fn turn_down<W: Output>(alloc: Global, output: &mut W, address: SocketAddr, error: &io::Error) -> u8
     requires { W.has_failed output.old ≡ false }
     ensures { TurnsDown (W.contents output.old) (W.contents output.new) (W.has_failed output.new)
         result }
 {
-    let Ok(line) = format!(in alloc; "cannot listen on 127.0.0.1:{port}: {error}\n") else {
+    let Ok(line) = format!(in alloc; "cannot listen on {address}: {error}\n") else {
         return 5;
     };
     match say(alloc, output, line.as_bytes()) {
@@ -29,8 +29,8 @@ fn turn_down<W: Output>(alloc: Global, output: &mut W, port: u16, error: &io::Er
     }
 }
 
-/// Takes connections on a port of 127.0.0.1 over an empty store, until as many have ended as were asked
-/// for, and gives the exit status: 4 where the port can't be used, else that of
+/// Takes connections on a host's port over an empty store, until as many have ended as were asked
+/// for, and gives the exit status: 4 where the address can't be used, else that of
 /// [`serve_with`](trace_server::serve_with).
 pub fn run_serve<H, W>(
     rt: &H,
@@ -43,13 +43,13 @@ where
     H: Threads + Wait + Clock + Eprint + Net<Stream = TcpStream, Listener = TcpListener> + Sync,
     W: Output,
     requires output_works { W.has_failed output.old ≡ false }
-    ensures { ServesOrNot options.limits options.workers (W.contents output.old)
-        (W.contents output.new) (W.has_failed output.new) result }
+    ensures { ServesOrNot options.host options.limits options.workers
+        (W.contents output.old) (W.contents output.new) (W.has_failed output.new) result }
 {
-    let address = SocketAddr::V4(SocketAddrV4::new(Ipv4Addr::LOCALHOST, options.port));
+    let address = SocketAddr::new(options.host.address(), options.port);
     let listener = match TcpListener::bind(rt, address) {
         Ok(listener) => listener,
-        Err(error) => return turn_down(alloc, output, options.port, &error),
+        Err(error) => return turn_down(alloc, output, address, &error),
     };
     let plan = ServerConfig { options, keys };
     serve_with(rt, alloc, &listener, &plan, &NoGate, output)

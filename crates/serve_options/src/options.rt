@@ -1,6 +1,7 @@
 ghost use Rattle.std.specs.Prelude.{◌≡◌, ◌↔◌, IfSome, IsSome};
 ghost use Rattle.serve_options.specs.Ranges.{IsWithin};
 
+use crate::host::Host;
 use trace_model::Limits;
 
 /// What a server is asked to do, within ranges that each such value keeps.
@@ -8,7 +9,9 @@ use trace_model::Limits;
 pub struct ServeOptions {
     /// How much its store keeps.
     pub limits: Limits,
-    /// The port of 127.0.0.1 that it listens on; 0 for any free one.
+    /// The address that it listens on.
+    pub host: Host,
+    /// The port of that address; 0 for any free one.
     pub port: u16,
     /// How many threads serve connections, 1 to 64.
     pub workers: u16,
@@ -21,25 +24,32 @@ pub struct ServeOptions {
     /// For how many seconds a connection may be silent before it is closed, or leave its response unread, up to
     /// 86,400; 0 is for ever.
     pub idle: u32,
-    ghost within: { IsWithin port workers queue sessions connections idle },
+    /// Every how many seconds it says on standard error what it has counted, up to 86,400; 0 is never.
+    pub report: u32,
+    ghost within: { IsWithin port workers queue sessions connections idle report },
 }
 
 impl ServeOptions {
     /// These options, or None where one is out of its range.
     pub fn new(
         limits: Limits,
+        host: Host,
         port: u16,
         workers: u16,
         queue: u16,
         sessions: u32,
         connections: u32,
         idle: u32,
+        report: u32,
     ) -> Option<ServeOptions>
-        ensures within { IsSome result ↔ IsWithin port workers queue sessions connections idle }
-        ensures listens { IfSome result (λ o. (o.limits ≡ limits) × (o.port ≡ port)) }
+        ensures within { IsSome result ↔
+            IsWithin port workers queue sessions connections idle report }
+        ensures keeps { IfSome result (λ o. o.limits ≡ limits) }
+        ensures listens { IfSome result (λ o. (o.host ≡ host) × (o.port ≡ port)) }
         ensures holds { IfSome result (λ o. (o.workers ≡ workers) × (o.queue ≡ queue)) }
         ensures admits { IfSome result (λ o. o.connections ≡ connections) }
         ensures ends { IfSome result (λ o. (o.sessions ≡ sessions) × (o.idle ≡ idle)) }
+        ensures reports { IfSome result (λ o. o.report ≡ report) }
     {
         if workers < 1
             || workers > 64
@@ -48,17 +58,20 @@ impl ServeOptions {
             || connections < 1
             || connections > 65_536
             || idle > 86_400
+            || report > 86_400
         {
             return None;
         }
         Some(ServeOptions {
             limits,
+            host,
             port,
             workers,
             queue,
             sessions,
             connections,
             idle,
+            report,
         })
     }
 }

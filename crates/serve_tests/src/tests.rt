@@ -3,6 +3,7 @@
 mod clients;
 mod gates;
 mod guests;
+mod lines;
 mod over_live;
 mod requests;
 mod sockets;

@@ -7,6 +7,7 @@ use Rattle.std.proofs.KnownBytes.{Appends-trans}
 use Rattle.atomic_table.specs.Seated.{TableId}
 use Rattle.trace_model.specs.declared.limits.Limits.{Limits}
 use Rattle.intake.specs.Seats.{SeatValue}
+use Rattle.serve_options.specs.declared.host.Host.{Host}
 use Rattle.text_lines.specs.RunErrors.{WritesSome, IsWhyOf, Says, status_by}
 use Rattle.text_lines.specs.declared.run_error.RunError.{RunError}
 use Rattle.text_lines.specs.declared.run_error.RunError.TheVariants.{Device, Memory}
@@ -43,11 +44,11 @@ pub broken_off : (a : Option (List ℕ)) (failed : Bool) (text : List ℕ) → f
 broken_off a failed text works = (Memory, refl, none_written a text, works)
 
 -- the first line was not written whole
-pub unheard : (a b : Option (List ℕ)) (failed : Bool) (port : ℕ) (h : RunError) (status : ℕ) → status ≡ status_by h → WritesSome a b (listening_line port) × IsWhyOf h failed → StopsEarly a b failed status
-unheard a b failed port h status is w = record {
+pub unheard : (a b : Option (List ℕ)) (failed : Bool) (host : Host) (port : ℕ) (h : RunError) (status : ℕ) → status ≡ status_by h → WritesSome a b (listening_line host port) × IsWhyOf h failed → StopsEarly host a b failed status
+unheard a b failed host port h status is w = record {
   port = port;
   served = 0;
-  stops = (h, is, some_more a b (listening_line port) (served_line 0) (listening_line port ++ served_line 0) refl w.0, w.1);
+  stops = (h, is, some_more a b (listening_line host port) (served_line 0) (listening_line host port ++ served_line 0) refl w.0, w.1);
 }
 
 stopped_behind : (a b c : Option (List ℕ)) (failed : Bool) (first text : List ℕ) (status : ℕ) → Appends a b first → StopsIn b c failed text status → StopsIn a c failed (first ++ text) status
@@ -58,14 +59,14 @@ ended_behind a b c failed first text lost status said (inl all) = inl (all.0, Ap
 ended_behind a b c failed first text lost status said (inr some) = inr (stopped_behind a b c failed first text status said some)
 
 -- it listened, and then reported
-pub reported : (limits : Limits) (workers : ℕ) (desk : TableId) (opened : List SeatValue) (a b c : Option (List ℕ)) (failed : Bool) (port status : ℕ) → AreNew desk opened → Appends a b (listening_line port)
-    → Reports limits workers opened b c failed status → Serves limits workers a c failed status
-reported limits workers desk opened a b c failed port status new said (inl early) = inr (inl (record {
+pub reported : (host : Host) (limits : Limits) (workers : ℕ) (desk : TableId) (opened : List SeatValue) (a b c : Option (List ℕ)) (failed : Bool) (port status : ℕ) → AreNew desk opened → Appends a b (listening_line host port)
+    → Reports limits workers opened b c failed status → Serves host limits workers a c failed status
+reported host limits workers desk opened a b c failed port status new said (inl early) = inr (inl (record {
   port = port;
   served = early.0;
-  stops = stopped_behind a b c failed (listening_line port) (served_line early.0) status said early.1;
+  stops = stopped_behind a b c failed (listening_line host port) (served_line early.0) status said early.1;
 }))
-reported limits workers desk opened a b c failed port status new said (inr closes) = inr (inr (record {
+reported host limits workers desk opened a b c failed port status new said (inr closes) = inr (inr (record {
   port = port;
   desk = desk;
   opened = opened;
@@ -81,6 +82,6 @@ reported limits workers desk opened a b c failed port status new said (inr close
     gone_on = closes.gone_on;
     one_for_each = closes.one_for_each;
     books = closes.books;
-    ends = ended_behind a b c failed (listening_line port) (last_lines closes.served closes.acknowledged closes.refused closes.left) closes.failed status said closes.ends;
+    ends = ended_behind a b c failed (listening_line host port) (last_lines closes.served closes.acknowledged closes.refused closes.left) closes.failed status said closes.ends;
   };
 }))

@@ -11,13 +11,15 @@ use Rattle.intake.specs.declared.account.Account.{Account}
 use Rattle.intake.specs.Seats.{SeatValue}
 use Rattle.intake.specs.Books.{Ran, AllTaken}
 use Rattle.intake.specs.Books.{acknowledged as acknowledged_of, refused as refused_of}
+use Rattle.serve_options.specs.declared.host.Host.{Host}
+use Rattle.serve_options.specs.Hosts.{url_host}
 use Rattle.text_lines.specs.declared.run_error.RunError.{RunError}
 use Rattle.text_lines.specs.RunErrors.{WritesSome, IsWhyOf, status_by}
 use Rattle.trace_server.specs.WorkerSeats.{AreNew}
 use Rattle.live_store.specs.Sharing.{GoesOn}
 
-abbrev pub listening_line : ℕ → List ℕ
-listening_line port = codes "listening 127.0.0.1:" ++ decimal port ++ codes "\n"
+abbrev pub listening_line : Host → ℕ → List ℕ
+listening_line host port = codes "listening " ++ url_host host ++ codes ":" ++ decimal port ++ codes "\n"
 
 abbrev pub served_line : ℕ → List ℕ
 served_line served = codes "served " ++ decimal served ++ codes "\n"
@@ -71,10 +73,10 @@ abbrev pub IsSilent : Option (List ℕ) → Option (List ℕ) → Bool → ℕ �
 IsSilent out0 out1 out_failed status = (status ≡ 5) × (out1 ≡ out0) × (out_failed ≡ false)
 
 -- it stopped before its books were closed
-pub record StopsEarly (out0 out1 : Option (List ℕ)) (out_failed : Bool) (status : ℕ) : Type 0 where
+pub record StopsEarly (host : Host) (out0 out1 : Option (List ℕ)) (out_failed : Bool) (status : ℕ) : Type 0 where
   pub port : ℕ
   pub served : ℕ
-  pub stops : StopsIn out0 out1 out_failed (listening_line port ++ served_line served) status
+  pub stops : StopsIn out0 out1 out_failed (listening_line host port ++ served_line served) status
 
 -- it closed the books of the seats that these have become, and said how many connections were taken and what became of
 -- the batches, behind this front
@@ -99,15 +101,15 @@ Reports limits workers opened out0 out1 out_failed status =
 
 -- it closed its books: where it listens is said, and at the end how many connections were taken and what
 -- became of the batches that were handed in by the seats of one desk, which were new when it began
-pub record Completes (limits : Limits) (workers : ℕ) (out0 out1 : Option (List ℕ)) (out_failed : Bool) (status : ℕ) : Type 0 where
+pub record Completes (host : Host) (limits : Limits) (workers : ℕ) (out0 out1 : Option (List ℕ)) (out_failed : Bool) (status : ℕ) : Type 0 where
   pub port : ℕ
   pub desk : TableId
   pub opened : List SeatValue
   pub new : AreNew desk opened
-  pub closes : Closes limits workers opened (listening_line port) out0 out1 out_failed status
+  pub closes : Closes limits workers opened (listening_line host port) out0 out1 out_failed status
 
-abbrev pub Serves : Limits → ℕ → Option (List ℕ) → Option (List ℕ) → Bool → ℕ → Type 0
-Serves limits workers out0 out1 out_failed status =
+abbrev pub Serves : Host → Limits → ℕ → Option (List ℕ) → Option (List ℕ) → Bool → ℕ → Type 0
+Serves host limits workers out0 out1 out_failed status =
     IsSilent out0 out1 out_failed status
-    ⊎ StopsEarly out0 out1 out_failed status
-    ⊎ Completes limits workers out0 out1 out_failed status
+    ⊎ StopsEarly host out0 out1 out_failed status
+    ⊎ Completes host limits workers out0 out1 out_failed status

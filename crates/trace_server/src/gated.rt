@@ -114,11 +114,10 @@ impl<'a, N: StoreName, G: Gate, R: Wait + Eprint> Backend<R> for Gated<'a, N, G,
             grow_heap(alloc);
         }
         self.gate.before(self.rt, self.worker, self.calls);
+        let spans = batch.spans.len() as u64;
         let place = self.live.submit(rt, alloc, batch);
         self.gate.after(self.rt, self.worker, self.calls);
-        if let Err(Refusal::JournalFull { .. }) = place {
-            self.notices.say_full(self.rt);
-        }
+        self.notices.hear_batch(self.rt, self.worker, spans, &place);
         place
     }
 
@@ -127,6 +126,7 @@ impl<'a, N: StoreName, G: Gate, R: Wait + Eprint> Backend<R> for Gated<'a, N, G,
         self.gate.before(self.rt, self.worker, self.calls);
         let answer = Backend::<R>::read(&mut self.live, alloc, query);
         self.gate.after(self.rt, self.worker, self.calls);
+        self.notices.hear_query(self.rt, self.worker, &answer);
         answer
     }
 }

@@ -15,17 +15,20 @@
 //! * `connection`: what is done with a socket before and after its session. `leaving`: connections after their last response.
 //! * `shared`: a store with its desk and its clerk, which all workers share.
 //! * `ending`: how every seat is taken in at the end. `reporting`: what it says of itself on its output.
-//! * `notices`: what an operator is told on standard error.
+//! * `notices`: what an operator is told on standard error. `counts`, `held`: what workers count for it.
+//!   `watch`: what it is told every so many seconds.
 //! * `serving`: [`serve_with`].
 #![tactic(auto)]
 
 mod arrivals;
 mod config;
 mod connection;
+mod counts;
 mod ending;
 mod event_loop;
 mod gate;
 mod gated;
+mod held;
 mod leaving;
 mod loads;
 mod notices;
@@ -34,6 +37,7 @@ mod serving;
 mod sessions;
 mod shared;
 mod threads;
+mod watch;
 mod worker;
 
 pub use config::ServerConfig;

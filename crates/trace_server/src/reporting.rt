@@ -6,18 +6,21 @@ ghost use Rattle.text_lines.specs.RunErrors.{Says};
 ghost use Rattle.trace_server.specs.Serving.{listening_line, served_line, books_line, last_lines, Ends, StopsIn};
 
 use crate::ending::Totals;
+use crate::notices::{explain_end, say_unwritten};
 use crate::worker::WorkerOutcome;
 use live_store::Live;
 use read_side::StoreName;
+use serve_options::Host;
 use session_devices::Output;
 use std::alloc::{AllocError, Global};
 use text_lines::{RunError, say};
 
 /// The line that says where the server listens.
-fn listening_line(alloc: Global, port: u16) -> Result<String, AllocError>
-    ensures { IfOk result (λ line. string_bytes line ≡ listening_line port) }
+fn listening_line(alloc: Global, host: Host, port: u16) -> Result<String, AllocError>
+    ensures { IfOk result (λ line. string_bytes line ≡ listening_line host port) }
 {
-    format!(in alloc; "listening 127.0.0.1:{port}\n")
+    let address = host.in_url();
+    format!(in alloc; "listening {address}:{port}\n")
 }
 
 /// The line that says how many connections were taken.
@@ -44,13 +47,14 @@ fn books_line(alloc: Global, totals: Totals) -> Result<String, AllocError>
 pub(crate) fn say_listening<W: Output>(
     alloc: Global,
     output: &mut W,
+    host: Host,
     port: u16,
 ) -> Result<(), RunError>
     requires { W.has_failed output.old ≡ false }
     ensures { Says (W.contents output.old) (W.contents output.new) (W.has_failed output.new)
-        (listening_line port) result }
+        (listening_line host port) result }
 {
-    let line = listening_line(alloc, port)?;
+    let line = listening_line(alloc, host, port)?;
     say(alloc, output, line.as_bytes())
 }
 
@@ -108,8 +112,10 @@ fn say_end<W: Output>(
     }
 }
 
-/// Says how many connections were taken and what became of the batches, and gives the exit status.
-pub(crate) fn report<W: Output>(
+/// Says how many connections were taken and what became of the batches, and gives the exit status. An operator is told why that
+/// isn't 0.
+pub(crate) fn report<W: Output, R: Eprint>(
+    rt: &R,
     alloc: Global,
     output: &mut W,
     all: WorkerOutcome,
@@ -120,20 +126,37 @@ pub(crate) fn report<W: Output>(
         (last_lines all.served totals.acknowledged totals.refused totals.left) all.failed result }
 {
     match say_end(alloc, output, all.served, totals) {
-        Ok(()) if all.failed => 4,
+        Ok(()) if all.failed => {
+            explain_end(rt, 4, "a worker could accept no more connections");
+            4
+        }
         Ok(()) => 0,
-        Err(error) => error.status(),
+        Err(error) => {
+            say_unwritten(rt, error);
+            error.status()
+        }
     }
 }
 
 /// Says how many connections were taken, where memory ran out to close the books.
-pub(crate) fn report_unclosed<W: Output>(alloc: Global, output: &mut W, all: WorkerOutcome) -> u8
+pub(crate) fn report_unclosed<W: Output, R: Eprint>(
+    rt: &R,
+    alloc: Global,
+    output: &mut W,
+    all: WorkerOutcome,
+) -> u8
     requires { W.has_failed output.old ≡ false }
     ensures { StopsIn (W.contents output.old) (W.contents output.new) (W.has_failed output.new)
         (served_line all.served) result }
 {
     match say_served(alloc, output, all.served) {
-        Ok(()) => RunError::Memory.status(),
-        Err(error) => error.status(),
+        Ok(()) => {
+            say_unwritten(rt, RunError::Memory);
+            RunError::Memory.status()
+        }
+        Err(error) => {
+            say_unwritten(rt, error);
+            error.status()
+        }
     }
 }

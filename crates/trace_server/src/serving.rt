@@ -13,11 +13,14 @@ use crate::config::ServerConfig;
 use crate::ending::close_books;
 use crate::gate::Gate;
 use crate::loads::Loads;
-use crate::notices::{Notices, say_few_files, say_limits};
+use crate::notices::{
+    Notices, explain_end, say_few_files, say_limits, say_reachable, say_unwritten,
+};
 use crate::reporting::{report, report_unclosed, say_listening, together};
 use crate::sessions::Sessions;
 use crate::shared::SharedStore;
 use crate::threads::{OwnWork, beside, each_done};
+use crate::watch::Watch;
 use crate::worker::{Server, WorkerOutcome};
 use intake::{Books, Clerk, Desk};
 use live_store::Live;
@@ -28,7 +31,7 @@ use std::marker::Brand;
 use std::net::{Net, TcpListener, TcpStream};
 use std::snapshot::Snapshot;
 use std::sync::Wait;
-use std::thread::{Promise, Threads, spawn};
+use std::thread::{Promise, Threads, join, spawn};
 use std::time::Clock;
 use trace_model::Limits;
 
@@ -39,6 +42,7 @@ struct ServerSetup<'a, G> {
     config: &'a ServerConfig,
     gate: &'a G,
     loads: &'a Loads,
+    notices: &'a Notices,
 }
 
 /// What the workers did, each with its ends of the store.
@@ -46,6 +50,45 @@ type Outcomes<N> = Result<Vec<(WorkerOutcome, Live<N>)>, AllocError>;
 
 /// What the clerk leaves, and what the workers did.
 type Left<N> = (Books<N>, Outcomes<N>);
+
+/// Has each worker serve until all sessions are over, and ends the watch then.
+fn work_each<
+    N: StoreName + Send + Sync,
+    G: Gate + Sync,
+    R: Threads + Wait + Clock + Eprint + Net<Stream = TcpStream, Listener = TcpListener> + Sync,
+>(rt: &R, server: &Server<'_, N, G>, lives: Vec<(u32, Live<N>)>) -> Outcomes<N>
+    ensures { IfOk result (λ v. AllZip GoesOn (map (λ p. p.1.seat) lives.items)
+        (map (λ w. w.1.seat) v.items)) }
+{
+    let outcomes = each_done(rt, server, lives);
+    server.watch.end();
+    outcomes
+}
+
+/// Has each worker serve until all sessions are over, while the watch runs in a thread of its own. Where none can be made for it,
+/// nothing is said.
+fn work_watched<
+    N: StoreName + Send + Sync,
+    G: Gate + Sync,
+    R: Threads + Wait + Clock + Eprint + Net<Stream = TcpStream, Listener = TcpListener> + Sync,
+>(rt: &R, server: &Server<'_, N, G>, lives: Vec<(u32, Live<N>)>) -> Outcomes<N>
+    ensures { IfOk result (λ v. AllZip GoesOn (map (λ p. p.1.seat) lives.items)
+        (map (λ w. w.1.seat) v.items)) }
+{
+    if server.watch.is_off() {
+        return work_each(rt, server, lives);
+    }
+    let (watch, notices) = (server.watch, server.notices);
+    let (_, outcomes) = join(
+        rt,
+        || -> () { watch.run(rt, notices) },
+        || -> Outcomes<N>
+            ensures { IfOk result (λ v. AllZip GoesOn (map (λ p. p.1.seat) lives.items)
+                (map (λ w. w.1.seat) v.items)) }
+        { work_each(rt, server, lives) },
+    );
+    outcomes
+}
 
 /// Has each worker serve until all sessions are over, and closes the desk then.
 fn work_all<
@@ -56,7 +99,7 @@ fn work_all<
     ensures { IfOk result (λ v. AllZip GoesOn (map (λ p. p.1.seat) lives.items)
         (map (λ w. w.1.seat) v.items)) }
 {
-    let outcomes = each_done(rt, server, lives);
+    let outcomes = work_watched(rt, server, lives);
     server.desk.close(rt);
     outcomes
 }
@@ -130,13 +173,14 @@ fn serve_sessions<
         lives,
     } = shared;
     let sessions = Sessions::new(setup.config.options.sessions);
-    let notices = Notices::new();
+    let watch = Watch::new(setup.config.options.report);
     let server = Server {
         alloc,
         listener: setup.listener,
         desk: &desk,
         gate: setup.gate,
-        notices: &notices,
+        notices: setup.notices,
+        watch: &watch,
         loads: setup.loads,
         sessions: &sessions,
         idle: setup.config.options.idle,
@@ -186,12 +230,13 @@ fn serve_store<
     let (books, workers) = serve_sessions(rt, alloc, shared, setup);
     let Ok(workers) = workers else {
         books.close(rt);
+        explain_end(rt, 5, "no thread or no memory for the workers");
         return 5;
     };
     let all = together(workers.as_slice());
     match close_books(rt, books, workers) {
-        Ok(totals) => report(alloc, output, all, totals),
-        Err(_) => report_unclosed(alloc, output, all),
+        Ok(totals) => report(rt, alloc, output, all, totals),
+        Err(_) => report_unclosed(rt, alloc, output, all),
     }
 }
 
@@ -223,38 +268,45 @@ fn serve_named<
     requires book { name.seen.book ≡ N.book }
     requires limits { limits ≡ N.limits }
     requires output_works { W.has_failed output.old ≡ false }
-    ensures { Serves limits setup.now.config.now.options.workers (W.contents output.old)
-        (W.contents output.new) (W.has_failed output.new) result }
+    ensures { Serves setup.now.config.now.options.host limits
+        setup.now.config.now.options.workers (W.contents output.old) (W.contents output.new)
+        (W.has_failed output.new) result }
 {
     let Ok(address) = setup.listener.local_addr() else {
+        explain_end(rt, 5, "the system gave no address of the socket");
         return 5;
     };
     lengthen_queue(setup.listener);
     let Ok(shared) = SharedStore::<N>::open(rt, alloc, name, limits, setup.config) else {
+        explain_end(rt, 5, "no memory for a store with these limits");
         return 5;
     };
-    if let Err(error) = say_listening(alloc, output, address.port()) {
+    let options = &setup.config.options;
+    if let Err(error) = say_listening(alloc, output, options.host, address.port()) {
         shared.close(rt);
+        say_unwritten(rt, error);
         return error.status();
     }
-    say_limits(rt, &setup.config.options.limits);
-    say_few_files(rt, setup.config.options.connections);
+    say_reachable(rt, options.host);
+    say_limits(rt, &options.limits);
+    say_few_files(rt, options.connections);
     serve_store(rt, alloc, shared, setup, output)
 }
 
-/// Serves the connections of a socket that listens on this machine's own address, over an empty store,
+/// Serves the connections of a socket that listens on the options' host, over an empty store,
 /// and gives the exit status: 0 where as many connections as were asked for have ended, 4 where a worker
 /// could accept no more or the output failed, and 5 where memory or threads ran out, or the system gave no address of
 /// the socket.
 ///
-/// The output gets a line that says on which port it listens, once connections are accepted, and at the end
+/// The output gets a line that says on which host and port it listens, once connections are accepted, and at the end
 /// one that says how many came and one that says what became of the batches that were handed in: how many
 /// were acknowledged, refused by the store, and left unanswered. A worker serves many connections, a request of each in
 /// turn; an error of a connection ends it alone. Every call of the store stands between two calls of the gate. The listener
 /// doesn't block from then on.
 ///
-/// An operator is told on standard error how much the store holds at most, that it is full, and why no connection is
-/// accepted. Nothing of that is in the output.
+/// An operator is told on standard error that other machines reach the host, how much the store holds at most, how full it
+/// is, that requests were answered 500, why no connection is accepted, and why the server ends with 4 or 5. Nothing of that is
+/// in the output.
 pub fn serve_with<
     G: Gate + Sync,
     W: Output,
@@ -268,14 +320,22 @@ pub fn serve_with<
     output: &mut W,
 ) -> u8
     requires output_works { W.has_failed output.old ≡ false }
-    ensures { Serves config.now.options.limits config.now.options.workers (W.contents output.old)
-        (W.contents output.new) (W.has_failed output.new) result }
+    ensures { Serves config.now.options.host config.now.options.limits
+        config.now.options.workers (W.contents output.old) (W.contents output.new)
+        (W.has_failed output.new) result }
 {
     if !can_start(rt) {
+        explain_end(rt, 5, "no thread can be made");
         return 5;
     }
     let (name, limits) = (Opened::new(), config.options.limits);
-    let Ok(loads) = Loads::new(alloc, config.options.workers, config.options.connections) else {
+    let (workers, connections) = (config.options.workers, config.options.connections);
+    let Ok(loads) = Loads::new(alloc, workers, connections) else {
+        explain_end(rt, 5, "out of memory");
+        return 5;
+    };
+    let Ok(notices) = Notices::new(alloc, limits, workers) else {
+        explain_end(rt, 5, "out of memory");
         return 5;
     };
     let setup = ServerSetup {
@@ -283,6 +343,7 @@ pub fn serve_with<
         config,
         gate,
         loads: &loads,
+        notices: &notices,
     };
     serve_named::<Brand, G, W, R>(rt, alloc, name, limits, &setup, output)
 }

@@ -10,6 +10,7 @@ use crate::loads::Loads;
 use crate::notices::{Notices, say_accepts_no_more};
 use crate::sessions::Sessions;
 use crate::threads::Task;
+use crate::watch::Watch;
 use intake::Desk;
 use live_store::Live;
 use read_side::StoreName;
@@ -26,6 +27,7 @@ pub(crate) struct Server<'a, N: StoreName, G> {
     pub(crate) desk: &'a Desk<N>,
     pub(crate) gate: &'a G,
     pub(crate) notices: &'a Notices,
+    pub(crate) watch: &'a Watch,
     pub(crate) loads: &'a Loads,
     pub(crate) sessions: &'a Sessions,
     pub(crate) idle: u32,

@@ -5,6 +5,9 @@ use std::test::Fail;
 /// What stands behind each fault of the words.
 const MORE: &str = "\n\nFor more information, try '--help'.\n";
 
+/// The hosts that there are, behind the fault of another one.
+const HOSTS: &str = "\n  [possible values: 127.0.0.1, 0.0.0.0, ::1, ::]";
+
 /// The options of each subcommand, as help lists them.
 const OPTIONS: &str = "
 Options:
@@ -18,7 +21,7 @@ Options:
 /// Words behind the program's name, and the pieces of what is said to them.
 type Row = (&'static [&'static str], &'static [&'static str]);
 
-const ROWS: [Row; 36] = [
+const ROWS: [Row; 42] = [
     (
         &[],
         &[
@@ -157,10 +160,12 @@ const ROWS: [Row; 36] = [
         &[
             "Reads batches from standard input, a line of hexadecimal text each, and prints the spans of a trace\n\nUsage: jaeger_one get [OPTIONS] <TRACE>\n\nArguments:\n  <TRACE>  The trace's id, 1 to 32 hexadecimal digits\n",
             OPTIONS,
+            "\nExample:\n  jaeger_one get 1 < samples/first.hex\n",
         ],
     ),
     (&["help"], &[HELP]),
     (&["--help"], &[HELP]),
+    (&["--version"], &["jaeger_one 0.1.0\n"]),
     (
         &["nope"],
         &[
@@ -187,6 +192,15 @@ const ROWS: [Row; 36] = [
         &[
             "Answers the HTTP requests of standard input on standard output\n\nUsage: jaeger_one pipe [OPTIONS]\n",
             OPTIONS,
+            "\nExample:\n  printf 'GET /api/services HTTP/1.1\\r\\n\\r\\n' | jaeger_one pipe\n",
+        ],
+    ),
+    (
+        &["play", "--help"],
+        &[
+            "Plays the steps of standard input, a line each, and prints what came of each\n\nUsage: jaeger_one play [OPTIONS]\n",
+            OPTIONS,
+            "\nExample:\n  printf 'enter 0\\nread 0 /api/services\\nleave 0\\n' | jaeger_one play\n",
         ],
     ),
     (
@@ -200,6 +214,29 @@ const ROWS: [Row; 36] = [
         &["play", "--traces", "1000001"],
         &[
             "error: invalid value '1000001' for '--traces <N>': 1000001 is not in 0..=1000000",
+            MORE,
+        ],
+    ),
+    (
+        &["serve", "--host", "localhost"],
+        &[
+            "error: invalid value 'localhost' for '--host <ADDRESS>'",
+            HOSTS,
+            MORE,
+        ],
+    ),
+    (
+        &["serve", "--host="],
+        &[
+            "error: invalid value '' for '--host <ADDRESS>'",
+            HOSTS,
+            MORE,
+        ],
+    ),
+    (
+        &["serve", "--host", "::1", "--host", "::"],
+        &[
+            "error: the argument '--host <ADDRESS>' cannot be used multiple times\n\nUsage: jaeger_one serve [OPTIONS]",
             MORE,
         ],
     ),
@@ -246,6 +283,13 @@ const ROWS: [Row; 36] = [
         ],
     ),
     (
+        &["serve", "--report", "86401"],
+        &[
+            "error: invalid value '86401' for '--report <SECONDS>': 86401 is not in 0..=86400",
+            MORE,
+        ],
+    ),
+    (
         &["serve", "--workers", "0"],
         &[
             "error: invalid value '0' for '--workers <N>': 0 is not in 1..=64",
@@ -271,11 +315,15 @@ Commands:
   get    Reads batches from standard input, a line of hexadecimal text each, and prints the spans of a trace
   pipe   Answers the HTTP requests of standard input on standard output
   play   Plays the steps of standard input, a line each, and prints what came of each
-  serve  Takes batches and answers queries over HTTP on 127.0.0.1
+  serve  Takes batches and answers queries over HTTP
   help   Print this message or the help of the given subcommand(s)
 
 Options:
-  -h, --help  Print help
+  -h, --help     Print help
+  -V, --version  Print version
+
+Example:
+  jaeger_one serve --port 14268
 ";
 
 /// Nothing is read, and the status is 2.

@@ -1,7 +1,7 @@
 //! A server in a thread of its own, and what clients do meanwhile.
 
 use crate::tests::guests::Guests;
-use serve_options::ServeOptions;
+use serve_options::{Host, ServeOptions};
 use session_devices::MemoryOutput;
 use std::alloc::Global;
 use std::hash::RandomState;
@@ -28,7 +28,17 @@ pub fn config<R: Abort + RandomSource>(
     batches: u32,
 ) -> ServerConfig {
     let limits = Limits::new(batches, 1000, 0, 0).expect(rt, "limits");
-    let options = ServeOptions::new(limits, 0, workers, 4, sessions, 1024, idle);
+    let options = ServeOptions::new(
+        limits,
+        Host::LoopbackIpv4,
+        0,
+        workers,
+        4,
+        sessions,
+        1024,
+        idle,
+        0,
+    );
     ServerConfig {
         options: options.expect(rt, "options"),
         keys: RandomState::new(rt).expect(rt, "keys"),

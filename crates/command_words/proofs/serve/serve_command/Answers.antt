@@ -7,6 +7,6 @@ use Rattle.command_words.proofs.serve.serve_command.Goals as goal
 
 pub returns : goal.returns
 returns c =
-    let own : app_of c.about-command.result ≡ new_app (codes "serve") = search rules in
+    let own : app_of c.after_help-command.result ≡ new_app (codes "serve") = search rules in
     let serving = c.in_ok-command.ensures ∙ ap with_serving own in
     (IfOk-weaker c.with_limits.result _ _ (λ r is. is ∙ ap with_limits serving) c.with_limits.ensures, serve_is_simple)

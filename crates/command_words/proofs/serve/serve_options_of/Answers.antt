@@ -6,16 +6,18 @@ use Rattle.command_words.proofs.serve.serve_options_of.Goals as goal
 pub returns-clause-given : goal.returns-clause-given
 returns-clause-given c =
     let f = found_of c.args.matches.now in
-    serve_options_read (rows_of f) c.in_ok-limits.limits c.in_ok-port.port c.in_ok-workers.workers c.in_ok-queue.queue c.in_ok-sessions.sessions
-    c.in_ok-connections.connections c.in_ok-idle.idle c.new.result
+    serve_options_read (rows_of f) c.in_ok-limits.limits c.args.host c.in_ok-port.port c.in_ok-workers.workers c.in_ok-queue.queue c.in_ok-sessions.sessions
+    c.in_ok-connections.connections c.in_ok-idle.idle c.in_ok-report.report c.new.result
     c.in_ok-limits.ensures.given
+    c.requires
     (number_read f (codes "port") 65536 _ _ c.in_ok-port.ensures.none c.in_ok-port.ensures.value)
     (number_read f (codes "workers") 65536 _ _ c.in_ok-workers.ensures.none c.in_ok-workers.ensures.value)
     (number_read f (codes "queue") 65536 _ _ c.in_ok-queue.ensures.none c.in_ok-queue.ensures.value)
     (number_read f (codes "sessions") 4294967296 _ _ c.in_ok-sessions.ensures.none c.in_ok-sessions.ensures.value)
     (number_read f (codes "connections") 4294967296 _ _ c.in_ok-connections.ensures.none c.in_ok-connections.ensures.value)
     (number_read f (codes "idle") 4294967296 _ _ c.in_ok-idle.ensures.none c.in_ok-idle.ensures.value)
-    c.new.ensures.listens c.new.ensures.holds c.new.ensures.admits c.new.ensures.ends
+    (number_read f (codes "report") 4294967296 _ _ c.in_ok-report.ensures.none c.in_ok-report.ensures.value)
+    c.new.ensures.keeps c.new.ensures.listens c.new.ensures.holds c.new.ensures.admits c.new.ensures.ends c.new.ensures.reports
 
 pub returns-in_err-limits-clause-found : goal.returns-in_err-limits-clause-found
 returns-in_err-limits-clause-found c options has =
@@ -52,6 +54,11 @@ returns-in_err-idle-clause-found c options has =
     let below : options.idle < 4294967296 = omega (arith, options.within) in
     absurd (number_there (found_of c.args.matches.now) (codes "idle") 4294967296 options.idle (λ t e. (c.in_err-idle.ensures.value t e).1.0) has.idle below)
 
+pub returns-in_err-report-clause-found : goal.returns-in_err-report-clause-found
+returns-in_err-report-clause-found c options has =
+    let below : options.report < 4294967296 = omega (arith, options.within) in
+    absurd (number_there (found_of c.args.matches.now) (codes "report") 4294967296 options.report (λ t e. (c.in_err-report.ensures.value t e).1.0) has.report below)
+
 pub returns-clause-found : goal.returns-clause-found
 returns-clause-found c options has =
     let f = found_of c.args.matches.now in
@@ -62,4 +69,6 @@ returns-clause-found c options has =
     let connections = one_number (rows_of f) (codes "connections") _ _
     (number_read f (codes "connections") 4294967296 _ _ c.in_ok-connections.ensures.none c.in_ok-connections.ensures.value) has.connections in
     let idle = one_number (rows_of f) (codes "idle") _ _ (number_read f (codes "idle") 4294967296 _ _ c.in_ok-idle.ensures.none c.in_ok-idle.ensures.value) has.idle in
-    c.new.ensures.within.1 (rw (port, workers, queue, sessions, connections, idle) options.within)
+    let report = one_number (rows_of f) (codes "report") _ _
+    (number_read f (codes "report") 4294967296 _ _ c.in_ok-report.ensures.none c.in_ok-report.ensures.value) has.report in
+    c.new.ensures.within.1 (rw (port, workers, queue, sessions, connections, idle, report) options.within)

@@ -7,5 +7,5 @@ use Rattle.command_words.proofs.words.play_command.Goals as goal
 
 pub returns : goal.returns
 returns c =
-    let own : app_of c.about-command.result ≡ new_app (codes "play") = search rules in
+    let own : app_of c.after_help-command.result ≡ new_app (codes "play") = search rules in
     (IfOk-weaker c.with_limits.result _ _ (λ r is. is ∙ ap with_limits own) c.with_limits.ensures, play_is_simple)

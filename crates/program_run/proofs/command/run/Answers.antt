@@ -39,7 +39,7 @@ returns-in-Ok-Play g c =
 pub returns-in-Ok-Serve : goal.returns-in-Ok-Serve
 returns-in-Ok-Serve g c =
     let options = c.in-Ok-Serve.options in
-    let does : Option (List ℕ) → Type 0 = λ w. ServesOrNot options.limits options.workers w (g.W.Output.contents c.run_serve.new.output) (g.W.Output.has_failed c.run_serve.new.output) c.run_serve.result in
+    let does : Option (List ℕ) → Type 0 = λ w. ServesOrNot options.host options.limits options.workers w (g.W.Output.contents c.run_serve.new.output) (g.W.Output.has_failed c.run_serve.new.output) c.run_serve.result in
     inl (Serve options, subst (Asks (map g.S.AsStr.text c.args.words.now)) c.in-Ok-Serve.field-0-is c.in-Ok-Serve.ensures.asked, (refl, c.requires.input_works, subst does c.in-Ok-Serve.ensures.silent c.run_serve.ensures))
 
 pub returns-in-Err : goal.returns-in-Err

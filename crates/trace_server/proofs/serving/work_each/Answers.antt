@@ -1,5 +1,5 @@
 use Rattle.trace_server.proofs.Workers.{go_on}
-use Rattle.trace_server.proofs.serving.work_all.Goals as goal
+use Rattle.trace_server.proofs.serving.work_each.Goals as goal
 use Rattle.std.proofs.lemmas.Result.{IfOk-weaker}
 
 pub returns : goal.returns

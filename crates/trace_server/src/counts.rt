@@ -1,0 +1,136 @@
+//! What became of batches and queries, as each worker counts it. Nothing rests on these counts but what an operator is told.
+
+use std::alloc::{AllocError, Global};
+use std::fmt;
+use std::sync::atomic::{AtomicU64, Ordering};
+use trace_model::Refusal;
+
+/// The least number of a refusal.
+const FIRST_REFUSAL: usize = 20;
+
+/// How many refusals there are.
+const REFUSALS: usize = 11;
+
+/// What one worker counts.
+#[derive(Drop)]
+struct WorkerCounts {
+    acknowledged: AtomicU64,
+    queries: AtomicU64,
+    /// By the number of the refusal, from [`FIRST_REFUSAL`] on.
+    refused: Vec<AtomicU64>,
+}
+
+impl WorkerCounts {
+    /// Has counted nothing.
+    ///
+    /// # Errors
+    ///
+    /// Out of memory.
+    fn new(alloc: Global) -> Result<WorkerCounts, AllocError> {
+        let mut refused = Vec::with_capacity(alloc, REFUSALS)?;
+        for _ in 0..REFUSALS {
+            refused.push(AtomicU64::new(0))?;
+        }
+        Ok(WorkerCounts {
+            acknowledged: AtomicU64::new(0),
+            queries: AtomicU64::new(0),
+            refused,
+        })
+    }
+
+    /// Returns how many batches were refused by this number.
+    fn refused(&self, number: usize) -> u64 {
+        match self.refused.get(number.saturating_sub(FIRST_REFUSAL)) {
+            Some(count) => count.load(Ordering::SeqCst),
+            None => 0,
+        }
+    }
+}
+
+/// What each worker counts. A worker adds to its own counts alone.
+#[derive(Drop)]
+pub(crate) struct Counts {
+    workers: Vec<WorkerCounts>,
+}
+
+impl Counts {
+    /// No worker has counted anything.
+    ///
+    /// # Errors
+    ///
+    /// Out of memory.
+    pub(crate) fn new(alloc: Global, workers: u16) -> Result<Counts, AllocError> {
+        let mut counts = Vec::with_capacity(alloc, workers as usize)?;
+        for _ in 0..workers {
+            counts.push(WorkerCounts::new(alloc)?)?;
+        }
+        Ok(Counts { workers: counts })
+    }
+
+    /// Counts a batch that was acknowledged.
+    pub(crate) fn acknowledge(&self, worker: u32) {
+        if let Some(counts) = self.workers.get(worker as usize) {
+            counts.acknowledged.fetch_add(1, Ordering::SeqCst);
+        }
+    }
+
+    /// Counts a batch that was refused.
+    pub(crate) fn refuse(&self, worker: u32, refusal: Refusal) {
+        let index = usize::from(refusal.number()).saturating_sub(FIRST_REFUSAL);
+        if let Some(counts) = self.workers.get(worker as usize) {
+            if let Some(count) = counts.refused.get(index) {
+                count.fetch_add(1, Ordering::SeqCst);
+            }
+        }
+    }
+
+    /// Counts a query.
+    pub(crate) fn query(&self, worker: u32) {
+        if let Some(counts) = self.workers.get(worker as usize) {
+            counts.queries.fetch_add(1, Ordering::SeqCst);
+        }
+    }
+
+    /// Returns how many batches were acknowledged.
+    fn acknowledged(&self) -> u64 {
+        let mut all: u64 = 0;
+        for counts in &self.workers {
+            all = all.saturating_add(counts.acknowledged.load(Ordering::SeqCst));
+        }
+        all
+    }
+
+    /// Returns how many queries came.
+    fn queries(&self) -> u64 {
+        let mut all: u64 = 0;
+        for counts in &self.workers {
+            all = all.saturating_add(counts.queries.load(Ordering::SeqCst));
+        }
+        all
+    }
+
+    /// Returns how many batches were refused by this number.
+    fn refused(&self, number: usize) -> u64 {
+        let mut all: u64 = 0;
+        for counts in &self.workers {
+            all = all.saturating_add(counts.refused(number));
+        }
+        all
+    }
+}
+
+/// `400 acknowledged, 97 queries, 3 refused 20, 1 refused 29`: a number by which nothing was refused is left out.
+impl fmt::Display for Counts {
+    fn fmt<W: fmt::Write>(&self, f: &mut fmt::Formatter<W>) -> fmt::Result {
+        let acknowledged = self.acknowledged();
+        let queries = self.queries();
+        write!(f, "{acknowledged} acknowledged, {queries} queries")?;
+        for number in FIRST_REFUSAL..FIRST_REFUSAL + REFUSALS {
+            let refused = self.refused(number);
+            if refused > 0 {
+                write!(f, ", {refused} refused {number}")?;
+            }
+        }
+        Ok(())
+    }
+}
