@@ -6,37 +6,62 @@ connection until so many spans are held. Memory is the program's greatest reside
 before the first batch is the row of 0 spans. The tags are those of bench/decode.py, 4 to 40 bytes each where they are text. Behind
 that stands what is taken while a search for all traces is answered: by how much the greatest size rises, beside the bytes of the answer.
 
-    bench/memory.py [--bin PATH] [--sizes 0,10000,100000] [--tags 1,5]
+With `--process-tags` each process has the tags that Jaeger's clients send: host name, address, version and an id of its own.
+`--connections` is how many connections take turns, batch by batch; each has a process of its own.
+
+    bench/memory.py [--bin PATH] [--sizes 0,10000,100000] [--tags 1,5] [--in-batch 10] [--connections 1] [--process-tags]
 """
 import http.client
+import itertools
 import random
+import socket
 
 from decode import asked_of, span
 from serve import started
 import wire
 
-IN_BATCH = 10
+AT_ONCE = 20
 
 
-def batch(rng, tags):
+def tags_of_process(number):
+    """The tags that Jaeger's clients send of a process."""
+    tags = {"hostname": f"orders-7d9c5b6f4-{number:05}", "ip": f"10.20.30.{number}", "jaeger.version": "Go-2.30.0",
+            "client-uuid": f"{number:016x}"}
+    return [wire.text_tag(key, value) for key, value in tags.items()]
+
+
+def batch(rng, tags, in_batch, of_process):
     """Spans that each the one before it called, with so many tags."""
     trace = rng.getrandbits(63) | 1
-    return wire.batch("orders", [span(rng, trace, number + 1, number, tags) for number in range(IN_BATCH)])
+    return wire.batch("orders", [span(rng, trace, number + 1, number, tags) for number in range(in_batch)], of_process)
 
 
-def fill(server, size, tags):
+def read_accepted(client, count):
+    """Reads so many responses, which all have to be 202."""
+    text = b""
+    while text.count(b"\r\n\r\n") < count:
+        text += client.recv(65536) or b"closed\r\n\r\n" * count
+    assert text.count(b"HTTP/1.1 202 ") == count, text[:200]
+
+
+def fill(server, size, tags, options, in_batch, connections):
     """Hands in so many spans; gives how many bytes of bodies that were."""
     rng = random.Random(3)
-    client = http.client.HTTPConnection("127.0.0.1", server.port)
-    sent = 0
-    for _ in range(size // IN_BATCH):
-        body = batch(rng, tags)
-        client.request("POST", "/api/traces", body=body, headers={"Content-Type": "application/x-thrift"})
-        answer = client.getresponse()
-        answer.read()
-        assert answer.status == 202, answer.status
-        sent += len(body)
-    client.close()
+    processes = [tags_of_process(number) if options.process_tags else () for number in range(connections)]
+    clients = [socket.create_connection(("127.0.0.1", server.port)) for _ in processes]
+    left, sent = size // in_batch, 0
+    while left:
+        # A body on each connection; on a single one several, one after the other.
+        turn = [number % connections for number in range(min(left, max(connections, AT_ONCE)))]
+        for number in turn:
+            body = batch(rng, tags, in_batch, processes[number])
+            clients[number].sendall(wire.post(body))
+            sent += len(body)
+        for number, client in enumerate(clients):
+            read_accepted(client, turn.count(number))
+        left -= len(turn)
+    for client in clients:
+        client.close()
     return sent
 
 
@@ -52,20 +77,29 @@ def answered(server):
     return size, (server.peak() - before) * 1024
 
 
+def numbers(text):
+    return [int(number) for number in text.split(",")]
+
+
 def main():
     asked = asked_of(__doc__)
     asked.add_argument("--sizes", default="0,10000,100000", help="spans held, 10,000,000 at most")
     asked.add_argument("--tags", default="1,5", help="tags a span, 15 at most")
+    asked.add_argument("--in-batch", default="10", help="spans a batch")
+    asked.add_argument("--connections", default="1", help="connections that take turns, 250 at most")
+    asked.add_argument("--process-tags", action="store_true", help="each process has four tags")
     options = asked.parse_args()
-    print(f"{'tags':>5} {'spans':>9} {'MB in':>7} {'MB held':>8} {'bytes a span':>13} {'of bytes in':>12} {'MB answer':>10} {'MB more':>8}")
-    for tags in [int(number) for number in options.tags.split(",")]:
-        for size in [int(number) for number in options.sizes.split(",")]:
-            with started(options.bin, 2) as server:
-                sent = fill(server, size, tags)
-                held = server.peak() * 1024
-                answer, more = answered(server)
-            per = f"{held / size:13.0f} {held / sent:12.2f}" if size else f"{'-':>13} {'-':>12}"
-            print(f"{tags:>5} {size:>9} {sent / 1e6:>7.1f} {held / 1e6:>8.1f} {per} {answer / 1e6:>10.1f} {more / 1e6:>8.1f}")
+    print(f"{'tags':>5} {'a batch':>8} {'conns':>6} {'spans':>9} {'MB in':>7} {'MB held':>8} {'bytes a span':>13} {'of bytes in':>12} "
+          f"{'MB answer':>10} {'MB more':>8}")
+    rows = itertools.product(*map(numbers, (options.tags, options.in_batch, options.connections, options.sizes)))
+    for tags, in_batch, connections, size in rows:
+        with started(options.bin, 2) as server:
+            sent = fill(server, size, tags, options, in_batch, connections)
+            held = server.peak() * 1024
+            answer, more = answered(server)
+        per = f"{held / size:13.0f} {held / sent:12.2f}" if size else f"{'-':>13} {'-':>12}"
+        print(f"{tags:>5} {in_batch:>8} {connections:>6} {size:>9} {sent / 1e6:>7.1f} {held / 1e6:>8.1f} {per} {answer / 1e6:>10.1f} "
+              f"{more / 1e6:>8.1f}", flush=True)
 
 
 if __name__ == "__main__":

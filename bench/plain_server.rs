@@ -6,7 +6,7 @@
 //!
 //! It takes `POST /api/traces`, and answers `GET /api/traces/{id}`, `GET /api/traces?service=..&limit=..` (these two parameters
 //! alone) and `GET /api/services` with the bytes of docs/query-api.md: the parent's reference in front, clock skew corrected
-//! up to `--max-skew`. Options: `--port`, `--workers`, `--idle`, `--sessions`, `--max-skew` as `serve` has them. The other
+//! up to `--max-skew`. Options: `--host`, `--port`, `--workers`, `--idle`, `--sessions`, `--max-skew` as `serve` has them. The other
 //! options of `serve` are taken and not looked at: it has no limits.
 
 #[path = "compare/batch.rs"]

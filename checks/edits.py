@@ -29,7 +29,7 @@ def pairs_of(edit):
         elif line.startswith("new:"):
             if not path or not old:
                 raise Fault("a 'new:' line has no 'file:' or 'old:' line before it")
-            yield path, old, line[len("new:") :].removeprefix(" ")
+            yield path, old, re.sub("^ ", "", line[len("new:") :])
             old = None
     if old is not None:
         raise Fault("an 'old:' line has no 'new:' line")

@@ -1,9 +1,15 @@
 #!/usr/bin/env python3
-"""Prints a table of crates from a log of rt ci: gate.py LOG. With --stamp it writes the moment before each line of its input."""
+"""Prints what rt ci did with each crate, from its log: at which minute proof and tests ended and edits began.
+
+    rt ci 2>&1 | checks/gate.py --stamp > LOG
+    checks/gate.py LOG
+"""
 
 import re
 import sys
 import time
+
+from crates import asked_of
 
 STAMP = re.compile(r"@(\d+\.\d) ")
 BLOCK = re.compile(r"rt: (\w+)(: its tests are)? (proved|NOT PROVED)$")
@@ -55,12 +61,15 @@ def read(log):
 
 def main():
     """Prints the table of the log that is named."""
-    if sys.argv[1:] == ["--stamp"]:
+    asked = asked_of(__doc__, None)
+    asked.add_argument("log", nargs="?", metavar="LOG", help="a log of rt ci, with or without moments")
+    asked.add_argument("--stamp", action="store_true", help="write the moment before each line of the input")
+    words = asked.parse_args()
+    if words.stamp:
         return stamp()
-    if len(sys.argv) != 2 or sys.argv[1] in ("-h", "--help"):
-        print(__doc__)
-        return None
-    crates, timed = read(sys.argv[1])
+    if words.log is None:
+        asked.error("give a log, or --stamp")
+    crates, timed = read(words.log)
     form = "{:<18}{:<18}{:<18}{:<12}{:>8}{:>12}"
     print(form.format("crate", "proof", "tests", "edits begun", "refused", "not refused"))
     for name, it in crates.items():

@@ -3,7 +3,7 @@
 
 use std::fmt::Write as _;
 use std::io::{self, BufRead, Read, Write};
-use std::net::{Shutdown, TcpListener, TcpStream};
+use std::net::{IpAddr, Ipv4Addr, Shutdown, SocketAddr, TcpListener, TcpStream};
 use std::str::FromStr;
 use std::sync::Arc;
 use std::time::{Duration, Instant};
@@ -167,13 +167,26 @@ pub fn option<T: FromStr>(words: &[String], name: &str, otherwise: T) -> T {
     place.and_then(|place| words.get(place + 1)?.parse().ok()).unwrap_or(otherwise)
 }
 
-/// Listens on the `--port`, says where, and has `--workers` threads work for the server that is made of that.
-pub fn run<S: Send + Sync + 'static>(words: &[String], server: impl FnOnce(TcpListener) -> S, work: fn(&S)) {
-    let listener = TcpListener::bind(("127.0.0.1", option(words, "--port", 0))).unwrap_or_else(|fault| {
-        eprintln!("{fault}");
+/// Listens on the `--port` of the `--host`, and says where, and whether other machines reach it.
+fn listen(words: &[String]) -> TcpListener {
+    let host = option(words, "--host", IpAddr::V4(Ipv4Addr::LOCALHOST));
+    let address = SocketAddr::new(host, option(words, "--port", 0));
+    let listener = TcpListener::bind(address).unwrap_or_else(|fault| {
+        println!("cannot listen on {address}: {fault}");
         std::process::exit(4);
     });
     println!("listening {}", listener.local_addr().unwrap());
+    match host {
+        _ if host.is_loopback() => {}
+        IpAddr::V4(host) => eprintln!("{host} takes connections from other machines"),
+        IpAddr::V6(host) => eprintln!("[{host}] takes connections from other machines"),
+    }
+    listener
+}
+
+/// Listens, and has `--workers` threads work for the server that is made of that.
+pub fn run<S: Send + Sync + 'static>(words: &[String], server: impl FnOnce(TcpListener) -> S, work: fn(&S)) {
+    let listener = listen(words);
     let server = Arc::new(server(listener));
     let workers: Vec<_> = (0..option(words, "--workers", 4))
         .map(|_| {
